@@ -1,0 +1,5 @@
+pub mod FitsLemmas
+pub mod PlaceLemmas
+pub mod RelayLemmas
+pub mod OpeningLemmas
+pub mod RunLemmas

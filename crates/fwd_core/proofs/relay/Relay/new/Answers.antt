@@ -1,0 +1,6 @@
+use Rattle.std.proofs.Common.{refl}
+use Rattle.fwd_core.proofs.OpeningLemmas.{opening-live}
+use Rattle.fwd_core.proofs.relay.Relay.new.Goals as goal
+
+pub returns : goal.returns
+returns c = rw (opening-live c.args.config.now, c.new.ensures.items, c.in_ok-lanes_of.ensures, c.as_slice.ensures) refl

@@ -1,0 +1,33 @@
+use Rattle.std.proofs.Common.{◌≡◌, ◌+◌, ◌∷◌, ◌++◌, [], take, sym, ap, ◌∙◌, arith}
+use Rattle.std.specs.Prelude.{is_ok, if◌then◌else◌}
+use Rattle.std.proofs.lemmas.List.{take_all, take_more}
+use Rattle.fwd_model.specs.LiveStep.{live_answers, live_after}
+use Rattle.fwd_core.specs.Runs.{kept}
+use Rattle.fwd_core.proofs.RunLemmas.{ran_more}
+use Rattle.fwd_core.proofs.relay.Relay.run.Goals as goal
+
+pub loop-event-preserved : goal.loop-event-preserved
+loop-event-preserved c =
+    let es = c.args.events.now in
+    let i = c.loop-event.event-index in
+    let e = c.event-item.result in
+    let a = c.step-answer.result in
+    let told = c.loop-event.answers.items in
+    let taken : take (i + 1) es ≡ take i es ++ e ∷ [] = take_more es i e c.loop-event-test.true ∙ ap (λ x. take i es ++ x ∷ []) (sym c.event-item.is) in
+    let pushed : c.push.new.self.items ≡ told ++ a ∷ [] = c.push.ensures.items ∙ ap (λ r. if is_ok r then told ++ a ∷ [] else told) c.unwrap.ensures in
+    let next = ran_more c.args.self.now c.loop-event.self c.step-answer.new.self (take i es) told e a c.loop-event.invariant.ran c.step-answer.ensures.answer c.step-answer.ensures.next c.step-answer.ensures.memory in
+    record {
+      ran = rw (taken, pushed) next;
+      room = omega (arith, c.loop-event.invariant.room, c.push.ensures.capacity);
+    }
+
+pub returns-clause-history : goal.returns-clause-history
+returns-clause-history c = λ config h reached same.
+    let es = c.args.events.now in
+    let told = c.loop-event.answers.items in
+    let run = c.loop-event.invariant.ran in
+    let all = take_all c.loop-event.event-index es c.loop-event-test.false in
+    let law = c.live_run_follows.ensures in (
+      run.told_is ∙ (λ i. live_answers (same i) (kept (all i) told)) ∙ sym (law.answers config h (kept es told) reached),
+      run.state_is ∙ (λ i. live_after (same i) (kept (all i) told)) ∙ sym (law.after config h (kept es told) reached),
+    )

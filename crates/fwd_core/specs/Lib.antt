@@ -1,0 +1,6 @@
+pub mod Fits
+pub mod Hearing
+pub mod Lanes
+pub mod Places
+pub mod Relays
+pub mod Runs

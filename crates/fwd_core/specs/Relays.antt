@@ -1,0 +1,26 @@
+-- What an event does to the parts of the relay, in the words of the live step.
+use Rattle.std.specs.Prelude.{ℕ, not, List, [], ◌∷◌, ◌+◌, ◌==◌, if◌then◌else◌}
+use Rattle.fwd_modes.specs.Requests.{Request}
+use Rattle.fwd_model.specs.declared.answer.Answer.{Answer}
+use Rattle.fwd_model.specs.declared.answer.Answer.TheVariants as answer
+use Rattle.fwd_model.specs.declared.fault.Refusal.TheVariants.{NotNow}
+use Rattle.fwd_model.specs.Live.{LiveSource, LiveLane, LiveRelay}
+use Rattle.fwd_model.specs.LiveStep.{is_above, live_accepted, output_is_spent, output_enters, source_gives, source_shuts, with_live_output}
+
+abbrev pub accept_answer : ℕ → LiveRelay → Answer
+accept_answer id r = if is_above id r.last then answer.Accepted [] else answer.Refused NotNow
+
+abbrev pub accept_next : ℕ → LiveRelay → LiveRelay
+accept_next id r = if is_above id r.last then live_accepted id r else r
+
+-- the source once its first waiting request was tried
+abbrev pub admit_source : LiveSource → List Request → ℕ → LiveLane → LiveSource
+admit_source s [] o l = s
+admit_source s (q ∷ qs) o l = if not (o == 0) then s else (if output_is_spent l.output q then source_shuts s else source_gives s)
+
+-- the output once the request was tried
+abbrev pub admit_lane : ℕ → LiveSource → List Request → ℕ → LiveLane → ℕ → LiveLane
+admit_lane id s [] o l now = l
+admit_lane id s (q ∷ qs) o l now =
+    if not (o == 0) then l
+    else (if output_is_spent l.output q then l else with_live_output l (output_enters l.output (record { conn = id; request = s.admitted + 1 }) q now))

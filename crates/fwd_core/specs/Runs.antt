@@ -1,0 +1,19 @@
+-- Which events of a run counted: those not answered by want of memory.
+use Rattle.std.specs.Prelude.{Bool, true, false, not, List, [], ◌∷◌, filter, if◌then◌else◌}
+use Rattle.fwd_model.specs.declared.event.Event.{Event}
+use Rattle.fwd_model.specs.declared.answer.Answer.{Answer}
+use Rattle.fwd_model.specs.declared.answer.Answer.TheVariants.{Memory}
+
+abbrev pub is_memory : Answer → Bool
+is_memory Memory = true
+is_memory _ = false
+
+-- the answers that are not want of memory
+abbrev pub told : List Answer → List Answer
+told answers = filter (λ a. not (is_memory a)) answers
+
+-- the events whose answers are not
+abbrev pub kept : List Event → List Answer → List Event
+kept [] answers = []
+kept (e ∷ es) [] = []
+kept (e ∷ es) (a ∷ answers) = if is_memory a then kept es answers else e ∷ kept es answers

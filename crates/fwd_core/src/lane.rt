@@ -1,0 +1,249 @@
+//! An output with its settings and its workers.
+
+ghost use Rattle.std.specs.Prelude.{◌≡◌, IfOk, OnOk, OnErr, IfSome, IsErrOf, Some, true, false, is_some, filter, length, slice_get};
+ghost use Rattle.std.specs.List.{concat};
+ghost use Rattle.fwd_core.specs.Fits.{FitsFrame};
+ghost use Rattle.fwd_model.specs.Step.{frame_of};
+ghost use Rattle.fwd_model.specs.LiveStep.{live_up_answer, live_take_answer, live_load_answer, live_load_with, live_found, worker_with, fresh_session, with_live_output, output_enters, output_is_spent, output_closes, output_flushes};
+ghost use Rattle.fwd_core.specs.Lanes.{no_work, worker_loads, lane_up, lane_takes, lane_loads, new_live_lane};
+
+use crate::output::{AdmitError, OutputState};
+use crate::session::Session;
+use fwd_model::{Answer, Chunk, FlushKind, Origin, OutputConfig, Refusal};
+use fwd_modes::{Batch, chunk_name, write_chunk};
+use fwd_msgpack::Bytes;
+use std::alloc::{AllocError, Global};
+use std::marker::Model;
+
+/// A worker: the chunk that it has, and its session.
+#[derive(Drop)]
+pub struct Worker {
+    chunk: Option<Chunk>,
+    session: Option<Session>,
+}
+
+impl Model for Worker {
+    ghost use Rattle.std.specs.Prelude.{IfSome};
+    ghost use Rattle.fwd_model.specs.Live.{LiveWorker};
+    ghost use Rattle.fwd_core.specs.Fits.{FitsFrame};
+
+    ghost Value = { LiveWorker };
+
+    ghost view = { λ w. record { chunk = w.chunk; session = w.session } };
+
+    ghost invariant = { λ w. IfSome w.chunk FitsFrame };
+}
+
+/// One output.
+#[derive(Drop)]
+pub struct Lane {
+    config: OutputConfig,
+    output: OutputState,
+    workers: Vec<Worker>,
+}
+
+impl Model for Lane {
+    ghost use Rattle.fwd_model.specs.Live.{LiveLane};
+
+    ghost Value = { LiveLane };
+
+    ghost view = { λ l. record { config = l.config; output = l.output; workers = l.workers.items } };
+}
+
+/// The entries of a chunk, one after the other.
+fn packed(alloc: Global, entries: &[Bytes]) -> Result<Vec<u8>, AllocError>
+    ensures { IfOk result (λ bytes. bytes.items ≡ concat entries.now) }
+{
+    let mut bytes = Vec::new(alloc);
+    for entry in entries {
+        bytes.extend_from_slice(entry.as_slice())?;
+    }
+    Ok(bytes)
+}
+
+/// The frame of a chunk.
+#[tactic(auto, unfolding(fwd_modes::specs::Frames::chunk_frame))]
+fn frame_of(alloc: Global, run: &[u8; 6], output: u16, chunk: &Chunk) -> Result<Bytes, AllocError>
+    requires { FitsFrame chunk.now }
+    ensures { IfOk result (λ frame. frame ≡ frame_of run.now output chunk.now) }
+{
+    let name = chunk_name(run, output, chunk.number);
+    let packed = packed(alloc, chunk.entries.as_slice())?;
+    let count = chunk.entries.len() as u64;
+    let frame = write_chunk(alloc, chunk.tag.as_slice(), &packed, count, &name)?;
+    Ok(Bytes::from_vec(frame))
+}
+
+/// What is told of a chunk that was taken.
+fn told_of(found: &Option<Chunk>) -> Answer
+    ensures { result ≡ live_found found.now }
+{
+    match found {
+        None => Answer::TookNothing,
+        Some(chunk) => Answer::Took {
+            number: chunk.number,
+            entries: chunk.entries.len(),
+        },
+    }
+}
+
+impl Worker {
+    /// A worker that has nothing.
+    fn new() -> Self
+        ensures { result ≡ no_work }
+    {
+        Worker {
+            chunk: None,
+            session: None,
+        }
+    }
+
+    fn has_chunk(&self) -> bool
+        ensures { result ≡ is_some self.now.chunk }
+    {
+        self.chunk.is_some()
+    }
+
+    /// The worker has the chunk, or none.
+    fn set_chunk(&mut self, chunk: Option<Chunk>)
+        requires { IfSome chunk FitsFrame }
+        ensures { self.new ≡ record { chunk = chunk; session = self.old.session } }
+    {
+        self.chunk = chunk;
+    }
+
+    fn has_session(&self) -> bool
+        ensures { result ≡ is_some self.now.session }
+    {
+        self.session.is_some()
+    }
+
+    /// The worker's session with a server begins.
+    fn set_session(&mut self, alloc: Global, server: u16, now: u64)
+        ensures { self.new ≡ worker_with self.old (fresh_session server now) }
+    {
+        self.session = Some(Session::up(alloc, server, now));
+    }
+
+    /// The worker's chunk is put into its session. On an error nothing has changed.
+    fn load(
+        &mut self,
+        alloc: Global,
+        run: &[u8; 6],
+        output: u16,
+        now: u64,
+    ) -> Result<Answer, AllocError>
+        ensures answer { IfOk result (λ a. a ≡ live_load_with self.old.session self.old.chunk run.now output) }
+        ensures next { OnOk result (self.new ≡ worker_loads self.old now run.now output self.old.session self.old.chunk) }
+        ensures err { OnErr result (self.new ≡ self.old) }
+    {
+        let Some(chunk) = &self.chunk else {
+            return Ok(Answer::Refused(Refusal::NotNow));
+        };
+        let Some(session) = &mut self.session else {
+            return Ok(Answer::Refused(Refusal::NotNow));
+        };
+        if session.is_loaded(chunk.number) {
+            return Ok(Answer::Refused(Refusal::NotNow));
+        }
+        let out = frame_of(alloc, run, output, chunk)?;
+        session.load(chunk.number, out.as_slice(), now)?;
+        Ok(Answer::Frame { out })
+    }
+}
+
+impl Lane {
+    /// An output with no entries, whose workers have nothing.
+    pub fn new(alloc: Global, config: OutputConfig) -> Result<Self, AllocError>
+        ensures { IfOk result (λ l. l ≡ new_live_lane config) }
+    {
+        let mut workers = Vec::new(alloc);
+        for _ in 0..config.workers {
+            workers.push(Worker::new())?;
+        }
+        Ok(Lane {
+            config,
+            output: OutputState::new(alloc),
+            workers,
+        })
+    }
+
+    /// A request is entered. On an error nothing has changed.
+    pub fn admit(
+        &mut self,
+        alloc: Global,
+        origin: Origin,
+        batch: &Batch,
+        now: u64,
+    ) -> Result<(), AdmitError>
+        ensures ok { OnOk result (self.new ≡ with_live_output self.old (output_enters self.old.output origin batch.now now)) }
+        ensures room { OnOk result (output_is_spent self.old.output batch.now ≡ false) }
+        ensures spent { IsErrOf result AdmitError.NumbersSpent → output_is_spent self.old.output batch.now ≡ true }
+        ensures err { OnErr result (self.new ≡ self.old) }
+    {
+        self.output.admit(alloc, origin, batch, now)
+    }
+
+    /// Closes the open numbers that a flush closes, and answers how many.
+    pub fn flush(&mut self, now: u64, kind: FlushKind) -> usize
+        ensures count { result ≡ length (filter (output_closes self.old.output self.old.config.flush_interval now kind) self.old.output.opened) }
+        ensures flushed { self.new ≡ with_live_output self.old (output_flushes self.old.output self.old.config.flush_interval now kind) }
+    {
+        self.output.flush(self.config.flush_interval, now, kind)
+    }
+
+    /// A worker's session with a server begins.
+    pub fn up(&mut self, alloc: Global, worker: u16, server: u16, now: u64) -> Answer
+        ensures answer { result ≡ live_up_answer server (slice_get self.old.workers worker) (Some self.old) }
+        ensures next { self.new ≡ lane_up self.old worker server now (slice_get self.old.workers worker) }
+    {
+        let place = usize::from(worker);
+        if place >= self.workers.len() || server >= self.config.servers {
+            return Answer::Refused(Refusal::NoSuch);
+        }
+        if self.workers[place].has_session() {
+            return Answer::Refused(Refusal::NotNow);
+        }
+        self.workers[place].set_session(alloc, server, now);
+        Answer::Done
+    }
+
+    /// A worker takes the least free chunk. On an error nothing has changed.
+    pub fn take(&mut self, alloc: Global, worker: u16, now: u64) -> Result<Answer, AllocError>
+        ensures answer { IfOk result (λ a. a ≡ live_take_answer (slice_get self.old.workers worker) (Some self.old)) }
+        ensures next { OnOk result (self.new ≡ lane_takes self.old worker now (slice_get self.old.workers worker)) }
+        ensures err { OnErr result (self.new ≡ self.old) }
+    {
+        let place = usize::from(worker);
+        if place >= self.workers.len() {
+            return Ok(Answer::Refused(Refusal::NoSuch));
+        }
+        if self.workers[place].has_chunk() {
+            return Ok(Answer::Refused(Refusal::NotNow));
+        }
+        let found = self.output.take(alloc, worker, now)?;
+        let answer = told_of(&found);
+        self.workers[place].set_chunk(found);
+        Ok(answer)
+    }
+
+    /// A worker's chunk is put into its session. On an error nothing has changed.
+    pub fn load(
+        &mut self,
+        alloc: Global,
+        run: &[u8; 6],
+        output: u16,
+        worker: u16,
+        now: u64,
+    ) -> Result<Answer, AllocError>
+        ensures answer { IfOk result (λ a. a ≡ live_load_answer (slice_get self.old.workers worker) (Some self.old) run.now output) }
+        ensures next { OnOk result (self.new ≡ lane_loads self.old worker now run.now output (slice_get self.old.workers worker)) }
+        ensures err { OnErr result (self.new ≡ self.old) }
+    {
+        let place = usize::from(worker);
+        if place >= self.workers.len() {
+            return Ok(Answer::Refused(Refusal::NoSuch));
+        }
+        self.workers[place].load(alloc, run, output, now)
+    }
+}

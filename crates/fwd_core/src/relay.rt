@@ -1,0 +1,280 @@
+//! The relay: connections, outputs, and one step at a time.
+
+ghost use Rattle.std.specs.Prelude.{◌≡◌, ◌≢◌, map, Some, IfOk, OnOk, OnErr, slice_get};
+ghost use Rattle.fwd_model.specs.History.{opening};
+ghost use Rattle.fwd_model.specs.Live.{live};
+ghost use Rattle.fwd_model.specs.LiveStep.{live_answer_to, live_next, live_answers, live_after, live_source_at, live_accepted, is_above, live_piece_answer, live_piece_next, live_admit_answer, live_admit_next, live_flush_answer, live_flush_next, live_up_answer, live_up_next, live_take_answer, live_take_next, live_load_answer, live_load_next, worker_at};
+ghost use Rattle.std.specs.Prelude.{length};
+ghost use Rattle.fwd_model.specs.declared.config.Config.{Config as Settings};
+ghost use Rattle.fwd_model.specs.History.{History};
+ghost use Rattle.fwd_model.specs.Step.{answers as history_answers, after, IsReached};
+ghost use Rattle.fwd_core.specs.Runs.{told, kept};
+ghost use Rattle.fwd_core.specs.Lanes.{new_live_lane};
+ghost use Rattle.fwd_core.specs.Relays.{accept_answer, accept_next, admit_source, admit_lane};
+
+use crate::connection::{Connection, place_of};
+use crate::lane::Lane;
+use crate::output::AdmitError;
+use crate::source::Source;
+use fwd_model::{
+    Answer, Config, Event, FlushKind, Origin, OutputConfig, Refusal, live_run_follows,
+};
+use fwd_msgpack::Bytes;
+use std::alloc::{AllocError, Global};
+use std::marker::Model;
+
+/// A relay that one thread owns.
+#[derive(Drop)]
+pub struct Relay {
+    run: [u8; 6],
+    last: Option<u64>,
+    connections: Vec<Connection>,
+    lanes: Vec<Lane>,
+}
+
+impl Model for Relay {
+    ghost use Rattle.fwd_model.specs.Live.{LiveRelay};
+
+    ghost Value = { LiveRelay };
+
+    ghost view = { λ r. record { run = r.run; last = r.last; connections = r.connections.items; lanes = r.lanes.items } };
+}
+
+impl Relay {
+    /// A relay before its first event.
+    pub fn new(alloc: Global, config: &Config) -> Result<Self, AllocError>
+        ensures { IfOk result (λ r. r ≡ live (opening config.now)) }
+    {
+        Ok(Relay {
+            run: config.run,
+            last: None,
+            connections: Vec::new(alloc),
+            lanes: lanes_of(alloc, config.outputs.as_slice())?,
+        })
+    }
+
+    /// What an event does, and what is answered. It is the live step of the abstract relay, or want of memory, and
+    /// then nothing has changed.
+    pub fn step(&mut self, alloc: Global, event: &Event) -> Answer
+        ensures answer { result ≢ Answer.Memory → result ≡ live_answer_to self.old event.now }
+        ensures next { result ≢ Answer.Memory → self.new ≡ live_next self.old event.now }
+        ensures memory { result ≡ Answer.Memory → self.new ≡ self.old }
+    {
+        let answered = match event {
+            Event::Accept { conn, .. } => self.accept(alloc, *conn),
+            Event::Piece { conn, bytes } => self.piece(alloc, *conn, bytes.as_slice()),
+            Event::Admit { conn, output, now } => self.admit(alloc, *conn, *output, *now),
+            Event::Flush { output, now, kind } => Ok(self.flush(*output, *now, *kind)),
+            Event::Up {
+                output,
+                worker,
+                server,
+                now,
+                ..
+            } => Ok(self.up(alloc, *output, *worker, *server, *now)),
+            Event::Take {
+                output,
+                worker,
+                now,
+            } => self.take(alloc, *output, *worker, *now),
+            Event::Load {
+                output,
+                worker,
+                now,
+            } => self.load(alloc, *output, *worker, *now),
+        };
+        answered.unwrap_or(Answer::Memory)
+    }
+
+    /// Steps through events, and answers each. Over the events that are not answered want of memory, the answers and
+    /// the state are the abstract relay's, from any history that a run reaches and whose live part this relay is.
+    /// Where the room for the answers is refused, nothing has changed.
+    pub fn run(&mut self, alloc: Global, events: &[Event]) -> Result<Vec<Answer>, AllocError>
+        ensures count { IfOk result (λ answers. length answers.items ≡ length events.now) }
+        ensures answers { IfOk result (λ answers. told answers.items ≡ live_answers self.old (kept events.now answers.items)) }
+        ensures state { IfOk result (λ answers. self.new ≡ live_after self.old (kept events.now answers.items)) }
+        ensures history { IfOk result (λ answers. (config : Settings) (h : History) → IsReached config h → self.old ≡ live h →
+            (told answers.items ≡ history_answers h (kept events.now answers.items)) × (self.new ≡ live (after h (kept events.now answers.items)))) }
+        ensures err { OnErr result (self.new ≡ self.old) }
+    {
+        live_run_follows();
+        let mut answers = Vec::with_capacity(alloc, events.len())?;
+        for event in events {
+            let answer = self.step(alloc, event);
+            answers.push(answer).unwrap();
+        }
+        Ok(answers)
+    }
+
+    /// A connection comes. On an error nothing has changed.
+    fn accept(&mut self, alloc: Global, conn: u64) -> Result<Answer, AllocError>
+        ensures answer { IfOk result (λ a. a ≡ accept_answer conn self.old) }
+        ensures next { OnOk result (self.new ≡ accept_next conn self.old) }
+        ensures err { OnErr result (self.new ≡ self.old) }
+    {
+        let above = match self.last {
+            None => true,
+            Some(last) => last < conn,
+        };
+        if !above {
+            return Ok(Answer::Refused(Refusal::NotNow));
+        }
+        let source = Source::new(alloc);
+        self.connections.push(Connection { id: conn, source })?;
+        self.last = Some(conn);
+        Ok(Answer::Accepted {
+            out: Bytes::new(alloc),
+        })
+    }
+
+    /// Bytes are read from a connection. On an error nothing has changed.
+    fn piece(&mut self, alloc: Global, conn: u64, bytes: &[u8]) -> Result<Answer, AllocError>
+        ensures answer { IfOk result (λ a. a ≡ live_piece_answer (live_source_at conn self.old.connections) bytes.now) }
+        ensures next { OnOk result (self.new ≡ live_piece_next conn (live_source_at conn self.old.connections) bytes.now self.old) }
+        ensures err { OnErr result (self.new ≡ self.old) }
+    {
+        let Some(place) = place_of(conn, &self.connections) else {
+            return Ok(Answer::Refused(Refusal::NoSuch));
+        };
+        let connection = &mut self.connections[place];
+        connection.source.piece(alloc, bytes)
+    }
+
+    /// A connection's first waiting request goes to an output. On an error nothing has changed.
+    fn admit(
+        &mut self,
+        alloc: Global,
+        conn: u64,
+        output: u16,
+        now: u64,
+    ) -> Result<Answer, AllocError>
+        ensures answer { IfOk result (λ a. a ≡ live_admit_answer (live_source_at conn self.old.connections) output (slice_get self.old.lanes output)) }
+        ensures next { OnOk result (self.new ≡ live_admit_next conn (live_source_at conn self.old.connections) output (slice_get self.old.lanes output) now self.old) }
+        ensures err { OnErr result (self.new ≡ self.old) }
+    {
+        let Some(place) = place_of(conn, &self.connections) else {
+            return Ok(Answer::Refused(Refusal::NoSuch));
+        };
+        let lane_place = usize::from(output);
+        if lane_place >= self.lanes.len() {
+            return Ok(Answer::Refused(Refusal::NoSuch));
+        }
+        let connection = &mut self.connections[place];
+        let lane = &mut self.lanes[lane_place];
+        admit_from(alloc, &mut connection.source, lane, conn, output, now)
+    }
+
+    /// Open chunks of an output are closed.
+    fn flush(&mut self, output: u16, now: u64, kind: FlushKind) -> Answer
+        ensures answer { result ≡ live_flush_answer (slice_get self.old.lanes output) now kind }
+        ensures next { self.new ≡ live_flush_next output (slice_get self.old.lanes output) now kind self.old }
+    {
+        let place = usize::from(output);
+        if place >= self.lanes.len() {
+            return Answer::Refused(Refusal::NoSuch);
+        }
+        let lane = &mut self.lanes[place];
+        let chunks = lane.flush(now, kind);
+        Answer::Closed { chunks }
+    }
+
+    /// A worker's session with a server begins.
+    fn up(&mut self, alloc: Global, output: u16, worker: u16, server: u16, now: u64) -> Answer
+        ensures answer { result ≡ live_up_answer server (worker_at worker (slice_get self.old.lanes output)) (slice_get self.old.lanes output) }
+        ensures next { self.new ≡ live_up_next output worker server now (worker_at worker (slice_get self.old.lanes output)) (slice_get self.old.lanes output) self.old }
+    {
+        let place = usize::from(output);
+        if place >= self.lanes.len() {
+            return Answer::Refused(Refusal::NoSuch);
+        }
+        let lane = &mut self.lanes[place];
+        lane.up(alloc, worker, server, now)
+    }
+
+    /// A worker takes the least free chunk of its output. On an error nothing has changed.
+    fn take(
+        &mut self,
+        alloc: Global,
+        output: u16,
+        worker: u16,
+        now: u64,
+    ) -> Result<Answer, AllocError>
+        ensures answer { IfOk result (λ a. a ≡ live_take_answer (worker_at worker (slice_get self.old.lanes output)) (slice_get self.old.lanes output)) }
+        ensures next { OnOk result (self.new ≡ live_take_next output worker (worker_at worker (slice_get self.old.lanes output)) (slice_get self.old.lanes output) now self.old) }
+        ensures err { OnErr result (self.new ≡ self.old) }
+    {
+        let place = usize::from(output);
+        if place >= self.lanes.len() {
+            return Ok(Answer::Refused(Refusal::NoSuch));
+        }
+        let lane = &mut self.lanes[place];
+        lane.take(alloc, worker, now)
+    }
+
+    /// A worker's chunk is put into its session. On an error nothing has changed.
+    fn load(
+        &mut self,
+        alloc: Global,
+        output: u16,
+        worker: u16,
+        now: u64,
+    ) -> Result<Answer, AllocError>
+        ensures answer { IfOk result (λ a. a ≡ live_load_answer (worker_at worker (slice_get self.old.lanes output)) (slice_get self.old.lanes output) self.old.run output) }
+        ensures next { OnOk result (self.new ≡ live_load_next output worker (worker_at worker (slice_get self.old.lanes output)) (slice_get self.old.lanes output) now self.old) }
+        ensures err { OnErr result (self.new ≡ self.old) }
+    {
+        let place = usize::from(output);
+        if place >= self.lanes.len() {
+            return Ok(Answer::Refused(Refusal::NoSuch));
+        }
+        let run = self.run;
+        let lane = &mut self.lanes[place];
+        lane.load(alloc, &run, output, worker, now)
+    }
+}
+
+fn lanes_of(alloc: Global, configs: &[OutputConfig]) -> Result<Vec<Lane>, AllocError>
+    ensures { IfOk result (λ lanes. lanes.items ≡ map new_live_lane configs.now) }
+{
+    let mut lanes = Vec::new(alloc);
+    for config in configs {
+        lanes.push(Lane::new(alloc, *config)?)?;
+    }
+    Ok(lanes)
+}
+
+/// The first request that waits at the source is entered at the output. On an error nothing has changed.
+fn admit_from(
+    alloc: Global,
+    source: &mut Source,
+    lane: &mut Lane,
+    conn: u64,
+    output: u16,
+    now: u64,
+) -> Result<Answer, AllocError>
+    ensures answer { IfOk result (λ a. a ≡ live_admit_answer (Some source.old) output (Some lane.old)) }
+    ensures source { OnOk result (source.new ≡ admit_source source.old source.old.waiting output lane.old) }
+    ensures lane { OnOk result (lane.new ≡ admit_lane conn source.old source.old.waiting output lane.old now) }
+    ensures source_err { OnErr result (source.new ≡ source.old) }
+    ensures lane_err { OnErr result (lane.new ≡ lane.old) }
+{
+    let Some(batch) = source.first() else {
+        return Ok(Answer::Refused(Refusal::NotNow));
+    };
+    if output != 0 {
+        return Ok(Answer::Refused(Refusal::NotNow));
+    }
+    let request = source.number();
+    let entries = batch.entries().len();
+    match lane.admit(alloc, Origin { conn, request }, batch, now) {
+        Ok(()) => {
+            source.give();
+            Ok(Answer::Admitted { request, entries })
+        }
+        Err(AdmitError::NumbersSpent) => {
+            source.shut();
+            Ok(Answer::NumbersSpent)
+        }
+        Err(AdmitError::Memory) => Err(AllocError),
+    }
+}

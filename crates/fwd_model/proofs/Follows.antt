@@ -1,0 +1,172 @@
+-- The live part follows the history at each event of a run, and over runs.
+use Rattle.std.proofs.Common.{◌≡◌, ℕ, Bool, true, false, cond, List, [], ◌∷◌, Option, Some, None, refl, sym, ap, subst, ◌∙◌}
+use Rattle.std.specs.Prelude.{map, option_map, slice_get}
+use Rattle.fwd_model.specs.declared.config.Config.{Config}
+use Rattle.fwd_model.specs.declared.config.OutputConfig.{OutputConfig}
+use Rattle.fwd_model.specs.declared.event.Event.{Event}
+use Rattle.fwd_model.specs.declared.event.Event.TheVariants as event
+use Rattle.fwd_model.specs.declared.event.FlushKind.{FlushKind}
+use Rattle.fwd_model.specs.declared.answer.Answer.{Answer}
+use Rattle.fwd_model.specs.declared.answer.Answer.TheVariants as answer
+use Rattle.fwd_model.specs.declared.fault.Refusal.TheVariants.{NotNow}
+use Rattle.fwd_model.specs.History.{SourceHistory, SessionHistory, Lane, History, source_at, new_lane, opening}
+use Rattle.fwd_model.specs.Step as step
+use Rattle.fwd_model.specs.Step.{answer_to, next, answers, after, is_fresh, accepted, session_at, IsReached}
+use Rattle.fwd_model.specs.Live.{live, live_source, live_lane, live_worker, last_id, LiveRelay, LiveLane, LiveWorker}
+use Rattle.fwd_model.specs.LiveStep as livestep
+use Rattle.fwd_model.specs.LiveStep.{live_answer_to, live_next, live_answers, live_after, live_accepted, live_source_at, is_above, worker_at}
+use Rattle.fwd_model.proofs.Places.{source_at-live}
+use Rattle.fwd_model.proofs.Reached.{AdmitsItsOwn, CarriesItsOwn, AllCarry, IsSane, AllAdmit-at, AllCarry-at}
+use Rattle.fwd_model.proofs.FollowsSources.{accepted-live, accepted-sane, piece_answer-live, piece_next-live, piece_next-sane}
+use Rattle.fwd_model.proofs.FollowsOutputs.{lane_at-live, worker_at-live, flush_answer-live, flush_next-live, flush_next-sane, up_answer-live, up_next-live, up_next-sane, load_answer-live, load_next-live, load_next-sane}
+use Rattle.fwd_model.proofs.FollowsTakes.{take_answer-live, take_next-live, take_next-sane}
+use Rattle.fwd_model.proofs.FollowsAdmits.{admit_answer-live, admit_next-live, admit_next-sane}
+
+abbrev Followed : History → Event → Type 0
+Followed h e = (answer_to h e ≡ live_answer_to (live h) e) × (live (next h e) ≡ live_next (live h) e) × IsSane (next h e)
+
+module _ (h : History) (sane : IsSane h) where
+  own_source : (id : ℕ) (s : SourceHistory) → source_at id h.connections ≡ Some s → AdmitsItsOwn s
+  own_source id s e = AllAdmit-at id h.connections s sane.sources e
+
+  own_lane : (o : ℕ) (l : Lane) → slice_get h.lanes o ≡ Some l → CarriesItsOwn l
+  own_lane o l e = AllCarry-at h.lanes o l sane.lanes e
+
+  live_source_here : (id : ℕ) → live_source_at id (live h).connections ≡ option_map live_source (source_at id h.connections)
+  unfolding live
+  live_source_here id = source_at-live id h.connections
+
+  accept_at : (id : ℕ) (b c : Bool) → is_fresh id h.connections ≡ b → b ≡ c
+      → (cond b (answer.Accepted []) (answer.Refused NotNow) ≡ cond c (answer.Accepted []) (answer.Refused NotNow)) × (live (cond b (accepted id h) h) ≡ cond c (live_accepted id (live h)) (live h)) × IsSane (cond b (accepted id h) h)
+  accept_at id true true f e = (refl, accepted-live id h, accepted-sane id h sane f)
+  accept_at id true false f e = absurd cc
+  accept_at id false true f e = absurd cc
+  accept_at id false false f e = (refl, refl, sane)
+
+  accept_followed : (id : ℕ) (nonce auth : List ℕ) → Followed h (event.Accept id nonce auth)
+  unfolding live
+  accept_followed id nonce auth = accept_at id (is_fresh id h.connections) (is_above id (last_id h.connections)) refl (sane.ids id)
+
+  piece_followed : (id : ℕ) (bytes : List ℕ) → Followed h (event.Piece id bytes)
+  piece_followed id bytes =
+      let own : (s : SourceHistory) → source_at id h.connections ≡ Some s → AdmitsItsOwn s = λ s e. own_source id s e in
+      let here = sym (live_source_here id) in (
+        piece_answer-live (source_at id h.connections) bytes own ∙ ap (λ o. livestep.live_piece_answer o bytes) here,
+        piece_next-live id (source_at id h.connections) bytes h own ∙ ap (λ o. livestep.live_piece_next id o bytes (live h)) here,
+        piece_next-sane id (source_at id h.connections) bytes h sane own,
+      )
+
+  admit_followed : (id o now : ℕ) → Followed h (event.Admit id o now)
+  admit_followed id o now =
+      let has : (s : SourceHistory) → source_at id h.connections ≡ Some s → AdmitsItsOwn s = λ s e. own_source id s e in
+      let own : (l : Lane) → slice_get h.lanes o ≡ Some l → CarriesItsOwn l = λ l e. own_lane o l e in
+      let here = sym (live_source_here id) in
+      let lane = sym (lane_at-live o h) in (
+        admit_answer-live (source_at id h.connections) o (slice_get h.lanes o) ∙ (λ i. livestep.live_admit_answer (here i) o (lane i)),
+        admit_next-live id (source_at id h.connections) o (slice_get h.lanes o) now h own ∙ (λ i. livestep.live_admit_next id (here i) o (lane i) now (live h)),
+        admit_next-sane id (source_at id h.connections) o (slice_get h.lanes o) now h sane has own,
+      )
+
+  flush_followed : (o now : ℕ) (kind : FlushKind) → Followed h (event.Flush o now kind)
+  flush_followed o now kind =
+      let lane = sym (lane_at-live o h) in (
+        flush_answer-live (slice_get h.lanes o) now kind ∙ ap (λ l. livestep.live_flush_answer l now kind) lane,
+        flush_next-live o (slice_get h.lanes o) now kind h ∙ ap (λ l. livestep.live_flush_next o l now kind (live h)) lane,
+        flush_next-sane o (slice_get h.lanes o) now kind h sane (λ l e. own_lane o l e),
+      )
+
+  -- what happens at a worker's place, by whether there is such an output
+  module _ (o w : ℕ) (event_answer : Option (Option SessionHistory) → Option Lane → Answer) (event_next : Option (Option SessionHistory) → Option Lane → History)
+      (its_answer : Option LiveWorker → Option LiveLane → Answer) (its_next : Option LiveWorker → Option LiveLane → LiveRelay) where
+    at_worker :
+        ((event_answer None None ≡ its_answer None None) × (live (event_next None None) ≡ its_next None None) × IsSane (event_next None None))
+        → ((l : Lane) → slice_get h.lanes o ≡ Some l
+        → (event_answer (slice_get l.sessions w) (Some l) ≡ its_answer (option_map (λ s. live_worker l.output w s) (slice_get l.sessions w)) (Some (live_lane l)))
+        × (live (event_next (slice_get l.sessions w) (Some l)) ≡ its_next (option_map (λ s. live_worker l.output w s) (slice_get l.sessions w)) (Some (live_lane l)))
+        × IsSane (event_next (slice_get l.sessions w) (Some l)))
+        → (event_answer (session_at w (slice_get h.lanes o)) (slice_get h.lanes o) ≡ its_answer (worker_at w (slice_get (live h).lanes o)) (slice_get (live h).lanes o))
+        × (live (event_next (session_at w (slice_get h.lanes o)) (slice_get h.lanes o)) ≡ its_next (worker_at w (slice_get (live h).lanes o)) (slice_get (live h).lanes o))
+        × IsSane (event_next (session_at w (slice_get h.lanes o)) (slice_get h.lanes o))
+    at_worker none some = subst (λ x. (event_answer (session_at w (slice_get h.lanes o)) (slice_get h.lanes o) ≡ its_answer (worker_at w x) x)
+        × (live (event_next (session_at w (slice_get h.lanes o)) (slice_get h.lanes o)) ≡ its_next (worker_at w x) x)
+        × IsSane (event_next (session_at w (slice_get h.lanes o)) (slice_get h.lanes o))) (sym (lane_at-live o h)) (by_lane (slice_get h.lanes o) refl)
+      where
+        by_lane : (l : Option Lane) → slice_get h.lanes o ≡ l → (event_answer (session_at w l) l ≡ its_answer (worker_at w (option_map live_lane l)) (option_map live_lane l))
+            × (live (event_next (session_at w l) l) ≡ its_next (worker_at w (option_map live_lane l)) (option_map live_lane l)) × IsSane (event_next (session_at w l) l)
+        by_lane None e = none
+        by_lane (Some l) e =
+            let f = some l e in
+            let here = sym (worker_at-live w l) in
+            (f.0 ∙ ap (λ x. its_answer x (Some (live_lane l))) here, f.1 ∙ ap (λ x. its_next x (Some (live_lane l))) here, f.2)
+
+  up_followed : (o w server : ℕ) (salt : List ℕ) (now : ℕ) → Followed h (event.Up o w server salt now)
+  up_followed o w server salt now =
+      at_worker o w (λ s l. step.up_answer server s l) (λ s l. step.up_next o w server now s l h) (λ x l. livestep.live_up_answer server x l) (λ x l. livestep.live_up_next o w server now x l (live h))
+      (refl, refl, sane)
+      (λ l e. (
+        up_answer-live server w (slice_get l.sessions w) (Some l) l.output,
+        up_next-live o w server now (slice_get l.sessions w) l h,
+        up_next-sane o w server now (slice_get l.sessions w) (Some l) h sane (λ k f. subst CarriesItsOwn (some_is l k f) (own_lane o l e)),
+      ))
+    where
+      some_is : (l k : Lane) → Some l ≡ Some k → l ≡ k
+      some_is l k f = cc
+
+  take_followed : (o w now : ℕ) → Followed h (event.Take o w now)
+  take_followed o w now =
+      at_worker o w (λ s l. step.take_answer w s l) (λ s l. step.take_next o w s l now h) (λ x l. livestep.live_take_answer x l) (λ x l. livestep.live_take_next o w x l now (live h))
+      (refl, refl, sane)
+      (λ l e. (
+        take_answer-live w (slice_get l.sessions w) l,
+        take_next-live o w (slice_get l.sessions w) l now h refl,
+        take_next-sane o w (slice_get l.sessions w) (Some l) now h sane (λ k f. subst CarriesItsOwn (some_is l k f) (own_lane o l e)),
+      ))
+    where
+      some_is : (l k : Lane) → Some l ≡ Some k → l ≡ k
+      some_is l k f = cc
+
+  load_followed : (o w now : ℕ) → Followed h (event.Load o w now)
+  unfolding live
+  load_followed o w now =
+      at_worker o w (λ s l. step.load_answer w s l h.run o) (λ s l. step.load_next o w s l now h) (λ x l. livestep.live_load_answer x l h.run o) (λ x l. livestep.live_load_next o w x l now (live h))
+      (refl, refl, sane)
+      (λ l e. (
+        load_answer-live w (slice_get l.sessions w) l h.run o,
+        load_next-live o w (slice_get l.sessions w) l now h,
+        load_next-sane o w (slice_get l.sessions w) (Some l) now h sane (λ k f. subst CarriesItsOwn (some_is l k f) (own_lane o l e)),
+      ))
+    where
+      some_is : (l k : Lane) → Some l ≡ Some k → l ≡ k
+      some_is l k f = cc
+
+  pub event_followed : (e : Event) → (answer_to h e ≡ live_answer_to (live h) e) × (live (next h e) ≡ live_next (live h) e) × IsSane (next h e)
+  event_followed (event.Accept id nonce auth) = accept_followed id nonce auth
+  event_followed (event.Piece id bytes) = piece_followed id bytes
+  event_followed (event.Admit id o now) = admit_followed id o now
+  event_followed (event.Flush o now kind) = flush_followed o now kind
+  event_followed (event.Up o w server salt now) = up_followed o w server salt now
+  event_followed (event.Take o w now) = take_followed o w now
+  event_followed (event.Load o w now) = load_followed o w now
+
+-- ---- runs
+
+opening_carries : (cs : List OutputConfig) → AllCarry (map new_lane cs)
+opening_carries [] = tt
+opening_carries (c ∷ cs) = (tt, opening_carries cs)
+
+opening_sane : (config : Config) → IsSane (opening config)
+unfolding opening
+opening_sane config = record { ids = λ id. refl; sources = tt; lanes = opening_carries config.outputs }
+
+pub run_followed : (es : List Event) (h : History) → IsSane h → (answers h es ≡ live_answers (live h) es) × (live (after h es) ≡ live_after (live h) es) × IsSane (after h es)
+run_followed [] h sane = (refl, refl, sane)
+run_followed (e ∷ es) h sane =
+    let one = event_followed h sane e in
+    let more = run_followed es (next h e) one.2 in (
+      (λ i. one.0 i ∷ (more.0 ∙ ap (λ r. live_answers r es) one.1) i),
+      more.1 ∙ ap (λ r. live_after r es) one.1,
+      more.2,
+    )
+
+pub reached_sane : (config : Config) (h : History) → IsReached config h → IsSane h
+reached_sane config h r = subst IsSane r.1 (run_followed r.0 (opening config) (opening_sane config)).2

@@ -1,0 +1,73 @@
+-- The history of a relay: all that ever came, with nothing removed.
+use Rattle.std.specs.Prelude.{ℕ, Bool, ◌||◌, List, [], ◌∷◌, map, drop, replicate, Option, Some, None, is_some, ◌==◌, if◌then◌else◌}
+use Rattle.fwd_modes.specs.Requests.{Request}
+use Rattle.fwd_model.specs.declared.cell.Cell.{Cell}
+use Rattle.fwd_model.specs.declared.cell.Carry.{Carry}
+use Rattle.fwd_model.specs.declared.config.Config.{Config}
+use Rattle.fwd_model.specs.declared.config.OutputConfig.{OutputConfig}
+use Rattle.fwd_model.specs.Sources.{Judged, judged_of}
+
+-- a connection: all bytes heard, how many of its requests were admitted, and whether it was closed with what waited dropped
+pub record SourceHistory : Type 0 where
+  pub heard : List ℕ
+  pub admitted : ℕ
+  pub shut : Bool
+
+abbrev pub judged : SourceHistory → Judged
+judged s = judged_of 0 s.heard
+
+-- no further piece is taken
+abbrev pub is_closed : SourceHistory → Bool
+is_closed s = s.shut || is_some (judged s).fault
+
+-- the requests that wait to be admitted
+abbrev pub waiting : SourceHistory → List Request
+waiting s = if s.shut then [] else drop s.admitted (judged s).requests
+
+pub record Connection : Type 0 where
+  pub id : ℕ
+  pub source : SourceHistory
+
+abbrev pub source_at : ℕ → List Connection → Option SourceHistory
+source_at id [] = None
+source_at id (c ∷ cs) = if c.id == id then Some c.source else source_at id cs
+
+abbrev pub with_source : ℕ → SourceHistory → List Connection → List Connection
+with_source id s [] = []
+with_source id s (c ∷ cs) = if c.id == id then record { id = c.id; source = s } ∷ cs else c ∷ with_source id s cs
+
+-- an output: every entry ever admitted, in order; the numbers that may take more; who has which number; the greatest moment handed in
+pub record OutputHistory : Type 0 where
+  pub cells : List Cell
+  pub opened : List ℕ
+  pub carried : List Carry
+  pub moment : ℕ
+
+-- a worker's session with a server: all bytes appended for sending, the number that it was loaded with, the greatest moment handed in
+pub record SessionHistory : Type 0 where
+  pub server : ℕ
+  pub appended : List ℕ
+  pub loaded : Option ℕ
+  pub moment : ℕ
+
+-- an output with its settings, and a place for each of its workers
+pub record Lane : Type 0 where
+  pub config : OutputConfig
+  pub output : OutputHistory
+  pub sessions : List (Option SessionHistory)
+
+pub record History : Type 0 where
+  pub run : List ℕ
+  pub connections : List Connection
+  pub lanes : List Lane
+
+abbrev pub new_lane : OutputConfig → Lane
+new_lane c = record {
+  config = c;
+  output = record { cells = []; opened = []; carried = []; moment = 0 };
+  sessions = replicate c.workers None;
+}
+
+-- before any event
+unfoldable pub opening : Config → History
+opening config = record { run = config.run; connections = []; lanes = map new_lane config.outputs }

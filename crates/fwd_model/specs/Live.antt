@@ -1,0 +1,104 @@
+-- What of a history still matters: the bytes of unfinished values, the requests that wait, the counts, and what is not yet settled.
+use Rattle.std.specs.Prelude.{ℕ, suc, Bool, List, [], ◌∷◌, length, map, Option, Some, None, option_map, if◌then◌else◌}
+use Rattle.fwd_modes.specs.Requests.{Request}
+use Rattle.fwd_model.specs.declared.cell.Cell.{Cell}
+use Rattle.fwd_model.specs.declared.cell.Carry.{Carry}
+use Rattle.fwd_model.specs.declared.cell.Chunk.{Chunk}
+use Rattle.fwd_model.specs.declared.config.OutputConfig.{OutputConfig}
+use Rattle.fwd_model.specs.Chunks.{greatest, chunk_of, carry_of}
+use Rattle.fwd_model.specs.History.{SourceHistory, judged, is_closed, waiting, Connection, OutputHistory, SessionHistory, Lane, History}
+
+-- a connection: the bytes after its last whole value, the requests that wait, how many were admitted, whether it takes no further piece
+pub record LiveSource : Type 0 where
+  pub rest : List ℕ
+  pub waiting : List Request
+  pub admitted : ℕ
+  pub closed : Bool
+
+unfoldable pub live_source : SourceHistory → LiveSource
+live_source s = record {
+  rest = if s.shut then [] else (judged s).rest;
+  waiting = waiting s;
+  admitted = s.admitted;
+  closed = is_closed s;
+}
+
+pub record LiveConnection : Type 0 where
+  pub id : ℕ
+  pub source : LiveSource
+
+abbrev pub live_connection : Connection → LiveConnection
+live_connection c = record { id = c.id; source = live_source c.source }
+
+-- an output: with the counts that its cells gave, which stay when cells go
+pub record LiveOutput : Type 0 where
+  pub cells : List Cell
+  pub opened : List ℕ
+  pub greatest : ℕ
+  pub accepted : ℕ
+  pub carried : List Carry
+  pub moment : ℕ
+
+unfoldable pub live_output : OutputHistory → LiveOutput
+live_output o = record {
+  cells = o.cells;
+  opened = o.opened;
+  greatest = greatest o.cells;
+  accepted = length o.cells;
+  carried = o.carried;
+  moment = o.moment;
+}
+
+-- a session: the bytes that wait to be sent
+pub record LiveSession : Type 0 where
+  pub server : ℕ
+  pub waiting : List ℕ
+  pub loaded : Option ℕ
+  pub moment : ℕ
+
+abbrev pub live_session : SessionHistory → LiveSession
+live_session s = record { server = s.server; waiting = s.appended; loaded = s.loaded; moment = s.moment }
+
+-- a worker: the chunk that it has, with its entries, and its session
+pub record LiveWorker : Type 0 where
+  pub chunk : Option Chunk
+  pub session : Option LiveSession
+
+abbrev pub live_worker : OutputHistory → ℕ → Option SessionHistory → LiveWorker
+live_worker o w s = record {
+  chunk = option_map (λ c. chunk_of c.number o.cells) (carry_of w o.carried);
+  session = option_map live_session s;
+}
+
+-- the workers from this place on
+abbrev pub live_workers : OutputHistory → ℕ → List (Option SessionHistory) → List LiveWorker
+live_workers o w [] = []
+live_workers o w (s ∷ ss) = live_worker o w s ∷ live_workers o (suc w) ss
+
+pub record LiveLane : Type 0 where
+  pub config : OutputConfig
+  pub output : LiveOutput
+  pub workers : List LiveWorker
+
+unfoldable pub live_lane : Lane → LiveLane
+live_lane l = record { config = l.config; output = live_output l.output; workers = live_workers l.output 0 l.sessions }
+
+-- the greatest id accepted is kept, since connections may go
+pub record LiveRelay : Type 0 where
+  pub run : List ℕ
+  pub last : Option ℕ
+  pub connections : List LiveConnection
+  pub lanes : List LiveLane
+
+abbrev pub last_id : List Connection → Option ℕ
+last_id [] = None
+last_id (c ∷ []) = Some c.id
+last_id (c ∷ d ∷ cs) = last_id (d ∷ cs)
+
+unfoldable pub live : History → LiveRelay
+live h = record {
+  run = h.run;
+  last = last_id h.connections;
+  connections = map live_connection h.connections;
+  lanes = map live_lane h.lanes;
+}

@@ -1,0 +1,272 @@
+-- The step read on live states: the same cases in the same order, with what is kept in place of what is left out.
+use Rattle.std.specs.Prelude.{ℕ, ◌+◌, Bool, true, false, not, List, [], ◌∷◌, ◌++◌, length, filter, Option, Some, None, is_some, nat_lt, ◌==◌, max, if◌then◌else◌, slice_get, slice_set}
+use Rattle.fwd_modes.specs.Requests.{Request}
+use Rattle.fwd_model.specs.declared.cell.Cell.{Cell}
+use Rattle.fwd_model.specs.declared.cell.Chunk.{Chunk}
+use Rattle.fwd_model.specs.declared.cell.Origin.{Origin}
+use Rattle.fwd_model.specs.declared.event.Event.{Event}
+use Rattle.fwd_model.specs.declared.event.Event.TheVariants as event
+use Rattle.fwd_model.specs.declared.event.FlushKind.{FlushKind}
+use Rattle.fwd_model.specs.declared.answer.Answer.{Answer}
+use Rattle.fwd_model.specs.declared.answer.Answer.TheVariants as answer
+use Rattle.fwd_model.specs.declared.fault.Refusal.TheVariants.{Closed, NoSuch, NotNow}
+use Rattle.fwd_model.specs.Chunks.{cells_of, open_after, is_spent, closes, least_free, chunk_of}
+use Rattle.fwd_model.specs.Sources.{Judged, judged_of}
+use Rattle.fwd_model.specs.Step.{told, carry_more, is_loaded, frame_of}
+use Rattle.fwd_model.specs.Live.{LiveSource, LiveConnection, LiveOutput, LiveSession, LiveWorker, LiveLane, LiveRelay}
+
+-- ---- connections
+
+abbrev pub live_source_at : ℕ → List LiveConnection → Option LiveSource
+live_source_at id [] = None
+live_source_at id (c ∷ cs) = if c.id == id then Some c.source else live_source_at id cs
+
+abbrev pub with_live_source : ℕ → LiveSource → List LiveConnection → List LiveConnection
+with_live_source id s [] = []
+with_live_source id s (c ∷ cs) = if c.id == id then record { id = c.id; source = s } ∷ cs else c ∷ with_live_source id s cs
+
+abbrev pub is_above : ℕ → Option ℕ → Bool
+is_above id None = true
+is_above id (Some k) = nat_lt k id
+
+abbrev pub live_accepted : ℕ → LiveRelay → LiveRelay
+live_accepted id r = record {
+  run = r.run;
+  last = Some id;
+  connections = r.connections ++ record { id = id; source = record { rest = []; waiting = []; admitted = 0; closed = false } } ∷ [];
+  lanes = r.lanes;
+}
+
+-- what a piece says after the bytes of the unfinished value
+abbrev pub judged_piece : LiveSource → List ℕ → Judged
+judged_piece s bytes = judged_of (s.admitted + length s.waiting) (s.rest ++ bytes)
+
+unfoldable pub source_hears : LiveSource → List ℕ → LiveSource
+source_hears s bytes = record {
+  rest = (judged_piece s bytes).rest;
+  waiting = s.waiting ++ (judged_piece s bytes).requests;
+  admitted = s.admitted;
+  closed = is_some (judged_piece s bytes).fault;
+}
+
+abbrev pub live_piece_answer : Option LiveSource → List ℕ → Answer
+live_piece_answer None bytes = answer.Refused NoSuch
+live_piece_answer (Some s) bytes =
+    if s.closed then answer.Refused Closed else told (judged_piece s bytes).fault (length (s.waiting ++ (judged_piece s bytes).requests))
+
+abbrev pub with_live_connection : ℕ → LiveSource → LiveRelay → LiveRelay
+with_live_connection id s r = record { run = r.run; last = r.last; connections = with_live_source id s r.connections; lanes = r.lanes }
+
+abbrev pub live_piece_next : ℕ → Option LiveSource → List ℕ → LiveRelay → LiveRelay
+live_piece_next id None bytes r = r
+live_piece_next id (Some s) bytes r = if s.closed then r else with_live_connection id (source_hears s bytes) r
+
+-- ---- admit
+
+-- an output before its first event
+abbrev pub no_entries : LiveOutput
+no_entries = record { cells = []; opened = []; greatest = 0; accepted = 0; carried = []; moment = 0 }
+
+unfoldable pub output_enters : LiveOutput → Origin → Request → ℕ → LiveOutput
+output_enters o origin r now = record {
+  cells = o.cells ++ cells_of r origin (o.greatest + 1) (max o.moment now);
+  opened = open_after r (o.greatest + 1) o.cells o.opened;
+  greatest = if length r.entries == 0 then o.greatest else o.greatest + 1;
+  accepted = o.accepted + length r.entries;
+  carried = o.carried;
+  moment = max o.moment now;
+}
+
+abbrev pub output_is_spent : LiveOutput → Request → Bool
+output_is_spent o r = is_spent r (o.greatest + 1) o.accepted
+
+abbrev pub tail_of : List Request → List Request
+tail_of [] = []
+tail_of (r ∷ rs) = rs
+
+abbrev pub source_gives : LiveSource → LiveSource
+source_gives s = record { rest = s.rest; waiting = tail_of s.waiting; admitted = s.admitted + 1; closed = s.closed }
+
+abbrev pub source_shuts : LiveSource → LiveSource
+source_shuts s = record { rest = []; waiting = []; admitted = s.admitted; closed = true }
+
+abbrev pub with_live_output : LiveLane → LiveOutput → LiveLane
+with_live_output l o = record { config = l.config; output = o; workers = l.workers }
+
+abbrev pub with_live_lane : ℕ → LiveLane → LiveRelay → LiveRelay
+with_live_lane o l r = record { run = r.run; last = r.last; connections = r.connections; lanes = slice_set r.lanes o l }
+
+abbrev pub live_admit_waiting : LiveSource → List Request → ℕ → LiveLane → Answer
+live_admit_waiting s [] o l = answer.Refused NotNow
+live_admit_waiting s (r ∷ rs) o l =
+    if not (o == 0) then answer.Refused NotNow
+    else (if output_is_spent l.output r then answer.NumbersSpent else answer.Admitted (s.admitted + 1) (length r.entries))
+
+abbrev pub live_admit_answer : Option LiveSource → ℕ → Option LiveLane → Answer
+live_admit_answer None o l = answer.Refused NoSuch
+live_admit_answer (Some s) o None = answer.Refused NoSuch
+live_admit_answer (Some s) o (Some l) = live_admit_waiting s s.waiting o l
+
+abbrev pub live_admit_waiting_next : ℕ → LiveSource → List Request → ℕ → LiveLane → ℕ → LiveRelay → LiveRelay
+live_admit_waiting_next id s [] o l now r = r
+live_admit_waiting_next id s (q ∷ qs) o l now r =
+    if not (o == 0) then r
+    else (if output_is_spent l.output q then with_live_connection id (source_shuts s) r
+    else with_live_lane o (with_live_output l (output_enters l.output (record { conn = id; request = s.admitted + 1 }) q now)) (with_live_connection id (source_gives s) r))
+
+abbrev pub live_admit_next : ℕ → Option LiveSource → ℕ → Option LiveLane → ℕ → LiveRelay → LiveRelay
+live_admit_next id None o l now r = r
+live_admit_next id (Some s) o None now r = r
+live_admit_next id (Some s) o (Some l) now r = live_admit_waiting_next id s s.waiting o l now r
+
+-- ---- flush
+
+-- the numbers that a flush closes
+abbrev pub output_closes : LiveOutput → ℕ → ℕ → FlushKind → ℕ → Bool
+output_closes o interval now kind number = closes kind interval (max o.moment now) o.cells number
+
+unfoldable pub output_flushes : LiveOutput → ℕ → ℕ → FlushKind → LiveOutput
+output_flushes o interval now kind = record {
+  cells = o.cells;
+  opened = filter (λ k. not (output_closes o interval now kind k)) o.opened;
+  greatest = o.greatest;
+  accepted = o.accepted;
+  carried = o.carried;
+  moment = max o.moment now;
+}
+
+abbrev pub live_flush_answer : Option LiveLane → ℕ → FlushKind → Answer
+live_flush_answer None now kind = answer.Refused NoSuch
+live_flush_answer (Some l) now kind =
+    answer.Closed (length (filter (output_closes l.output l.config.flush_interval now kind) l.output.opened))
+
+abbrev pub live_flush_next : ℕ → Option LiveLane → ℕ → FlushKind → LiveRelay → LiveRelay
+live_flush_next o None now kind r = r
+live_flush_next o (Some l) now kind r =
+    with_live_lane o (with_live_output l (output_flushes l.output l.config.flush_interval now kind)) r
+
+-- ---- up
+
+abbrev pub with_live_worker : LiveLane → ℕ → LiveWorker → LiveLane
+with_live_worker l w x = record { config = l.config; output = l.output; workers = slice_set l.workers w x }
+
+abbrev pub worker_at : ℕ → Option LiveLane → Option LiveWorker
+worker_at w None = None
+worker_at w (Some l) = slice_get l.workers w
+
+abbrev pub live_up_answer : ℕ → Option LiveWorker → Option LiveLane → Answer
+live_up_answer server None l = answer.Refused NoSuch
+live_up_answer server (Some x) None = answer.Refused NoSuch
+live_up_answer server (Some x) (Some l) =
+    if not (nat_lt server l.config.servers) then answer.Refused NoSuch else (if is_some x.session then answer.Refused NotNow else answer.Done)
+
+abbrev pub fresh_session : ℕ → ℕ → LiveSession
+fresh_session server now = record { server = server; waiting = []; loaded = None; moment = now }
+
+abbrev pub worker_with : LiveWorker → LiveSession → LiveWorker
+worker_with x s = record { chunk = x.chunk; session = Some s }
+
+abbrev pub live_up_next : ℕ → ℕ → ℕ → ℕ → Option LiveWorker → Option LiveLane → LiveRelay → LiveRelay
+live_up_next o w server now None l r = r
+live_up_next o w server now (Some x) None r = r
+live_up_next o w server now (Some x) (Some l) r =
+    if not (nat_lt server l.config.servers) then r
+    else (if is_some x.session then r else with_live_lane o (with_live_worker l w (worker_with x (fresh_session server now))) r)
+
+-- ---- take
+
+abbrev pub chunk_at : Option ℕ → List Cell → Option Chunk
+chunk_at None cells = None
+chunk_at (Some k) cells = Some (chunk_of k cells)
+
+abbrev pub output_found : LiveOutput → Option Chunk
+output_found o = chunk_at (least_free o.opened o.carried o.cells) o.cells
+
+unfoldable pub output_takes : LiveOutput → ℕ → ℕ → LiveOutput
+output_takes o w now = record {
+  cells = o.cells;
+  opened = o.opened;
+  greatest = o.greatest;
+  accepted = o.accepted;
+  carried = carry_more w (least_free o.opened o.carried o.cells) o.carried;
+  moment = max o.moment now;
+}
+
+abbrev pub live_found : Option Chunk → Answer
+live_found None = answer.TookNothing
+live_found (Some c) = answer.Took c.number (length c.entries)
+
+abbrev pub live_take_answer : Option LiveWorker → Option LiveLane → Answer
+live_take_answer None l = answer.Refused NoSuch
+live_take_answer (Some x) None = answer.Refused NoSuch
+live_take_answer (Some x) (Some l) = if is_some x.chunk then answer.Refused NotNow else live_found (output_found l.output)
+
+abbrev pub live_takes : LiveLane → ℕ → LiveWorker → ℕ → LiveLane
+live_takes l w x now = record {
+  config = l.config;
+  output = output_takes l.output w now;
+  workers = slice_set l.workers w (record { chunk = output_found l.output; session = x.session });
+}
+
+abbrev pub live_take_next : ℕ → ℕ → Option LiveWorker → Option LiveLane → ℕ → LiveRelay → LiveRelay
+live_take_next o w None l now r = r
+live_take_next o w (Some x) None now r = r
+live_take_next o w (Some x) (Some l) now r = if is_some x.chunk then r else with_live_lane o (live_takes l w x now) r
+
+-- ---- load
+
+abbrev pub session_loads : LiveSession → ℕ → List ℕ → ℕ → LiveSession
+session_loads s number frame now =
+    record { server = s.server; waiting = s.waiting ++ frame; loaded = Some number; moment = max s.moment now }
+
+abbrev pub live_load_with : Option LiveSession → Option Chunk → List ℕ → ℕ → Answer
+live_load_with None chunk run o = answer.Refused NotNow
+live_load_with (Some s) None run o = answer.Refused NotNow
+live_load_with (Some s) (Some c) run o = if is_loaded s.loaded c.number then answer.Refused NotNow else answer.Frame (frame_of run o c)
+
+abbrev pub live_load_answer : Option LiveWorker → Option LiveLane → List ℕ → ℕ → Answer
+live_load_answer None l run o = answer.Refused NoSuch
+live_load_answer (Some x) None run o = answer.Refused NoSuch
+live_load_answer (Some x) (Some l) run o = live_load_with x.session x.chunk run o
+
+abbrev pub live_load_next_with : Option LiveSession → Option Chunk → ℕ → ℕ → LiveWorker → LiveLane → ℕ → LiveRelay → LiveRelay
+live_load_next_with None chunk o w x l now r = r
+live_load_next_with (Some s) None o w x l now r = r
+live_load_next_with (Some s) (Some c) o w x l now r =
+    if is_loaded s.loaded c.number then r
+    else with_live_lane o (with_live_worker l w (worker_with x (session_loads s c.number (frame_of r.run o c) now))) r
+
+abbrev pub live_load_next : ℕ → ℕ → Option LiveWorker → Option LiveLane → ℕ → LiveRelay → LiveRelay
+live_load_next o w None l now r = r
+live_load_next o w (Some x) None now r = r
+live_load_next o w (Some x) (Some l) now r = live_load_next_with x.session x.chunk o w x l now r
+
+-- ---- step and run
+
+abbrev pub live_answer_to : LiveRelay → Event → Answer
+live_answer_to r (event.Accept id nonce auth) = if is_above id r.last then answer.Accepted [] else answer.Refused NotNow
+live_answer_to r (event.Piece id bytes) = live_piece_answer (live_source_at id r.connections) bytes
+live_answer_to r (event.Admit id o now) = live_admit_answer (live_source_at id r.connections) o (slice_get r.lanes o)
+live_answer_to r (event.Flush o now kind) = live_flush_answer (slice_get r.lanes o) now kind
+live_answer_to r (event.Up o w server salt now) =
+    live_up_answer server (worker_at w (slice_get r.lanes o)) (slice_get r.lanes o)
+live_answer_to r (event.Take o w now) = live_take_answer (worker_at w (slice_get r.lanes o)) (slice_get r.lanes o)
+live_answer_to r (event.Load o w now) = live_load_answer (worker_at w (slice_get r.lanes o)) (slice_get r.lanes o) r.run o
+
+abbrev pub live_next : LiveRelay → Event → LiveRelay
+live_next r (event.Accept id nonce auth) = if is_above id r.last then live_accepted id r else r
+live_next r (event.Piece id bytes) = live_piece_next id (live_source_at id r.connections) bytes r
+live_next r (event.Admit id o now) = live_admit_next id (live_source_at id r.connections) o (slice_get r.lanes o) now r
+live_next r (event.Flush o now kind) = live_flush_next o (slice_get r.lanes o) now kind r
+live_next r (event.Up o w server salt now) =
+    live_up_next o w server now (worker_at w (slice_get r.lanes o)) (slice_get r.lanes o) r
+live_next r (event.Take o w now) = live_take_next o w (worker_at w (slice_get r.lanes o)) (slice_get r.lanes o) now r
+live_next r (event.Load o w now) = live_load_next o w (worker_at w (slice_get r.lanes o)) (slice_get r.lanes o) now r
+
+abbrev pub live_answers : LiveRelay → List Event → List Answer
+live_answers r [] = []
+live_answers r (e ∷ es) = live_answer_to r e ∷ live_answers (live_next r e) es
+
+abbrev pub live_after : LiveRelay → List Event → LiveRelay
+live_after r [] = r
+live_after r (e ∷ es) = live_after (live_next r e) es

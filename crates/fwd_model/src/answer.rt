@@ -1,0 +1,50 @@
+use crate::fault::{Refusal, SourceFault};
+use fwd_msgpack::Bytes;
+
+/// What the relay answers to an event. `out` is what the event appended to the bytes that wait to be sent.
+#[derive(Debug, Drop)]
+pub enum Answer {
+    /// The connection stands.
+    Accepted {
+        out: Bytes,
+    },
+    /// So many requests of the connection wait.
+    Requests {
+        waiting: usize,
+        out: Bytes,
+    },
+    /// A fault closed the connection; the requests before it still wait.
+    Faulted {
+        fault: SourceFault,
+        waiting: usize,
+        out: Bytes,
+    },
+    /// The connection's request of this number was entered at the output, with so many entries.
+    Admitted {
+        request: u64,
+        entries: usize,
+    },
+    /// The output has no numbers left. The connection is closed without an answer to its source.
+    NumbersSpent,
+    /// So many chunks were closed.
+    Closed {
+        chunks: usize,
+    },
+    /// Nothing else is to be told.
+    Done,
+    /// The worker has the chunk of this number, with so many entries.
+    Took {
+        number: u64,
+        entries: usize,
+    },
+    /// No chunk is free.
+    TookNothing,
+    /// The chunk's frame, which now waits to be sent.
+    Frame {
+        out: Bytes,
+    },
+    /// The event changed nothing.
+    Refused(Refusal),
+    /// Memory ran out, and the event changed nothing.
+    Memory,
+}

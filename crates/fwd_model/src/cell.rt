@@ -1,0 +1,35 @@
+use fwd_msgpack::{Bytes, Seq};
+
+/// The request of a connection. A connection's requests are numbered from 1.
+#[derive(Clone, Copy, Debug, PartialEq, Eq)]
+pub struct Origin {
+    pub conn: u64,
+    pub request: u64,
+}
+
+/// An entry that an output admitted, at a moment in milliseconds.
+#[derive(Debug, Drop)]
+pub struct Cell {
+    pub tag: Bytes,
+    /// The entry as it is kept: `92`, its time, its record.
+    pub entry: Bytes,
+    pub origin: Origin,
+    /// The number of its chunk.
+    pub number: u64,
+    pub moment: u64,
+}
+
+/// A worker and the number of the chunk that it has.
+#[derive(Clone, Copy, Debug, PartialEq, Eq)]
+pub struct Carry {
+    pub worker: u16,
+    pub number: u64,
+}
+
+/// What a worker has of a chunk: its number, its tag, and its entries in order.
+#[derive(Debug, Drop)]
+pub struct Chunk {
+    pub number: u64,
+    pub tag: Bytes,
+    pub entries: Seq<Bytes>,
+}

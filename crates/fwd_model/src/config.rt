@@ -1,0 +1,21 @@
+use fwd_msgpack::Seq;
+
+/// What one output is set to.
+#[derive(Clone, Copy, Debug, PartialEq, Eq)]
+pub struct OutputConfig {
+    /// How many workers it has.
+    pub workers: u16,
+    /// How many servers it has.
+    pub servers: u16,
+    /// How old the first entry of a chunk is when a flush closes it, in milliseconds.
+    pub flush_interval: u64,
+}
+
+/// What a relay is set to.
+#[derive(Debug, Drop)]
+pub struct Config {
+    /// Six bytes that tell this run of the program from others, in the names of its chunks.
+    pub run: [u8; 6],
+    /// The outputs, in file order. An event goes to the first that matches its tag.
+    pub outputs: Seq<OutputConfig>,
+}

@@ -1,0 +1,58 @@
+use fwd_msgpack::Bytes;
+
+/// Which open chunks a flush closes.
+#[derive(Clone, Copy, Debug, PartialEq, Eq)]
+pub enum FlushKind {
+    /// Those whose first entry is at least the flush interval old.
+    Due,
+    /// All of them.
+    All,
+}
+
+/// What happens to the relay. Moments are in milliseconds.
+#[derive(Debug, Drop)]
+pub enum Event {
+    /// A connection comes, with the nonce and the auth salt of its handshake.
+    Accept {
+        conn: u64,
+        nonce: [u8; 16],
+        auth: [u8; 16],
+    },
+    /// Bytes are read from a connection.
+    Piece {
+        conn: u64,
+        bytes: Bytes,
+    },
+    /// The first waiting request of a connection goes to an output.
+    Admit {
+        conn: u64,
+        output: u16,
+        now: u64,
+    },
+    /// Open chunks of an output are closed.
+    Flush {
+        output: u16,
+        now: u64,
+        kind: FlushKind,
+    },
+    /// A worker of an output has a link to one of the output's servers.
+    Up {
+        output: u16,
+        worker: u16,
+        server: u16,
+        salt: Bytes,
+        now: u64,
+    },
+    /// A worker takes the least free chunk of its output.
+    Take {
+        output: u16,
+        worker: u16,
+        now: u64,
+    },
+    /// A worker's chunk is put into its session's waiting bytes.
+    Load {
+        output: u16,
+        worker: u16,
+        now: u64,
+    },
+}

@@ -1,0 +1,29 @@
+-- What the relay writes to the next hop, byte for byte.
+use Rattle.std.specs.Prelude.{ℕ, false, List, ◌++◌, length, codes}
+use Rattle.std.specs.List.{concat}
+use Rattle.std.specs.Int.{w16, w64, to_be_bytes}
+use Rattle.base64.specs.GeneralPurpose.{encode_of}
+use Rattle.base64.specs.Engines.{standard}
+use Rattle.fwd_msgpack.specs.declared.head.Head.TheVariants.{Int, Str, Bin, Arr, Map}
+use Rattle.fwd_msgpack.specs.Heads.{head_bytes}
+
+-- the name of a chunk: the Base64 of six bytes for the run, two for the output, eight for the number
+unfoldable pub chunk_name : List ℕ → ℕ → ℕ → List ℕ
+chunk_name run output number = encode_of standard (run ++ to_be_bytes w16 output ++ to_be_bytes w64 number)
+
+abbrev pub text : List ℕ → List ℕ
+text bytes = head_bytes (Str (length bytes)) ++ bytes
+
+-- how many entries a frame has, and its name: {"size": count, "chunk": name}
+abbrev pub frame_option : ℕ → List ℕ → List ℕ
+frame_option count name =
+    head_bytes (Map 2) ++ text (codes "size") ++ head_bytes (Int false count) ++ text (codes "chunk") ++ text name
+
+-- a frame: [tag, packed entries, option]
+abbrev pub packed_frame : List ℕ → List ℕ → ℕ → List ℕ → List ℕ
+packed_frame tag packed count name =
+    head_bytes (Arr 3) ++ text tag ++ head_bytes (Bin (length packed)) ++ packed ++ frame_option count name
+
+-- the frame of a chunk: its entries one after the other
+unfoldable pub chunk_frame : List ℕ → List (List ℕ) → List ℕ → List ℕ
+chunk_frame tag entries name = packed_frame tag (concat entries) (length entries) name

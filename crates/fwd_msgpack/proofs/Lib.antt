@@ -1,0 +1,21 @@
+pub mod Complete
+mod Examples
+pub mod Faults
+pub mod Fillings
+pub mod Fronts
+pub mod History
+pub mod Openings
+pub mod Parts
+pub mod Places
+pub mod Rows
+pub mod Seen
+pub mod Shortest
+pub mod Solo
+pub mod Sound
+pub mod Spellings
+pub mod Splittings
+pub mod Turns
+pub mod Uniques
+pub mod Wholes
+pub mod Within
+pub mod Bounds

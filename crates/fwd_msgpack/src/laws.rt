@@ -1,0 +1,57 @@
+//! Laws of the definitions: each is the contract of a function that does nothing.
+
+ghost use Rattle.std.specs.Prelude.{◌≡◌, ◌≤◌, List, [], ℕ, ◌++◌, length, Some};
+ghost use Rattle.fwd_msgpack.specs.declared.head.Head.{Head};
+ghost use Rattle.fwd_msgpack.specs.declared.head.Head.TheVariants.{Arr};
+ghost use Rattle.fwd_msgpack.specs.declared.head.HeadRead.TheVariants as read;
+ghost use Rattle.fwd_msgpack.specs.Scans.{Verdict, IsWhole, elements_of, most_bytes, most_deep, first_of, split_of, continued};
+ghost use Rattle.fwd_msgpack.specs.Values.{IsValue};
+ghost use Rattle.fwd_msgpack.specs.Streams.{AreBytes, HasMembers, IsFirst, IsStream, IsWithinLimits};
+ghost use Rattle.fwd_msgpack.specs.Heads.{IsHead, IsSpelled, head_bytes, reading_of};
+
+/// A written head is read back whole as itself, whatever follows it.
+#[tactic(auto, using(crate::proofs::Spellings::read_back))]
+pub fn read_back()
+    ensures { (head : Head) (rest : List ℕ) → IsHead head → IsSpelled head → reading_of (head_bytes head ++ rest) ≡ read.Whole head (length (head_bytes head)) }
+{}
+
+/// No spelling of a head is shorter than the written one.
+pub fn written_is_shortest()
+    ensures { (bytes : List ℕ) (head : Head) (n : ℕ) → AreBytes bytes → reading_of bytes ≡ read.Whole head n → length (head_bytes head) ≤ n }
+{}
+
+/// What a scan finds at the front of a stream is what the stream begins with.
+pub fn first_is_first()
+    ensures { (limit deep : ℕ) (bytes : List ℕ) → AreBytes bytes → IsFirst limit deep bytes (first_of limit deep bytes) }
+{}
+
+/// A stream begins with one thing only.
+pub fn one_verdict()
+    ensures { (limit deep : ℕ) (bytes : List ℕ) (v w : Verdict) → AreBytes bytes → IsFirst limit deep bytes v → IsFirst limit deep bytes w → v ≡ w }
+{}
+
+/// No value is a proper prefix of another.
+pub fn no_prefix()
+    ensures { (deep most : ℕ) (value more : List ℕ) → IsValue deep value → IsValue most (value ++ more) → more ≡ [] }
+{}
+
+/// What a stream is split into: its values, each within the limits, and a rest that is less than one, or the
+/// first fault.
+pub fn split_is_stream()
+    ensures { (limit deep : ℕ) (bytes : List ℕ) → AreBytes bytes → IsStream limit deep bytes (split_of limit deep bytes) }
+{}
+
+/// A stream in two pieces is the first one, continued: its values stay, and its rest goes on.
+pub fn split_continues()
+    ensures { (limit deep : ℕ) (bytes more : List ℕ) → split_of limit deep (bytes ++ more) ≡ continued limit deep (split_of limit deep bytes) more }
+{}
+
+/// The elements of a whole value are the members of an array: its head, and as many values as it opens.
+pub fn elements_are_members()
+    ensures { (bytes : List ℕ) (values : List (List ℕ)) → IsWhole bytes → elements_of bytes ≡ Some values → (n : ℕ) × HasMembers (Arr n) bytes values }
+{}
+
+/// What is whole is a value, at most 64 deep and less than 2^32 bytes long.
+pub fn whole_is_value()
+    ensures { (bytes : List ℕ) → IsWhole bytes → IsWithinLimits most_bytes most_deep bytes }
+{}

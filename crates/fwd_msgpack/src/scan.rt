@@ -1,0 +1,67 @@
+//! How far the first value of some bytes reaches.
+
+ghost use Rattle.std.specs.Prelude.{◌≡◌, ◌<◌, ◌^◌, sum};
+ghost use Rattle.fwd_msgpack.specs.Scans.{first_of, fault_at};
+ghost use Rattle.fwd_msgpack.specs.Extents.{verdict_shown};
+
+use crate::fault::ScanFault;
+use crate::head::{Head, HeadRead, read_head};
+use crate::limits::Limits;
+use crate::stack::Stack;
+
+/// How far the first value of some bytes reaches.
+#[derive(Clone, Copy, Debug, PartialEq, Eq)]
+pub enum Extent {
+    /// It has so many bytes.
+    Whole(usize),
+    /// The bytes stop within it.
+    Short,
+    /// The bytes begin no value within the limits.
+    Bad(ScanFault),
+}
+
+/// What stands at the front of the bytes.
+pub fn extent_of(bytes: &[u8], limits: Limits) -> Extent
+    ensures { verdict_shown result ≡ first_of limits.bytes limits.depth bytes.now }
+{
+    let mut stack = Stack::new();
+    let mut used = 0;
+    loop {
+        let (head, len) = match read_head(&bytes[used..]) {
+            HeadRead::Whole(head, len) => (head, len),
+            HeadRead::Short => return Extent::Short,
+            HeadRead::Reserved => return Extent::Bad(ScanFault::Reserved),
+        };
+        used += len;
+        if let Some(fault) = head_fault(head, used, &stack, limits) {
+            return Extent::Bad(fault);
+        }
+        let payload = head.payload() as usize;
+        if bytes.len() - used < payload {
+            return Extent::Short;
+        }
+        used += payload;
+        if head.members() > 0 {
+            stack.push((head.members() - 1) as u32);
+        } else if !stack.end_value() {
+            return Extent::Whole(used);
+        }
+    }
+}
+
+/// What is wrong with a complete head, if anything is, where `used` bytes end with it.
+#[inline(always)]
+#[tactic(auto, unfolding(crate::specs::Scans::fault_at))]
+fn head_fault(head: Head, used: usize, stack: &Stack, limits: Limits) -> Option<ScanFault>
+    requires { sum stack.now < 2 ^ 32 }
+    ensures { result ≡ fault_at limits.bytes limits.depth used stack.now head }
+{
+    if head.opens() && stack.len() >= usize::from(limits.depth) {
+        return Some(ScanFault::TooDeep);
+    }
+    let owed = u64::from(head.payload()) + head.members() + stack.owed();
+    match u64::from(limits.bytes).checked_sub(used as u64) {
+        Some(left) if owed <= left => None,
+        _ => Some(ScanFault::TooLong),
+    }
+}

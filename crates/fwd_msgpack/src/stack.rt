@@ -1,0 +1,87 @@
+//! The containers that a scan stands in.
+
+ghost use Rattle.std.specs.Prelude.{◌≡◌, ◌+◌, ◌<◌, ◌≤◌, ◌^◌, [], ◌∷◌, length, sum, Some, None, if◌then◌else◌};
+ghost use Rattle.fwd_msgpack.specs.Scans.{after_value};
+
+use std::marker::Model;
+
+/// The open containers, from the innermost: how many members each still lacks after the one in progress.
+#[derive(Drop)]
+pub struct Stack {
+    lacking: [u32; 64],
+    depth: usize,
+    owed: u64,
+}
+
+impl Model for Stack {
+    ghost use Rattle.std.specs.Prelude.{◌≡◌, ◌≤◌, List, ℕ, sum};
+    ghost use Rattle.fwd_msgpack.specs.Stacks.{from_last};
+
+    ghost Value = { List ℕ };
+
+    ghost view = { λ s. from_last s.depth s.lacking };
+
+    ghost invariant = { λ s. (s.depth ≤ 64) × (s.owed ≡ sum (from_last s.depth s.lacking)) };
+}
+
+impl Stack {
+    /// No open container.
+    #[inline(always)]
+    pub fn new() -> Self
+        ensures { result ≡ [] }
+    {
+        Stack {
+            lacking: [0; 64],
+            depth: 0,
+            owed: 0,
+        }
+    }
+
+    /// How many containers are open: at most 64.
+    #[inline(always)]
+    pub fn len(&self) -> usize
+        ensures len { result ≡ length self.now }
+        ensures most { length self.now ≤ 64 }
+    {
+        self.depth
+    }
+
+    /// How many values they lack in all.
+    #[inline(always)]
+    pub fn owed(&self) -> u64
+        ensures { result ≡ sum self.now }
+    {
+        self.owed
+    }
+
+    /// Opens a container that lacks so many members after its first.
+    #[inline(always)]
+    pub fn push(&mut self, lacking: u32)
+        requires room { length self.old < 64 }
+        requires fits { sum self.old + lacking < 2 ^ 64 }
+        ensures { self.new ≡ lacking ∷ self.old }
+    {
+        self.lacking[self.depth] = lacking;
+        self.depth += 1;
+        self.owed += u64::from(lacking);
+    }
+
+    /// Ends a value in the innermost container, and each container that lacks nothing then. Whether one
+    /// is left open, which goes on to its next member.
+    #[inline(always)]
+    pub fn end_value(&mut self) -> bool
+        ensures { after_value self.old ≡ (if result then Some self.new else None) }
+    {
+        while self.depth > 0 {
+            let innermost = self.depth - 1;
+            let lacking = self.lacking[innermost];
+            if lacking > 0 {
+                self.lacking[innermost] = lacking - 1;
+                self.owed -= 1;
+                return true;
+            }
+            self.depth = innermost;
+        }
+        false
+    }
+}

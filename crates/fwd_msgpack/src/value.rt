@@ -1,0 +1,107 @@
+//! One whole value, borrowed.
+
+ghost use Rattle.std.specs.Prelude.{◌≡◌};
+ghost use Rattle.fwd_msgpack.specs.Scans.{IsWhole};
+ghost use Rattle.std.proofs.Props.{props};
+
+use crate::fault::ScanFault;
+use crate::head::{Head, HeadRead, read_head};
+use crate::members::{Members, Pairs};
+
+/// One whole value: its bytes, borrowed. Arrays and maps nest at most 64 deep in it, and it has less than
+/// 2^32 bytes. Reading it takes no memory.
+#[derive(Clone, Copy, Debug)]
+pub struct Value<'a> {
+    pub(crate) bytes: &'a [u8],
+    ghost whole: { IsWhole bytes.now } by { Prim.hlevel props },
+}
+
+impl<'a> Value<'a> {
+    ghost use Rattle.std.specs.Prelude.{Some, IfSome, ◌+◌, ◌<◌, ◌^◌, length};
+    ghost use Rattle.std.specs.List.{concat};
+    ghost use Rattle.std.specs.Option.{option_map};
+    ghost use Rattle.fwd_msgpack.specs.Scans.{parts_of, head_of, elements_of, pairs_of, text_of, integer_of};
+    ghost use Rattle.fwd_msgpack.specs.Values.{bytes_of, members_left, pairs_left, text_shown};
+
+    /// The value's bytes, all of them.
+    #[inline(always)]
+    pub fn bytes(self) -> &'a [u8]
+        ensures value { result.now ≡ bytes_of self.entry }
+        ensures bound { length result.now < 2 ^ 32 }
+    {
+        self.bytes
+    }
+
+    /// The value's head, and the bytes behind it.
+    #[inline(always)]
+    fn parts(self) -> (Head, &'a [u8])
+        ensures { parts_of (bytes_of self.entry) ≡ Some (result.0, result.1.now) }
+    {
+        match read_head(self.bytes) {
+            HeadRead::Whole(head, used) => (head, &self.bytes[used..]),
+            _ => unreachable!(),
+        }
+    }
+
+    /// The value's head.
+    #[inline(always)]
+    pub fn head(self) -> Head
+        ensures { head_of (bytes_of self.entry) ≡ Some result }
+    {
+        self.parts().0
+    }
+
+    /// The members of an array, or nothing for another kind.
+    pub fn items(self) -> Option<Members<'a>>
+        ensures value { option_map members_left result ≡ elements_of (bytes_of self.entry) }
+        ensures bound { IfSome result (λ m. length (concat (members_left m)) + 1 < 2 ^ 32) }
+    {
+        match self.parts() {
+            (Head::Arr(_), rest) => Some(Members { rest }),
+            _ => None,
+        }
+    }
+
+    /// The keys and values of a map, or nothing for another kind.
+    pub fn pairs(self) -> Option<Pairs<'a>>
+        ensures { option_map pairs_left result ≡ pairs_of (bytes_of self.entry) }
+    {
+        match self.parts() {
+            (Head::Map(_), rest) => Some(Pairs {
+                members: Members { rest },
+            }),
+            _ => None,
+        }
+    }
+
+    /// The payload of a str or a bin, or nothing for another kind.
+    pub fn text(self) -> Option<&'a [u8]>
+        ensures { text_shown result ≡ text_of (bytes_of self.entry) }
+    {
+        match self.parts() {
+            (Head::Str(_) | Head::Bin(_), text) => Some(text),
+            _ => None,
+        }
+    }
+
+    /// Whether an integer is below zero, and how far it is from zero; nothing for another kind.
+    pub fn int(self) -> Option<(bool, u64)>
+        ensures { result ≡ integer_of (bytes_of self.entry) }
+    {
+        match self.parts() {
+            (Head::Int { neg, mag }, _) => Some((neg, mag)),
+            _ => None,
+        }
+    }
+}
+
+/// What the bytes begin with.
+#[derive(Clone, Copy, Debug)]
+pub enum Cut<'a> {
+    /// A whole value, and how many bytes it has.
+    Whole(Value<'a>, usize),
+    /// Less than a value, and no fault.
+    Short,
+    /// A fault: no value within the limits begins so.
+    Bad(ScanFault),
+}

@@ -1,0 +1,129 @@
+-- A run over lines: what was written for those so far, and how it ends.
+use Rattle.std.proofs.Common.{◌≡◌, ℕ, ◌+◌, List, [], ◌∷◌, ◌++◌, length, Option, Some, None, refl, sym, ap, ◌∙◌, arith, append_assoc, length-append}
+use Rattle.std.specs.List.{flat_map}
+use Rattle.std.specs.Io.KnownBytes.{Appends, Keeps}
+use Rattle.std.proofs.lemmas.List.{append-nil}
+use Rattle.fwd_model.specs.declared.event.Event.{Event}
+use Rattle.fwd_model.specs.declared.answer.Answer.{Answer}
+use Rattle.fwd_script.specs.declared.status.Status.TheVariants.{Done, BadLine, Memory}
+use Rattle.fwd_script.specs.Lines.{event_of}
+use Rattle.fwd_script.specs.Replay.{events_of, bad_line, answers, answer_line, output, Ends}
+
+-- ---- writes, one after the other
+
+pub Appends-none : (old : Option (List ℕ)) → Appends old old []
+Appends-none None = tt
+Appends-none (Some xs) = sym (append-nil xs)
+
+pub Appends-then : (a b c : Option (List ℕ)) (x y : List ℕ) → Appends a b x → Appends b c y → Appends a c (x ++ y)
+Appends-then None b c x y p q = tt
+Appends-then (Some as_) None c x y p q = absurd p
+Appends-then (Some as_) (Some bs) None x y p q = absurd q
+Appends-then (Some as_) (Some bs) (Some cs) x y p q = q ∙ ap (λ (t : List ℕ). t ++ y) p ∙ append_assoc as_ x y
+
+pub Appends-keeps : (a b c : Option (List ℕ)) (x : List ℕ) → Appends a b x → Keeps b c → Appends a c x
+Appends-keeps None b c x p q = tt
+Appends-keeps (Some as_) None c x p q = absurd p
+Appends-keeps (Some as_) (Some bs) None x p q = absurd q
+Appends-keeps (Some as_) (Some bs) (Some cs) x p q = q ∙ p
+
+-- ---- lines that are events, and then more
+
+-- each line is an event
+abbrev pub AreEvents : List (List ℕ) → Type 0
+AreEvents [] = Unit {0}
+AreEvents (line ∷ lines) = ((event : Event) × (event_of line ≡ Some event)) × AreEvents lines
+
+-- the state after events
+abbrev pub after : {S : Type 0} → (S → Event → S) → S → List Event → S
+after next s [] = s
+after next s (event ∷ events) = after next (next s event) events
+
+AreEvents-push : (lines : List (List ℕ)) (line : List ℕ) (event : Event) → AreEvents lines → event_of line ≡ Some event → AreEvents (lines ++ line ∷ [])
+AreEvents-push [] line event h e = ((event, e), tt)
+AreEvents-push (first ∷ lines) line event h e = (h.0, AreEvents-push lines line event h.1 e)
+
+bad_line-append : (count : ℕ) (front rest : List (List ℕ)) → AreEvents front → bad_line count (front ++ rest) ≡ bad_line (count + length front) rest
+bad_line-append count [] rest h = ap (λ (n : ℕ). bad_line n rest) (omega arith)
+bad_line-append count (line ∷ front) rest h =
+    rw h.0.1 (bad_line-append (count + 1) front rest h.1 ∙ ap (λ (n : ℕ). bad_line n rest) (omega arith))
+
+events_of-append : (front rest : List (List ℕ)) → AreEvents front → events_of (front ++ rest) ≡ events_of front ++ events_of rest
+events_of-append [] rest h = refl
+events_of-append (line ∷ front) rest h = rw h.0.1 (ap (λ (es : List Event). h.0.0 ∷ es) (events_of-append front rest h.1))
+
+answers-append : {S : Type 0} (answer_to : S → Event → Answer) (next : S → Event → S) (s : S) (front rest : List Event) → answers answer_to next s (front ++ rest) ≡ answers answer_to next s front ++ answers answer_to next (after next s front) rest
+answers-append answer_to next s [] rest = refl
+answers-append answer_to next s (event ∷ front) rest = ap (λ (as_ : List Answer). answer_to s event ∷ as_) (answers-append answer_to next (next s event) front rest)
+
+after-append : {S : Type 0} (next : S → Event → S) (s : S) (front rest : List Event) → after next s (front ++ rest) ≡ after next (after next s front) rest
+after-append next s [] rest = refl
+after-append next s (event ∷ front) rest = after-append next (next s event) front rest
+
+lines-append : (front rest : List Answer) → flat_map answer_line (front ++ rest) ≡ flat_map answer_line front ++ flat_map answer_line rest
+lines-append [] rest = refl
+lines-append (answer ∷ front) rest = ap (λ (t : List ℕ). answer_line answer ++ t) (lines-append front rest) ∙ sym (append_assoc (answer_line answer) (flat_map answer_line front) (flat_map answer_line rest))
+
+output-append : {S : Type 0} (answer_to : S → Event → Answer) (next : S → Event → S) (s : S) (front rest : List (List ℕ)) → AreEvents front → output answer_to next s (front ++ rest) ≡ output answer_to next s front ++ output answer_to next (after next s (events_of front)) rest
+output-append answer_to next s front rest h =
+    ap (λ (es : List Event). flat_map answer_line (answers answer_to next s es)) (events_of-append front rest h)
+    ∙ ap (flat_map answer_line) (answers-append answer_to next s (events_of front) (events_of rest))
+    ∙ lines-append (answers answer_to next s (events_of front)) (answers answer_to next (after next s (events_of front)) (events_of rest))
+
+-- ---- the lines answered so far
+
+pub record IsAnswered {S : Type 0} (answer_to : S → Event → Answer) (next : S → Event → S) (first : S) (before : ℕ) (lines : List (List ℕ)) (old : Option (List ℕ)) (s : S) (number : ℕ) (rest : List (List ℕ)) (new : Option (List ℕ)) : Type 0 where
+  pub front : List (List ℕ)
+  pub parts : lines ≡ front ++ rest
+  pub are_events : AreEvents front
+  pub state : s ≡ after next first (events_of front)
+  pub wrote : Appends old new (output answer_to next first front)
+  pub counted : number ≡ before + length front
+
+pub IsAnswered-none : {S : Type 0} (answer_to : S → Event → Answer) (next : S → Event → S) (s : S) (before : ℕ) (lines : List (List ℕ)) (old : Option (List ℕ)) → IsAnswered answer_to next s before lines old s before lines old
+IsAnswered-none answer_to next s before lines old = record { front = []; parts = refl; are_events = tt; state = refl; wrote = Appends-none old; counted = omega arith }
+
+pub IsAnswered-more : {S : Type 0} (answer_to : S → Event → Answer) (next : S → Event → S) (first : S) (before : ℕ) (lines : List (List ℕ)) (old : Option (List ℕ)) (s : S) (number : ℕ) (line : List ℕ) (rest : List (List ℕ)) (new : Option (List ℕ)) (event : Event) (t : S) (newer : Option (List ℕ))
+    → IsAnswered answer_to next first before lines old s number (line ∷ rest) new → event_of line ≡ Some event → t ≡ next s event → Appends new newer (answer_line (answer_to s event))
+    → IsAnswered answer_to next first before lines old t (number + 1) rest newer
+IsAnswered-more {S = S} answer_to next first before lines old s number line rest new event t newer a e goes writes =
+    let one : events_of (line ∷ []) ≡ event ∷ [] = rw e refl in
+    let all : events_of (a.front ++ line ∷ []) ≡ events_of a.front ++ event ∷ [] = events_of-append a.front (line ∷ []) a.are_events ∙ ap (λ (es : List Event). events_of a.front ++ es) one in
+    let text : output answer_to next first (a.front ++ line ∷ []) ≡ output answer_to next first a.front ++ answer_line (answer_to s event) =
+    output-append answer_to next first a.front (line ∷ []) a.are_events
+    ∙ ap (λ (es : List Event). output answer_to next first a.front ++ flat_map answer_line (answers answer_to next (after next first (events_of a.front)) es)) one
+    ∙ ap (λ (u : S). output answer_to next first a.front ++ flat_map answer_line (answers answer_to next u (event ∷ []))) (sym a.state)
+    ∙ ap (λ (u : List ℕ). output answer_to next first a.front ++ u) (append-nil (answer_line (answer_to s event))) in
+    let counted = a.counted in
+    record {
+      front = a.front ++ line ∷ [];
+      parts = a.parts ∙ sym (append_assoc a.front (line ∷ []) rest);
+      are_events = AreEvents-push a.front line event a.are_events e;
+      state = goes ∙ ap (λ (u : S). next u event) a.state ∙ sym (ap (after next first) all ∙ after-append next first (events_of a.front) (event ∷ []));
+      wrote = rw text (Appends-then old new newer (output answer_to next first a.front) (answer_line (answer_to s event)) a.wrote writes);
+      counted = omega (arith, length-append a.front (line ∷ []));
+    }
+
+pub IsAnswered-all : {S : Type 0} (answer_to : S → Event → Answer) (next : S → Event → S) (first : S) (before : ℕ) (lines : List (List ℕ)) (old : Option (List ℕ)) (s : S) (number : ℕ) (new : Option (List ℕ))
+    → IsAnswered answer_to next first before lines old s number [] new → Ends Done answer_to next first before lines old new
+IsAnswered-all answer_to next first before lines old s number new a =
+    let whole : lines ≡ a.front = a.parts ∙ append-nil a.front in
+    (ap (bad_line before) a.parts ∙ bad_line-append before a.front [] a.are_events, rw whole a.wrote)
+
+pub IsAnswered-bad : {S : Type 0} (answer_to : S → Event → Answer) (next : S → Event → S) (first : S) (before : ℕ) (lines : List (List ℕ)) (old : Option (List ℕ)) (s : S) (number : ℕ) (line : List ℕ) (rest : List (List ℕ)) (new newer : Option (List ℕ))
+    → IsAnswered answer_to next first before lines old s number (line ∷ rest) new → event_of line ≡ None → Keeps new newer → Ends (BadLine (number + 1)) answer_to next first before lines old newer
+IsAnswered-bad answer_to next first before lines old s number line rest new newer a none keeps =
+    let here : bad_line (before + length a.front) (line ∷ rest) ≡ Some (before + length a.front + 1) = rw none refl in
+    let counted = a.counted in
+    let nothing : events_of (line ∷ rest) ≡ [] = rw none refl in
+    let text : output answer_to next first lines ≡ output answer_to next first a.front =
+    ap (output answer_to next first) a.parts
+    ∙ output-append answer_to next first a.front (line ∷ rest) a.are_events
+    ∙ ap (λ (es : List Event). output answer_to next first a.front ++ flat_map answer_line (answers answer_to next (after next first (events_of a.front)) es)) nothing
+    ∙ append-nil (output answer_to next first a.front) in
+    (ap (bad_line before) a.parts ∙ bad_line-append before a.front (line ∷ rest) a.are_events ∙ here ∙ ap Some (omega arith), rw text (Appends-keeps old new newer (output answer_to next first a.front) a.wrote keeps))
+
+pub IsAnswered-memory : {S : Type 0} (answer_to : S → Event → Answer) (next : S → Event → S) (first : S) (before : ℕ) (lines : List (List ℕ)) (old : Option (List ℕ)) (s : S) (number : ℕ) (rest : List (List ℕ)) (new newer : Option (List ℕ))
+    → IsAnswered answer_to next first before lines old s number rest new → Keeps new newer → Ends Memory answer_to next first before lines old newer
+IsAnswered-memory answer_to next first before lines old s number rest new newer a keeps =
+    (a.front, rest, a.parts, Appends-keeps old new newer (output answer_to next first a.front) a.wrote keeps)

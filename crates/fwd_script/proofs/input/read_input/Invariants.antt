@@ -1,0 +1,8 @@
+use Rattle.std.proofs.Common.{◌≡◌, length}
+use Rattle.std.specs.Io.KnownBytes.{Consumes}
+use Rattle.fwd_script.proofs.input.read_input.Given as goal
+
+-- the bytes so far are what the reader has given
+abbrev pub invariant-loop : goal.invariant-loop
+invariant-loop g l =
+    Consumes (g.R.Read.remaining l.initial.reader) (g.R.Read.remaining l.reader) l.bytes.items × (length l.buffer ≡ 8192)

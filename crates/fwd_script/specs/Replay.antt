@@ -1,0 +1,80 @@
+-- What a replay writes, and how it ends.
+use Rattle.std.specs.Prelude.{◌≡◌, ◌≢◌, ℕ, ◌+◌, List, [], ◌∷◌, ◌++◌, Option, Some, None, is_none, if◌then◌else◌, map, length, MatchOption}
+use Rattle.std.specs.List.{flat_map}
+use Rattle.std.specs.Option.{option_map_or}
+use Rattle.std.specs.Io.KnownBytes.{Appends, Keeps}
+use Rattle.fwd_model.specs.declared.event.Event.{Event}
+use Rattle.fwd_model.specs.declared.answer.Answer.{Answer}
+use Rattle.fwd_script.specs.Lines.{event_of}
+use Rattle.fwd_script.specs.Texts.{text_of}
+use Rattle.fwd_script.specs.Script.{lines_of, settings_of, event_lines, head_len}
+use Rattle.fwd_script.specs.declared.status.SettingsFault.TheVariants.{NotToml}
+use Rattle.fwd_script.specs.declared.status.Status.{Status}
+use Rattle.fwd_script.specs.declared.status.Status.TheVariants.{Done, BadSettings, BadLine, Memory, Input, Output}
+
+-- the events of the lines before the first that is none
+abbrev pub events_of : List (List ℕ) → List Event
+events_of [] = []
+events_of (line ∷ lines) = option_map_or (λ event. event ∷ events_of lines) (event_of line) []
+
+-- the number of the first line that is no event, where count lines stand before these
+abbrev pub bad_line : ℕ → List (List ℕ) → Option ℕ
+bad_line count [] = None
+bad_line count (line ∷ lines) = if is_none (event_of line) then Some (count + 1) else bad_line (count + 1) lines
+
+-- the answers to events one after the other, from a state
+abbrev pub answers : {S : Type 0} → (S → Event → Answer) → (S → Event → S) → S → List Event → List Answer
+answers answer_to next s [] = []
+answers answer_to next s (event ∷ events) = answer_to s event ∷ answers answer_to next (next s event) events
+
+-- the line of an answer, with its line feed
+abbrev pub answer_line : Answer → List ℕ
+answer_line answer = text_of answer ++ 10 ∷ []
+
+-- what is written for lines, from a state: the line of each answer to their events
+abbrev pub output : {S : Type 0} → (S → Event → Answer) → (S → Event → S) → S → List (List ℕ) → List ℕ
+output answer_to next s lines = flat_map answer_line (answers answer_to next s (events_of lines))
+
+-- some of the lines, from the first on, were answered, and no more was written
+abbrev pub WritesFront : {S : Type 0} → (S → Event → Answer) → (S → Event → S) → S → List (List ℕ) → Option (List ℕ) → Option (List ℕ) → Type 0
+WritesFront answer_to next s lines old new =
+    (front : List (List ℕ)) × (rest : List (List ℕ)) × (lines ≡ front ++ rest) × Appends old new (output answer_to next s front)
+
+-- How a run over lines ended, where count lines stood before them, and what it wrote.
+abbrev pub Ends : {S : Type 0} → Status → (S → Event → Answer) → (S → Event → S) → S → ℕ → List (List ℕ) → Option (List ℕ) → Option (List ℕ) → Type 0
+Ends Done answer_to next s count lines old new = (bad_line count lines ≡ None) × Appends old new (output answer_to next s lines)
+Ends (BadLine n) answer_to next s count lines old new = (bad_line count lines ≡ Some n) × Appends old new (output answer_to next s lines)
+Ends Memory answer_to next s count lines old new = WritesFront answer_to next s lines old new
+Ends Output answer_to next s count lines old new = Unit {0}
+Ends (BadSettings fault) answer_to next s count lines old new = ⊥
+Ends Input answer_to next s count lines old new = ⊥
+
+-- How the replay of a script ended, and what it wrote. Until settings are read, only an empty text of settings is taken.
+abbrev pub Replays : {S : Type 0} → Status → (S → Event → Answer) → (S → Event → S) → S → List ℕ → Option (List ℕ) → Option (List ℕ) → Type 0
+Replays Done answer_to next s script old new =
+    (settings_of script ≡ []) × Ends Done answer_to next s (head_len (lines_of script)) (event_lines (lines_of script)) old new
+Replays (BadLine n) answer_to next s script old new =
+    (settings_of script ≡ []) × Ends (BadLine n) answer_to next s (head_len (lines_of script)) (event_lines (lines_of script)) old new
+Replays (BadSettings NotToml) answer_to next s script old new = (settings_of script ≢ []) × Keeps old new
+Replays Memory answer_to next s script old new = WritesFront answer_to next s (event_lines (lines_of script)) old new
+Replays Input answer_to next s script old new = Keeps old new
+Replays Output answer_to next s script old new = Unit {0}
+
+-- ---- what those words say together
+
+-- each line is an event: one of the events each
+abbrev pub AllAreEvents : List (List ℕ) → Type 0
+AllAreEvents lines = map event_of lines ≡ map Some (events_of lines)
+
+-- the line of this number is no event, and those before it are the events
+pub record IsBadLine (count : ℕ) (lines : List (List ℕ)) (n : ℕ) : Type 0 where
+  pub front : List (List ℕ)
+  pub line : List ℕ
+  pub rest : List (List ℕ)
+  pub parts : lines ≡ front ++ line ∷ rest
+  pub are_events : map event_of front ≡ map Some (events_of lines)
+  pub is_none : event_of line ≡ None
+  pub number : n ≡ count + length front + 1
+
+abbrev pub SplitsAtBad : ℕ → List (List ℕ) → Type 0
+SplitsAtBad count lines = MatchOption (bad_line count lines) (AllAreEvents lines) (IsBadLine count lines)

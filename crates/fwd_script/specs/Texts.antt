@@ -1,0 +1,60 @@
+-- The line of each answer, without its line feed.
+use Rattle.std.specs.Prelude.{ℕ, List, [], ◌∷◌, codes}
+use Rattle.std.specs.List.{join_with_byte}
+use Rattle.std.specs.Fmt.{decimal}
+use Rattle.fwd_msgpack.specs.declared.fault.ScanFault.{ScanFault}
+use Rattle.fwd_msgpack.specs.declared.fault.ScanFault.TheVariants.{Reserved, TooDeep, TooLong}
+use Rattle.fwd_modes.specs.declared.fault.InputFault.{InputFault}
+use Rattle.fwd_modes.specs.declared.fault.InputFault.TheVariants.{BadShape, BadTag, BadEntry, BadOption, Compressed}
+use Rattle.fwd_model.specs.declared.fault.SourceFault.{SourceFault}
+use Rattle.fwd_model.specs.declared.fault.SourceFault.TheVariants.{Scan, Input, Closed as SourceClosed}
+use Rattle.fwd_model.specs.declared.fault.Refusal.{Refusal}
+use Rattle.fwd_model.specs.declared.fault.Refusal.TheVariants as refusal
+use Rattle.fwd_model.specs.declared.answer.Answer.{Answer}
+use Rattle.fwd_model.specs.declared.answer.Answer.TheVariants.{Accepted, Requests, Faulted, Admitted, NumbersSpent, Closed, Done, Took, TookNothing, Frame, Refused, Memory}
+use Rattle.fwd_script.specs.Words.{hex_text}
+
+abbrev pub scan_name : ScanFault → List ℕ
+scan_name Reserved = codes "Reserved"
+scan_name TooDeep = codes "TooDeep"
+scan_name TooLong = codes "TooLong"
+
+abbrev pub input_name : InputFault → List ℕ
+input_name BadShape = codes "BadShape"
+input_name BadTag = codes "BadTag"
+input_name BadEntry = codes "BadEntry"
+input_name BadOption = codes "BadOption"
+input_name Compressed = codes "Compressed"
+
+abbrev pub source_name : SourceFault → List ℕ
+source_name (Scan fault) = scan_name fault
+source_name (Input fault) = input_name fault
+source_name SourceClosed = codes "Closed"
+
+abbrev pub refusal_name : Refusal → List ℕ
+refusal_name refusal.Closed = codes "Closed"
+refusal_name refusal.NoSuch = codes "NoSuch"
+refusal_name refusal.NotNow = codes "NotNow"
+
+-- how many requests wait, and the bytes that an event appended to what waits to be sent
+abbrev pub requests_words : ℕ → List ℕ → List (List ℕ)
+requests_words waiting out = codes "requests" ∷ decimal waiting ∷ codes "out" ∷ hex_text out ∷ []
+
+-- the words of an answer
+abbrev pub answer_words : Answer → List (List ℕ)
+answer_words (Accepted out) = codes "accepted" ∷ codes "out" ∷ hex_text out ∷ []
+answer_words (Requests waiting out) = requests_words waiting out
+answer_words (Faulted fault waiting out) = codes "fault" ∷ source_name fault ∷ requests_words waiting out
+answer_words (Admitted request entries) = codes "admitted" ∷ decimal request ∷ codes "entries" ∷ decimal entries ∷ []
+answer_words NumbersSpent = codes "fault" ∷ codes "NumbersSpent" ∷ []
+answer_words (Closed chunks) = codes "closed" ∷ decimal chunks ∷ []
+answer_words Done = codes "done" ∷ []
+answer_words (Took number entries) = codes "took" ∷ decimal number ∷ codes "entries" ∷ decimal entries ∷ []
+answer_words TookNothing = codes "took" ∷ codes "-" ∷ []
+answer_words (Frame out) = codes "frame" ∷ hex_text out ∷ []
+answer_words (Refused refused) = codes "refused" ∷ refusal_name refused ∷ []
+answer_words Memory = codes "memory" ∷ []
+
+-- an answer's line: its words, with one space between each two
+abbrev pub text_of : Answer → List ℕ
+text_of answer = join_with_byte 32 (answer_words answer)

@@ -1,0 +1,185 @@
+ghost use Rattle.std.specs.Prelude.{◌≡◌, ◌↔◌, ℕ, List, map, IfOk, Some};
+ghost use Rattle.std.specs.Str.{IsUtf8};
+ghost use Rattle.fwd_script.specs.Lines.{accept_of, piece_of, admit_of, kind_of, flush_of, session_of, up_of, take_of, load_of, named, event_of, InRange, line_of};
+ghost use Rattle.fwd_model.specs.declared.event.Event.{Event};
+
+use crate::word::{bytes, number, sixteen, small_number, split_words};
+use fwd_model::{Event, FlushKind};
+use std::alloc::{AllocError, Global};
+
+/// The event of a script line, where the line has the form of one: words with one space between each two,
+/// decimal numbers with no sign and no leading zero that fit their width, bytes in lower-case hexadecimal.
+#[tactic(auto, unfolding(crate::specs::Lines::of_words))]
+pub fn read_event(alloc: Global, line: &[u8]) -> Result<Option<Event>, AllocError>
+    ensures { IfOk result (λ e. e ≡ event_of line.now) }
+{
+    let words = split_words(alloc, line)?;
+    match words.as_slice() {
+        [] => Ok(None),
+        [name, rest @ ..] => event_named(alloc, name, rest),
+    }
+}
+
+/// A line is an event exactly where it is the one spelling of an event whose numbers and bytes are in range.
+pub fn one_spelling()
+    ensures { (line : List ℕ) (event : Event) →
+        (event_of line ≡ Some event) ↔ (InRange event × (line ≡ line_of event)) }
+{}
+
+/// A line that is an event is text, so that one which is not UTF-8 is none.
+pub fn events_are_text()
+    ensures { (line : List ℕ) (event : Event) → event_of line ≡ Some event → IsUtf8 line }
+{}
+
+#[tactic(auto, unfolding(crate::specs::Lines::named))]
+fn event_named(alloc: Global, name: &[u8], rest: &[&[u8]]) -> Result<Option<Event>, AllocError>
+    ensures { IfOk result (λ e. e ≡ named name.now (map (λ w. w.now) rest.now)) }
+{
+    if name == b"accept".as_slice() {
+        Ok(accept(rest))
+    } else if name == b"piece".as_slice() {
+        piece(alloc, rest)
+    } else if name == b"admit".as_slice() {
+        Ok(admit(rest))
+    } else if name == b"flush".as_slice() {
+        Ok(flush(rest))
+    } else if name == b"up".as_slice() {
+        up(alloc, rest)
+    } else if name == b"take".as_slice() {
+        Ok(take(rest))
+    } else if name == b"load".as_slice() {
+        Ok(load(rest))
+    } else {
+        Ok(None)
+    }
+}
+
+#[tactic(auto, unfolding(crate::specs::Lines::accept_of))]
+fn accept(words: &[&[u8]]) -> Option<Event>
+    ensures { result ≡ accept_of (map (λ w. w.now) words.now) }
+{
+    let [conn, nonce, auth] = words else {
+        return None;
+    };
+    Some(Event::Accept {
+        conn: number(conn)?,
+        nonce: sixteen(nonce)?,
+        auth: sixteen(auth)?,
+    })
+}
+
+#[tactic(auto, unfolding(crate::specs::Lines::piece_of))]
+fn piece(alloc: Global, words: &[&[u8]]) -> Result<Option<Event>, AllocError>
+    ensures { IfOk result (λ e. e ≡ piece_of (map (λ w. w.now) words.now)) }
+{
+    let [conn, piece] = words else {
+        return Ok(None);
+    };
+    let Some(conn) = number(conn) else {
+        return Ok(None);
+    };
+    let bytes = bytes(alloc, piece)?;
+    Ok(bytes.map(|bytes| Event::Piece { conn, bytes }))
+}
+
+#[tactic(auto, unfolding(crate::specs::Lines::admit_of))]
+fn admit(words: &[&[u8]]) -> Option<Event>
+    ensures { result ≡ admit_of (map (λ w. w.now) words.now) }
+{
+    let [conn, output, now] = words else {
+        return None;
+    };
+    Some(Event::Admit {
+        conn: number(conn)?,
+        output: small_number(output)?,
+        now: number(now)?,
+    })
+}
+
+#[tactic(auto, unfolding(crate::specs::Lines::kind_of))]
+fn flush_kind(word: &[u8]) -> Option<FlushKind>
+    ensures { result ≡ kind_of word.now }
+{
+    match word {
+        b"due" => Some(FlushKind::Due),
+        b"all" => Some(FlushKind::All),
+        _ => None,
+    }
+}
+
+#[tactic(auto, unfolding(crate::specs::Lines::flush_of))]
+fn flush(words: &[&[u8]]) -> Option<Event>
+    ensures { result ≡ flush_of (map (λ w. w.now) words.now) }
+{
+    let [output, now, kind] = words else {
+        return None;
+    };
+    Some(Event::Flush {
+        output: small_number(output)?,
+        now: number(now)?,
+        kind: flush_kind(kind)?,
+    })
+}
+
+#[tactic(auto, unfolding(crate::specs::Lines::up_of))]
+fn up(alloc: Global, words: &[&[u8]]) -> Result<Option<Event>, AllocError>
+    ensures { IfOk result (λ e. e ≡ up_of (map (λ w. w.now) words.now)) }
+{
+    let [output, worker, server, salt, now] = words else {
+        return Ok(None);
+    };
+    let Some((output, worker, server)) = session(output, worker, server) else {
+        return Ok(None);
+    };
+    let Some(now) = number(now) else {
+        return Ok(None);
+    };
+    let salt = bytes(alloc, salt)?;
+    Ok(salt.map(|salt| Event::Up {
+        output,
+        worker,
+        server,
+        salt,
+        now,
+    }))
+}
+
+/// The output, the worker and the server of a session.
+#[tactic(auto, unfolding(crate::specs::Lines::session_of))]
+fn session(output: &[u8], worker: &[u8], server: &[u8]) -> Option<(u16, u16, u16)>
+    ensures { result ≡ session_of output.now worker.now server.now }
+{
+    Some((
+        small_number(output)?,
+        small_number(worker)?,
+        small_number(server)?,
+    ))
+}
+
+#[tactic(auto, unfolding(crate::specs::Lines::take_of))]
+fn take(words: &[&[u8]]) -> Option<Event>
+    ensures { result ≡ take_of (map (λ w. w.now) words.now) }
+{
+    let [output, worker, now] = words else {
+        return None;
+    };
+    Some(Event::Take {
+        output: small_number(output)?,
+        worker: small_number(worker)?,
+        now: number(now)?,
+    })
+}
+
+#[tactic(auto, unfolding(crate::specs::Lines::load_of))]
+fn load(words: &[&[u8]]) -> Option<Event>
+    ensures { result ≡ load_of (map (λ w. w.now) words.now) }
+{
+    let [output, worker, now] = words else {
+        return None;
+    };
+    Some(Event::Load {
+        output: small_number(output)?,
+        worker: small_number(worker)?,
+        now: number(now)?,
+    })
+}

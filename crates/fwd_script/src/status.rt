@@ -1,0 +1,75 @@
+ghost use Rattle.std.specs.Prelude.{◌≡◌};
+ghost use Rattle.fwd_script.specs.Statuses.{exit_code};
+
+use std::fmt;
+
+/// Why settings are refused.
+#[derive(Clone, Copy, Debug, PartialEq, Eq)]
+pub enum SettingsFault {
+    /// The text is no TOML.
+    NotToml = 2,
+}
+
+impl fmt::Display for SettingsFault {
+    ghost use Rattle.std.specs.Prelude.{Some};
+    ghost use Rattle.fwd_script.specs.Statuses.{settings_text};
+
+    ghost output = { λ fault. Some (settings_text fault) };
+
+    fn fmt<W: fmt::Write>(&self, f: &mut fmt::Formatter<W>) -> fmt::Result {
+        match self {
+            SettingsFault::NotToml => write!(f, "not toml"),
+        }
+    }
+}
+
+/// How a replay ended.
+#[derive(Clone, Copy, Debug, PartialEq, Eq)]
+pub enum Status {
+    /// Each line of the script was answered.
+    Done,
+    /// The settings were refused, and nothing was written.
+    BadSettings(SettingsFault),
+    /// The line of this number, counted from 1 over all of the script, is no event. Each line before it was answered.
+    BadLine(u64),
+    /// Memory ran out. Nothing was written but answers to the lines before.
+    Memory,
+    /// A read failed, or the input had no end.
+    Input,
+    /// A write failed.
+    Output,
+}
+
+impl Status {
+    /// The exit status of a program that ends so.
+    pub fn exit_code(self) -> u8
+        ensures { result ≡ exit_code self }
+    {
+        match self {
+            Status::Done => 0,
+            Status::BadSettings(_) => 1,
+            Status::BadLine(_) => 3,
+            Status::Memory => 4,
+            Status::Input | Status::Output => 5,
+        }
+    }
+}
+
+/// What is told on standard error, without its line feed: nothing where all is done.
+impl fmt::Display for Status {
+    ghost use Rattle.std.specs.Prelude.{Some};
+    ghost use Rattle.fwd_script.specs.Statuses.{status_text};
+
+    ghost output = { λ status. Some (status_text status) };
+
+    fn fmt<W: fmt::Write>(&self, f: &mut fmt::Formatter<W>) -> fmt::Result {
+        match self {
+            Status::Done => Ok(()),
+            Status::BadSettings(fault) => write!(f, "settings: {fault}"),
+            Status::BadLine(number) => write!(f, "line {number}: bad event"),
+            Status::Memory => write!(f, "memory"),
+            Status::Input => write!(f, "input"),
+            Status::Output => write!(f, "output"),
+        }
+    }
+}

@@ -1,0 +1,144 @@
+ghost use Rattle.std.specs.Prelude.{◌≡◌, ℕ, List, ◌^◌, ◌+◌, ◌<◌, ◌⊎◌, ◌++◌, None, Some, length, MatchResult, IfOk, IfSome};
+ghost use Rattle.std.specs.String.{string_bytes};
+ghost use Rattle.std.specs.Io.KnownBytes.{Appends, Keeps};
+ghost use Rattle.fwd_model.specs.declared.event.Event.{Event};
+ghost use Rattle.fwd_model.specs.declared.answer.Answer.{Answer};
+ghost use Rattle.fwd_model.specs.declared.answer.Answer.TheVariants.{Memory};
+ghost use Rattle.fwd_script.specs.Lines.{event_of};
+ghost use Rattle.fwd_script.specs.Script.{lines_of};
+ghost use Rattle.fwd_script.specs.Replay.{answer_line, Ends, Replays, SplitsAtBad};
+ghost use Rattle.fwd_script.specs.Stops.{Stops};
+
+use crate::event::read_event;
+use crate::input::{InputError, read_input};
+use crate::script::{next_line, split_script};
+use crate::status::{SettingsFault, Status};
+use crate::text::print_answer;
+use fwd_model::{Answer, Event};
+use std::alloc::{AllocError, Global};
+use std::io::{Read, Write};
+
+/// What answers one event after the other, and goes on from state to state.
+pub trait Step {
+    // The answer to an event in a state.
+    ghost answer_to: { Self → Event → Answer };
+
+    // The state after that answer.
+    ghost next: { Self → Event → Self };
+
+    /// Answers an event, or answers `Memory` and stays as it was.
+    fn step(&mut self, alloc: Global, event: &Event) -> Answer
+        ensures answer { (result ≡ Memory)
+            ⊎ ((result ≡ answer_to self.old event.now) × (self.new ≡ next self.old event.now)) }
+        ensures memory { result ≡ Memory → self.new ≡ self.old };
+}
+
+/// Replays a script against a relay that was opened with the settings of an empty text: reads all of the input,
+/// answers the event of each line, and writes each answer on a line of its own. No other settings are taken yet.
+pub fn replay_with<S: Step, R: Read, W: Write>(
+    alloc: Global,
+    relay: &mut S,
+    reader: &mut R,
+    writer: &mut W,
+) -> Status
+    ensures { IfSome (R.remaining reader.old) (λ script.
+        Replays result S.answer_to S.next relay.old script (W.contents writer.old) (W.contents writer.new)) }
+{
+    let input = match read_input(alloc, reader) {
+        Ok(input) => input,
+        Err(InputError::Memory) => return Status::Memory,
+        Err(InputError::Failed) => return Status::Input,
+    };
+    let script = split_script(input.as_slice());
+    if !script.settings.is_empty() {
+        return Status::BadSettings(SettingsFault::NotToml);
+    }
+    let status = answer_lines(alloc, relay, script.events, script.lines_before, writer);
+    match writer.flush() {
+        Ok(()) => status,
+        Err(_) => Status::Output,
+    }
+}
+
+/// The bad line is the first that is no event: each line before it is one of the events that are answered, and
+/// where there is no bad line each line is.
+pub fn bad_line_is_first()
+    ensures { (count : ℕ) (lines : List (List ℕ)) → SplitsAtBad count lines }
+{}
+
+/// Why a run over lines stops at one.
+enum Stop {
+    /// The line is no event.
+    Bad,
+    /// Memory ran out.
+    Memory,
+    /// The write of the answer failed.
+    Output,
+}
+
+/// Answers one event after the other, a line of the text for each, and writes each answer on a line of its own.
+/// It stops at the first line that is no event, where memory runs out, and where a write fails.
+pub fn answer_lines<S: Step, W: Write>(
+    alloc: Global,
+    relay: &mut S,
+    text: &[u8],
+    lines_before: u64,
+    writer: &mut W,
+) -> Status
+    requires { lines_before + length text.now < 2 ^ 64 }
+    ensures { Ends result S.answer_to S.next relay.old lines_before (lines_of text.now)
+        (W.contents writer.old) (W.contents writer.new) }
+{
+    let mut rest = text;
+    let mut number = lines_before;
+    while let Some((line, after)) = next_line(rest) {
+        number += 1;
+        match answer_event(alloc, relay, line, writer) {
+            Ok(()) => {}
+            Err(Stop::Bad) => return Status::BadLine(number),
+            Err(Stop::Memory) => return Status::Memory,
+            Err(Stop::Output) => return Status::Output,
+        }
+        rest = after;
+    }
+    Status::Done
+}
+
+/// Answers the event of a line, and writes the answer on a line of its own.
+fn answer_event<S: Step, W: Write>(
+    alloc: Global,
+    relay: &mut S,
+    line: &[u8],
+    writer: &mut W,
+) -> Result<(), Stop>
+    ensures { MatchResult result
+        (λ _. (event : Event) × (event_of line.now ≡ Some event) × (relay.new ≡ S.next relay.old event)
+        × Appends (W.contents writer.old) (W.contents writer.new) (answer_line (S.answer_to relay.old event)))
+        (λ stop. Stops stop (event_of line.now) (W.contents writer.old) (W.contents writer.new)) }
+{
+    let event = match read_event(alloc, line) {
+        Ok(Some(event)) => event,
+        Ok(None) => return Err(Stop::Bad),
+        Err(_) => return Err(Stop::Memory),
+    };
+    let answer = relay.step(alloc, &event);
+    if let Answer::Memory = answer {
+        return Err(Stop::Memory);
+    }
+    let Ok(text) = print_line(alloc, &answer) else {
+        return Err(Stop::Memory);
+    };
+    match writer.write_all(text.as_bytes()) {
+        Ok(()) => Ok(()),
+        Err(_) => Err(Stop::Output),
+    }
+}
+
+/// The line of an answer, with its line feed.
+fn print_line(alloc: Global, answer: &Answer) -> Result<String, AllocError>
+    ensures { IfOk result (λ text. string_bytes text ≡ answer_line answer.now) }
+{
+    let mut text = print_answer(alloc, answer)?;
+    text.push_str("\n")?;
+    Ok(text)
+}
