@@ -1,0 +1,7 @@
+//! Tests that cross crates: scripts through the whole relay, and events through its library.
+#![tactic(auto)]
+
+#[cfg(test)]
+mod first_path;
+#[cfg(test)]
+mod relay;
