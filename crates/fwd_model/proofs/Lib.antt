@@ -1,3 +1,4 @@
+mod Examples
 pub mod Places
 pub mod Reached
 pub mod Judging
