@@ -1,5 +1,5 @@
 -- The values of a stream are values, and what stands behind them is less than one or faulty.
-use Rattle.std.proofs.Common.{◌≡◌, ℕ, ◌+◌, List, [], ◌∷◌, ◌++◌, length, take, drop, Option, Some, None, refl, sym, ap, subst, ◌∙◌, append_assoc}
+use Rattle.std.proofs.Common.{◌≡◌, ℕ, zero, suc, ◌+◌, List, [], ◌∷◌, ◌++◌, length, take, drop, Option, Some, None, refl, sym, ap, subst, ◌∙◌, append_assoc, arith}
 use Rattle.std.specs.List.{AllByRecursion, flat_map}
 use Rattle.std.proofs.lemmas.List.{append-nil, length-append, take-append-drop}
 use Rattle.std.specs.Prelude.{option_and_then}
@@ -7,8 +7,8 @@ use Rattle.fwd_msgpack.specs.declared.head.Head.{Head}
 use Rattle.fwd_msgpack.specs.declared.head.Head.TheVariants.{Nil, Bool as Boolean, Int, Float, Str, Bin, Arr, Map, Ext}
 use Rattle.fwd_msgpack.specs.declared.head.HeadRead.{HeadRead}
 use Rattle.fwd_msgpack.specs.declared.head.HeadRead.TheVariants as read
-use Rattle.fwd_msgpack.specs.Heads.{reading_of, payload}
-use Rattle.fwd_msgpack.specs.Scans.{Item, InHead, State, Going, Failed, scan_item, verdict_of, start, first_of, Split, Open, Broken, judged, hear_byte, split_of, values_of, rest_of, row_of_values, most_bytes, most_deep, parts_read, parts_of, elements_in, elements_of, IsWhole, IsRow}
+use Rattle.fwd_msgpack.specs.Heads.{reading_of, payload, members}
+use Rattle.fwd_msgpack.specs.Scans.{Item, InHead, State, Going, Failed, scan_item, verdict_of, start, first_of, Split, Open, Broken, judged, hear_byte, split_of, values_of, rest_of, row_of_values, most_bytes, most_deep, parts_read, parts_of, elements_in, elements_of, pair_up, pairs_in, pairs_of, IsWhole, IsRow}
 use Rattle.fwd_msgpack.specs.Streams.{AreBytes, IsFirst, IsWithinLimits, IsStream, HasMembers}
 use Rattle.fwd_msgpack.proofs.Fronts.{scanned}
 use Rattle.fwd_msgpack.proofs.Wholes.{scanned-append, state_whole}
@@ -155,3 +155,41 @@ elements_by bytes (Some parts) values h whole e = by_head parts.0 refl e
 -- the elements of a whole value are the members of an array
 pub elements_are : (bytes : List ℕ) (values : List (List ℕ)) → IsWhole bytes → elements_of bytes ≡ Some values → (n : ℕ) × HasMembers (Arr n) bytes values
 elements_are bytes values whole e = elements_by bytes (parts_of bytes) values refl whole e
+
+-- ---- pairs
+
+abbrev pub in_a_row : List (List ℕ × List ℕ) → List (List ℕ)
+in_a_row pairs = flat_map (λ p. p.0 ∷ p.1 ∷ []) pairs
+
+-- an even row is its pairs, one after the other
+row_pairs : (n : ℕ) (values : List (List ℕ)) → n + n ≡ length values → in_a_row (pair_up values) ≡ values
+row_pairs zero [] e = refl
+row_pairs zero (v ∷ values) e = absurd (omega (arith, e))
+row_pairs (suc n) [] e = absurd (omega (arith, e))
+row_pairs (suc n) (k ∷ []) e = absurd (omega (arith, e))
+row_pairs (suc n) (k ∷ v ∷ values) e = ap (λ xs. k ∷ v ∷ xs) (row_pairs n values (omega (arith, e)))
+
+pairs_by : (bytes : List ℕ) (o : Option (Head × List ℕ)) (pairs : List (List ℕ × List ℕ)) → parts_of bytes ≡ o → IsWhole bytes → option_and_then (λ parts. pairs_in parts.0 parts.1) o ≡ Some pairs → (n : ℕ) × HasMembers (Map n) bytes (in_a_row pairs)
+unfolding parts_of
+pairs_by bytes None pairs h whole e = absurd cc
+pairs_by bytes (Some parts) pairs h whole e = by_head parts.0 refl e
+  where
+    by_head : (head : Head) → parts.0 ≡ head → pairs_in head parts.1 ≡ Some pairs → (n : ℕ) × HasMembers (Map n) bytes (in_a_row pairs)
+    by_head (Map n) k e' =
+        let found = members_by bytes (reading_of bytes) parts.0 parts.1 refl whole h (ap payload k) in
+        let count : members (Map n) ≡ length (row_of_values parts.1) = sym (ap members k) ∙ found.count in
+        let row = row_pairs n (row_of_values parts.1) (omega (arith, count)) in
+        let same : row_of_values parts.1 ≡ in_a_row pairs = sym row ∙ ap in_a_row (some_is (pair_up (row_of_values parts.1)) pairs e') in
+        (n, subst (λ (hd : Head). HasMembers hd bytes (in_a_row pairs)) k (subst (HasMembers parts.0 bytes) same found))
+    by_head Nil k e' = absurd cc
+    by_head (Boolean b) k e' = absurd cc
+    by_head (Int neg mag) k e' = absurd cc
+    by_head (Float len) k e' = absurd cc
+    by_head (Str len) k e' = absurd cc
+    by_head (Bin len) k e' = absurd cc
+    by_head (Arr n) k e' = absurd cc
+    by_head (Ext kind len) k e' = absurd cc
+
+-- the pairs of a whole value, one after the other, are the members of a map
+pub pairs_are : (bytes : List ℕ) (pairs : List (List ℕ × List ℕ)) → IsWhole bytes → pairs_of bytes ≡ Some pairs → (n : ℕ) × HasMembers (Map n) bytes (in_a_row pairs)
+pairs_are bytes pairs whole e = pairs_by bytes (parts_of bytes) pairs refl whole e

@@ -1,10 +1,11 @@
 //! Laws of the definitions: each is the contract of a function that does nothing.
 
-ghost use Rattle.std.specs.Prelude.{◌≡◌, ◌≤◌, List, [], ℕ, ◌++◌, length, Some};
+ghost use Rattle.std.specs.Prelude.{◌≡◌, ◌≤◌, List, [], ◌∷◌, ℕ, ◌++◌, length, Some};
+ghost use Rattle.std.specs.List.{flat_map};
 ghost use Rattle.fwd_msgpack.specs.declared.head.Head.{Head};
-ghost use Rattle.fwd_msgpack.specs.declared.head.Head.TheVariants.{Arr};
+ghost use Rattle.fwd_msgpack.specs.declared.head.Head.TheVariants.{Arr, Map};
 ghost use Rattle.fwd_msgpack.specs.declared.head.HeadRead.TheVariants as read;
-ghost use Rattle.fwd_msgpack.specs.Scans.{Verdict, IsWhole, elements_of, most_bytes, most_deep, first_of, split_of, continued};
+ghost use Rattle.fwd_msgpack.specs.Scans.{Verdict, IsWhole, elements_of, pairs_of, most_bytes, most_deep, first_of, split_of, continued};
 ghost use Rattle.fwd_msgpack.specs.Values.{IsValue};
 ghost use Rattle.fwd_msgpack.specs.Streams.{AreBytes, HasMembers, IsFirst, IsStream, IsWithinLimits};
 ghost use Rattle.fwd_msgpack.specs.Heads.{IsHead, IsSpelled, head_bytes, reading_of};
@@ -49,6 +50,12 @@ pub fn split_continues()
 /// The elements of a whole value are the members of an array: its head, and as many values as it opens.
 pub fn elements_are_members()
     ensures { (bytes : List ℕ) (values : List (List ℕ)) → IsWhole bytes → elements_of bytes ≡ Some values → (n : ℕ) × HasMembers (Arr n) bytes values }
+{}
+
+/// The pairs of a whole value are the members of a map, each key before its value: its head, and twice as many values as it
+/// has pairs.
+pub fn pairs_are_members()
+    ensures { (bytes : List ℕ) (pairs : List (List ℕ × List ℕ)) → IsWhole bytes → pairs_of bytes ≡ Some pairs → (n : ℕ) × HasMembers (Map n) bytes (flat_map (λ p. p.0 ∷ p.1 ∷ []) pairs) }
 {}
 
 /// What is whole is a value, at most 64 deep and less than 2^32 bytes long.

@@ -17,8 +17,8 @@ pub use cutting::cut;
 pub use fault::ScanFault;
 pub use head::{Head, HeadRead, read_head};
 pub use laws::{
-    elements_are_members, first_is_first, no_prefix, one_verdict, read_back, split_continues,
-    split_is_stream, whole_is_value, written_is_shortest,
+    elements_are_members, first_is_first, no_prefix, one_verdict, pairs_are_members, read_back,
+    split_continues, split_is_stream, whole_is_value, written_is_shortest,
 };
 pub use limits::Limits;
 pub use members::{Members, Pairs};
