@@ -4,6 +4,8 @@ use Rattle.std.specs.List.{concat}
 use Rattle.std.specs.Int.{w16, w64, to_be_bytes}
 use Rattle.base64.specs.GeneralPurpose.{encode_of}
 use Rattle.base64.specs.Engines.{standard}
+-- for examples that compute a name
+unfoldable pub use Rattle.base64.specs.Rfc4648.{encode_symbols}
 use Rattle.fwd_msgpack.specs.declared.head.Head.TheVariants.{Int, Str, Bin, Arr, Map}
 use Rattle.fwd_msgpack.specs.Heads.{head_bytes}
 

@@ -1,6 +1,6 @@
-ghost use Rattle.std.specs.Prelude.{◌≡◌, ◌<◌, ◌≤◌, ◌^◌, [], ◌∷◌, None, IfOk, length};
+ghost use Rattle.std.specs.Prelude.{◌≡◌, ◌<◌, ◌≤◌, ◌^◌, [], ◌∷◌, IfOk, IfSome, length};
 ghost use Rattle.std.specs.List.{concat};
-ghost use Rattle.std.specs.Option.{option_copied};
+ghost use Rattle.std.specs.Option.{option_copied, ForSome};
 
 use fwd_msgpack::{Bytes, Seq};
 use std::alloc::{AllocError, Global};
@@ -24,23 +24,37 @@ impl Model for Batch {
 
     ghost use Rattle.std.specs.Prelude.{◌<◌, ◌≤◌, ◌^◌, length};
     ghost use Rattle.std.specs.List.{concat};
+    ghost use Rattle.std.specs.Option.{ForSome};
 
-    ghost invariant = { λ b. (length b.tag ≤ 1024) × (length (concat b.entries) < 2 ^ 32) };
+    ghost invariant = { λ b.
+        (length b.tag ≤ 1024)
+        × (length (concat b.entries) < 2 ^ 32)
+        × ForSome b.chunk (λ chunk. length chunk ≤ 261) };
 }
 
 impl Batch {
-    /// A request of one entry, with no `chunk`.
-    pub(crate) fn of_one(alloc: Global, tag: &[u8], entry: Bytes) -> Result<Self, AllocError>
+    /// A request of one entry.
+    pub(crate) fn of_one(
+        alloc: Global,
+        tag: &[u8],
+        entry: Bytes,
+        chunk: Option<&[u8]>,
+    ) -> Result<Self, AllocError>
         requires tag_fits { length tag.now ≤ 1024 }
         requires entry_fits { length entry < 2 ^ 32 }
-        ensures { IfOk result (λ b. b ≡ record { tag = tag.now; entries = entry ∷ []; chunk = None }) }
+        requires chunk_fits { ForSome chunk (λ bytes. length bytes.now ≤ 261) }
+        ensures { IfOk result (λ b. b ≡ record { tag = tag.now; entries = entry ∷ []; chunk = option_copied chunk.entry }) }
     {
         let mut entries = Seq::new(alloc);
         entries.push(entry)?;
+        let chunk = match chunk {
+            Some(bytes) => Some(Bytes::from_slice(alloc, bytes)?),
+            None => None,
+        };
         Ok(Batch {
             tag: Bytes::from_slice(alloc, tag)?,
             entries,
-            chunk: None,
+            chunk,
         })
     }
 
@@ -60,9 +74,10 @@ impl Batch {
         self.entries.as_slice()
     }
 
-    /// The bytes of the option's `chunk` value, if there is one.
+    /// The bytes of the option's `chunk` value, head included, if there is one: at most 261.
     pub fn chunk(&self) -> Option<&[u8]>
-        ensures { option_copied result ≡ self.now.chunk }
+        ensures value { option_copied result ≡ self.now.chunk }
+        ensures bound { IfSome result (λ chunk. length chunk.now ≤ 261) }
     {
         match &self.chunk {
             Some(chunk) => Some(chunk.as_slice()),

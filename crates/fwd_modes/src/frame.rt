@@ -38,7 +38,7 @@ pub fn chunk_name(run: &[u8; 6], output: u16, number: u64) -> [u8; 24]
     encoded(&name_bytes(run, output, number))
 }
 
-fn write_text(out: &mut Vec<u8>, bytes: &[u8]) -> Result<(), AllocError>
+pub(crate) fn write_text(out: &mut Vec<u8>, bytes: &[u8]) -> Result<(), AllocError>
     requires { length bytes.now < 2 ^ 32 }
     ensures { IfOk result (λ _. out.new.items ≡ out.old.items ++ text bytes.now) }
 {

@@ -1,15 +1,18 @@
 //! What a whole value asks for (Forward Protocol Specification v1, "Message Modes").
 
-ghost use Rattle.std.specs.Prelude.{◌≡◌, ◌<◌, ◌+◌, ◌^◌, [], ◌∷◌, ◌++◌, length, Some, None, is_some, IfOk, option_map};
-ghost use Rattle.std.specs.Option.{option_copied};
-ghost use Rattle.fwd_msgpack.specs.Scans.{text_of, head_of, integer_of};
-ghost use Rattle.fwd_msgpack.specs.Values.{bytes_of, members_left};
-ghost use Rattle.fwd_modes.specs.Requests.{request_of, of_elements, one_entry, tag_of, kept_entry, is_nil_head, is_map_head};
-ghost use Rattle.fwd_modes.specs.Readings.{shown, three_of, three_shown};
+ghost use Rattle.std.specs.Prelude.{◌≡◌, Some, IfOk, option_and_then};
+ghost use Rattle.std.specs.Option.{option_map};
+ghost use Rattle.fwd_msgpack.specs.Scans.{elements_of};
+ghost use Rattle.fwd_msgpack.specs.Values.{bytes_of};
+ghost use Rattle.fwd_modes.specs.Requests.{request_of, parts_in, of_parts, kept_entry};
+ghost use Rattle.fwd_modes.specs.Readings.{shown, message_parts, judged};
 
 use crate::batch::Batch;
 use crate::fault::InputFault;
-use fwd_msgpack::{Bytes, Head, Members, Value};
+use crate::kinds::{is_map, is_nil, text_within};
+use crate::message::{Asked, Message};
+use crate::options::read_option;
+use fwd_msgpack::{Bytes, Value};
 use std::alloc::{AllocError, Global};
 
 /// The most bytes of a tag.
@@ -26,41 +29,46 @@ pub enum Reading {
     Fails(InputFault),
 }
 
-/// The values of a row of exactly three.
-fn three<'a>(mut members: Members<'a>) -> Option<(Value<'a>, Value<'a>, Value<'a>)>
-    ensures { three_shown result ≡ three_of (members_left members.entry) }
+/// The values of an array of three or four, whose second is an integer.
+fn message_of<'a>(value: Value<'a>) -> Option<Message<'a>>
+    ensures { option_map message_parts result ≡ option_and_then parts_in (elements_of (bytes_of value.entry)) }
 {
-    let first = members.next()?;
-    let second = members.next()?;
-    let third = members.next()?;
-    match members.next() {
-        Some(_) => None,
-        None => Some((first, second, third)),
+    let mut members = value.items()?;
+    let tag = members.next()?;
+    let time = members.next()?;
+    let entry = members.next()?;
+    let option = members.next();
+    if members.next().is_some() || time.int().is_none() {
+        return None;
     }
+    Some(Message {
+        tag,
+        time,
+        entry,
+        option,
+    })
 }
 
-fn is_map(value: Value<'_>) -> bool
-    ensures { result ≡ is_map_head (head_of (bytes_of value.entry)) }
+/// What a message asks for, or its first fault in the order tag, option, compression, entry.
+fn judge(message: Message<'_>) -> Result<Asked<'_>, InputFault>
+    ensures { judged result ≡ of_parts (Some (message_parts message.entry)) }
 {
-    matches!(value.head(), Head::Map(_))
-}
-
-fn is_nil(value: Value<'_>) -> bool
-    ensures { result ≡ is_nil_head (head_of (bytes_of value.entry)) }
-{
-    matches!(value.head(), Head::Nil)
-}
-
-/// A tag is a str or a bin of at most 1,024 bytes.
-fn tag_of<'a>(value: Value<'a>) -> Option<&'a [u8]>
-    ensures { option_copied result ≡ tag_of (bytes_of value.entry) }
-{
-    let tag = value.text()?;
-    if tag.len() <= TAG_LIMIT {
-        Some(tag)
-    } else {
-        None
+    let Some(tag) = text_within(message.tag, TAG_LIMIT) else {
+        return Err(InputFault::BadTag);
+    };
+    let said = read_option(message.option)?;
+    if said.compressed {
+        return Err(InputFault::Compressed);
     }
+    if !is_map(message.entry) {
+        return Err(InputFault::BadEntry);
+    }
+    Ok(Asked {
+        tag,
+        time: message.time.bytes(),
+        entry: message.entry.bytes(),
+        chunk: said.chunk,
+    })
 }
 
 /// An entry as it is kept.
@@ -74,42 +82,23 @@ fn kept(alloc: Global, time: &[u8], entry: &[u8]) -> Result<Bytes, AllocError>
     Ok(Bytes::from_vec(bytes))
 }
 
-fn read_message(
-    alloc: Global,
-    tag: Value<'_>,
-    time: Value<'_>,
-    fields: Value<'_>,
-) -> Result<Reading, AllocError>
-    requires { 1 + length (bytes_of time) + length (bytes_of fields) < 2 ^ 32 }
-    ensures { IfOk result (λ r. shown r ≡ one_entry (tag_of (bytes_of tag.entry)) (bytes_of time.entry) (bytes_of fields.entry)) }
-{
-    let Some(tag) = tag_of(tag) else {
-        return Ok(Reading::Fails(InputFault::BadTag));
-    };
-    if !is_map(fields) {
-        return Ok(Reading::Fails(InputFault::BadEntry));
-    }
-    let kept = kept(alloc, time.bytes(), fields.bytes())?;
-    Ok(Reading::Asks(Batch::of_one(alloc, tag, kept)?))
-}
-
-/// What a whole value says: a heartbeat, a request, or the first fault in the order shape, tag, entry.
+/// What a whole value says: a heartbeat, a request, or the first fault in the order shape, tag, option, compression,
+/// entry.
 #[tactic(auto, unfolding(crate::specs::Requests::request_of))]
 pub fn read_request(alloc: Global, value: Value<'_>) -> Result<Reading, AllocError>
     ensures { IfOk result (λ r. shown r ≡ request_of (bytes_of value.entry)) }
 {
-    let Some(members) = value.items() else {
-        return Ok(if is_nil(value) {
-            Reading::Heartbeat
-        } else {
-            Reading::Fails(InputFault::BadShape)
-        });
-    };
-    let Some((tag, time, fields)) = three(members) else {
-        return Ok(Reading::Fails(InputFault::BadShape));
-    };
-    if time.int().is_none() {
-        return Ok(Reading::Fails(InputFault::BadShape));
+    if is_nil(value) {
+        return Ok(Reading::Heartbeat);
     }
-    read_message(alloc, tag, time, fields)
+    let Some(message) = message_of(value) else {
+        return Ok(Reading::Fails(InputFault::BadShape));
+    };
+    match judge(message) {
+        Ok(asked) => {
+            let entry = kept(alloc, asked.time, asked.entry)?;
+            Ok(Reading::Asks(Batch::of_one(alloc, asked.tag, entry, asked.chunk)?))
+        }
+        Err(fault) => Ok(Reading::Fails(fault)),
+    }
 }

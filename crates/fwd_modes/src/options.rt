@@ -1,0 +1,84 @@
+//! The option of a request (Forward Protocol Specification v1, "Option").
+
+ghost use Rattle.std.specs.Prelude.{◌≡◌, ◌≤◌, true, false, IfOk, IfErr, IfSome, length, option_and_then};
+ghost use Rattle.std.specs.Option.{ForSome, option_copied, option_map};
+ghost use Rattle.fwd_msgpack.specs.Values.{bytes_of};
+ghost use Rattle.fwd_modes.specs.Options.{unless_nil, chunk_of, is_bad_chunk, is_bad_option, is_compression, is_compressed};
+
+use crate::fault::InputFault;
+use crate::kinds::{is_nil, is_text, last_under, text_within};
+use fwd_msgpack::Value;
+
+/// The most bytes of a chunk's text.
+const CHUNK_LIMIT: usize = 256;
+
+/// What an option says.
+#[derive(Clone, Copy, Debug)]
+pub(crate) struct Said<'a> {
+    /// The value that the acknowledgement is to carry, as its own bytes.
+    pub(crate) chunk: Option<&'a [u8]>,
+    /// Whether a compression is named.
+    pub(crate) compressed: bool,
+    ghost chunk_fits: { ForSome chunk (λ bytes. length bytes.now ≤ 261) },
+}
+
+/// What an option says that has no pairs.
+const NOTHING: Said<'static> = Said {
+    chunk: None,
+    compressed: false,
+};
+
+/// Whether the value under `compressed` names a compression.
+fn is_compression(value: Option<Value<'_>>) -> bool
+    ensures { result ≡ is_compression (option_map bytes_of value.entry) }
+{
+    match value {
+        Some(name) => is_text(name, b"gzip") || is_text(name, b"zstd"),
+        None => false,
+    }
+}
+
+/// The chunk of the value under `chunk`.
+fn read_chunk<'a>(value: Option<Value<'a>>) -> Result<Option<&'a [u8]>, InputFault>
+    ensures ok { let given = option_and_then unless_nil (option_map bytes_of value.entry) in
+        IfOk result (λ chunk. (is_bad_chunk given ≡ false) × (option_copied chunk ≡ given)) }
+    ensures bound { IfOk result (λ chunk. IfSome chunk (λ bytes. length bytes.now ≤ 261)) }
+    ensures err { let given = option_and_then unless_nil (option_map bytes_of value.entry) in
+        IfErr result (λ fault. (is_bad_chunk given ≡ true) × (fault ≡ InputFault.BadOption)) }
+{
+    let Some(chunk) = value else {
+        return Ok(None);
+    };
+    if is_nil(chunk) {
+        return Ok(None);
+    }
+    match text_within(chunk, CHUNK_LIMIT) {
+        Some(_) => Ok(Some(chunk.bytes())),
+        None => Err(InputFault::BadOption),
+    }
+}
+
+/// What an option says, which is a map or nil, or is left out.
+pub(crate) fn read_option<'a>(option: Option<Value<'a>>) -> Result<Said<'a>, InputFault>
+    ensures good { let given = option_map bytes_of option.entry in
+        IfOk result (λ said. is_bad_option given ≡ false) }
+    ensures chunk { let given = option_map bytes_of option.entry in
+        IfOk result (λ said. option_copied said.chunk ≡ chunk_of given) }
+    ensures compressed { let given = option_map bytes_of option.entry in
+        IfOk result (λ said. said.compressed ≡ is_compressed given) }
+    ensures err { let given = option_map bytes_of option.entry in
+        IfErr result (λ fault. (is_bad_option given ≡ true) × (fault ≡ InputFault.BadOption)) }
+{
+    let Some(option) = option else {
+        return Ok(NOTHING);
+    };
+    if is_nil(option) {
+        return Ok(NOTHING);
+    }
+    let Some(pairs) = option.pairs() else {
+        return Err(InputFault::BadOption);
+    };
+    let chunk = read_chunk(last_under(pairs, b"chunk"))?;
+    let compressed = is_compression(last_under(pairs, b"compressed"));
+    Ok(Said { chunk, compressed })
+}
