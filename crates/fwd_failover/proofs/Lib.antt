@@ -1,0 +1,9 @@
+mod Examples
+pub mod Doublings
+pub mod Rounds
+pub mod Numbers
+pub mod Kept
+pub mod Orders
+pub mod Histories
+pub mod Turns
+pub mod Firsts

@@ -1,0 +1,4 @@
+pub mod Waits
+pub mod History
+pub mod Choices
+pub mod Live

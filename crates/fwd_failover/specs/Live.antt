@@ -1,0 +1,73 @@
+-- What of a history still matters: of each server how often it was lost since it last settled, and when last.
+use Rattle.std.specs.Prelude.{ℕ, ◌+◌, List, [], ◌∷◌, length, map, find, Bool, true, nat_le, nat_lt, min, max, Option, Some, None, slice_index_or, slice_set, if◌then◌else◌}
+use Rattle.std.specs.List.{enumerate_from}
+use Rattle.fwd_failover.specs.declared.losses.Losses.{Losses}
+use Rattle.fwd_failover.specs.Waits.{wait_after}
+use Rattle.fwd_failover.specs.History.{ServersSetting, ServersHistory, losses_of}
+use Rattle.fwd_failover.specs.Choices.{primaries, standbys, order_of}
+
+-- their count, where 65 stands for every greater one, and the moment of the newest; nothing where there is none
+abbrev pub tally_of : List ℕ → Option Losses
+tally_of [] = None
+tally_of (newest ∷ older) = Some (record { count = min 65 (length (newest ∷ older)); last = newest })
+
+-- the servers as they are now: who is a primary and who a standby, the limits of the waits, each server's losses, and the greatest moment handed in
+pub record LiveServers : Type 0 where
+  pub primaries : List ℕ
+  pub standbys : List ℕ
+  pub retry_wait : ℕ
+  pub retry_max : ℕ
+  pub losses : List (Option Losses)
+  pub moment : ℕ
+
+unfoldable pub live_servers : ServersSetting → ServersHistory → LiveServers
+live_servers s h = record {
+  primaries = primaries s;
+  standbys = standbys s;
+  retry_wait = s.retry_wait;
+  retry_max = s.retry_max;
+  losses = map (λ p. tally_of (losses_of p.0 h.happened)) (enumerate_from 0 s.standby);
+  moment = h.moment;
+}
+
+-- ---- the same question, asked of what is kept
+
+abbrev pub is_live_over : ℕ → ℕ → Option Losses → ℕ → Bool
+is_live_over retry_wait retry_max None moment = true
+is_live_over retry_wait retry_max (Some l) moment = nat_le (l.last + wait_after retry_wait retry_max l.count) moment
+
+abbrev pub is_live_usable : LiveServers → ℕ → ℕ → Bool
+is_live_usable l moment server = is_live_over l.retry_wait l.retry_max (slice_index_or l.losses server None) moment
+
+abbrev pub live_choice : LiveServers → ℕ → ℕ → Option ℕ
+live_choice l worker moment = find (is_live_usable l moment) (order_of l.primaries l.standbys worker)
+
+-- ---- the same steps, taken on what is kept
+
+-- at a moment, and with these losses
+abbrev pub with_losses : LiveServers → List (Option Losses) → ℕ → LiveServers
+with_losses l losses moment = record {
+  primaries = l.primaries;
+  standbys = l.standbys;
+  retry_wait = l.retry_wait;
+  retry_max = l.retry_max;
+  losses = losses;
+  moment = moment;
+}
+
+abbrev pub live_looked : LiveServers → ℕ → LiveServers
+live_looked l now = with_losses l l.losses (max l.moment now)
+
+-- one loss more
+abbrev pub tally_more : Option Losses → ℕ → Losses
+tally_more None moment = record { count = 1; last = moment }
+tally_more (Some l) moment = record { count = min 65 (l.count + 1); last = moment }
+
+abbrev pub live_lost : LiveServers → ℕ → ℕ → LiveServers
+live_lost l server now =
+    if nat_lt server (length l.losses)
+    then with_losses l (slice_set l.losses server (Some (tally_more (slice_index_or l.losses server None) (max l.moment now)))) (max l.moment now)
+    else l
+
+abbrev pub live_settled : LiveServers → ℕ → LiveServers
+live_settled l server = if nat_lt server (length l.losses) then with_losses l (slice_set l.losses server None) l.moment else l
