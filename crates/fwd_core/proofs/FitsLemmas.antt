@@ -1,10 +1,10 @@
 -- A request's entries under a number of their own fit a frame, and so does what was there before.
-use Rattle.std.proofs.Common.{◌≡◌, ◌≢◌, ℕ, ◌^◌, ◌<◌, ◌≤◌, List, [], ◌∷◌, ◌++◌, length, refl, sym, ap, subst, ◌∙◌, arith, inl, inr}
-use Rattle.std.specs.Prelude.{map}
+use Rattle.std.proofs.Common.{◌≡◌, ◌≢◌, ℕ, ◌+◌, ◌^◌, ◌<◌, ◌≤◌, List, [], ◌∷◌, ◌++◌, length, refl, sym, ap, subst, ◌∙◌, arith, inl, inr}
+use Rattle.std.specs.Prelude.{map, filter, not, ◌==◌}
 use Rattle.std.specs.List.{concat}
 use Rattle.std.proofs.lemmas.Bool.{cases_eq}
 use Rattle.std.proofs.lemmas.Bool.Decides.{nat_tests}
-use Rattle.std.proofs.lemmas.List.{append-nil}
+use Rattle.std.proofs.lemmas.List.{append-nil, length-map}
 use Rattle.fwd_modes.specs.Requests.{Request}
 use Rattle.fwd_model.specs.declared.cell.Cell.{Cell}
 use Rattle.fwd_model.specs.declared.cell.Origin.{Origin}
@@ -63,6 +63,9 @@ own_fits r origin number moment small packed =
       entries = subst (λ cs. length (concat (map (λ c. c.entry) cs)) < 2 ^ 32) (sym own) (subst (λ es. length (concat es) < 2 ^ 32) (sym (entries_own r.tag origin number moment r.entries)) packed);
     }
 
+pub length-cells_of : (r : Request) (origin : Origin) (number moment : ℕ) → length (cells_of r origin number moment) ≡ length r.entries
+length-cells_of r origin number moment = length-map r.entries (λ e. record { tag = r.tag; entry = e; origin = origin; number = number; moment = moment })
+
 pub none_fit : AllFit [] 0
 unfolding chunk_of
 none_fit = record { below = omega arith; each = λ k. record { tag = omega arith; entries = omega arith } }
@@ -76,3 +79,34 @@ entered_fit xs r origin number moment last all lt small packed =
         | inr differ ↦ fits_from k (xs ++ news) xs (cells_at-append k xs news ∙ ap (λ cs. cells_at k xs ++ cs) (at_other r.tag origin number moment k r.entries differ) ∙ append-nil (cells_at k xs)) (all.each k)
       ];
     }
+
+-- ---- what is left once a number is settled
+
+settled_below : (n last : ℕ) (xs : List Cell) → greatest xs ≤ last → greatest (filter (λ c. not (c.number == n)) xs) ≤ last
+settled_below n last [] le = le
+settled_below n last (x ∷ xs) le = grind (arith, nat_tests, settled_below n last xs)
+
+cells_at-settled_other : (k n : ℕ) (xs : List Cell) → k ≢ n → cells_at k (filter (λ c. not (c.number == n)) xs) ≡ cells_at k xs
+cells_at-settled_other k n [] differ = refl
+cells_at-settled_other k n (x ∷ xs) differ = grind (arith, nat_tests, cells_at-settled_other k n xs differ)
+
+cells_at-settled_own : (n : ℕ) (xs : List Cell) → cells_at n (filter (λ c. not (c.number == n)) xs) ≡ []
+cells_at-settled_own n [] = refl
+cells_at-settled_own n (x ∷ xs) = grind (arith, nat_tests, cells_at-settled_own n xs)
+
+nothing_fits : (n : ℕ) → FitsFrame (chunk_of n [])
+unfolding chunk_of
+nothing_fits n = record { tag = omega arith; entries = omega arith }
+
+pub settled_fit : (xs : List Cell) (n last : ℕ) → AllFit xs last → AllFit (filter (λ c. not (c.number == n)) xs) last
+settled_fit xs n last all = record {
+  below = settled_below n last xs all.below;
+  each = λ k. elim (cases_eq k n) [
+    | inl same ↦ fits_from k (filter (λ c. not (c.number == n)) xs) [] (subst (λ j. cells_at j (filter (λ c. not (c.number == n)) xs) ≡ []) (sym same) (cells_at-settled_own n xs)) (nothing_fits k)
+    | inr differ ↦ fits_from k (filter (λ c. not (c.number == n)) xs) xs (cells_at-settled_other k n xs differ) (all.each k)
+  ];
+}
+
+pub settled_count : (n : ℕ) (xs : List Cell) → length xs ≡ length (cells_at n xs) + length (filter (λ c. not (c.number == n)) xs)
+settled_count n [] = refl
+settled_count n (x ∷ xs) = grind (arith, nat_tests, settled_count n xs)

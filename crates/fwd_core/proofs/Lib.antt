@@ -3,3 +3,4 @@ pub mod PlaceLemmas
 pub mod RelayLemmas
 pub mod OpeningLemmas
 pub mod RunLemmas
+pub mod DueLemmas

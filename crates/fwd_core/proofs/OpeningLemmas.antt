@@ -9,7 +9,7 @@ use Rattle.fwd_model.specs.LiveStep.{no_entries}
 use Rattle.fwd_core.specs.Lanes.{no_work, new_live_lane}
 
 abbrev nothing : OutputHistory
-nothing = record { cells = []; opened = []; carried = []; moment = 0 }
+nothing = record { cells = []; opened = []; acknowledged = []; carried = []; requests = []; moment = 0 }
 
 idle_workers : (w n : ℕ) → live_workers nothing w (replicate n None) ≡ replicate n no_work
 idle_workers w zero = refl

@@ -5,7 +5,7 @@ use Rattle.std.proofs.lemmas.List.{append-nil, length-append}
 use Rattle.std.proofs.lemmas.List.Elements.{filter-append}
 use Rattle.fwd_model.specs.declared.event.Event.{Event}
 use Rattle.fwd_model.specs.declared.answer.Answer.{Answer}
-use Rattle.fwd_model.specs.declared.answer.Answer.TheVariants.{Memory, Accepted, Requests, Faulted, Admitted, NumbersSpent, Closed, Done, Took, TookNothing, Frame, Refused}
+use Rattle.fwd_model.specs.declared.answer.Answer.TheVariants.{Memory, Accepted, Requests, Faulted, Admitted, NumbersSpent, Closed, Done, Took, TookNothing, Frame, Quiet, Acked, SessionFaulted, Settled, Told, Refused}
 use Rattle.fwd_model.specs.Live.{LiveRelay}
 use Rattle.fwd_model.specs.LiveStep.{live_answer_to, live_next, live_answers, live_after}
 use Rattle.fwd_core.specs.Runs.{is_memory, told, kept}
@@ -44,6 +44,11 @@ is_want Done t = absurd cc
 is_want (Took number entries) t = absurd cc
 is_want TookNothing t = absurd cc
 is_want (Frame out) t = absurd cc
+is_want (Quiet out) t = absurd cc
+is_want (Acked out) t = absurd cc
+is_want (SessionFaulted fault) t = absurd cc
+is_want (Settled entries) t = absurd cc
+is_want (Told requests out) t = absurd cc
 is_want (Refused refusal) t = absurd cc
 
 -- what was told, and the state, are those of the events that count

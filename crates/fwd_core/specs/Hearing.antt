@@ -30,7 +30,7 @@ TakesIn old new count reading (Some fault) =
 
 -- a connection before its first byte
 abbrev pub new_source : LiveSource
-new_source = record { rest = []; waiting = []; admitted = 0; closed = false }
+new_source = record { rest = []; waiting = []; admitted = 0; unsent = []; shut = false; closed = false }
 
 abbrev pub source_next : LiveSource → List ℕ → LiveSource
 source_next s bytes = if s.closed then s else source_hears s bytes

@@ -1,3 +1,5 @@
+pub mod Answering
+pub mod Due
 pub mod Fits
 pub mod Hearing
 pub mod Lanes

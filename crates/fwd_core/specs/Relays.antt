@@ -5,7 +5,8 @@ use Rattle.fwd_model.specs.declared.answer.Answer.{Answer}
 use Rattle.fwd_model.specs.declared.answer.Answer.TheVariants as answer
 use Rattle.fwd_model.specs.declared.fault.Refusal.TheVariants.{NotNow}
 use Rattle.fwd_model.specs.Live.{LiveSource, LiveLane, LiveRelay}
-use Rattle.fwd_model.specs.LiveStep.{is_above, live_accepted, output_is_spent, output_enters, source_gives, source_shuts, with_live_output}
+use Rattle.fwd_model.specs.LiveStep.{is_above, live_accepted, output_is_spent, output_enters, source_gives, source_shuts, with_live_output, live_due, source_appends, output_told}
+use Rattle.fwd_model.specs.Books.{acks_of}
 
 abbrev pub accept_answer : ℕ → LiveRelay → Answer
 accept_answer id r = if is_above id r.last then answer.Accepted [] else answer.Refused NotNow
@@ -24,3 +25,11 @@ admit_lane id s [] o l now = l
 admit_lane id s (q ∷ qs) o l now =
     if not (o == 0) then l
     else (if output_is_spent l.output q then l else with_live_output l (output_enters l.output (record { conn = id; request = s.admitted + 1 }) q now))
+
+-- the source once it is told what is due
+abbrev pub told_source : ℕ → LiveSource → LiveLane → LiveSource
+told_source id s l = if s.shut then s else source_appends s (acks_of (live_due id l.output))
+
+-- the output once the source is told what is due
+abbrev pub told_lane : ℕ → LiveSource → LiveLane → LiveLane
+told_lane id s l = if s.shut then l else with_live_output l (output_told l.output id)

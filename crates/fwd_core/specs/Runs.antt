@@ -1,6 +1,7 @@
 -- Which events of a run counted: those not answered by want of memory.
 use Rattle.std.specs.Prelude.{Bool, true, false, not, List, [], ◌∷◌, filter, if◌then◌else◌}
 use Rattle.fwd_model.specs.declared.event.Event.{Event}
+use Rattle.fwd_model.specs.declared.event.Event.TheVariants.{Flush, Wrote, Settle}
 use Rattle.fwd_model.specs.declared.answer.Answer.{Answer}
 use Rattle.fwd_model.specs.declared.answer.Answer.TheVariants.{Memory}
 
@@ -17,3 +18,10 @@ abbrev pub kept : List Event → List Answer → List Event
 kept [] answers = []
 kept (e ∷ es) [] = []
 kept (e ∷ es) (a ∷ answers) = if is_memory a then kept es answers else e ∷ kept es answers
+
+-- the events that take no memory
+abbrev pub takes_none : Event → Bool
+takes_none (Flush output now kind) = true
+takes_none (Wrote output worker count) = true
+takes_none (Settle output worker) = true
+takes_none _ = false

@@ -2,7 +2,7 @@
 
 ghost use Rattle.std.specs.Prelude.{◌≡◌, ℕ, ◌+◌, ◌++◌, ◌∷◌, [], ◌==◌, Some, filter, find, length, not, IfOk, map};
 ghost use Rattle.std.specs.Option.{option_copied};
-ghost use Rattle.fwd_model.specs.Chunks.{has_entry, has_number, is_carried, is_old, lesser, cells_of, closes, least_free, is_free, chunk_of, cells_at, first_tag};
+ghost use Rattle.fwd_model.specs.Chunks.{has_entry, has_number, is_carried, is_old, lesser, cells_of, closes, least_free, is_free, chunk_of, cells_at, first_tag, put_down};
 
 use fwd_model::{Carry, Cell, Chunk, FlushKind, Origin};
 use fwd_modes::Batch;
@@ -202,4 +202,25 @@ fn tag_at(alloc: Global, number: u64, cells: &[Cell]) -> Result<Bytes, AllocErro
         }
     }
     Ok(Bytes::new(alloc))
+}
+
+/// How many entries a number has.
+pub fn count_at(number: u64, cells: &[Cell]) -> usize
+    ensures { result ≡ length (cells_at number cells.now) }
+{
+    cells.iter().filter(|c| c.number == number).count()
+}
+
+/// The entries of a number leave.
+pub fn settle(number: u64, cells: &mut Vec<Cell>)
+    ensures { cells.new.items ≡ filter (λ c. not (c.number == number)) cells.old.items }
+{
+    cells.retain(|c| c.number != number);
+}
+
+/// A worker carries nothing any more.
+pub fn put_down(worker: u16, carried: &mut Vec<Carry>)
+    ensures { carried.new.items ≡ put_down worker carried.old.items }
+{
+    carried.retain(|c| c.worker != worker);
 }

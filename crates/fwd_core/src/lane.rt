@@ -4,10 +4,11 @@ ghost use Rattle.std.specs.Prelude.{◌≡◌, IfOk, OnOk, OnErr, IfSome, IsErrO
 ghost use Rattle.std.specs.List.{concat};
 ghost use Rattle.fwd_core.specs.Fits.{FitsFrame};
 ghost use Rattle.fwd_model.specs.Step.{frame_of};
-ghost use Rattle.fwd_model.specs.LiveStep.{live_up_answer, live_take_answer, live_load_answer, live_load_with, live_found, worker_with, fresh_session, with_live_output, output_enters, output_is_spent, output_closes, output_flushes};
-ghost use Rattle.fwd_core.specs.Lanes.{no_work, worker_loads, lane_up, lane_takes, lane_loads, new_live_lane};
+ghost use Rattle.fwd_model.specs.LiveStep.{live_up_answer, live_take_answer, live_load_answer, live_load_with, live_found, worker_with, fresh_session, with_live_output, output_enters, output_is_spent, output_closes, output_flushes, live_wrote_answer, live_heard_answer, live_settle_answer, session_in, live_due, output_told};
+ghost use Rattle.fwd_model.specs.Books.{numbers_of, acks_of};
+ghost use Rattle.fwd_core.specs.Lanes.{no_work, worker_loads, lane_up, lane_takes, lane_loads, new_live_lane, worker_sends, worker_hears, worker_settled, lane_sends, lane_hears, lane_settles, acked_in};
 
-use crate::output::{AdmitError, OutputState};
+use crate::output::{AdmitError, Due, OutputState};
 use crate::session::Session;
 use fwd_model::{Answer, Chunk, FlushKind, Origin, OutputConfig, Refusal};
 use fwd_modes::{Batch, chunk_name, write_chunk};
@@ -146,9 +147,66 @@ impl Worker {
         if session.is_loaded(chunk.number) {
             return Ok(Answer::Refused(Refusal::NotNow));
         }
+        if session.is_down() {
+            return Ok(Answer::Refused(Refusal::NotUp));
+        }
         let out = frame_of(alloc, run, output, chunk)?;
         session.load(chunk.number, out.as_slice(), now)?;
         Ok(Answer::Frame { out })
+    }
+
+    /// The link took so many bytes of the worker's session.
+    fn wrote(&mut self, count: u64) -> Answer
+        ensures answer { result ≡ live_wrote_answer (Some self.old.session) count }
+        ensures next { self.new ≡ worker_sends self.old count self.old.session }
+    {
+        let Some(session) = &mut self.session else {
+            return Answer::Refused(Refusal::NotNow);
+        };
+        if session.wrote(count) {
+            Answer::Done
+        } else {
+            Answer::Refused(Refusal::NotNow)
+        }
+    }
+
+    /// Bytes are read from the link of the worker's session. On an error nothing has changed.
+    fn heard(
+        &mut self,
+        alloc: Global,
+        run: &[u8; 6],
+        output: u16,
+        bytes: &[u8],
+    ) -> Result<Answer, AllocError>
+        ensures answer { IfOk result (λ a. a ≡ live_heard_answer (Some self.old.session) run.now output bytes.now) }
+        ensures next { OnOk result (self.new ≡ worker_hears self.old run.now output bytes.now self.old.session) }
+        ensures err { OnErr result (self.new ≡ self.old) }
+    {
+        let Some(session) = &mut self.session else {
+            return Ok(Answer::Refused(Refusal::NotNow));
+        };
+        session.heard(alloc, run, output, bytes)
+    }
+
+    /// The number of the worker's chunk whose acknowledgement was accepted.
+    fn acked(&self) -> Option<u64>
+        ensures { result ≡ acked_in self.now.session }
+    {
+        match &self.session {
+            None => None,
+            Some(session) => session.acked(),
+        }
+    }
+
+    /// The worker's chunk is settled: it has none any more, and its session is unloaded.
+    fn put_down(&mut self)
+        requires { is_some self.old.session ≡ true }
+        ensures { self.new ≡ worker_settled self.old.session }
+    {
+        self.chunk = None;
+        if let Some(session) = &mut self.session {
+            session.unload();
+        }
     }
 }
 
@@ -245,5 +303,69 @@ impl Lane {
             return Ok(Answer::Refused(Refusal::NoSuch));
         }
         self.workers[place].load(alloc, run, output, now)
+    }
+
+    /// The link took so many bytes of a worker's session.
+    pub fn wrote(&mut self, worker: u16, count: u64) -> Answer
+        ensures answer { result ≡ live_wrote_answer (session_in (slice_get self.old.workers worker)) count }
+        ensures next { self.new ≡ lane_sends self.old worker count (slice_get self.old.workers worker) }
+    {
+        let place = usize::from(worker);
+        if place >= self.workers.len() {
+            return Answer::Refused(Refusal::NoSuch);
+        }
+        self.workers[place].wrote(count)
+    }
+
+    /// Bytes are read from the link of a worker's session. On an error nothing has changed.
+    pub fn heard(
+        &mut self,
+        alloc: Global,
+        run: &[u8; 6],
+        output: u16,
+        worker: u16,
+        bytes: &[u8],
+    ) -> Result<Answer, AllocError>
+        ensures answer { IfOk result (λ a. a ≡ live_heard_answer (session_in (slice_get self.old.workers worker)) run.now output bytes.now) }
+        ensures next { OnOk result (self.new ≡ lane_hears self.old worker run.now output bytes.now (slice_get self.old.workers worker)) }
+        ensures err { OnErr result (self.new ≡ self.old) }
+    {
+        let place = usize::from(worker);
+        if place >= self.workers.len() {
+            return Ok(Answer::Refused(Refusal::NoSuch));
+        }
+        self.workers[place].heard(alloc, run, output, bytes)
+    }
+
+    /// A worker's acknowledged chunk leaves the output.
+    pub fn settle(&mut self, worker: u16) -> Answer
+        ensures answer { result ≡ live_settle_answer (slice_get self.old.workers worker) (Some self.old) }
+        ensures next { self.new ≡ lane_settles self.old worker (slice_get self.old.workers worker) }
+    {
+        let place = usize::from(worker);
+        if place >= self.workers.len() {
+            return Answer::Refused(Refusal::NoSuch);
+        }
+        let Some(number) = self.workers[place].acked() else {
+            return Answer::Refused(Refusal::NotNow);
+        };
+        let entries = self.output.settle(worker, number);
+        self.workers[place].put_down();
+        Answer::Settled { entries }
+    }
+
+    /// What a connection is to be told of its requests at the output.
+    pub fn due(&self, alloc: Global, conn: u64) -> Result<Due, AllocError>
+        ensures numbers { IfOk result (λ due. due.requests ≡ numbers_of (live_due conn self.now.output)) }
+        ensures acks { IfOk result (λ due. due.out ≡ acks_of (live_due conn self.now.output)) }
+    {
+        self.output.due(alloc, conn)
+    }
+
+    /// The connection was told what was due.
+    pub fn tell(&mut self, conn: u64)
+        ensures { self.new ≡ with_live_output self.old (output_told self.old.output conn) }
+    {
+        self.output.tell(conn);
     }
 }

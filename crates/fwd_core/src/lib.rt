@@ -1,14 +1,19 @@
 //! The relay that runs: `step` and `run` over packed state, proved to be the abstract relay.
 #![tactic(auto)]
 
+mod book;
 mod chunks;
 mod connection;
 mod hearing;
 mod lane;
 mod output;
 mod relay;
+mod replies;
 mod session;
 mod source;
 
-pub use output::{AdmitError, OutputState};
+pub use fwd_model::{
+    Answer, Config, Event, FlushKind, OutputConfig, Refusal, SessionFault, SourceFault,
+};
+pub use output::{AdmitError, Due, OutputState};
 pub use relay::Relay;

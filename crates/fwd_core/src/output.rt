@@ -1,12 +1,15 @@
 //! One output's state, which will lie under one lock.
 
-ghost use Rattle.std.specs.Prelude.{◌≡◌, ◌+◌, ◌-◌, true, false, Ok, IsErrOf, OnOk, OnErr, IfOk, IfSome, filter, length};
+ghost use Rattle.std.specs.Prelude.{◌≡◌, ◌+◌, ◌-◌, ◌<◌, ◌≤◌, ◌∷◌, ◌++◌, [], true, false, Ok, IsErrOf, OnOk, OnErr, IfOk, IfSome, filter, length, not};
 ghost use Rattle.fwd_core.specs.Fits.{FitsFrame};
-ghost use Rattle.fwd_model.specs.LiveStep.{no_entries, output_enters, output_is_spent, output_closes, output_flushes, output_takes, output_found};
+ghost use Rattle.fwd_model.specs.Books.{entered_as, numbers_of, acks_of};
+ghost use Rattle.fwd_model.specs.Chunks.{cells_at, cells_of, has_entry};
+ghost use Rattle.fwd_model.specs.LiveStep.{no_entries, output_enters, output_is_spent, output_closes, output_flushes, output_takes, output_found, output_settles, live_due, output_told};
 
-use crate::chunks;
-use fwd_model::{Carry, Cell, Chunk, FlushKind, Origin};
+use crate::{book, chunks};
+use fwd_model::{Carry, Cell, Chunk, Entered, FlushKind, Origin};
 use fwd_modes::Batch;
+use fwd_msgpack::{Bytes, Seq};
 use std::alloc::{AllocError, Global};
 use std::marker::Model;
 
@@ -18,14 +21,32 @@ pub enum AdmitError {
     NumbersSpent,
 }
 
-/// The entries of one output that are not yet settled, with the numbers of their chunks.
+/// What a connection is to be told: the numbers of requests, and the bytes that are appended for it.
+#[derive(Drop)]
+pub struct Due {
+    pub requests: Seq<u64>,
+    pub out: Bytes,
+}
+
+/// What a request brings to an output: its cells, the open numbers afterwards, and the request itself.
+#[derive(Drop)]
+struct Parts {
+    cells: Vec<Cell>,
+    opened: Vec<u64>,
+    request: Entered,
+}
+
+/// The entries of one output that are not yet settled, with the numbers of their chunks, and the requests that were
+/// not yet told.
 #[derive(Drop)]
 pub struct OutputState {
     cells: Vec<Cell>,
     opened: Vec<u64>,
     greatest: u64,
     accepted: u64,
+    settled: u64,
     carried: Vec<Carry>,
+    requests: Vec<Entered>,
     moment: u64,
 }
 
@@ -34,11 +55,12 @@ impl Model for OutputState {
 
     ghost Value = { LiveOutput };
 
+    ghost use Rattle.std.specs.Prelude.{◌≡◌, ◌+◌, length};
     ghost use Rattle.fwd_core.specs.Fits.{AllFit};
 
-    ghost invariant = { λ o. AllFit o.cells.items o.greatest };
+    ghost invariant = { λ o. (AllFit o.cells.items o.greatest) × (o.accepted ≡ o.settled + length o.cells.items) };
 
-    ghost view = { λ o. record { cells = o.cells.items; opened = o.opened.items; greatest = o.greatest; accepted = o.accepted; carried = o.carried.items; moment = o.moment } };
+    ghost view = { λ o. record { cells = o.cells.items; opened = o.opened.items; greatest = o.greatest; accepted = o.accepted; settled = o.settled; carried = o.carried.items; requests = o.requests.items; moment = o.moment } };
 }
 
 impl OutputState {
@@ -51,7 +73,9 @@ impl OutputState {
             opened: Vec::new(alloc),
             greatest: 0,
             accepted: 0,
+            settled: 0,
             carried: Vec::new(alloc),
+            requests: Vec::new(alloc),
             moment: 0,
         }
     }
@@ -72,32 +96,78 @@ impl OutputState {
         ensures err { OnErr result (self.new ≡ self.old) }
     {
         let moment = self.moment.max(now);
-        let count = batch.entries().len();
-        if count == 0 {
+        if batch.entries().is_empty() {
+            let Ok(request) = book::entered(alloc, batch, origin, self.greatest) else {
+                return Err(AdmitError::Memory);
+            };
+            let Ok(()) = self.requests.push(request) else {
+                return Err(AdmitError::Memory);
+            };
             self.moment = moment;
             return Ok(());
         }
+        self.admit_entries(alloc, origin, batch, now)
+    }
+
+    /// Enters a request that has entries. On an error nothing has changed.
+    #[tactic(auto, unfolding(fwd_model::specs::LiveStep::output_enters))]
+    fn admit_entries(
+        &mut self,
+        alloc: Global,
+        origin: Origin,
+        batch: &Batch,
+        now: u64,
+    ) -> Result<(), AdmitError>
+        requires { 0 < length batch.now.entries }
+        ensures ok { OnOk result (self.new ≡ output_enters self.old origin batch.now now) }
+        ensures room { OnOk result (output_is_spent self.old batch.now ≡ false) }
+        ensures spent { IsErrOf result AdmitError.NumbersSpent → output_is_spent self.old batch.now ≡ true }
+        ensures err { OnErr result (self.new ≡ self.old) }
+    {
+        let moment = self.moment.max(now);
         let Some(number) = self.greatest.checked_add(1) else {
             return Err(AdmitError::NumbersSpent);
         };
-        let Some(accepted) = self.accepted.checked_add(count as u64) else {
+        let Some(accepted) = self.accepted.checked_add(batch.entries().len() as u64) else {
             return Err(AdmitError::NumbersSpent);
         };
-        let Ok(mut cells) = chunks::new_cells(alloc, batch, origin, number, moment) else {
+        let Ok(mut parts) = self.parts_of(alloc, origin, batch, number, moment) else {
             return Err(AdmitError::Memory);
         };
-        let Ok(opened) = chunks::opened_with(alloc, &self.opened, batch.tag(), number, &self.cells)
-        else {
+        let Ok(()) = self.requests.reserve(1) else {
             return Err(AdmitError::Memory);
         };
-        let Ok(()) = self.cells.append(&mut cells) else {
+        let Ok(()) = self.cells.append(&mut parts.cells) else {
             return Err(AdmitError::Memory);
         };
-        self.opened = opened;
+        self.requests.push_reserved(parts.request);
+        self.opened = parts.opened;
         self.greatest = number;
         self.accepted = accepted;
         self.moment = moment;
         Ok(())
+    }
+
+    /// What a request with entries brings, under the next number.
+    fn parts_of(
+        &self,
+        alloc: Global,
+        origin: Origin,
+        batch: &Batch,
+        number: u64,
+        moment: u64,
+    ) -> Result<Parts, AllocError>
+        ensures cells { IfOk result (λ p. p.cells.items ≡ cells_of batch.now origin number moment) }
+        ensures opened { IfOk result (λ p. p.opened.items ≡ filter (λ k. not (has_entry batch.now.tag k self.now.cells)) self.now.opened ++ number ∷ []) }
+        ensures request { IfOk result (λ p. p.request ≡ entered_as batch.now origin number) }
+        ensures tag { length batch.now.tag ≤ 1024 }
+    {
+        let tag = batch.tag();
+        Ok(Parts {
+            cells: chunks::new_cells(alloc, batch, origin, number, moment)?,
+            opened: chunks::opened_with(alloc, &self.opened, tag, number, &self.cells)?,
+            request: book::entered(alloc, batch, origin, number)?,
+        })
     }
 
     /// Closes the open numbers that a flush closes, and answers how many.
@@ -138,5 +208,38 @@ impl OutputState {
         };
         self.moment = moment;
         Ok(chunk)
+    }
+
+    /// The entries of a number that a server acknowledged leave, and its worker carries nothing any more. Answers how
+    /// many entries left.
+    pub fn settle(&mut self, worker: u16, number: u64) -> usize
+        ensures count { result ≡ length (cells_at number self.old.cells) }
+        ensures settled { self.new ≡ output_settles self.old worker number }
+    {
+        let count = chunks::count_at(number, &self.cells);
+        chunks::settle(number, &mut self.cells);
+        chunks::put_down(worker, &mut self.carried);
+        self.settled = self.accepted - self.cells.len() as u64;
+        count
+    }
+
+    /// What a connection is to be told: the numbers of its requests whose entries are all settled, and the
+    /// acknowledgements that they asked for.
+    pub fn due(&self, alloc: Global, conn: u64) -> Result<Due, AllocError>
+        ensures numbers { IfOk result (λ due. due.requests ≡ numbers_of (live_due conn self.now)) }
+        ensures acks { IfOk result (λ due. due.out ≡ acks_of (live_due conn self.now)) }
+    {
+        Ok(Due {
+            requests: book::due_numbers(alloc, conn, &self.cells, &self.requests)?,
+            out: book::due_acks(alloc, conn, &self.cells, &self.requests)?,
+        })
+    }
+
+    /// The connection was told of its requests whose entries are all settled: they leave.
+    #[tactic(auto, unfolding(fwd_model::specs::LiveStep::output_told))]
+    pub fn tell(&mut self, conn: u64)
+        ensures { self.new ≡ output_told self.old conn }
+    {
+        book::tell(conn, &self.cells, &mut self.requests);
     }
 }

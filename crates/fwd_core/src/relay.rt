@@ -1,20 +1,20 @@
 //! The relay: connections, outputs, and one step at a time.
 
-ghost use Rattle.std.specs.Prelude.{◌≡◌, ◌≢◌, map, Some, IfOk, OnOk, OnErr, slice_get};
+ghost use Rattle.std.specs.Prelude.{◌≡◌, ◌≢◌, true, map, Some, IfOk, OnOk, OnErr, slice_get};
 ghost use Rattle.fwd_model.specs.History.{opening};
 ghost use Rattle.fwd_model.specs.Live.{live};
-ghost use Rattle.fwd_model.specs.LiveStep.{live_answer_to, live_next, live_answers, live_after, live_source_at, live_accepted, is_above, live_piece_answer, live_piece_next, live_admit_answer, live_admit_next, live_flush_answer, live_flush_next, live_up_answer, live_up_next, live_take_answer, live_take_next, live_load_answer, live_load_next, worker_at};
+ghost use Rattle.fwd_model.specs.LiveStep.{live_answer_to, live_next, live_answers, live_after, live_source_at, live_accepted, is_above, live_piece_answer, live_piece_next, live_admit_answer, live_admit_next, live_flush_answer, live_flush_next, live_up_answer, live_up_next, live_take_answer, live_take_next, live_load_answer, live_load_next, worker_at, session_in, live_wrote_answer, live_wrote_next, live_heard_answer, live_heard_next, live_settle_answer, live_settle_next, live_collect_answer, live_collect_next, live_collect_open};
 ghost use Rattle.std.specs.Prelude.{length};
 ghost use Rattle.fwd_model.specs.declared.config.Config.{Config as Settings};
 ghost use Rattle.fwd_model.specs.History.{History};
 ghost use Rattle.fwd_model.specs.Step.{answers as history_answers, after, IsReached};
-ghost use Rattle.fwd_core.specs.Runs.{told, kept};
+ghost use Rattle.fwd_core.specs.Runs.{told, kept, takes_none};
 ghost use Rattle.fwd_core.specs.Lanes.{new_live_lane};
-ghost use Rattle.fwd_core.specs.Relays.{accept_answer, accept_next, admit_source, admit_lane};
+ghost use Rattle.fwd_core.specs.Relays.{accept_answer, accept_next, admit_source, admit_lane, told_source, told_lane};
 
 use crate::connection::{Connection, place_of};
 use crate::lane::Lane;
-use crate::output::AdmitError;
+use crate::output::{AdmitError, Due};
 use crate::source::Source;
 use fwd_model::{
     Answer, Config, Event, FlushKind, Origin, OutputConfig, Refusal, live_run_follows,
@@ -59,6 +59,7 @@ impl Relay {
         ensures answer { result ≢ Answer.Memory → result ≡ live_answer_to self.old event.now }
         ensures next { result ≢ Answer.Memory → self.new ≡ live_next self.old event.now }
         ensures memory { result ≡ Answer.Memory → self.new ≡ self.old }
+        ensures none { takes_none event.now ≡ true → result ≢ Answer.Memory }
     {
         let answered = match event {
             Event::Accept { conn, .. } => self.accept(alloc, *conn),
@@ -82,6 +83,18 @@ impl Relay {
                 worker,
                 now,
             } => self.load(alloc, *output, *worker, *now),
+            Event::Wrote {
+                output,
+                worker,
+                count,
+            } => Ok(self.wrote(*output, *worker, *count)),
+            Event::Heard {
+                output,
+                worker,
+                bytes,
+            } => self.heard(alloc, *output, *worker, bytes.as_slice()),
+            Event::Settle { output, worker } => Ok(self.settle(*output, *worker)),
+            Event::Collect { conn, output } => self.collect(alloc, *conn, *output),
         };
         answered.unwrap_or(Answer::Memory)
     }
@@ -231,6 +244,71 @@ impl Relay {
         let lane = &mut self.lanes[place];
         lane.load(alloc, &run, output, worker, now)
     }
+
+    /// The link took so many bytes of a worker's session.
+    fn wrote(&mut self, output: u16, worker: u16, count: u64) -> Answer
+        ensures answer { result ≡ live_wrote_answer (session_in (worker_at worker (slice_get self.old.lanes output))) count }
+        ensures next { self.new ≡ live_wrote_next output worker (worker_at worker (slice_get self.old.lanes output)) (slice_get self.old.lanes output) count self.old }
+    {
+        let place = usize::from(output);
+        if place >= self.lanes.len() {
+            return Answer::Refused(Refusal::NoSuch);
+        }
+        let lane = &mut self.lanes[place];
+        lane.wrote(worker, count)
+    }
+
+    /// Bytes are read from the link of a worker's session. On an error nothing has changed.
+    fn heard(
+        &mut self,
+        alloc: Global,
+        output: u16,
+        worker: u16,
+        bytes: &[u8],
+    ) -> Result<Answer, AllocError>
+        ensures answer { IfOk result (λ a. a ≡ live_heard_answer (session_in (worker_at worker (slice_get self.old.lanes output))) self.old.run output bytes.now) }
+        ensures next { OnOk result (self.new ≡ live_heard_next output worker (worker_at worker (slice_get self.old.lanes output)) (slice_get self.old.lanes output) bytes.now self.old) }
+        ensures err { OnErr result (self.new ≡ self.old) }
+    {
+        let place = usize::from(output);
+        if place >= self.lanes.len() {
+            return Ok(Answer::Refused(Refusal::NoSuch));
+        }
+        let run = self.run;
+        let lane = &mut self.lanes[place];
+        lane.heard(alloc, &run, output, worker, bytes)
+    }
+
+    /// A worker's acknowledged chunk leaves its output.
+    fn settle(&mut self, output: u16, worker: u16) -> Answer
+        ensures answer { result ≡ live_settle_answer (worker_at worker (slice_get self.old.lanes output)) (slice_get self.old.lanes output) }
+        ensures next { self.new ≡ live_settle_next output worker (worker_at worker (slice_get self.old.lanes output)) (slice_get self.old.lanes output) self.old }
+    {
+        let place = usize::from(output);
+        if place >= self.lanes.len() {
+            return Answer::Refused(Refusal::NoSuch);
+        }
+        let lane = &mut self.lanes[place];
+        lane.settle(worker)
+    }
+
+    /// A connection is told of its requests at an output whose entries are all settled. On an error nothing has changed.
+    fn collect(&mut self, alloc: Global, conn: u64, output: u16) -> Result<Answer, AllocError>
+        ensures answer { IfOk result (λ a. a ≡ live_collect_answer conn (live_source_at conn self.old.connections) (slice_get self.old.lanes output)) }
+        ensures next { OnOk result (self.new ≡ live_collect_next conn (live_source_at conn self.old.connections) output (slice_get self.old.lanes output) self.old) }
+        ensures err { OnErr result (self.new ≡ self.old) }
+    {
+        let Some(place) = place_of(conn, &self.connections) else {
+            return Ok(Answer::Refused(Refusal::NoSuch));
+        };
+        let lane_place = usize::from(output);
+        if lane_place >= self.lanes.len() {
+            return Ok(Answer::Refused(Refusal::NoSuch));
+        }
+        let connection = &mut self.connections[place];
+        let lane = &mut self.lanes[lane_place];
+        tell_from(alloc, lane, &mut connection.source, conn)
+    }
 }
 
 fn lanes_of(alloc: Global, configs: &[OutputConfig]) -> Result<Vec<Lane>, AllocError>
@@ -277,4 +355,26 @@ fn admit_from(
         }
         Err(AdmitError::Memory) => Err(AllocError),
     }
+}
+
+/// The source is told what is due at the output. On an error nothing has changed.
+fn tell_from(
+    alloc: Global,
+    lane: &mut Lane,
+    source: &mut Source,
+    conn: u64,
+) -> Result<Answer, AllocError>
+    ensures answer { IfOk result (λ a. a ≡ live_collect_open conn source.old lane.old.output) }
+    ensures source { OnOk result (source.new ≡ told_source conn source.old lane.old) }
+    ensures lane { OnOk result (lane.new ≡ told_lane conn source.old lane.old) }
+    ensures source_err { OnErr result (source.new ≡ source.old) }
+    ensures lane_err { OnErr result (lane.new ≡ lane.old) }
+{
+    if source.is_shut() {
+        return Ok(Answer::Refused(Refusal::Closed));
+    }
+    let Due { requests, out } = lane.due(alloc, conn)?;
+    source.answer(out.as_slice())?;
+    lane.tell(conn);
+    Ok(Answer::Told { requests, out })
 }

@@ -1,18 +1,26 @@
 //! One output session: a worker's link to a server.
 
-ghost use Rattle.std.specs.Prelude.{◌≡◌, ◌++◌, OnOk, OnErr};
+ghost use Rattle.std.specs.Prelude.{◌≡◌, ◌++◌, not, nat_lt, length, Some, IfOk, OnOk, OnErr};
 ghost use Rattle.fwd_model.specs.Step.{is_loaded};
-ghost use Rattle.fwd_model.specs.LiveStep.{fresh_session, session_loads};
+ghost use Rattle.fwd_model.specs.LiveStep.{fresh_session, session_loads, session_unloads, live_awaited, live_acked_number, live_heard_answer};
+ghost use Rattle.fwd_core.specs.Lanes.{session_sent, session_heard};
 
+use crate::replies::hear;
+use fwd_model::{Answer, Refusal};
+use fwd_modes::chunk_name;
+use fwd_msgpack::Bytes;
 use std::alloc::{AllocError, Global};
 use std::marker::Model;
 
-/// A session with one server, and the bytes that wait to be sent to it.
+/// A session with one server: the bytes that wait to be sent to it, and those of its unfinished reply.
 #[derive(Drop)]
 pub struct Session {
     server: u16,
     waiting: Vec<u8>,
+    rest: Vec<u8>,
     loaded: Option<u64>,
+    accepted: bool,
+    down: bool,
     moment: u64,
 }
 
@@ -21,7 +29,7 @@ impl Model for Session {
 
     ghost Value = { LiveSession };
 
-    ghost view = { λ s. record { server = s.server; waiting = s.waiting.items; loaded = s.loaded; moment = s.moment } };
+    ghost view = { λ s. record { server = s.server; waiting = s.waiting.items; rest = s.rest.items; loaded = s.loaded; accepted = s.accepted; down = s.down; moment = s.moment } };
 }
 
 impl Session {
@@ -32,7 +40,10 @@ impl Session {
         Session {
             server,
             waiting: Vec::new(alloc),
+            rest: Vec::new(alloc),
             loaded: None,
+            accepted: false,
+            down: false,
             moment: now,
         }
     }
@@ -47,6 +58,13 @@ impl Session {
         }
     }
 
+    /// Whether a fault put the session down.
+    pub fn is_down(&self) -> bool
+        ensures { result ≡ self.now.down }
+    {
+        self.down
+    }
+
     /// Puts a chunk's frame behind the bytes that wait. On an error nothing has changed.
     pub fn load(&mut self, number: u64, frame: &[u8], now: u64) -> Result<(), AllocError>
         ensures ok { OnOk result (self.new ≡ session_loads self.old number frame.now now) }
@@ -56,5 +74,82 @@ impl Session {
         self.loaded = Some(number);
         self.moment = self.moment.max(now);
         Ok(())
+    }
+
+    /// The link took so many bytes. Where fewer wait nothing changes, and the answer is false.
+    #[tactic(auto, unfolding(fwd_model::specs::LiveStep::session_sends))]
+    pub fn wrote(&mut self, count: u64) -> bool
+        ensures within { result ≡ not (nat_lt (length self.old.waiting) count) }
+        ensures sent { self.new ≡ session_sent self.old count }
+    {
+        if count > self.waiting.len() as u64 {
+            return false;
+        }
+        self.waiting.drain(..count as usize);
+        true
+    }
+
+    /// The name of the chunk whose acknowledgement is awaited: one that was handed on whole and is not acknowledged.
+    fn awaited(&self, run: &[u8; 6], output: u16) -> Option<[u8; 24]>
+        ensures { result ≡ live_awaited run.now output self.now }
+    {
+        if self.accepted || !self.waiting.is_empty() {
+            return None;
+        }
+        match self.loaded {
+            None => None,
+            Some(number) => Some(chunk_name(run, output, number)),
+        }
+    }
+
+    /// Bytes are read from the link. After a fault each further piece is refused. On an error nothing has changed.
+    #[tactic(auto, unfolding(fwd_model::specs::LiveStep::session_hears))]
+    pub fn heard(
+        &mut self,
+        alloc: Global,
+        run: &[u8; 6],
+        output: u16,
+        bytes: &[u8],
+    ) -> Result<Answer, AllocError>
+        ensures answer { IfOk result (λ a. a ≡ live_heard_answer (Some (Some self.old)) run.now output bytes.now) }
+        ensures next { OnOk result (self.new ≡ session_heard run.now output self.old bytes.now) }
+        ensures err { OnErr result (self.new ≡ self.old) }
+    {
+        if self.down {
+            return Ok(Answer::Refused(Refusal::NotUp));
+        }
+        let mut all = Vec::from_slice(alloc, &self.rest)?;
+        all.extend_from_slice(bytes)?;
+        let heard = hear(self.awaited(run, output), &all);
+        let rest = Vec::from_slice(alloc, heard.rest)?;
+        self.accepted = self.accepted || heard.accepted;
+        if let Some(fault) = heard.fault {
+            self.waiting.clear();
+            self.rest.clear();
+            self.down = true;
+            return Ok(Answer::SessionFaulted(fault));
+        }
+        self.rest = rest;
+        let out = Bytes::new(alloc);
+        Ok(if heard.accepted {
+            Answer::Acked { out }
+        } else {
+            Answer::Quiet { out }
+        })
+    }
+
+    /// The number of the chunk whose acknowledgement was accepted.
+    pub fn acked(&self) -> Option<u64>
+        ensures { result ≡ live_acked_number self.now }
+    {
+        if self.accepted { self.loaded } else { None }
+    }
+
+    /// The acknowledged chunk is taken out.
+    pub fn unload(&mut self)
+        ensures { self.new ≡ session_unloads self.old }
+    {
+        self.loaded = None;
+        self.accepted = false;
     }
 }

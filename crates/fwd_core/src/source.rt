@@ -2,7 +2,7 @@
 
 ghost use Rattle.std.specs.Prelude.{◌≡◌, ◌+◌, ◌<◌, IfOk, OnOk, OnErr, Some, length, slice_get};
 ghost use Rattle.std.specs.Option.{option_copied};
-ghost use Rattle.fwd_model.specs.LiveStep.{live_piece_answer, source_gives, source_shuts};
+ghost use Rattle.fwd_model.specs.LiveStep.{live_piece_answer, source_gives, source_shuts, source_appends};
 ghost use Rattle.fwd_core.specs.Hearing.{new_source, source_next};
 
 use crate::hearing::hear;
@@ -12,12 +12,14 @@ use fwd_msgpack::Bytes;
 use std::alloc::{AllocError, Global};
 use std::marker::Model;
 
-/// A connection's unfinished bytes, and its requests that wait to be admitted.
+/// A connection's unfinished bytes, its requests that wait to be admitted, and the bytes that wait to be sent to it.
 #[derive(Drop)]
 pub struct Source {
     rest: Vec<u8>,
     waiting: Vec<Batch>,
     admitted: u64,
+    unsent: Vec<u8>,
+    shut: bool,
     closed: bool,
 }
 
@@ -27,7 +29,7 @@ impl Model for Source {
 
     ghost Value = { LiveSource };
 
-    ghost view = { λ s. record { rest = s.rest.items; waiting = s.waiting.items; admitted = s.admitted; closed = s.closed } };
+    ghost view = { λ s. record { rest = s.rest.items; waiting = s.waiting.items; admitted = s.admitted; unsent = s.unsent.items; shut = s.shut; closed = s.closed } };
 
     ghost invariant = { λ s. s.admitted + length s.waiting.items < 2 ^ 64 };
 }
@@ -41,6 +43,8 @@ impl Source {
             rest: Vec::new(alloc),
             waiting: Vec::new(alloc),
             admitted: 0,
+            unsent: Vec::new(alloc),
+            shut: false,
             closed: false,
         }
     }
@@ -104,6 +108,23 @@ impl Source {
     {
         self.rest.clear();
         self.waiting.clear();
+        self.unsent.clear();
+        self.shut = true;
         self.closed = true;
+    }
+
+    /// Whether what waits was dropped.
+    pub fn is_shut(&self) -> bool
+        ensures { result ≡ self.now.shut }
+    {
+        self.shut
+    }
+
+    /// Bytes are put behind those that wait to be sent. On an error nothing has changed.
+    pub fn answer(&mut self, bytes: &[u8]) -> Result<(), AllocError>
+        ensures ok { OnOk result (self.new ≡ source_appends self.old bytes.now) }
+        ensures err { OnErr result (self.new ≡ self.old) }
+    {
+        self.unsent.extend_from_slice(bytes)
     }
 }

@@ -1,19 +1,23 @@
 -- The abstract relay at work: from the five bytes of a Message to the chunk that a worker has.
-use Rattle.std.proofs.Common.{◌≡◌, List, [], ◌∷◌, refl}
-use Rattle.std.specs.Prelude.{replicate}
-use Rattle.fwd_msgpack.specs.Heads.{row_of, named_rows, reading_of}
+use Rattle.std.proofs.Common.{◌≡◌, ℕ, List, [], ◌∷◌, ◌++◌, refl}
+use Rattle.std.specs.Prelude.{replicate, codes}
+use Rattle.fwd_msgpack.specs.Heads.{row_of, named_rows, reading_of, head_bytes}
 use Rattle.fwd_msgpack.specs.Scans.{first_of, fault_at, item_begun, payload_ended, split_of, row_of_values, parts_of}
 use Rattle.fwd_modes.specs.Requests.{request_of}
+use Rattle.fwd_modes.specs.Frames.{chunk_frame, chunk_name, encode_symbols}
+use Rattle.fwd_modes.specs.Acks.{ack_text, ack_name}
 use Rattle.fwd_model.specs.declared.answer.Answer.TheVariants as answer
 use Rattle.fwd_model.specs.declared.event.Event.{Event}
 use Rattle.fwd_model.specs.declared.event.Event.TheVariants as event
 use Rattle.fwd_model.specs.declared.event.FlushKind.TheVariants.{All, Due}
-use Rattle.fwd_model.specs.declared.fault.Refusal.TheVariants.{NoSuch, NotNow}
+use Rattle.fwd_model.specs.declared.fault.Refusal.TheVariants.{NoSuch, NotNow, NotUp}
+use Rattle.fwd_model.specs.declared.fault.SessionFault.TheVariants.{BadReply, WrongAck, EarlyAck}
 use Rattle.fwd_model.specs.declared.config.Config.{Config}
 use Rattle.fwd_model.specs.History.{opening}
 use Rattle.fwd_model.specs.Sources.{judged_of}
 use Rattle.fwd_model.specs.Chunks.{chunk_of}
-use Rattle.fwd_model.specs.Step.{answers, entered, flushed, taken}
+use Rattle.fwd_model.specs.Replies.{reply_stream}
+use Rattle.fwd_model.specs.Step.{answers, after, entered, flushed, taken, settled, has_told}
 
 abbrev settings : Config
 settings = record {
@@ -55,3 +59,101 @@ answered : answers (opening settings) events ≡
     answer.Refused NotNow ∷ []
 unfolding opening entered flushed taken chunk_of judged_of request_of parts_of row_of_values split_of first_of fault_at item_begun payload_ended reading_of row_of named_rows
 answered = refl
+
+-- ---- the way back: the source is told once the server acknowledged its chunk
+
+-- the first chunk's name
+abbrev name : List ℕ
+name = codes "AAAAAAAAAAAAAAAAAAAAAQ=="
+
+-- the first half of an acknowledgement, and the rest of it
+abbrev reply_front : List ℕ
+reply_front = 0x81 ∷ 0xa3 ∷ 0x61 ∷ 0x63 ∷ []
+
+abbrev reply_rest : List ℕ
+reply_rest = 0x6b ∷ 0xb8 ∷ name
+
+-- a Message with the chunk `a1 78`
+abbrev message : List ℕ
+message = 0x94 ∷ 0xa1 ∷ 0x61 ∷ 0x01 ∷ 0x80 ∷ 0x81 ∷ 0xa5 ∷ 0x63 ∷ 0x68 ∷ 0x75 ∷ 0x6e ∷ 0x6b ∷ 0xa1 ∷ 0x78 ∷ []
+
+abbrev whole_way : List Event
+whole_way =
+    event.Accept 1 (replicate 16 0) (replicate 16 0) ∷
+    event.Piece 1 message ∷
+    event.Admit 1 0 0 ∷
+    event.Flush 0 0 All ∷
+    event.Up 0 0 0 [] 0 ∷
+    event.Take 0 0 0 ∷
+    event.Load 0 0 0 ∷
+    event.Wrote 0 0 47 ∷
+    event.Wrote 0 0 46 ∷
+    event.Heard 0 0 reply_front ∷
+    event.Settle 0 0 ∷
+    event.Heard 0 0 reply_rest ∷
+    event.Collect 1 0 ∷
+    event.Settle 0 0 ∷
+    event.Collect 1 0 ∷
+    event.Collect 1 0 ∷
+    event.Heard 0 0 (reply_front ++ reply_rest) ∷
+    event.Load 0 0 0 ∷
+    event.Heard 0 0 [] ∷ []
+
+-- the first events, up to a chunk that was sent whole
+abbrev until_sent : List Event
+until_sent =
+    event.Accept 1 (replicate 16 0) (replicate 16 0) ∷
+    event.Piece 1 message ∷
+    event.Admit 1 0 0 ∷
+    event.Flush 0 0 All ∷
+    event.Up 0 0 0 [] 0 ∷
+    event.Take 0 0 0 ∷
+    event.Load 0 0 0 ∷
+    event.Wrote 0 0 46 ∷ []
+
+abbrev frame : List ℕ
+frame = 0x93 ∷ 0xa1 ∷ 0x61 ∷ 0xc4 ∷ 0x03 ∷ 0x92 ∷ 0x01 ∷ 0x80 ∷ 0x82 ∷ 0xa4 ∷ 0x73 ∷ 0x69 ∷ 0x7a ∷ 0x65 ∷ 0x01 ∷ 0xa5 ∷ 0x63 ∷ 0x68 ∷ 0x75 ∷ 0x6e ∷ 0x6b ∷ 0xb8 ∷ name
+
+brought_back : answers (opening settings) whole_way ≡
+    answer.Accepted [] ∷
+    answer.Requests 1 [] ∷
+    answer.Admitted 1 1 ∷
+    answer.Closed 1 ∷
+    answer.Done ∷
+    answer.Took 1 1 ∷
+    answer.Frame frame ∷
+    answer.Refused NotNow ∷
+    answer.Done ∷
+    answer.Quiet [] ∷
+    answer.Refused NotNow ∷
+    answer.Acked [] ∷
+    answer.Told [] [] ∷
+    answer.Settled 1 ∷
+    answer.Told (1 ∷ []) (0x81 ∷ 0xa3 ∷ 0x61 ∷ 0x63 ∷ 0x6b ∷ 0xa1 ∷ 0x78 ∷ []) ∷
+    answer.Told [] [] ∷
+    answer.SessionFaulted EarlyAck ∷
+    answer.Refused NotNow ∷
+    answer.Refused NotUp ∷ []
+unfolding opening entered flushed taken settled has_told chunk_of chunk_frame chunk_name encode_symbols ack_text ack_name head_bytes reply_stream judged_of request_of parts_of row_of_values split_of first_of fault_at item_begun payload_ended reading_of row_of named_rows
+brought_back = refl
+
+-- a second acknowledgement is early, and the first one stands
+acknowledged_twice : answers (after (opening settings) until_sent) (
+    event.Heard 0 0 (reply_front ++ reply_rest ++ reply_front ++ reply_rest) ∷
+    event.Settle 0 0 ∷
+    event.Collect 1 0 ∷ []
+    ) ≡
+    answer.SessionFaulted EarlyAck ∷
+    answer.Settled 1 ∷
+    answer.Told (1 ∷ []) (0x81 ∷ 0xa3 ∷ 0x61 ∷ 0x63 ∷ 0x6b ∷ 0xa1 ∷ 0x78 ∷ []) ∷ []
+unfolding opening entered flushed taken settled has_told chunk_of chunk_frame chunk_name encode_symbols ack_text ack_name head_bytes reply_stream judged_of request_of parts_of row_of_values split_of first_of fault_at item_begun payload_ended reading_of row_of named_rows
+acknowledged_twice = refl
+
+-- another name, and a value that is no acknowledgement
+wrong_name : answers (after (opening settings) until_sent) (event.Heard 0 0 (0x81 ∷ 0xa3 ∷ 0x61 ∷ 0x63 ∷ 0x6b ∷ 0xa1 ∷ 0x41 ∷ []) ∷ event.Settle 0 0 ∷ []) ≡ answer.SessionFaulted WrongAck ∷ answer.Refused NotNow ∷ []
+unfolding opening entered flushed taken settled has_told chunk_of chunk_frame chunk_name encode_symbols ack_text ack_name head_bytes reply_stream judged_of request_of parts_of row_of_values split_of first_of fault_at item_begun payload_ended reading_of row_of named_rows
+wrong_name = refl
+
+no_acknowledgement : answers (after (opening settings) until_sent) (event.Heard 0 0 (0xc0 ∷ []) ∷ event.Heard 0 0 (0xc3 ∷ []) ∷ event.Settle 0 0 ∷ []) ≡ answer.Quiet [] ∷ answer.SessionFaulted BadReply ∷ answer.Refused NotNow ∷ []
+unfolding opening entered flushed taken settled has_told chunk_of chunk_frame chunk_name encode_symbols ack_text ack_name head_bytes reply_stream judged_of request_of parts_of row_of_values split_of first_of fault_at item_begun payload_ended reading_of row_of named_rows
+no_acknowledgement = refl

@@ -1,6 +1,6 @@
 -- The live part follows the history at each event of a run, and over runs.
-use Rattle.std.proofs.Common.{◌≡◌, ℕ, Bool, true, false, cond, List, [], ◌∷◌, Option, Some, None, refl, sym, ap, subst, ◌∙◌}
-use Rattle.std.specs.Prelude.{map, option_map, slice_get}
+use Rattle.std.proofs.Common.{◌≡◌, ℕ, zero, suc, Bool, true, false, cond, List, [], ◌∷◌, Option, Some, None, refl, sym, ap, subst, ◌∙◌}
+use Rattle.std.specs.Prelude.{map, option_map, slice_get, replicate}
 use Rattle.fwd_model.specs.declared.config.Config.{Config}
 use Rattle.fwd_model.specs.declared.config.OutputConfig.{OutputConfig}
 use Rattle.fwd_model.specs.declared.event.Event.{Event}
@@ -16,9 +16,13 @@ use Rattle.fwd_model.specs.Live.{live, live_source, live_lane, live_worker, last
 use Rattle.fwd_model.specs.LiveStep as livestep
 use Rattle.fwd_model.specs.LiveStep.{live_answer_to, live_next, live_answers, live_after, live_accepted, live_source_at, is_above, worker_at}
 use Rattle.fwd_model.proofs.Places.{source_at-live}
-use Rattle.fwd_model.proofs.Reached.{AdmitsItsOwn, CarriesItsOwn, AllCarry, IsSane, AllAdmit-at, AllCarry-at}
+use Rattle.fwd_model.proofs.Reached.{AdmitsItsOwn, IsSaneSession, IsSaneLane, AllSane, IsSane, AllAdmit-at, AllSane-at}
 use Rattle.fwd_model.proofs.FollowsSources.{accepted-live, accepted-sane, piece_answer-live, piece_next-live, piece_next-sane}
-use Rattle.fwd_model.proofs.FollowsOutputs.{lane_at-live, worker_at-live, flush_answer-live, flush_next-live, flush_next-sane, up_answer-live, up_next-live, up_next-sane, load_answer-live, load_next-live, load_next-sane}
+use Rattle.fwd_model.proofs.FollowsOutputs.{lane_at-live, worker_at-live, flush_answer-live, flush_next-live, flush_next-sane}
+use Rattle.fwd_model.proofs.FollowsSessions.{up_answer-live, up_next-live, up_next-sane, load_answer-live, load_next-live, load_next-sane, wrote_answer-live, wrote_next-live, wrote_next-sane}
+use Rattle.fwd_model.proofs.FollowsReplies.{heard_answer-live, heard_next-live, heard_next-sane}
+use Rattle.fwd_model.proofs.FollowsSettles.{settle_answer-live, settle_next-live, settle_next-sane}
+use Rattle.fwd_model.proofs.FollowsCollects.{collect_answer-live, collect_next-live, collect_next-sane}
 use Rattle.fwd_model.proofs.FollowsTakes.{take_answer-live, take_next-live, take_next-sane}
 use Rattle.fwd_model.proofs.FollowsAdmits.{admit_answer-live, admit_next-live, admit_next-sane}
 
@@ -29,8 +33,8 @@ module _ (h : History) (sane : IsSane h) where
   own_source : (id : ℕ) (s : SourceHistory) → source_at id h.connections ≡ Some s → AdmitsItsOwn s
   own_source id s e = AllAdmit-at id h.connections s sane.sources e
 
-  own_lane : (o : ℕ) (l : Lane) → slice_get h.lanes o ≡ Some l → CarriesItsOwn l
-  own_lane o l e = AllCarry-at h.lanes o l sane.lanes e
+  own_lane : (o : ℕ) (l : Lane) → slice_get h.lanes o ≡ Some l → IsSaneLane l
+  own_lane o l e = AllSane-at h.lanes o l sane.lanes e
 
   live_source_here : (id : ℕ) → live_source_at id (live h).connections ≡ option_map live_source (source_at id h.connections)
   unfolding live
@@ -59,7 +63,7 @@ module _ (h : History) (sane : IsSane h) where
   admit_followed : (id o now : ℕ) → Followed h (event.Admit id o now)
   admit_followed id o now =
       let has : (s : SourceHistory) → source_at id h.connections ≡ Some s → AdmitsItsOwn s = λ s e. own_source id s e in
-      let own : (l : Lane) → slice_get h.lanes o ≡ Some l → CarriesItsOwn l = λ l e. own_lane o l e in
+      let own : (l : Lane) → slice_get h.lanes o ≡ Some l → IsSaneLane l = λ l e. own_lane o l e in
       let here = sym (live_source_here id) in
       let lane = sym (lane_at-live o h) in (
         admit_answer-live (source_at id h.connections) o (slice_get h.lanes o) ∙ (λ i. livestep.live_admit_answer (here i) o (lane i)),
@@ -69,10 +73,22 @@ module _ (h : History) (sane : IsSane h) where
 
   flush_followed : (o now : ℕ) (kind : FlushKind) → Followed h (event.Flush o now kind)
   flush_followed o now kind =
+      let own : (l : Lane) → slice_get h.lanes o ≡ Some l → IsSaneLane l = λ l e. own_lane o l e in
       let lane = sym (lane_at-live o h) in (
-        flush_answer-live (slice_get h.lanes o) now kind ∙ ap (λ l. livestep.live_flush_answer l now kind) lane,
-        flush_next-live o (slice_get h.lanes o) now kind h ∙ ap (λ l. livestep.live_flush_next o l now kind (live h)) lane,
-        flush_next-sane o (slice_get h.lanes o) now kind h sane (λ l e. own_lane o l e),
+        flush_answer-live (slice_get h.lanes o) now kind own ∙ ap (λ l. livestep.live_flush_answer l now kind) lane,
+        flush_next-live o (slice_get h.lanes o) now kind h own ∙ ap (λ l. livestep.live_flush_next o l now kind (live h)) lane,
+        flush_next-sane o (slice_get h.lanes o) now kind h sane own,
+      )
+
+  collect_followed : (id o : ℕ) → Followed h (event.Collect id o)
+  collect_followed id o =
+      let has : (s : SourceHistory) → source_at id h.connections ≡ Some s → AdmitsItsOwn s = λ s e. own_source id s e in
+      let own : (l : Lane) → slice_get h.lanes o ≡ Some l → IsSaneLane l = λ l e. own_lane o l e in
+      let here = sym (live_source_here id) in
+      let lane = sym (lane_at-live o h) in (
+        collect_answer-live id (source_at id h.connections) (slice_get h.lanes o) own ∙ (λ i. livestep.live_collect_answer id (here i) (lane i)),
+        collect_next-live id (source_at id h.connections) o (slice_get h.lanes o) h own ∙ (λ i. livestep.live_collect_next id (here i) o (lane i) (live h)),
+        collect_next-sane id (source_at id h.connections) o (slice_get h.lanes o) h sane has own,
       )
 
   -- what happens at a worker's place, by whether there is such an output
@@ -106,7 +122,7 @@ module _ (h : History) (sane : IsSane h) where
       (λ l e. (
         up_answer-live server w (slice_get l.sessions w) (Some l) l.output,
         up_next-live o w server now (slice_get l.sessions w) l h,
-        up_next-sane o w server now (slice_get l.sessions w) (Some l) h sane (λ k f. subst CarriesItsOwn (some_is l k f) (own_lane o l e)),
+        up_next-sane o w server now (slice_get l.sessions w) (Some l) h sane (λ k f. subst IsSaneLane (some_is l k f) (own_lane o l e)),
       ))
     where
       some_is : (l k : Lane) → Some l ≡ Some k → l ≡ k
@@ -119,11 +135,15 @@ module _ (h : History) (sane : IsSane h) where
       (λ l e. (
         take_answer-live w (slice_get l.sessions w) l,
         take_next-live o w (slice_get l.sessions w) l now h refl,
-        take_next-sane o w (slice_get l.sessions w) (Some l) now h sane (λ k f. subst CarriesItsOwn (some_is l k f) (own_lane o l e)),
+        take_next-sane o w (slice_get l.sessions w) (Some l) now h sane (λ k f. subst IsSaneLane (some_is l k f) (own_lane o l e)),
       ))
     where
       some_is : (l k : Lane) → Some l ≡ Some k → l ≡ k
       some_is l k f = cc
+
+  -- a worker's session is sane
+  own_session : (l : Lane) (o w : ℕ) → slice_get h.lanes o ≡ Some l → (t : SessionHistory) → slice_get l.sessions w ≡ Some (Some t) → IsSaneSession w l.output.carried t
+  own_session l o w e t f = (own_lane o l e).sessions w t f
 
   load_followed : (o w now : ℕ) → Followed h (event.Load o w now)
   unfolding live
@@ -132,12 +152,40 @@ module _ (h : History) (sane : IsSane h) where
       (refl, refl, sane)
       (λ l e. (
         load_answer-live w (slice_get l.sessions w) l h.run o,
-        load_next-live o w (slice_get l.sessions w) l now h,
-        load_next-sane o w (slice_get l.sessions w) (Some l) now h sane (λ k f. subst CarriesItsOwn (some_is l k f) (own_lane o l e)),
+        load_next-live o w (slice_get l.sessions w) l now h (own_session l o w e),
+        load_next-sane o w (slice_get l.sessions w) l now h sane (own_lane o l e) (own_session l o w e),
       ))
-    where
-      some_is : (l k : Lane) → Some l ≡ Some k → l ≡ k
-      some_is l k f = cc
+
+  wrote_followed : (o w count : ℕ) → Followed h (event.Wrote o w count)
+  wrote_followed o w count =
+      at_worker o w (λ s l. step.wrote_answer s count) (λ s l. step.wrote_next o w s l count h) (λ x l. livestep.live_wrote_answer (livestep.session_in x) count) (λ x l. livestep.live_wrote_next o w x l count (live h))
+      (refl, refl, sane)
+      (λ l e. (
+        wrote_answer-live l.output w (slice_get l.sessions w) count,
+        wrote_next-live o w (slice_get l.sessions w) l count h,
+        wrote_next-sane o w (slice_get l.sessions w) l count h sane (own_lane o l e) (own_session l o w e),
+      ))
+
+  heard_followed : (o w : ℕ) (bytes : List ℕ) → Followed h (event.Heard o w bytes)
+  unfolding live
+  heard_followed o w bytes =
+      at_worker o w (λ s l. step.heard_answer s h.run o bytes) (λ s l. step.heard_next o w s l bytes h) (λ x l. livestep.live_heard_answer (livestep.session_in x) h.run o bytes) (λ x l. livestep.live_heard_next o w x l bytes (live h))
+      (refl, refl, sane)
+      (λ l e. (
+        heard_answer-live l.output w (slice_get l.sessions w) h.run o bytes (λ t f. (own_session l o w e t f).opened),
+        heard_next-live o w (slice_get l.sessions w) l bytes h (λ t f. (own_session l o w e t f).opened),
+        heard_next-sane o w (slice_get l.sessions w) l bytes h sane (own_lane o l e) (own_session l o w e),
+      ))
+
+  settle_followed : (o w : ℕ) → Followed h (event.Settle o w)
+  settle_followed o w =
+      at_worker o w (λ s l. step.settle_answer s l) (λ s l. step.settle_next o w s l h) (λ x l. livestep.live_settle_answer x l) (λ x l. livestep.live_settle_next o w x l (live h))
+      (refl, refl, sane)
+      (λ l e. (
+        settle_answer-live w (slice_get l.sessions w) l (own_lane o l e) (own_session l o w e),
+        settle_next-live o w (slice_get l.sessions w) l h refl,
+        settle_next-sane o w (slice_get l.sessions w) l h refl sane (own_lane o l e),
+      ))
 
   pub event_followed : (e : Event) → (answer_to h e ≡ live_answer_to (live h) e) × (live (next h e) ≡ live_next (live h) e) × IsSane (next h e)
   event_followed (event.Accept id nonce auth) = accept_followed id nonce auth
@@ -147,16 +195,41 @@ module _ (h : History) (sane : IsSane h) where
   event_followed (event.Up o w server salt now) = up_followed o w server salt now
   event_followed (event.Take o w now) = take_followed o w now
   event_followed (event.Load o w now) = load_followed o w now
+  event_followed (event.Wrote o w count) = wrote_followed o w count
+  event_followed (event.Heard o w bytes) = heard_followed o w bytes
+  event_followed (event.Settle o w) = settle_followed o w
+  event_followed (event.Collect id o) = collect_followed id o
 
 -- ---- runs
 
-opening_carries : (cs : List OutputConfig) → AllCarry (map new_lane cs)
-opening_carries [] = tt
-opening_carries (c ∷ cs) = (tt, opening_carries cs)
+no_sessions : (n w : ℕ) (t : SessionHistory) → slice_get (replicate n None) w ≡ Some (Some t) → ⊥
+no_sessions zero w t e = cc
+no_sessions (suc n) zero t e = cc
+no_sessions (suc n) (suc w) t e = no_sessions n w t e
+
+new_lane_sane : (c : OutputConfig) → IsSaneLane (new_lane c)
+new_lane_sane c = record {
+  opened_below = λ k h. absurd (no h);
+  acked_below = λ k h. absurd (no h);
+  carried_below = λ k h. absurd (no h);
+  opened_unacked = λ k h. refl;
+  opened_uncarried = λ k h. refl;
+  carried_unacked = λ k h. refl;
+  carried_once = λ w d h. refl;
+  spans = refl;
+  sessions = λ w t e. absurd (no_sessions c.workers w t e);
+}
+  where
+    no : false ≡ true → ⊥
+    no e = cc
+
+opening_lanes : (cs : List OutputConfig) → AllSane (map new_lane cs)
+opening_lanes [] = tt
+opening_lanes (c ∷ cs) = (new_lane_sane c, opening_lanes cs)
 
 opening_sane : (config : Config) → IsSane (opening config)
 unfolding opening
-opening_sane config = record { ids = λ id. refl; sources = tt; lanes = opening_carries config.outputs }
+opening_sane config = record { ids = λ id. refl; sources = tt; lanes = opening_lanes config.outputs }
 
 pub run_followed : (es : List Event) (h : History) → IsSane h → (answers h es ≡ live_answers (live h) es) × (live (after h es) ≡ live_after (live h) es) × IsSane (after h es)
 run_followed [] h sane = (refl, refl, sane)

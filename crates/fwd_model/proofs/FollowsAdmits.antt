@@ -1,19 +1,25 @@
 -- The live part follows the history where an output enters a connection's first waiting request.
-use Rattle.std.proofs.Common.{◌≡◌, ℕ, zero, suc, ◌+◌, ◌≤◌, Bool, true, false, cond, eqb, List, [], ◌∷◌, ◌++◌, length, drop, Option, Some, None, refl, sym, ap, subst, ◌∙◌, add-one, max, arith}
-use Rattle.std.specs.Prelude.{option_map, not, ◌==◌}
+use Rattle.std.proofs.Common.{◌≡◌, ℕ, zero, suc, ◌+◌, ◌<◌, ◌≤◌, Bool, true, false, cond, eqb, List, [], ◌∷◌, ◌++◌, length, drop, Option, Some, None, refl, sym, ap, subst, ◌∙◌, add-one, max, inl, inr, arith}
+use Rattle.std.specs.Prelude.{◌⊎◌, map, filter, option_map, not, ◌||◌, ◌==◌}
+use Rattle.std.specs.List.{list_all}
+use Rattle.std.proofs.lemmas.Bool.Decides.{nat_tests}
 use Rattle.std.proofs.lemmas.List.{length-append, length-map, length-drop}
 use Rattle.fwd_modes.specs.Requests.{Request}
+use Rattle.fwd_model.specs.declared.cell.Cell.{Cell}
 use Rattle.fwd_model.specs.declared.cell.Carry.{Carry}
+use Rattle.fwd_model.specs.declared.cell.Span.{Span}
 use Rattle.fwd_model.specs.declared.cell.Origin.{Origin}
-use Rattle.fwd_model.specs.Chunks.{greatest, chunk_of, cells_of, carry_of, open_after}
-use Rattle.fwd_model.specs.History.{SourceHistory, Lane, History, waiting, judged, is_closed}
+use Rattle.fwd_model.specs.Chunks.{greatest, chunk_of, cells_of, carry_of, is_carried, has_number, has_entry, open_after, unsettled}
+use Rattle.fwd_model.specs.Books.{entered_as, spans_of}
+use Rattle.fwd_model.specs.History.{SourceHistory, Admission, Lane, History, waiting, unsent, judged, is_closed}
 use Rattle.fwd_model.specs.Step as step
 use Rattle.fwd_model.specs.Step.{with_lane, with_output, entered, with_connection, takes_first, shuts}
-use Rattle.fwd_model.specs.Live.{live_source, live_output, live_lane, live}
+use Rattle.fwd_model.specs.Live.{live_source, live_output, live_lane, live, untold, settled_cells}
 use Rattle.fwd_model.specs.LiveStep as livestep
 use Rattle.fwd_model.specs.LiveStep.{with_live_lane, with_live_output, output_enters, with_live_connection, source_gives, source_shuts, tail_of}
-use Rattle.fwd_model.proofs.Places.{live_workers-same, greatest-entered, chunk_of-append_past}
-use Rattle.fwd_model.proofs.Reached.{AdmitsItsOwn, CarriesItsOwn, AllBelow, IsSane, AllBelow-more, carry_of-below}
+use Rattle.fwd_model.proofs.Places.{live_workers-same, greatest-append, greatest-entered, chunk_of-append_past}
+use Rattle.fwd_model.proofs.Settling.{has_number-push, has_number-filter, filter-same, has_entry-unsettled, has_cell-append, carry_of-carried}
+use Rattle.fwd_model.proofs.Reached.{AdmitsItsOwn, IsSaneLane, IsSane, have_cells}
 use Rattle.fwd_model.proofs.FollowsSources.{with_connection-live, with_connection-sane}
 use Rattle.fwd_model.proofs.FollowsOutputs.{with_lane-live, with_lane-sane}
 
@@ -25,40 +31,144 @@ one_stays l r origin moment None below = refl
 one_stays l r origin moment (Some d) below =
     ap Some (chunk_of-append_past d.number l.output.cells r.entries r.tag origin (greatest l.output.cells + 1) moment (omega (arith, below d refl)))
 
-entered-live : (l : Lane) (id number : ℕ) (r : Request) (now : ℕ) → CarriesItsOwn l
+new_unsettled : (es : List (List ℕ)) (tag : List ℕ) (origin : Origin) (number moment : ℕ) (acked : List ℕ) → has_number number acked ≡ false
+    → unsettled acked (map (λ e. record { tag = tag; entry = e; origin = origin; number = number; moment = moment }) es) ≡ map (λ e. record { tag = tag; entry = e; origin = origin; number = number; moment = moment }) es
+new_unsettled [] tag origin number moment acked h = refl
+new_unsettled (e ∷ es) tag origin number moment acked h = grind (arith, nat_tests, new_unsettled es tag origin number moment acked h)
+
+unsettled-entered : (cells : List Cell) (es : List (List ℕ)) (tag : List ℕ) (origin : Origin) (number moment : ℕ) (acked : List ℕ) → has_number number acked ≡ false
+    → unsettled acked (cells ++ map (λ e. record { tag = tag; entry = e; origin = origin; number = number; moment = moment }) es) ≡ unsettled acked cells ++ map (λ e. record { tag = tag; entry = e; origin = origin; number = number; moment = moment }) es
+unsettled-entered [] es tag origin number moment acked h = new_unsettled es tag origin number moment acked h
+unsettled-entered (c ∷ cells) es tag origin number moment acked h = grind (arith, nat_tests, unsettled-entered cells es tag origin number moment acked h)
+
+new_settled : (es : List (List ℕ)) (tag : List ℕ) (origin : Origin) (number moment : ℕ) (acked : List ℕ) → has_number number acked ≡ false
+    → settled_cells acked (map (λ e. record { tag = tag; entry = e; origin = origin; number = number; moment = moment }) es) ≡ []
+new_settled [] tag origin number moment acked h = refl
+new_settled (e ∷ es) tag origin number moment acked h = grind (arith, nat_tests, new_settled es tag origin number moment acked h)
+
+settled-entered : (cells : List Cell) (es : List (List ℕ)) (tag : List ℕ) (origin : Origin) (number moment : ℕ) (acked : List ℕ) → has_number number acked ≡ false
+    → length (settled_cells acked (cells ++ map (λ e. record { tag = tag; entry = e; origin = origin; number = number; moment = moment }) es)) ≡ length (settled_cells acked cells)
+settled-entered [] es tag origin number moment acked h = ap length (new_settled es tag origin number moment acked h)
+settled-entered (c ∷ cells) es tag origin number moment acked h = grind (arith, nat_tests, settled-entered cells es tag origin number moment acked h)
+
+untold-push : (qs : List Admission) (a : Admission) → a.told ≡ false → untold (qs ++ a ∷ []) ≡ untold qs ++ a.request ∷ []
+untold-push [] a h = grind (arith, nat_tests, h)
+untold-push (b ∷ qs) a h = grind (arith, nat_tests, untold-push qs a h)
+
+-- a number that was not given yet is none of these
+unused : (k g : ℕ) (ns : List ℕ) → g < k → ((j : ℕ) → has_number j ns ≡ true → j ≤ g) → has_number k ns ≡ false
+unused k g ns lt below = by_test (has_number k ns) refl
+  where
+    by_test : (t : Bool) → has_number k ns ≡ t → t ≡ false
+    by_test true e = absurd (omega (arith, lt, below k e))
+    by_test false e = refl
+
+open_after-live : (r : Request) (n : ℕ) (cells : List Cell) (acked opened : List ℕ) → ((k : ℕ) → has_number k opened ≡ true → has_number k acked ≡ false) → open_after r n cells opened ≡ open_after r n (unsettled acked cells) opened
+open_after-live r n cells acked opened h =
+    ap (λ ns. cond (eqb (length r.entries) 0) opened (ns ++ n ∷ [])) (filter-same (λ k. not (has_entry r.tag k cells)) (λ k. not (has_entry r.tag k (unsettled acked cells))) opened
+    (λ k e. ap not (sym (has_entry-unsettled r.tag k acked cells (h k e)))))
+
+entered-live : (l : Lane) (id number : ℕ) (r : Request) (now : ℕ) → IsSaneLane l
     → live_lane (with_output l (entered l.output id number r now)) ≡ with_live_output (live_lane l) (output_enters (live_lane l).output (record { conn = id; request = number }) r now)
 unfolding live_lane live_output entered output_enters
 entered-live l id number r now own =
     let origin : Origin = record { conn = id; request = number } in
     let moment = max l.output.moment now in
-    let top = greatest-entered l.output.cells r.entries r.tag origin (greatest l.output.cells + 1) moment (omega arith) in
-    let count : length (l.output.cells ++ cells_of r origin (greatest l.output.cells + 1) moment) ≡ length l.output.cells + length r.entries =
-    length-append l.output.cells (cells_of r origin (greatest l.output.cells + 1) moment)
-    ∙ ap (λ n. length l.output.cells + n) (length-map r.entries (λ e. record { tag = r.tag; entry = e; origin = origin; number = greatest l.output.cells + 1; moment = moment })) in
+    let next = greatest l.output.cells + 1 in
+    let fresh : has_number next l.output.acknowledged ≡ false = unused next (greatest l.output.cells) l.output.acknowledged (omega arith) own.acked_below in
+    let top = greatest-entered l.output.cells r.entries r.tag origin next moment (omega arith) in
+    let count : length (l.output.cells ++ cells_of r origin next moment) ≡ length l.output.cells + length r.entries =
+    length-append l.output.cells (cells_of r origin next moment)
+    ∙ ap (λ n. length l.output.cells + n) (length-map r.entries (λ e. record { tag = r.tag; entry = e; origin = origin; number = next; moment = moment })) in
     λ i. record {
       config = l.config;
       output = record {
-        cells = l.output.cells ++ cells_of r origin (greatest l.output.cells + 1) moment;
-        opened = open_after r (greatest l.output.cells + 1) l.output.cells l.output.opened;
+        cells = unsettled-entered l.output.cells r.entries r.tag origin next moment l.output.acknowledged fresh i;
+        opened = open_after-live r next l.output.cells l.output.acknowledged l.output.opened own.opened_unacked i;
         greatest = top i;
         accepted = count i;
+        settled = settled-entered l.output.cells r.entries r.tag origin next moment l.output.acknowledged fresh i;
         carried = l.output.carried;
+        requests = untold-push l.output.requests (record { request = entered_as r origin next; told = false }) refl i;
         moment = moment;
       };
       workers = live_workers-same (entered l.output id number r now) l.output 0 l.sessions
-          (λ k. one_stays l r origin moment (carry_of k l.output.carried) (λ d e. carry_of-below (greatest l.output.cells) k l.output.carried d own e)) i;
+          (λ k. one_stays l r origin moment (carry_of k l.output.carried) (λ d e. own.carried_below d.number (carry_of-carried k l.output.carried d e))) i;
     }
 
-entered-sane : (l : Lane) (id number : ℕ) (r : Request) (now : ℕ) → CarriesItsOwn l → CarriesItsOwn (with_output l (entered l.output id number r now))
+-- ---- an output stays sane
+
+have_cells-more : (spans : List Span) (cells more : List Cell) → have_cells spans cells ≡ true → have_cells spans (cells ++ more) ≡ true
+have_cells-more [] cells more h = refl
+have_cells-more (s ∷ spans) cells more h = grind (arith, nat_tests, have_cells-more spans cells more, has_cell-append s.number cells more)
+
+all_have-more : (qs : List Admission) (cells more : List Cell) → list_all (λ a. have_cells a.request.spans cells) qs ≡ true → list_all (λ a. have_cells a.request.spans (cells ++ more)) qs ≡ true
+all_have-more [] cells more h = refl
+all_have-more (a ∷ qs) cells more h = grind (arith, nat_tests, all_have-more qs cells more, have_cells-more a.request.spans cells more)
+
+all_have-push : (qs : List Admission) (a : Admission) (cells : List Cell) → list_all (λ a. have_cells a.request.spans cells) qs ≡ true → have_cells a.request.spans cells ≡ true → list_all (λ a. have_cells a.request.spans cells) (qs ++ a ∷ []) ≡ true
+all_have-push [] a cells h g = grind (arith, nat_tests, g)
+all_have-push (b ∷ qs) a cells h g = grind (arith, nat_tests, all_have-push qs a cells, g)
+
+spans_have : (r : Request) (number : ℕ) (origin : Origin) (moment : ℕ) (cells : List Cell) → have_cells (spans_of r number) (cells ++ cells_of r origin number moment) ≡ true
+spans_have r number origin moment cells = at r.entries
+  where
+    at : (es : List (List ℕ)) → have_cells (cond (eqb (length es) 0) [] (record { number = number; from = 0; count = length es } ∷ [])) (cells ++ map (λ e. record { tag = r.tag; entry = e; origin = origin; number = number; moment = moment }) es) ≡ true
+    at [] = grind (arith, nat_tests)
+    at (e ∷ es) = grind (arith, nat_tests, has_cell-append number cells (map (λ e. record { tag = r.tag; entry = e; origin = origin; number = number; moment = moment }) (e ∷ es)))
+
+or_parts : (a b : Bool) → (a || b) ≡ true → (a ≡ true) ⊎ (b ≡ true)
+or_parts true b h = inl refl
+or_parts false b h = inr h
+
+eq_from : (a b : ℕ) → eqb a b ≡ true → a ≡ b
+eq_from a b e = grind (arith, nat_tests, e)
+
+-- what is open afterwards was open, or is the number that was given
+opened_was : (b : Bool) (n k : ℕ) (opened : List ℕ) (p : ℕ → Bool) → has_number k (cond b opened (filter p opened ++ n ∷ [])) ≡ true → (has_number k opened ≡ true) ⊎ ((b ≡ false) × (n ≡ k))
+opened_was true n k opened p h = inl h
+opened_was false n k opened p h =
+    elim (or_parts (has_number k (filter p opened)) (eqb n k) (sym (has_number-push k n (filter p opened)) ∙ h)) [
+      | inl e ↦ inl (has_number-filter k p opened e)
+      | inr e ↦ inr (refl, eq_from n k e)
+    ]
+
+entered-sane : (l : Lane) (id number : ℕ) (r : Request) (now : ℕ) → IsSaneLane l → IsSaneLane (with_output l (entered l.output id number r now))
 unfolding entered
 entered-sane l id number r now own =
     let origin : Origin = record { conn = id; request = number } in
-    let top = greatest-entered l.output.cells r.entries r.tag origin (greatest l.output.cells + 1) (max l.output.moment now) (omega arith) in
-    subst (λ g. AllBelow g l.output.carried) (sym top) (AllBelow-more (greatest l.output.cells) (cond (eqb (length r.entries) 0) (greatest l.output.cells) (greatest l.output.cells + 1)) l.output.carried (rises (eqb (length r.entries) 0) (greatest l.output.cells)) own)
+    let moment = max l.output.moment now in
+    let g = greatest l.output.cells in
+    let more = cells_of r origin (g + 1) moment in
+    let top = greatest-entered l.output.cells r.entries r.tag origin (g + 1) moment (omega arith) in
+    let up : (k : ℕ) → k ≤ g → k ≤ greatest (l.output.cells ++ more) = λ k le. omega (arith, le, greatest-append l.output.cells more) in
+    let was : (k : ℕ) → has_number k (open_after r (g + 1) l.output.cells l.output.opened) ≡ true → (has_number k l.output.opened ≡ true) ⊎ ((eqb (length r.entries) 0 ≡ false) × (g + 1 ≡ k)) =
+    λ k h. opened_was (eqb (length r.entries) 0) (g + 1) k l.output.opened (λ j. not (has_entry r.tag j l.output.cells)) h in
+    record {
+      opened_below = λ k h. elim (was k h) [
+        | inl e ↦ up k (own.opened_below k e)
+        | inr e ↦ subst (λ x. x ≤ greatest (l.output.cells ++ more)) e.1 (reaches (eqb (length r.entries) 0) (greatest (l.output.cells ++ more)) g e.0 top)
+      ];
+      acked_below = λ k h. up k (own.acked_below k h);
+      carried_below = λ k h. up k (own.carried_below k h);
+      opened_unacked = λ k h. elim (was k h) [ inl e ↦ own.opened_unacked k e | inr e ↦ unused k g l.output.acknowledged (omega (arith, e.1)) own.acked_below ];
+      opened_uncarried = λ k h. elim (was k h) [ inl e ↦ own.opened_uncarried k e | inr e ↦ uncarried k g l.output.carried (omega (arith, e.1)) own.carried_below ];
+      carried_unacked = own.carried_unacked;
+      carried_once = own.carried_once;
+      spans = all_have-push l.output.requests (record { request = entered_as r origin (g + 1); told = false }) (l.output.cells ++ more) (all_have-more l.output.requests l.output.cells more own.spans) (spans_have r (g + 1) origin moment l.output.cells);
+      sessions = own.sessions;
+    }
   where
-    rises : (b : Bool) (g : ℕ) → g ≤ cond b g (g + 1)
-    rises true g = omega arith
-    rises false g = omega arith
+    reaches : (b : Bool) (top g : ℕ) → b ≡ false → top ≡ cond b g (g + 1) → g + 1 ≤ top
+    reaches true top g e h = absurd cc
+    reaches false top g e h = omega (arith, h)
+
+    uncarried : (k g : ℕ) (cs : List Carry) → g < k → ((j : ℕ) → is_carried j cs ≡ true → j ≤ g) → is_carried k cs ≡ false
+    uncarried k g cs lt below = by_test (is_carried k cs) refl
+      where
+        by_test : (t : Bool) → is_carried k cs ≡ t → t ≡ false
+        by_test true e = absurd (omega (arith, lt, below k e))
+        by_test false e = refl
 
 -- ---- the connection
 
@@ -77,6 +187,8 @@ takes_first-live s = λ i. record {
   rest = cond s.shut [] (judged s).rest;
   waiting = at s.shut i;
   admitted = s.admitted + 1;
+  unsent = unsent s;
+  shut = s.shut;
   closed = is_closed s;
 }
   where
@@ -110,27 +222,27 @@ admit_answer-live None o l = refl
 admit_answer-live (Some s) o None = refl
 admit_answer-live (Some s) o (Some l) = waiting_answer s (waiting s) o l
 
-enters-live : (id : ℕ) (s : SourceHistory) (r : Request) (o : ℕ) (l : Lane) (now : ℕ) (h : History) → CarriesItsOwn l
+enters-live : (id : ℕ) (s : SourceHistory) (r : Request) (o : ℕ) (l : Lane) (now : ℕ) (h : History) → IsSaneLane l
     → live (with_lane o (with_output l (entered l.output id (s.admitted + 1) r now)) (with_connection id (takes_first s) h))
     ≡ with_live_lane o (with_live_output (live_lane l) (output_enters (live_lane l).output (record { conn = id; request = s.admitted + 1 }) r now)) (with_live_connection id (source_gives (live_source s)) (live h))
 enters-live id s r o l now h own =
     with_lane-live o (with_output l (entered l.output id (s.admitted + 1) r now)) (with_connection id (takes_first s) h)
     ∙ (λ i. with_live_lane o (entered-live l id (s.admitted + 1) r now own i) ((with_connection-live id (takes_first s) h ∙ ap (λ x. with_live_connection id x (live h)) (takes_first-live s)) i))
 
-admit_at : (id : ℕ) (s : SourceHistory) (r : Request) (o : ℕ) (l : Lane) (now : ℕ) (h : History) (a b : Bool) → CarriesItsOwn l
+admit_at : (id : ℕ) (s : SourceHistory) (r : Request) (o : ℕ) (l : Lane) (now : ℕ) (h : History) (a b : Bool) → IsSaneLane l
     → live (cond a h (cond b (with_connection id (shuts s) h) (with_lane o (with_output l (entered l.output id (s.admitted + 1) r now)) (with_connection id (takes_first s) h))))
     ≡ cond a (live h) (cond b (with_live_connection id (source_shuts (live_source s)) (live h)) (with_live_lane o (with_live_output (live_lane l) (output_enters (live_lane l).output (record { conn = id; request = s.admitted + 1 }) r now)) (with_live_connection id (source_gives (live_source s)) (live h))))
 admit_at id s r o l now h true b own = refl
 admit_at id s r o l now h false true own = with_connection-live id (shuts s) h ∙ ap (λ x. with_live_connection id x (live h)) (shuts-live s)
 admit_at id s r o l now h false false own = enters-live id s r o l now h own
 
-waiting_next : (id : ℕ) (s : SourceHistory) (rs : List Request) (o : ℕ) (l : Lane) (now : ℕ) (h : History) → CarriesItsOwn l
+waiting_next : (id : ℕ) (s : SourceHistory) (rs : List Request) (o : ℕ) (l : Lane) (now : ℕ) (h : History) → IsSaneLane l
     → live (step.admit_waiting_next id s rs o l now h) ≡ livestep.live_admit_waiting_next id (live_source s) rs o (live_lane l) now (live h)
 unfolding live_source live_lane live_output
 waiting_next id s [] o l now h own = refl
 waiting_next id s (r ∷ rs) o l now h own = admit_at id s r o l now h (not (o == 0)) (step.has_no_number l.output r) own
 
-pub admit_next-live : (id : ℕ) (s : Option SourceHistory) (o : ℕ) (l : Option Lane) (now : ℕ) (h : History) → ((k : Lane) → l ≡ Some k → CarriesItsOwn k)
+pub admit_next-live : (id : ℕ) (s : Option SourceHistory) (o : ℕ) (l : Option Lane) (now : ℕ) (h : History) → ((k : Lane) → l ≡ Some k → IsSaneLane k)
     → live (step.admit_next id s o l now h) ≡ livestep.live_admit_next id (option_map live_source s) o (option_map live_lane l) now (live h)
 unfolding live_source
 admit_next-live id None o l now h own = refl
@@ -140,18 +252,18 @@ admit_next-live id (Some s) o (Some l) now h own = waiting_next id s (waiting s)
 shuts-own : (s : SourceHistory) → AdmitsItsOwn s → AdmitsItsOwn (shuts s)
 shuts-own s own = own
 
-admit_sane-at : (id : ℕ) (s : SourceHistory) (r : Request) (rs : List Request) (o : ℕ) (l : Lane) (now : ℕ) (h : History) (a b : Bool) → IsSane h → AdmitsItsOwn s → CarriesItsOwn l → waiting s ≡ r ∷ rs
+admit_sane-at : (id : ℕ) (s : SourceHistory) (r : Request) (rs : List Request) (o : ℕ) (l : Lane) (now : ℕ) (h : History) (a b : Bool) → IsSane h → AdmitsItsOwn s → IsSaneLane l → waiting s ≡ r ∷ rs
     → IsSane (cond a h (cond b (with_connection id (shuts s) h) (with_lane o (with_output l (entered l.output id (s.admitted + 1) r now)) (with_connection id (takes_first s) h))))
 admit_sane-at id s r rs o l now h true b sane has own e = sane
 admit_sane-at id s r rs o l now h false true sane has own e = with_connection-sane id (shuts s) h sane (shuts-own s has)
 admit_sane-at id s r rs o l now h false false sane has own e =
     with_lane-sane o (with_output l (entered l.output id (s.admitted + 1) r now)) (with_connection id (takes_first s) h) (with_connection-sane id (takes_first s) h sane (takes_first-own s r rs e)) (entered-sane l id (s.admitted + 1) r now own)
 
-waiting_sane : (id : ℕ) (s : SourceHistory) (rs : List Request) (o : ℕ) (l : Lane) (now : ℕ) (h : History) → IsSane h → AdmitsItsOwn s → CarriesItsOwn l → waiting s ≡ rs → IsSane (step.admit_waiting_next id s rs o l now h)
+waiting_sane : (id : ℕ) (s : SourceHistory) (rs : List Request) (o : ℕ) (l : Lane) (now : ℕ) (h : History) → IsSane h → AdmitsItsOwn s → IsSaneLane l → waiting s ≡ rs → IsSane (step.admit_waiting_next id s rs o l now h)
 waiting_sane id s [] o l now h sane has own e = sane
 waiting_sane id s (r ∷ rs) o l now h sane has own e = admit_sane-at id s r rs o l now h (not (o == 0)) (step.has_no_number l.output r) sane has own e
 
-pub admit_next-sane : (id : ℕ) (s : Option SourceHistory) (o : ℕ) (l : Option Lane) (now : ℕ) (h : History) → IsSane h → ((t : SourceHistory) → s ≡ Some t → AdmitsItsOwn t) → ((k : Lane) → l ≡ Some k → CarriesItsOwn k) → IsSane (step.admit_next id s o l now h)
+pub admit_next-sane : (id : ℕ) (s : Option SourceHistory) (o : ℕ) (l : Option Lane) (now : ℕ) (h : History) → IsSane h → ((t : SourceHistory) → s ≡ Some t → AdmitsItsOwn t) → ((k : Lane) → l ≡ Some k → IsSaneLane k) → IsSane (step.admit_next id s o l now h)
 admit_next-sane id None o l now h sane has own = sane
 admit_next-sane id (Some s) o None now h sane has own = sane
 admit_next-sane id (Some s) o (Some l) now h sane has own = waiting_sane id s (waiting s) o l now h sane (has s refl) (own l refl) refl

@@ -7,7 +7,7 @@ use Rattle.fwd_msgpack.specs.Scans.{split_of}
 use Rattle.fwd_model.specs.declared.answer.Answer.TheVariants as answer
 use Rattle.fwd_model.specs.declared.fault.Refusal.TheVariants.{Closed}
 use Rattle.fwd_model.specs.Sources.{judged_of}
-use Rattle.fwd_model.specs.History.{SourceHistory, judged, is_closed, waiting, Connection, History}
+use Rattle.fwd_model.specs.History.{SourceHistory, judged, is_closed, waiting, unsent, Connection, History}
 use Rattle.fwd_model.specs.Step.{accepted, hears, told, piece_answer, piece_next, with_connection, is_fresh}
 use Rattle.fwd_model.specs.Live.{live_source, live_connection, live_lane, live, last_id}
 use Rattle.fwd_model.specs.LiveStep.{live_accepted, judged_piece, source_hears, live_piece_answer, live_piece_next, with_live_connection, is_above}
@@ -33,7 +33,7 @@ none_from_is_some (Some x) h = absurd cc
 pub accepted-live : (id : ℕ) (h : History) → live (accepted id h) ≡ live_accepted id (live h)
 unfolding live live_source judged_of split_of
 accepted-live id h =
-    let c : Connection = record { id = id; source = record { heard = []; admitted = 0; shut = false } } in
+    let c : Connection = record { id = id; source = record { heard = []; admitted = 0; appended = []; shut = false } } in
     λ i. record { run = h.run; last = last_id-push h.connections c i; connections = map-append live_connection h.connections (c ∷ []) i; lanes = map live_lane h.lanes }
 
 lt_from : (a b : ℕ) → ltb a b ≡ true → a < b
@@ -41,7 +41,7 @@ lt_from a b h = grind (arith, nat_tests)
 
 fresh_above : (x id : ℕ) (h : History) → is_fresh id h.connections ≡ true → is_fresh x (accepted id h).connections ≡ is_above x (last_id (accepted id h).connections)
 fresh_above x id h f =
-    let c : Connection = record { id = id; source = record { heard = []; admitted = 0; shut = false } } in
+    let c : Connection = record { id = id; source = record { heard = []; admitted = 0; appended = []; shut = false } } in
     let pushed = is_fresh-push x h.connections c in
     let last = ap (is_above x) (last_id-push h.connections c) in
     pushed ∙ by_cases (nat_lt id x) (λ b. (is_fresh x h.connections && b) ≡ b)
@@ -54,7 +54,7 @@ fresh_above x id h f =
 pub accepted-sane : (id : ℕ) (h : History) → IsSane h → is_fresh id h.connections ≡ true → IsSane (accepted id h)
 accepted-sane id h sane f = record {
   ids = λ x. fresh_above x id h f;
-  sources = AllAdmit-push h.connections (record { id = id; source = record { heard = []; admitted = 0; shut = false } }) sane.sources (omega arith);
+  sources = AllAdmit-push h.connections (record { id = id; source = record { heard = []; admitted = 0; appended = []; shut = false } }) sane.sources (omega arith);
   lanes = sane.lanes;
 }
 
@@ -78,12 +78,12 @@ with_connection-sane id s h sane own = record {
 
 -- ---- piece
 
-record Heard (s : SourceHistory) (bytes : List ℕ) : Type 0 where
-  all : judged (hears s bytes) ≡ joined (judged s).requests (judged_piece (live_source s) bytes)
-  still : s.shut ≡ false
-  waits : waiting (hears s bytes) ≡ (live_source s).waiting ++ (judged_piece (live_source s) bytes).requests
+pub record Heard (s : SourceHistory) (bytes : List ℕ) : Type 0 where
+  pub all : judged (hears s bytes) ≡ joined (judged s).requests (judged_piece (live_source s) bytes)
+  pub still : s.shut ≡ false
+  pub waits : waiting (hears s bytes) ≡ (live_source s).waiting ++ (judged_piece (live_source s) bytes).requests
 
-heard : (s : SourceHistory) (bytes : List ℕ) → AdmitsItsOwn s → is_closed s ≡ false → Heard s bytes
+pub heard : (s : SourceHistory) (bytes : List ℕ) → AdmitsItsOwn s → is_closed s ≡ false → Heard s bytes
 unfolding live_source
 heard s bytes own not_closed =
     let parts = or_false s.shut (is_some (judged s).fault) not_closed in
@@ -117,6 +117,8 @@ hears-live s bytes own e =
       rest = cond (h.still i) [] (h.all i).rest;
       waiting = h.waits i;
       admitted = s.admitted;
+      unsent = unsent s;
+      shut = s.shut;
       closed = h.still i || is_some (h.all i).fault;
     }
 

@@ -1,21 +1,24 @@
--- The live part follows the history where a worker takes a chunk, and where an output enters a request.
-use Rattle.std.proofs.Common.{◌≡◌, ◌≢◌, ℕ, zero, suc, ◌+◌, ◌<◌, ◌≤◌, Bool, true, false, cond, eqb, List, [], ◌∷◌, ◌++◌, Option, Some, None, refl, sym, ap, ◌∙◌, zero-add, max, arith}
+-- The live part follows the history where a worker takes a chunk.
+use Rattle.std.proofs.Common.{◌≡◌, ◌≢◌, ℕ, zero, suc, ◌+◌, ◌<◌, ◌≤◌, Bool, true, false, cond, eqb, List, [], ◌∷◌, ◌++◌, Option, Some, None, refl, sym, ap, subst, ◌∙◌, zero-add, max, inl, inr, arith}
 use Rattle.std.proofs.Math.ListN.{set}
-use Rattle.std.specs.Prelude.{option_map, is_some, slice_get}
+use Rattle.std.specs.Prelude.{◌⊎◌, map, option_map, is_some, not, ◌&&◌, ◌||◌, ◌==◌, slice_get}
 use Rattle.std.proofs.lemmas.Bool.Decides.{nat_tests}
 use Rattle.std.proofs.lemmas.List.{length-map}
+use Rattle.fwd_model.specs.declared.cell.Cell.{Cell}
 use Rattle.fwd_model.specs.declared.cell.Carry.{Carry}
 use Rattle.fwd_model.specs.declared.answer.Answer.TheVariants as answer
 use Rattle.fwd_model.specs.declared.fault.Refusal.TheVariants.{NotNow}
-use Rattle.fwd_model.specs.Chunks.{greatest, chunk_of, cells_at, carry_of, least_free}
+use Rattle.fwd_model.specs.Chunks.{greatest, chunk_of, cells_at, first_tag, carry_of, is_free, is_carried, has_number, put_down, unsettled}
+use Rattle.fwd_model.specs.Books.{has_cell}
 use Rattle.fwd_model.specs.History.{OutputHistory, SessionHistory, Lane, History}
 use Rattle.fwd_model.specs.Step as step
-use Rattle.fwd_model.specs.Step.{with_lane, with_output, taken, entered, carry_more, with_connection, takes_first, shuts}
+use Rattle.fwd_model.specs.Step.{with_lane, with_output, taken, free_number, carry_more}
 use Rattle.fwd_model.specs.Live.{live_output, live_session, live_worker, live_workers, live_lane, live, LiveWorker}
 use Rattle.fwd_model.specs.LiveStep as livestep
-use Rattle.fwd_model.specs.LiveStep.{with_live_lane, with_live_output, output_takes, output_enters, output_found, chunk_at, with_live_connection, source_gives, source_shuts}
-use Rattle.fwd_model.proofs.Places.{live_workers-same, live_workers-at, least_free-below}
-use Rattle.fwd_model.proofs.Reached.{CarriesItsOwn, AllBelow, IsSane, AllBelow-push}
+use Rattle.fwd_model.specs.LiveStep.{with_live_lane, output_takes, output_found, chunk_at}
+use Rattle.fwd_model.proofs.Places.{live_workers-same, live_workers-at}
+use Rattle.fwd_model.proofs.Settling.{cells_at-unsettled, has_cell-unsettled, has_cell-below, least_free-free, carry_of-carried}
+use Rattle.fwd_model.proofs.Reached.{IsSaneLane, IsSaneSession, IsSane}
 use Rattle.fwd_model.proofs.FollowsOutputs.{with_lane-live, with_lane-sane}
 
 -- ---- one more carry
@@ -34,7 +37,14 @@ carry_of-push_same w k (c ∷ cs) none = at (eqb c.worker w) none (λ h. carry_o
 
 -- an output that differs in one more carry, of worker w
 abbrev more_carried : OutputHistory → ℕ → ℕ → ℕ → OutputHistory
-more_carried o w k moment = record { cells = o.cells; opened = o.opened; carried = o.carried ++ record { worker = w; number = k } ∷ []; moment = moment }
+more_carried o w k moment = record {
+  cells = o.cells;
+  opened = o.opened;
+  acknowledged = o.acknowledged;
+  carried = o.carried ++ record { worker = w; number = k } ∷ [];
+  requests = o.requests;
+  moment = moment;
+}
 
 abbrev gets_chunk : OutputHistory → ℕ → Option SessionHistory → LiveWorker
 gets_chunk o k s = record { chunk = Some (chunk_of k o.cells); session = option_map live_session s }
@@ -66,8 +76,11 @@ set_same (a ∷ xs) (suc i) x h = ap (λ ys. a ∷ ys) (set_same xs i x h)
 
 -- ---- take
 
+abbrev with_carried : OutputHistory → List Carry → ℕ → OutputHistory
+with_carried o carried moment = record { cells = o.cells; opened = o.opened; acknowledged = o.acknowledged; carried = carried; requests = o.requests; moment = moment }
+
 workers_taken : (l : Lane) (w now : ℕ) (s : Option SessionHistory) (found : Option ℕ) → slice_get l.sessions w ≡ Some s → carry_of w l.output.carried ≡ None
-    → live_workers (record { cells = l.output.cells; opened = l.output.opened; carried = carry_more w found l.output.carried; moment = max l.output.moment now }) 0 l.sessions
+    → live_workers (with_carried l.output (carry_more w found l.output.carried) (max l.output.moment now)) 0 l.sessions
     ≡ set (live_workers l.output 0 l.sessions) w (record { chunk = chunk_at found l.output.cells; session = option_map live_session s })
 workers_taken l w now s None here none =
     let own : live_worker l.output w s ≡ record { chunk = None; session = option_map live_session s } =
@@ -75,9 +88,50 @@ workers_taken l w now s None here none =
     let at : slice_get (live_workers l.output 0 l.sessions) w ≡ Some (record { chunk = None; session = option_map live_session s }) =
     live_workers-at l.output 0 w l.sessions ∙ ap (λ k. option_map (λ x. live_worker l.output k x) (slice_get l.sessions w)) (zero-add w)
     ∙ ap (option_map (λ x. live_worker l.output w x)) here ∙ ap Some own in
-    live_workers-same (record { cells = l.output.cells; opened = l.output.opened; carried = l.output.carried; moment = max l.output.moment now }) l.output 0 l.sessions (λ k. refl)
+    live_workers-same (with_carried l.output l.output.carried (max l.output.moment now)) l.output 0 l.sessions (λ k. refl)
     ∙ sym (set_same (live_workers l.output 0 l.sessions) w (record { chunk = None; session = option_map live_session s }) at)
 workers_taken l w now s (Some k) here none = one_gets l.output w k (max l.output.moment now) 0 w l.sessions s (sym (zero-add w)) none here
+
+pub chunk_of-unsettled : (k : ℕ) (acked : List ℕ) (cells : List Cell) → has_number k acked ≡ false → chunk_of k (unsettled acked cells) ≡ chunk_of k cells
+unfolding chunk_of
+chunk_of-unsettled k acked cells h =
+    let e = cells_at-unsettled k acked cells h in
+    λ i. record { number = k; tag = first_tag (e i); entries = map (λ c. c.entry) (e i) }
+
+and_parts : (a b : Bool) → (a && b) ≡ true → (a ≡ true) × (b ≡ true)
+and_parts true b h = (refl, h)
+and_parts false b h = absurd cc
+
+not_true : (a : Bool) → not a ≡ true → a ≡ false
+not_true true h = absurd cc
+not_true false h = refl
+
+record IsFreeOf (o : OutputHistory) (k : ℕ) : Type 0 where
+  unopened : has_number k o.opened ≡ false
+  uncarried : is_carried k o.carried ≡ false
+  unacked : has_number k o.acknowledged ≡ false
+  below : k ≤ greatest o.cells
+
+-- what holds of the number that is found
+free_of : (o : OutputHistory) (k : ℕ) → free_number o ≡ Some k → IsFreeOf o k
+free_of o k e =
+    let found = and_parts (is_free o.opened o.carried k) (has_cell k (unsettled o.acknowledged o.cells)) (least_free-free o.opened o.carried (unsettled o.acknowledged o.cells) k e) in
+    let free = and_parts (not (has_number k o.opened)) (not (is_carried k o.carried)) found.0 in
+    let here = and_parts (has_cell k o.cells) (not (has_number k o.acknowledged)) (sym (has_cell-unsettled k o.acknowledged o.cells) ∙ found.1) in
+    record {
+      unopened = not_true (has_number k o.opened) free.0;
+      uncarried = not_true (is_carried k o.carried) free.1;
+      unacked = not_true (has_number k o.acknowledged) here.1;
+      below = has_cell-below k o.cells here.0;
+    }
+
+found_chunk : (o : OutputHistory) (found : Option ℕ) → ((k : ℕ) → found ≡ Some k → has_number k o.acknowledged ≡ false) → chunk_at found o.cells ≡ chunk_at found (unsettled o.acknowledged o.cells)
+found_chunk o None h = refl
+found_chunk o (Some k) h = ap Some (sym (chunk_of-unsettled k o.acknowledged o.cells (h k refl)))
+
+pub found-same : (o : OutputHistory) → chunk_at (free_number o) o.cells ≡ output_found (live_output o)
+unfolding live_output
+found-same o = found_chunk o (free_number o) (λ k e. (free_of o k e).unacked)
 
 taken-live : (l : Lane) (w now : ℕ) (s : Option SessionHistory) → slice_get l.sessions w ≡ Some s → carry_of w l.output.carried ≡ None
     → live_lane (with_output l (taken l.output w now)) ≡ livestep.live_takes (live_lane l) w (live_worker l.output w s) now
@@ -85,7 +139,8 @@ unfolding live_lane live_output taken output_takes
 taken-live l w now s here none = λ i. record {
   config = l.config;
   output = live_output (taken l.output w now);
-  workers = workers_taken l w now s (least_free l.output.opened l.output.carried l.output.cells) here none i;
+  workers = (workers_taken l w now s (free_number l.output) here none
+      ∙ ap (λ c. set (live_workers l.output 0 l.sessions) w (record { chunk = c; session = option_map live_session s })) (found-same l.output)) i;
 }
 
 found-live : (found : Option ℕ) (l : Lane) → step.found found l ≡ livestep.live_found (chunk_at found l.output.cells)
@@ -94,8 +149,7 @@ found-live None l = refl
 found-live (Some k) l = ap (answer.Took k) (sym (length-map (cells_at k l.output.cells) (λ c. c.entry)))
 
 take_carried-live : (c : Option Carry) (l : Lane) → step.take_carried c l ≡ cond (is_some (option_map (λ d. chunk_of d.number l.output.cells) c)) (answer.Refused NotNow) (livestep.live_found (output_found (live_output l.output)))
-unfolding live_output
-take_carried-live None l = found-live (least_free l.output.opened l.output.carried l.output.cells) l
+take_carried-live None l = found-live (free_number l.output) l ∙ ap livestep.live_found (found-same l.output)
 take_carried-live (Some c) l = refl
 
 pub take_answer-live : (w : ℕ) (s : Option (Option SessionHistory)) (l : Lane) → step.take_answer w s (Some l) ≡ livestep.live_take_answer (option_map (λ x. live_worker l.output w x) s) (Some (live_lane l))
@@ -114,20 +168,134 @@ pub take_next-live : (o w : ℕ) (s : Option (Option SessionHistory)) (l : Lane)
 take_next-live o w None l now h e = refl
 take_next-live o w (Some s) l now h e = take_carried_next-live o w (carry_of w l.output.carried) s l now h e refl
 
-carry_more-below : (w g : ℕ) (found : Option ℕ) (carried : List Carry) → AllBelow g carried → ((k : ℕ) → found ≡ Some k → k ≤ g) → AllBelow g (carry_more w found carried)
-carry_more-below w g None carried all below = all
-carry_more-below w g (Some k) carried all below = AllBelow-push g carried (record { worker = w; number = k }) all (below k refl)
+-- ---- an output stays sane
 
-taken-sane : (l : Lane) (w now : ℕ) → CarriesItsOwn l → CarriesItsOwn (with_output l (taken l.output w now))
+is_carried-push : (j w k : ℕ) (cs : List Carry) → is_carried j (cs ++ record { worker = w; number = k } ∷ []) ≡ (is_carried j cs || (k == j))
+is_carried-push j w k [] = grind (arith, nat_tests)
+is_carried-push j w k (c ∷ cs) = grind (arith, nat_tests, is_carried-push j w k cs)
+
+put_down-push_same : (w k : ℕ) (cs : List Carry) → put_down w (cs ++ record { worker = w; number = k } ∷ []) ≡ put_down w cs
+put_down-push_same w k [] = grind (arith, nat_tests)
+put_down-push_same w k (c ∷ cs) = grind (arith, nat_tests, put_down-push_same w k cs)
+
+put_down-push_other : (w j k : ℕ) (cs : List Carry) → w ≢ j → put_down j (cs ++ record { worker = w; number = k } ∷ []) ≡ put_down j cs ++ record { worker = w; number = k } ∷ []
+put_down-push_other w j k [] differ = grind (arith, nat_tests)
+put_down-push_other w j k (c ∷ cs) differ = grind (arith, nat_tests, put_down-push_other w j k cs differ)
+
+or_parts : (a b : Bool) → (a || b) ≡ true → (a ≡ true) ⊎ (b ≡ true)
+or_parts true b h = inl refl
+or_parts false b h = inr h
+
+not_carried : (w k : ℕ) (cs : List Carry) → is_carried k cs ≡ false → is_carried k (put_down w cs) ≡ false
+not_carried w k [] h = refl
+not_carried w k (c ∷ cs) h = grind (arith, nat_tests, not_carried w k cs)
+
+false_true : false ≡ true → ⊥
+false_true e = cc
+
+pub same_or : (a b : ℕ) → (a ≡ b) ⊎ (a ≢ b)
+same_or a b = by_test (eqb a b) refl
+  where
+    by_test : (t : Bool) → eqb a b ≡ t → (a ≡ b) ⊎ (a ≢ b)
+    by_test true e = inl (grind (arith, nat_tests, e))
+    by_test false e = inr (λ same. grind (arith, nat_tests, e, same))
+
+pub some_same : {X : Type 0} {x y : X} → Some x ≡ Some y → x ≡ y
+some_same e = cc
+
+none_some : {X : Type 0} {x : X} → None ≡ Some x → ⊥
+none_some e = cc
+
+pub eq_from : (a b : ℕ) → eqb a b ≡ true → a ≡ b
+eq_from a b e = grind (arith, nat_tests, e)
+
+pub apart : (a b : Bool) → a ≡ false → b ≡ false → (a || b) ≡ false
+apart true b h g = absurd cc
+apart false b h g = g
+
+-- what is carried is no number that is not
+apart_numbers : (k j : ℕ) (cs : List Carry) → is_carried k cs ≡ false → is_carried j cs ≡ true → eqb k j ≡ false
+apart_numbers k j cs free held = by_test (eqb k j) refl
+  where
+    by_test : (t : Bool) → eqb k j ≡ t → t ≡ false
+    by_test true e = absurd (false_true (sym free ∙ ap (λ x. is_carried x cs) (eq_from k j e) ∙ held))
+    by_test false e = refl
+
+pub apart_opened : (k j : ℕ) (ns : List ℕ) → has_number k ns ≡ false → has_number j ns ≡ true → eqb k j ≡ false
+apart_opened k j ns free held = by_test (eqb k j) refl
+  where
+    by_test : (t : Bool) → eqb k j ≡ t → t ≡ false
+    by_test true e = absurd (false_true (sym free ∙ ap (λ x. has_number x ns) (eq_from k j e) ∙ held))
+    by_test false e = refl
+
+-- what is carried is carried once, also beside one more
+once_more : (w k : ℕ) (cs : List Carry) → carry_of w cs ≡ None → is_carried k cs ≡ false → ((j : ℕ) (c : Carry) → carry_of j cs ≡ Some c → is_carried c.number (put_down j cs) ≡ false)
+    → (j : ℕ) (c : Carry) → carry_of j (cs ++ record { worker = w; number = k } ∷ []) ≡ Some c → is_carried c.number (put_down j (cs ++ record { worker = w; number = k } ∷ [])) ≡ false
+once_more w k cs none fresh once j c e = elim (same_or w j) [ inl s ↦ same s | inr d ↦ other d ]
+  where
+    same : w ≡ j → is_carried c.number (put_down j (cs ++ record { worker = w; number = k } ∷ [])) ≡ false
+    same s =
+        let is : record { worker = w; number = k } ≡ c = some_same (sym (carry_of-push_same w k cs none) ∙ ap (λ x. carry_of x (cs ++ record { worker = w; number = k } ∷ [])) s ∙ e) in
+        let n : k ≡ c.number = ap (λ x. x.number) is in
+        subst (λ x. is_carried c.number (put_down x (cs ++ record { worker = w; number = k } ∷ [])) ≡ false) s
+        (ap (is_carried c.number) (put_down-push_same w k cs) ∙ subst (λ x. is_carried x (put_down w cs) ≡ false) n (not_carried w k cs fresh))
+
+    other : w ≢ j → is_carried c.number (put_down j (cs ++ record { worker = w; number = k } ∷ [])) ≡ false
+    other d =
+        let was : carry_of j cs ≡ Some c = sym (carry_of-push_other w j k cs d) ∙ e in
+        let held = carry_of-carried j cs c was in
+        let free = once j c was in
+        let all = ap (is_carried c.number) (put_down-push_other w j k cs d) ∙ is_carried-push c.number w k (put_down j cs) in
+        all ∙ apart (is_carried c.number (put_down j cs)) (eqb k c.number) free (apart_numbers k c.number cs fresh held)
+
+carry_more-sane : (l : Lane) (w : ℕ) (found : Option ℕ) (now : ℕ) → carry_of w l.output.carried ≡ None → ((k : ℕ) → found ≡ Some k → IsFreeOf l.output k) → IsSaneLane l
+    → IsSaneLane (with_output l (with_carried l.output (carry_more w found l.output.carried) (max l.output.moment now)))
+carry_more-sane l w None now none free own = record {
+  opened_below = own.opened_below;
+  acked_below = own.acked_below;
+  carried_below = own.carried_below;
+  opened_unacked = own.opened_unacked;
+  opened_uncarried = own.opened_uncarried;
+  carried_unacked = own.carried_unacked;
+  carried_once = own.carried_once;
+  spans = own.spans;
+  sessions = own.sessions;
+}
+carry_more-sane l w (Some k) now none free own =
+    let is = free k refl in
+    let cs = l.output.carried in
+    let parts : (j : ℕ) → is_carried j (cs ++ record { worker = w; number = k } ∷ []) ≡ true → (is_carried j cs ≡ true) ⊎ (eqb k j ≡ true) = λ j h. or_parts (is_carried j cs) (eqb k j) (sym (is_carried-push j w k cs) ∙ h) in
+    record {
+      opened_below = own.opened_below;
+      acked_below = own.acked_below;
+      carried_below = λ j h. elim (parts j h) [ inl e ↦ own.carried_below j e | inr e ↦ subst (λ x. x ≤ greatest l.output.cells) (eq_from k j e) is.below ];
+      opened_unacked = own.opened_unacked;
+      opened_uncarried = λ j h. is_carried-push j w k cs ∙ apart (is_carried j cs) (eqb k j) (own.opened_uncarried j h) (apart_opened k j l.output.opened is.unopened h);
+      carried_unacked = λ j h. elim (parts j h) [ inl e ↦ own.carried_unacked j e | inr e ↦ subst (λ x. has_number x l.output.acknowledged ≡ false) (eq_from k j e) is.unacked ];
+      carried_once = once_more w k cs none is.uncarried own.carried_once;
+      spans = own.spans;
+      sessions = λ j s h. still j s (own.sessions j s h);
+    }
+  where
+    still : (j : ℕ) (s : SessionHistory) → IsSaneSession j l.output.carried s → IsSaneSession j (l.output.carried ++ record { worker = w; number = k } ∷ []) s
+    still j s fits = record {
+      carries = λ n e. elim (same_or w j) [
+        | inl same ↦ absurd (none_some (sym none ∙ ap (λ x. carry_of x l.output.carried) same ∙ fits.carries n e))
+        | inr differ ↦ carry_of-push_other w j k l.output.carried differ ∙ fits.carries n e
+      ];
+      sent = fits.sent;
+      opened = fits.opened;
+    }
+
+taken-sane : (l : Lane) (w now : ℕ) → carry_of w l.output.carried ≡ None → IsSaneLane l → IsSaneLane (with_output l (taken l.output w now))
 unfolding taken
-taken-sane l w now own =
-    carry_more-below w (greatest l.output.cells) (least_free l.output.opened l.output.carried l.output.cells) l.output.carried own (λ k e. least_free-below l.output.opened l.output.carried l.output.cells k e)
+taken-sane l w now none own = carry_more-sane l w (free_number l.output) now none (λ k e. free_of l.output k e) own
 
-take_carried-sane : (o w : ℕ) (c : Option Carry) (l : Lane) (now : ℕ) (h : History) → IsSane h → CarriesItsOwn l → IsSane (step.take_carried_next c o w l now h)
-take_carried-sane o w None l now h sane own = with_lane-sane o (with_output l (taken l.output w now)) h sane (taken-sane l w now own)
-take_carried-sane o w (Some c) l now h sane own = sane
+take_carried-sane : (o w : ℕ) (c : Option Carry) (l : Lane) (now : ℕ) (h : History) → carry_of w l.output.carried ≡ c → IsSane h → IsSaneLane l → IsSane (step.take_carried_next c o w l now h)
+take_carried-sane o w None l now h e sane own = with_lane-sane o (with_output l (taken l.output w now)) h sane (taken-sane l w now e own)
+take_carried-sane o w (Some c) l now h e sane own = sane
 
-pub take_next-sane : (o w : ℕ) (s : Option (Option SessionHistory)) (l : Option Lane) (now : ℕ) (h : History) → IsSane h → ((k : Lane) → l ≡ Some k → CarriesItsOwn k) → IsSane (step.take_next o w s l now h)
+pub take_next-sane : (o w : ℕ) (s : Option (Option SessionHistory)) (l : Option Lane) (now : ℕ) (h : History) → IsSane h → ((k : Lane) → l ≡ Some k → IsSaneLane k) → IsSane (step.take_next o w s l now h)
 take_next-sane o w None l now h sane own = sane
 take_next-sane o w (Some s) None now h sane own = sane
-take_next-sane o w (Some s) (Some l) now h sane own = take_carried-sane o w (carry_of w l.output.carried) l now h sane (own l refl)
+take_next-sane o w (Some s) (Some l) now h sane own = take_carried-sane o w (carry_of w l.output.carried) l now h refl sane (own l refl)

@@ -1,9 +1,23 @@
 mod Examples
 pub mod Places
+pub mod Settling
 pub mod Reached
 pub mod Judging
 pub mod FollowsSources
 pub mod FollowsOutputs
+pub mod FollowsSessions
+pub mod FollowsReplies
+pub mod Replying
 pub mod FollowsTakes
 pub mod FollowsAdmits
+pub mod FollowsSettles
+pub mod FollowsCollects
 pub mod Follows
+pub mod Chronicle
+pub mod ChronicleSessions
+pub mod ChronicleSettles
+pub mod ChronicleAdmits
+pub mod ChronicleSteps
+pub mod Deliver
+pub mod WayBack
+pub mod Marks

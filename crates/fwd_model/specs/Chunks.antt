@@ -82,6 +82,14 @@ first_tag (c ∷ cells) = c.tag
 unfoldable pub chunk_of : ℕ → List Cell → Chunk
 chunk_of number cells = record { number = number; tag = first_tag (cells_at number cells); entries = map (λ c. c.entry) (cells_at number cells) }
 
+-- the entries whose number is not acknowledged
+abbrev pub unsettled : List ℕ → List Cell → List Cell
+unsettled acknowledged cells = filter (λ c. not (has_number c.number acknowledged)) cells
+
+-- what is carried besides what the worker has
+abbrev pub put_down : ℕ → List Carry → List Carry
+put_down worker carried = filter (λ c. not (c.worker == worker)) carried
+
 -- what the worker has
 abbrev pub carry_of : ℕ → List Carry → Option Carry
 carry_of worker carried = find (λ c. c.worker == worker) carried

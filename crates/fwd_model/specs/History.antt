@@ -1,16 +1,18 @@
 -- The history of a relay: all that ever came, with nothing removed.
-use Rattle.std.specs.Prelude.{ℕ, Bool, ◌||◌, List, [], ◌∷◌, map, drop, replicate, Option, Some, None, is_some, ◌==◌, if◌then◌else◌}
+use Rattle.std.specs.Prelude.{ℕ, Bool, ◌||◌, List, [], ◌∷◌, length, map, drop, replicate, Option, Some, None, is_some, nat_le, ◌==◌, if◌then◌else◌}
 use Rattle.fwd_modes.specs.Requests.{Request}
 use Rattle.fwd_model.specs.declared.cell.Cell.{Cell}
 use Rattle.fwd_model.specs.declared.cell.Carry.{Carry}
+use Rattle.fwd_model.specs.declared.cell.Entered.{Entered}
 use Rattle.fwd_model.specs.declared.config.Config.{Config}
 use Rattle.fwd_model.specs.declared.config.OutputConfig.{OutputConfig}
 use Rattle.fwd_model.specs.Sources.{Judged, judged_of}
 
--- a connection: all bytes heard, how many of its requests were admitted, and whether it was closed with what waited dropped
+-- a connection: all bytes heard, how many of its requests were admitted, all bytes appended for sending, and whether it was closed with what waited dropped
 pub record SourceHistory : Type 0 where
   pub heard : List ℕ
   pub admitted : ℕ
+  pub appended : List ℕ
   pub shut : Bool
 
 abbrev pub judged : SourceHistory → Judged
@@ -36,19 +38,42 @@ abbrev pub with_source : ℕ → SourceHistory → List Connection → List Conn
 with_source id s [] = []
 with_source id s (c ∷ cs) = if c.id == id then record { id = c.id; source = s } ∷ cs else c ∷ with_source id s cs
 
--- an output: every entry ever admitted, in order; the numbers that may take more; who has which number; the greatest moment handed in
+-- the bytes that wait to be sent to a source
+abbrev pub unsent : SourceHistory → List ℕ
+unsent s = if s.shut then [] else s.appended
+
+-- a request that was entered at an output, and whether its connection was told that all its entries were acknowledged
+pub record Admission : Type 0 where
+  pub request : Entered
+  pub told : Bool
+
+-- an output: every entry ever admitted, in order; the numbers that may take more; the numbers that a server acknowledged; who has which number; every request ever entered, in order; the greatest moment handed in
 pub record OutputHistory : Type 0 where
   pub cells : List Cell
   pub opened : List ℕ
+  pub acknowledged : List ℕ
   pub carried : List Carry
+  pub requests : List Admission
   pub moment : ℕ
 
--- a worker's session with a server: all bytes appended for sending, the number that it was loaded with, the greatest moment handed in
+-- a worker's session with a server: all bytes heard; all bytes appended for sending, and how many of them the link took; the number that it is loaded with, and whether that one's acknowledgement was accepted; whether a fault put it down; the greatest moment handed in
 pub record SessionHistory : Type 0 where
   pub server : ℕ
+  pub heard : List ℕ
   pub appended : List ℕ
+  pub sent : ℕ
   pub loaded : Option ℕ
+  pub accepted : Bool
+  pub down : Bool
   pub moment : ℕ
+
+-- the bytes that wait to be sent to a server
+abbrev pub to_send : SessionHistory → List ℕ
+to_send s = if s.down then [] else drop s.sent s.appended
+
+-- all bytes were taken by the link, through the last
+abbrev pub is_handed_on : SessionHistory → Bool
+is_handed_on s = nat_le (length s.appended) s.sent
 
 -- an output with its settings, and a place for each of its workers
 pub record Lane : Type 0 where
@@ -64,7 +89,7 @@ pub record History : Type 0 where
 abbrev pub new_lane : OutputConfig → Lane
 new_lane c = record {
   config = c;
-  output = record { cells = []; opened = []; carried = []; moment = 0 };
+  output = record { cells = []; opened = []; acknowledged = []; carried = []; requests = []; moment = 0 };
   sessions = replicate c.workers None;
 }
 

@@ -1,18 +1,22 @@
 -- What of a history still matters: the bytes of unfinished values, the requests that wait, the counts, and what is not yet settled.
-use Rattle.std.specs.Prelude.{ℕ, suc, Bool, List, [], ◌∷◌, length, map, Option, Some, None, option_map, if◌then◌else◌}
+use Rattle.std.specs.Prelude.{ℕ, suc, Bool, not, List, [], ◌∷◌, length, map, filter, Option, Some, None, option_map, if◌then◌else◌}
 use Rattle.fwd_modes.specs.Requests.{Request}
 use Rattle.fwd_model.specs.declared.cell.Cell.{Cell}
 use Rattle.fwd_model.specs.declared.cell.Carry.{Carry}
 use Rattle.fwd_model.specs.declared.cell.Chunk.{Chunk}
+use Rattle.fwd_model.specs.declared.cell.Entered.{Entered}
 use Rattle.fwd_model.specs.declared.config.OutputConfig.{OutputConfig}
-use Rattle.fwd_model.specs.Chunks.{greatest, chunk_of, carry_of}
-use Rattle.fwd_model.specs.History.{SourceHistory, judged, is_closed, waiting, Connection, OutputHistory, SessionHistory, Lane, History}
+use Rattle.fwd_model.specs.Chunks.{greatest, chunk_of, carry_of, unsettled, has_number}
+use Rattle.fwd_model.specs.Replies.{reply_stream, rest_of}
+use Rattle.fwd_model.specs.History.{SourceHistory, judged, is_closed, waiting, unsent, Connection, Admission, OutputHistory, SessionHistory, to_send, Lane, History}
 
--- a connection: the bytes after its last whole value, the requests that wait, how many were admitted, whether it takes no further piece
+-- a connection: the bytes after its last whole value, the requests that wait, how many were admitted, the bytes that wait to be sent, whether what waited was dropped, whether it takes no further piece
 pub record LiveSource : Type 0 where
   pub rest : List ℕ
   pub waiting : List Request
   pub admitted : ℕ
+  pub unsent : List ℕ
+  pub shut : Bool
   pub closed : Bool
 
 unfoldable pub live_source : SourceHistory → LiveSource
@@ -20,6 +24,8 @@ live_source s = record {
   rest = if s.shut then [] else (judged s).rest;
   waiting = waiting s;
   admitted = s.admitted;
+  unsent = unsent s;
+  shut = s.shut;
   closed = is_closed s;
 }
 
@@ -30,34 +36,57 @@ pub record LiveConnection : Type 0 where
 abbrev pub live_connection : Connection → LiveConnection
 live_connection c = record { id = c.id; source = live_source c.source }
 
--- an output: with the counts that its cells gave, which stay when cells go
+-- the requests that were not told
+abbrev pub untold : List Admission → List Entered
+untold requests = map (λ a. a.request) (filter (λ a. not a.told) requests)
+
+-- the entries whose number is acknowledged
+abbrev pub settled_cells : List ℕ → List Cell → List Cell
+settled_cells acknowledged cells = filter (λ c. has_number c.number acknowledged) cells
+
+-- an output: the entries that are not settled, the requests that were not told, and the counts that its cells gave, which stay when cells go
 pub record LiveOutput : Type 0 where
   pub cells : List Cell
   pub opened : List ℕ
   pub greatest : ℕ
   pub accepted : ℕ
+  pub settled : ℕ
   pub carried : List Carry
+  pub requests : List Entered
   pub moment : ℕ
 
 unfoldable pub live_output : OutputHistory → LiveOutput
 live_output o = record {
-  cells = o.cells;
+  cells = unsettled o.acknowledged o.cells;
   opened = o.opened;
   greatest = greatest o.cells;
   accepted = length o.cells;
+  settled = length (settled_cells o.acknowledged o.cells);
   carried = o.carried;
+  requests = untold o.requests;
   moment = o.moment;
 }
 
--- a session: the bytes that wait to be sent
+-- a session: the bytes that wait to be sent, and those of an unfinished reply; none of them once it is down
 pub record LiveSession : Type 0 where
   pub server : ℕ
   pub waiting : List ℕ
+  pub rest : List ℕ
   pub loaded : Option ℕ
+  pub accepted : Bool
+  pub down : Bool
   pub moment : ℕ
 
-abbrev pub live_session : SessionHistory → LiveSession
-live_session s = record { server = s.server; waiting = s.appended; loaded = s.loaded; moment = s.moment }
+unfoldable pub live_session : SessionHistory → LiveSession
+live_session s = record {
+  server = s.server;
+  waiting = to_send s;
+  rest = if s.down then [] else rest_of (reply_stream s.heard);
+  loaded = s.loaded;
+  accepted = s.accepted;
+  down = s.down;
+  moment = s.moment;
+}
 
 -- a worker: the chunk that it has, with its entries, and its session
 pub record LiveWorker : Type 0 where

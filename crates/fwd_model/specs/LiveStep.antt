@@ -1,5 +1,5 @@
 -- The step read on live states: the same cases in the same order, with what is kept in place of what is left out.
-use Rattle.std.specs.Prelude.{ℕ, ◌+◌, Bool, true, false, not, List, [], ◌∷◌, ◌++◌, length, filter, Option, Some, None, is_some, nat_lt, ◌==◌, max, if◌then◌else◌, slice_get, slice_set}
+use Rattle.std.specs.Prelude.{ℕ, ◌+◌, Bool, true, false, not, ◌&&◌, ◌||◌, List, [], ◌∷◌, ◌++◌, length, drop, filter, Option, Some, None, option_map, is_some, nat_lt, ◌==◌, max, if◌then◌else◌, slice_get, slice_set}
 use Rattle.fwd_modes.specs.Requests.{Request}
 use Rattle.fwd_model.specs.declared.cell.Cell.{Cell}
 use Rattle.fwd_model.specs.declared.cell.Chunk.{Chunk}
@@ -9,10 +9,14 @@ use Rattle.fwd_model.specs.declared.event.Event.TheVariants as event
 use Rattle.fwd_model.specs.declared.event.FlushKind.{FlushKind}
 use Rattle.fwd_model.specs.declared.answer.Answer.{Answer}
 use Rattle.fwd_model.specs.declared.answer.Answer.TheVariants as answer
-use Rattle.fwd_model.specs.declared.fault.Refusal.TheVariants.{Closed, NoSuch, NotNow}
-use Rattle.fwd_model.specs.Chunks.{cells_of, open_after, is_spent, closes, least_free, chunk_of}
+use Rattle.fwd_model.specs.declared.fault.Refusal.TheVariants.{Closed, NoSuch, NotNow, NotUp}
+use Rattle.fwd_model.specs.declared.cell.Entered.{Entered}
+use Rattle.fwd_modes.specs.Frames.{chunk_name}
+use Rattle.fwd_model.specs.Chunks.{cells_of, open_after, is_spent, closes, least_free, chunk_of, cells_at, put_down}
 use Rattle.fwd_model.specs.Sources.{Judged, judged_of}
-use Rattle.fwd_model.specs.Step.{told, carry_more, is_loaded, frame_of}
+use Rattle.fwd_model.specs.Books.{entered_as, is_of, none_left, numbers_of, acks_of}
+use Rattle.fwd_model.specs.Replies.{Replies, replies_in, reply_stream, rest_of}
+use Rattle.fwd_model.specs.Step.{told, carry_more, is_loaded, frame_of, reply_answer}
 use Rattle.fwd_model.specs.Live.{LiveSource, LiveConnection, LiveOutput, LiveSession, LiveWorker, LiveLane, LiveRelay}
 
 -- ---- connections
@@ -33,7 +37,7 @@ abbrev pub live_accepted : ℕ → LiveRelay → LiveRelay
 live_accepted id r = record {
   run = r.run;
   last = Some id;
-  connections = r.connections ++ record { id = id; source = record { rest = []; waiting = []; admitted = 0; closed = false } } ∷ [];
+  connections = r.connections ++ record { id = id; source = record { rest = []; waiting = []; admitted = 0; unsent = []; shut = false; closed = false } } ∷ [];
   lanes = r.lanes;
 }
 
@@ -46,6 +50,8 @@ source_hears s bytes = record {
   rest = (judged_piece s bytes).rest;
   waiting = s.waiting ++ (judged_piece s bytes).requests;
   admitted = s.admitted;
+  unsent = s.unsent;
+  shut = s.shut;
   closed = is_some (judged_piece s bytes).fault;
 }
 
@@ -65,7 +71,7 @@ live_piece_next id (Some s) bytes r = if s.closed then r else with_live_connecti
 
 -- an output before its first event
 abbrev pub no_entries : LiveOutput
-no_entries = record { cells = []; opened = []; greatest = 0; accepted = 0; carried = []; moment = 0 }
+no_entries = record { cells = []; opened = []; greatest = 0; accepted = 0; settled = 0; carried = []; requests = []; moment = 0 }
 
 unfoldable pub output_enters : LiveOutput → Origin → Request → ℕ → LiveOutput
 output_enters o origin r now = record {
@@ -73,7 +79,9 @@ output_enters o origin r now = record {
   opened = open_after r (o.greatest + 1) o.cells o.opened;
   greatest = if length r.entries == 0 then o.greatest else o.greatest + 1;
   accepted = o.accepted + length r.entries;
+  settled = o.settled;
   carried = o.carried;
+  requests = o.requests ++ entered_as r origin (o.greatest + 1) ∷ [];
   moment = max o.moment now;
 }
 
@@ -85,10 +93,10 @@ tail_of [] = []
 tail_of (r ∷ rs) = rs
 
 abbrev pub source_gives : LiveSource → LiveSource
-source_gives s = record { rest = s.rest; waiting = tail_of s.waiting; admitted = s.admitted + 1; closed = s.closed }
+source_gives s = record { rest = s.rest; waiting = tail_of s.waiting; admitted = s.admitted + 1; unsent = s.unsent; shut = s.shut; closed = s.closed }
 
 abbrev pub source_shuts : LiveSource → LiveSource
-source_shuts s = record { rest = []; waiting = []; admitted = s.admitted; closed = true }
+source_shuts s = record { rest = []; waiting = []; admitted = s.admitted; unsent = []; shut = true; closed = true }
 
 abbrev pub with_live_output : LiveLane → LiveOutput → LiveLane
 with_live_output l o = record { config = l.config; output = o; workers = l.workers }
@@ -131,7 +139,9 @@ output_flushes o interval now kind = record {
   opened = filter (λ k. not (output_closes o interval now kind k)) o.opened;
   greatest = o.greatest;
   accepted = o.accepted;
+  settled = o.settled;
   carried = o.carried;
+  requests = o.requests;
   moment = max o.moment now;
 }
 
@@ -161,7 +171,8 @@ live_up_answer server (Some x) (Some l) =
     if not (nat_lt server l.config.servers) then answer.Refused NoSuch else (if is_some x.session then answer.Refused NotNow else answer.Done)
 
 abbrev pub fresh_session : ℕ → ℕ → LiveSession
-fresh_session server now = record { server = server; waiting = []; loaded = None; moment = now }
+fresh_session server now =
+    record { server = server; waiting = []; rest = []; loaded = None; accepted = false; down = false; moment = now }
 
 abbrev pub worker_with : LiveWorker → LiveSession → LiveWorker
 worker_with x s = record { chunk = x.chunk; session = Some s }
@@ -188,7 +199,9 @@ output_takes o w now = record {
   opened = o.opened;
   greatest = o.greatest;
   accepted = o.accepted;
+  settled = o.settled;
   carried = carry_more w (least_free o.opened o.carried o.cells) o.carried;
+  requests = o.requests;
   moment = max o.moment now;
 }
 
@@ -216,13 +229,21 @@ live_take_next o w (Some x) (Some l) now r = if is_some x.chunk then r else with
 -- ---- load
 
 abbrev pub session_loads : LiveSession → ℕ → List ℕ → ℕ → LiveSession
-session_loads s number frame now =
-    record { server = s.server; waiting = s.waiting ++ frame; loaded = Some number; moment = max s.moment now }
+session_loads s number frame now = record {
+  server = s.server;
+  waiting = s.waiting ++ frame;
+  rest = s.rest;
+  loaded = Some number;
+  accepted = s.accepted;
+  down = s.down;
+  moment = max s.moment now;
+}
 
 abbrev pub live_load_with : Option LiveSession → Option Chunk → List ℕ → ℕ → Answer
 live_load_with None chunk run o = answer.Refused NotNow
 live_load_with (Some s) None run o = answer.Refused NotNow
-live_load_with (Some s) (Some c) run o = if is_loaded s.loaded c.number then answer.Refused NotNow else answer.Frame (frame_of run o c)
+live_load_with (Some s) (Some c) run o =
+    if is_loaded s.loaded c.number then answer.Refused NotNow else (if s.down then answer.Refused NotUp else answer.Frame (frame_of run o c))
 
 abbrev pub live_load_answer : Option LiveWorker → Option LiveLane → List ℕ → ℕ → Answer
 live_load_answer None l run o = answer.Refused NoSuch
@@ -234,12 +255,189 @@ live_load_next_with None chunk o w x l now r = r
 live_load_next_with (Some s) None o w x l now r = r
 live_load_next_with (Some s) (Some c) o w x l now r =
     if is_loaded s.loaded c.number then r
-    else with_live_lane o (with_live_worker l w (worker_with x (session_loads s c.number (frame_of r.run o c) now))) r
+    else (if s.down then r else with_live_lane o (with_live_worker l w (worker_with x (session_loads s c.number (frame_of r.run o c) now))) r)
 
 abbrev pub live_load_next : ℕ → ℕ → Option LiveWorker → Option LiveLane → ℕ → LiveRelay → LiveRelay
 live_load_next o w None l now r = r
 live_load_next o w (Some x) None now r = r
 live_load_next o w (Some x) (Some l) now r = live_load_next_with x.session x.chunk o w x l now r
+
+-- ---- wrote
+
+abbrev pub session_in : Option LiveWorker → Option (Option LiveSession)
+session_in None = None
+session_in (Some x) = Some x.session
+
+abbrev pub live_wrote_answer : Option (Option LiveSession) → ℕ → Answer
+live_wrote_answer None count = answer.Refused NoSuch
+live_wrote_answer (Some None) count = answer.Refused NotNow
+live_wrote_answer (Some (Some s)) count = if nat_lt (length s.waiting) count then answer.Refused NotNow else answer.Done
+
+unfoldable pub session_sends : LiveSession → ℕ → LiveSession
+session_sends s count = record {
+  server = s.server;
+  waiting = drop count s.waiting;
+  rest = s.rest;
+  loaded = s.loaded;
+  accepted = s.accepted;
+  down = s.down;
+  moment = s.moment;
+}
+
+abbrev pub live_wrote_session : Option LiveSession → ℕ → ℕ → LiveWorker → LiveLane → ℕ → LiveRelay → LiveRelay
+live_wrote_session None o w x l count r = r
+live_wrote_session (Some s) o w x l count r =
+    if nat_lt (length s.waiting) count then r else with_live_lane o (with_live_worker l w (worker_with x (session_sends s count))) r
+
+abbrev pub live_wrote_next : ℕ → ℕ → Option LiveWorker → Option LiveLane → ℕ → LiveRelay → LiveRelay
+live_wrote_next o w None l count r = r
+live_wrote_next o w (Some x) None count r = r
+live_wrote_next o w (Some x) (Some l) count r = live_wrote_session x.session o w x l count r
+
+-- ---- heard
+
+abbrev pub live_awaited : List ℕ → ℕ → LiveSession → Option (List ℕ)
+live_awaited run o s = if s.accepted || nat_lt 0 (length s.waiting) then None else option_map (chunk_name run o) s.loaded
+
+abbrev pub live_replies : List ℕ → ℕ → LiveSession → List ℕ → Replies
+live_replies run o s bytes = replies_in (live_awaited run o s) (reply_stream (s.rest ++ bytes))
+
+abbrev pub live_heard_answer : Option (Option LiveSession) → List ℕ → ℕ → List ℕ → Answer
+live_heard_answer None run o bytes = answer.Refused NoSuch
+live_heard_answer (Some None) run o bytes = answer.Refused NotNow
+live_heard_answer (Some (Some s)) run o bytes =
+    if s.down then answer.Refused NotUp else reply_answer (live_replies run o s bytes).accepted (live_replies run o s bytes).fault
+
+-- once it is down, nothing waits
+unfoldable pub session_hears : LiveSession → List ℕ → Replies → LiveSession
+session_hears s bytes heard = record {
+  server = s.server;
+  waiting = if is_some heard.fault then [] else s.waiting;
+  rest = if is_some heard.fault then [] else rest_of (reply_stream (s.rest ++ bytes));
+  loaded = s.loaded;
+  accepted = s.accepted || heard.accepted;
+  down = is_some heard.fault;
+  moment = s.moment;
+}
+
+abbrev pub live_heard_session : Option LiveSession → ℕ → ℕ → LiveWorker → LiveLane → List ℕ → LiveRelay → LiveRelay
+live_heard_session None o w x l bytes r = r
+live_heard_session (Some s) o w x l bytes r =
+    if s.down then r else with_live_lane o (with_live_worker l w (worker_with x (session_hears s bytes (live_replies r.run o s bytes)))) r
+
+abbrev pub live_heard_next : ℕ → ℕ → Option LiveWorker → Option LiveLane → List ℕ → LiveRelay → LiveRelay
+live_heard_next o w None l bytes r = r
+live_heard_next o w (Some x) None bytes r = r
+live_heard_next o w (Some x) (Some l) bytes r = live_heard_session x.session o w x l bytes r
+
+-- ---- settle
+
+abbrev pub live_acked_number : LiveSession → Option ℕ
+live_acked_number s = if s.accepted then s.loaded else None
+
+abbrev pub live_settle_number : Option ℕ → LiveOutput → Answer
+live_settle_number None o = answer.Refused NotNow
+live_settle_number (Some k) o = answer.Settled (length (cells_at k o.cells))
+
+abbrev pub live_settle_session : Option LiveSession → LiveOutput → Answer
+live_settle_session None o = answer.Refused NotNow
+live_settle_session (Some s) o = live_settle_number (live_acked_number s) o
+
+abbrev pub live_settle_answer : Option LiveWorker → Option LiveLane → Answer
+live_settle_answer None l = answer.Refused NoSuch
+live_settle_answer (Some x) None = answer.Refused NoSuch
+live_settle_answer (Some x) (Some l) = live_settle_session x.session l.output
+
+-- the number's entries leave, and are counted
+unfoldable pub output_settles : LiveOutput → ℕ → ℕ → LiveOutput
+output_settles o w number = record {
+  cells = filter (λ c. not (c.number == number)) o.cells;
+  opened = o.opened;
+  greatest = o.greatest;
+  accepted = o.accepted;
+  settled = o.settled + length (cells_at number o.cells);
+  carried = put_down w o.carried;
+  requests = o.requests;
+  moment = o.moment;
+}
+
+abbrev pub session_unloads : LiveSession → LiveSession
+session_unloads s = record {
+  server = s.server;
+  waiting = s.waiting;
+  rest = s.rest;
+  loaded = None;
+  accepted = false;
+  down = s.down;
+  moment = s.moment;
+}
+
+abbrev pub live_settles : LiveLane → ℕ → LiveSession → ℕ → LiveLane
+live_settles l w s number = record {
+  config = l.config;
+  output = output_settles l.output w number;
+  workers = slice_set l.workers w (record { chunk = None; session = Some (session_unloads s) });
+}
+
+abbrev pub live_settle_number_next : Option ℕ → ℕ → ℕ → LiveSession → LiveLane → LiveRelay → LiveRelay
+live_settle_number_next None o w s l r = r
+live_settle_number_next (Some k) o w s l r = with_live_lane o (live_settles l w s k) r
+
+abbrev pub live_settle_session_next : Option LiveSession → ℕ → ℕ → LiveLane → LiveRelay → LiveRelay
+live_settle_session_next None o w l r = r
+live_settle_session_next (Some s) o w l r = live_settle_number_next (live_acked_number s) o w s l r
+
+abbrev pub live_settle_next : ℕ → ℕ → Option LiveWorker → Option LiveLane → LiveRelay → LiveRelay
+live_settle_next o w None l r = r
+live_settle_next o w (Some x) None r = r
+live_settle_next o w (Some x) (Some l) r = live_settle_session_next x.session o w l r
+
+-- ---- collect
+
+-- a request is settled once no entry of its is left
+abbrev pub output_tells : ℕ → LiveOutput → Entered → Bool
+output_tells id o q = is_of id q && none_left o.cells q
+
+abbrev pub live_due : ℕ → LiveOutput → List Entered
+live_due id o = filter (output_tells id o) o.requests
+
+abbrev pub live_collect_open : ℕ → LiveSource → LiveOutput → Answer
+live_collect_open id s o = if s.shut then answer.Refused Closed else answer.Told (numbers_of (live_due id o)) (acks_of (live_due id o))
+
+abbrev pub live_collect_answer : ℕ → Option LiveSource → Option LiveLane → Answer
+live_collect_answer id None l = answer.Refused NoSuch
+live_collect_answer id (Some s) None = answer.Refused NoSuch
+live_collect_answer id (Some s) (Some l) = live_collect_open id s l.output
+
+abbrev pub source_appends : LiveSource → List ℕ → LiveSource
+source_appends s bytes = record {
+  rest = s.rest;
+  waiting = s.waiting;
+  admitted = s.admitted;
+  unsent = s.unsent ++ bytes;
+  shut = s.shut;
+  closed = s.closed;
+}
+
+-- what is told leaves
+unfoldable pub output_told : LiveOutput → ℕ → LiveOutput
+output_told o id = record {
+  cells = o.cells;
+  opened = o.opened;
+  greatest = o.greatest;
+  accepted = o.accepted;
+  settled = o.settled;
+  carried = o.carried;
+  requests = filter (λ q. not (output_tells id o q)) o.requests;
+  moment = o.moment;
+}
+
+abbrev pub live_collect_next : ℕ → Option LiveSource → ℕ → Option LiveLane → LiveRelay → LiveRelay
+live_collect_next id None o l r = r
+live_collect_next id (Some s) o None r = r
+live_collect_next id (Some s) o (Some l) r =
+    if s.shut then r
+    else with_live_lane o (with_live_output l (output_told l.output id)) (with_live_connection id (source_appends s (acks_of (live_due id l.output))) r)
 
 -- ---- step and run
 
@@ -252,6 +450,10 @@ live_answer_to r (event.Up o w server salt now) =
     live_up_answer server (worker_at w (slice_get r.lanes o)) (slice_get r.lanes o)
 live_answer_to r (event.Take o w now) = live_take_answer (worker_at w (slice_get r.lanes o)) (slice_get r.lanes o)
 live_answer_to r (event.Load o w now) = live_load_answer (worker_at w (slice_get r.lanes o)) (slice_get r.lanes o) r.run o
+live_answer_to r (event.Wrote o w count) = live_wrote_answer (session_in (worker_at w (slice_get r.lanes o))) count
+live_answer_to r (event.Heard o w bytes) = live_heard_answer (session_in (worker_at w (slice_get r.lanes o))) r.run o bytes
+live_answer_to r (event.Settle o w) = live_settle_answer (worker_at w (slice_get r.lanes o)) (slice_get r.lanes o)
+live_answer_to r (event.Collect id o) = live_collect_answer id (live_source_at id r.connections) (slice_get r.lanes o)
 
 abbrev pub live_next : LiveRelay → Event → LiveRelay
 live_next r (event.Accept id nonce auth) = if is_above id r.last then live_accepted id r else r
@@ -262,6 +464,10 @@ live_next r (event.Up o w server salt now) =
     live_up_next o w server now (worker_at w (slice_get r.lanes o)) (slice_get r.lanes o) r
 live_next r (event.Take o w now) = live_take_next o w (worker_at w (slice_get r.lanes o)) (slice_get r.lanes o) now r
 live_next r (event.Load o w now) = live_load_next o w (worker_at w (slice_get r.lanes o)) (slice_get r.lanes o) now r
+live_next r (event.Wrote o w count) = live_wrote_next o w (worker_at w (slice_get r.lanes o)) (slice_get r.lanes o) count r
+live_next r (event.Heard o w bytes) = live_heard_next o w (worker_at w (slice_get r.lanes o)) (slice_get r.lanes o) bytes r
+live_next r (event.Settle o w) = live_settle_next o w (worker_at w (slice_get r.lanes o)) (slice_get r.lanes o) r
+live_next r (event.Collect id o) = live_collect_next id (live_source_at id r.connections) o (slice_get r.lanes o) r
 
 abbrev pub live_answers : LiveRelay → List Event → List Answer
 live_answers r [] = []

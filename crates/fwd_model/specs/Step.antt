@@ -1,5 +1,5 @@
 -- What one event does to a history: the answer, and the next history. The cases stand in the order of the checks.
-use Rattle.std.specs.Prelude.{◌≡◌, ℕ, ◌+◌, Bool, true, false, not, List, [], ◌∷◌, ◌++◌, length, filter, Option, Some, None, nat_lt, ◌==◌, max, is_some, if◌then◌else◌, slice_get, slice_set}
+use Rattle.std.specs.Prelude.{◌≡◌, ℕ, ◌+◌, Bool, true, false, not, ◌&&◌, ◌||◌, List, [], ◌∷◌, ◌++◌, length, map, filter, Option, Some, None, option_map, nat_lt, ◌==◌, max, is_some, if◌then◌else◌, slice_get, slice_set}
 use Rattle.std.specs.List.{list_all}
 use Rattle.fwd_modes.specs.Requests.{Request}
 use Rattle.fwd_modes.specs.Frames.{chunk_frame, chunk_name}
@@ -13,9 +13,14 @@ use Rattle.fwd_model.specs.declared.event.FlushKind.{FlushKind}
 use Rattle.fwd_model.specs.declared.answer.Answer.{Answer}
 use Rattle.fwd_model.specs.declared.answer.Answer.TheVariants as answer
 use Rattle.fwd_model.specs.declared.fault.SourceFault.{SourceFault}
-use Rattle.fwd_model.specs.declared.fault.Refusal.TheVariants.{Closed, NoSuch, NotNow}
-use Rattle.fwd_model.specs.Chunks.{greatest, cells_of, open_after, is_spent, closes, least_free, chunk_of, cells_at, carry_of}
-use Rattle.fwd_model.specs.History.{SourceHistory, judged, is_closed, waiting, Connection, source_at, with_source, OutputHistory, SessionHistory, Lane, History, opening}
+use Rattle.fwd_model.specs.declared.fault.Refusal.TheVariants.{Closed, NoSuch, NotNow, NotUp}
+use Rattle.fwd_model.specs.declared.cell.Entered.{Entered}
+use Rattle.fwd_model.specs.declared.fault.SessionFault.{SessionFault}
+use Rattle.fwd_msgpack.specs.Scans.{Split}
+use Rattle.fwd_model.specs.Chunks.{greatest, cells_of, open_after, is_spent, closes, least_free, chunk_of, cells_at, carry_of, unsettled, put_down}
+use Rattle.fwd_model.specs.Books.{entered_as, is_settled, is_of, numbers_of, acks_of}
+use Rattle.fwd_model.specs.Replies.{Replies, replies_in, reply_stream, ended_by}
+use Rattle.fwd_model.specs.History.{SourceHistory, judged, is_closed, waiting, Connection, source_at, with_source, Admission, OutputHistory, SessionHistory, to_send, is_handed_on, Lane, History, opening}
 
 -- ---- accept
 
@@ -24,12 +29,12 @@ abbrev pub is_fresh : ℕ → List Connection → Bool
 is_fresh id cs = list_all (λ c. nat_lt c.id id) cs
 
 abbrev pub accepted : ℕ → History → History
-accepted id h = record { run = h.run; connections = h.connections ++ record { id = id; source = record { heard = []; admitted = 0; shut = false } } ∷ []; lanes = h.lanes }
+accepted id h = record { run = h.run; connections = h.connections ++ record { id = id; source = record { heard = []; admitted = 0; appended = []; shut = false } } ∷ []; lanes = h.lanes }
 
 -- ---- piece
 
 abbrev pub hears : SourceHistory → List ℕ → SourceHistory
-hears s bytes = record { heard = s.heard ++ bytes; admitted = s.admitted; shut = s.shut }
+hears s bytes = record { heard = s.heard ++ bytes; admitted = s.admitted; appended = s.appended; shut = s.shut }
 
 abbrev pub told : Option SourceFault → ℕ → Answer
 told None count = answer.Requests count []
@@ -54,7 +59,9 @@ unfoldable pub entered : OutputHistory → ℕ → ℕ → Request → ℕ → O
 entered o id number r now = record {
   cells = o.cells ++ cells_of r (record { conn = id; request = number }) (greatest o.cells + 1) (max o.moment now);
   opened = open_after r (greatest o.cells + 1) o.cells o.opened;
+  acknowledged = o.acknowledged;
   carried = o.carried;
+  requests = o.requests ++ record { request = entered_as r (record { conn = id; request = number }) (greatest o.cells + 1); told = false } ∷ [];
   moment = max o.moment now;
 }
 
@@ -62,10 +69,10 @@ abbrev pub has_no_number : OutputHistory → Request → Bool
 has_no_number o r = is_spent r (greatest o.cells + 1) (length o.cells)
 
 abbrev pub takes_first : SourceHistory → SourceHistory
-takes_first s = record { heard = s.heard; admitted = s.admitted + 1; shut = s.shut }
+takes_first s = record { heard = s.heard; admitted = s.admitted + 1; appended = s.appended; shut = s.shut }
 
 abbrev pub shuts : SourceHistory → SourceHistory
-shuts s = record { heard = s.heard; admitted = s.admitted; shut = true }
+shuts s = record { heard = s.heard; admitted = s.admitted; appended = s.appended; shut = true }
 
 abbrev pub with_output : Lane → OutputHistory → Lane
 with_output l o = record { config = l.config; output = o; sessions = l.sessions }
@@ -109,7 +116,9 @@ unfoldable pub flushed : Lane → ℕ → FlushKind → OutputHistory
 flushed l now kind = record {
   cells = l.output.cells;
   opened = filter (λ k. not (is_closed_by kind l now k)) l.output.opened;
+  acknowledged = l.output.acknowledged;
   carried = l.output.carried;
+  requests = l.output.requests;
   moment = max l.output.moment now;
 }
 
@@ -133,7 +142,8 @@ up_answer server (Some s) (Some l) =
     if not (nat_lt server l.config.servers) then answer.Refused NoSuch else (if is_some s then answer.Refused NotNow else answer.Done)
 
 abbrev pub new_session : ℕ → ℕ → SessionHistory
-new_session server now = record { server = server; appended = []; loaded = None; moment = now }
+new_session server now =
+    record { server = server; heard = []; appended = []; sent = 0; loaded = None; accepted = false; down = false; moment = now }
 
 abbrev pub up_next : ℕ → ℕ → ℕ → ℕ → Option (Option SessionHistory) → Option Lane → History → History
 up_next o w server now None l h = h
@@ -143,12 +153,16 @@ up_next o w server now (Some s) (Some l) h =
 
 -- ---- take
 
+-- the least number of an entry that is not settled and may be taken
+abbrev pub free_number : OutputHistory → Option ℕ
+free_number o = least_free o.opened o.carried (unsettled o.acknowledged o.cells)
+
 abbrev pub found : Option ℕ → Lane → Answer
 found None l = answer.TookNothing
 found (Some k) l = answer.Took k (length (cells_at k l.output.cells))
 
 abbrev pub take_carried : Option Carry → Lane → Answer
-take_carried None l = found (least_free l.output.opened l.output.carried l.output.cells) l
+take_carried None l = found (free_number l.output) l
 take_carried (Some c) l = answer.Refused NotNow
 
 abbrev pub take_answer : ℕ → Option (Option SessionHistory) → Option Lane → Answer
@@ -165,7 +179,9 @@ unfoldable pub taken : OutputHistory → ℕ → ℕ → OutputHistory
 taken o w now = record {
   cells = o.cells;
   opened = o.opened;
-  carried = carry_more w (least_free o.opened o.carried o.cells) o.carried;
+  acknowledged = o.acknowledged;
+  carried = carry_more w (free_number o) o.carried;
+  requests = o.requests;
   moment = max o.moment now;
 }
 
@@ -190,7 +206,8 @@ frame_of run o chunk = chunk_frame chunk.tag chunk.entries (chunk_name run o chu
 abbrev pub load_carried : SessionHistory → Option Carry → List ℕ → ℕ → List Cell → Answer
 load_carried s None run o cells = answer.Refused NotNow
 load_carried s (Some c) run o cells =
-    if is_loaded s.loaded c.number then answer.Refused NotNow else answer.Frame (frame_of run o (chunk_of c.number cells))
+    if is_loaded s.loaded c.number then answer.Refused NotNow
+    else (if s.down then answer.Refused NotUp else answer.Frame (frame_of run o (chunk_of c.number cells)))
 
 abbrev pub load_answer : ℕ → Option (Option SessionHistory) → Option Lane → List ℕ → ℕ → Answer
 load_answer w None l run o = answer.Refused NoSuch
@@ -199,20 +216,189 @@ load_answer w (Some None) (Some l) run o = answer.Refused NotNow
 load_answer w (Some (Some s)) (Some l) run o = load_carried s (carry_of w l.output.carried) run o l.output.cells
 
 abbrev pub loaded : SessionHistory → ℕ → List ℕ → ℕ → SessionHistory
-loaded s number frame now =
-    record { server = s.server; appended = s.appended ++ frame; loaded = Some number; moment = max s.moment now }
+loaded s number frame now = record {
+  server = s.server;
+  heard = s.heard;
+  appended = s.appended ++ frame;
+  sent = s.sent;
+  loaded = Some number;
+  accepted = s.accepted;
+  down = s.down;
+  moment = max s.moment now;
+}
 
 abbrev pub load_carried_next : SessionHistory → Option Carry → ℕ → ℕ → Lane → ℕ → History → History
 load_carried_next s None o w l now h = h
 load_carried_next s (Some c) o w l now h =
     if is_loaded s.loaded c.number then h
-    else with_lane o (with_session w (loaded s c.number (frame_of h.run o (chunk_of c.number l.output.cells)) now) l) h
+    else (if s.down then h else with_lane o (with_session w (loaded s c.number (frame_of h.run o (chunk_of c.number l.output.cells)) now) l) h)
 
 abbrev pub load_next : ℕ → ℕ → Option (Option SessionHistory) → Option Lane → ℕ → History → History
 load_next o w None l now h = h
 load_next o w (Some s) None now h = h
 load_next o w (Some None) (Some l) now h = h
 load_next o w (Some (Some s)) (Some l) now h = load_carried_next s (carry_of w l.output.carried) o w l now h
+
+-- ---- wrote
+
+abbrev pub wrote_answer : Option (Option SessionHistory) → ℕ → Answer
+wrote_answer None count = answer.Refused NoSuch
+wrote_answer (Some None) count = answer.Refused NotNow
+wrote_answer (Some (Some s)) count = if nat_lt (length (to_send s)) count then answer.Refused NotNow else answer.Done
+
+abbrev pub has_sent : SessionHistory → ℕ → SessionHistory
+has_sent s count = record {
+  server = s.server;
+  heard = s.heard;
+  appended = s.appended;
+  sent = s.sent + count;
+  loaded = s.loaded;
+  accepted = s.accepted;
+  down = s.down;
+  moment = s.moment;
+}
+
+abbrev pub wrote_next : ℕ → ℕ → Option (Option SessionHistory) → Option Lane → ℕ → History → History
+wrote_next o w None l count h = h
+wrote_next o w (Some s) None count h = h
+wrote_next o w (Some None) (Some l) count h = h
+wrote_next o w (Some (Some s)) (Some l) count h =
+    if nat_lt (length (to_send s)) count then h else with_lane o (with_session w (has_sent s count) l) h
+
+-- ---- heard
+
+-- the name that the session awaits: that of its chunk, once the whole frame is handed on and until its acknowledgement
+abbrev pub awaited : List ℕ → ℕ → SessionHistory → Option (List ℕ)
+awaited run o s = if s.accepted || not (is_handed_on s) then None else option_map (chunk_name run o) s.loaded
+
+-- what a piece ends
+abbrev pub newly_heard : SessionHistory → List ℕ → Split
+newly_heard s bytes = ended_by s.heard (reply_stream (s.heard ++ bytes))
+
+abbrev pub replies_to : List ℕ → ℕ → SessionHistory → List ℕ → Replies
+replies_to run o s bytes = replies_in (awaited run o s) (newly_heard s bytes)
+
+-- a fault is answered before an acknowledgement
+abbrev pub reply_answer : Bool → Option SessionFault → Answer
+reply_answer accepted (Some f) = answer.SessionFaulted f
+reply_answer true None = answer.Acked []
+reply_answer false None = answer.Quiet []
+
+abbrev pub heard_answer : Option (Option SessionHistory) → List ℕ → ℕ → List ℕ → Answer
+heard_answer None run o bytes = answer.Refused NoSuch
+heard_answer (Some None) run o bytes = answer.Refused NotNow
+heard_answer (Some (Some s)) run o bytes =
+    if s.down then answer.Refused NotUp else reply_answer (replies_to run o s bytes).accepted (replies_to run o s bytes).fault
+
+-- an acknowledgement that was accepted before a fault stands
+abbrev pub has_heard : SessionHistory → List ℕ → Replies → SessionHistory
+has_heard s bytes r = record {
+  server = s.server;
+  heard = s.heard ++ bytes;
+  appended = s.appended;
+  sent = s.sent;
+  loaded = s.loaded;
+  accepted = s.accepted || r.accepted;
+  down = is_some r.fault;
+  moment = s.moment;
+}
+
+abbrev pub heard_next : ℕ → ℕ → Option (Option SessionHistory) → Option Lane → List ℕ → History → History
+heard_next o w None l bytes h = h
+heard_next o w (Some s) None bytes h = h
+heard_next o w (Some None) (Some l) bytes h = h
+heard_next o w (Some (Some s)) (Some l) bytes h =
+    if s.down then h else with_lane o (with_session w (has_heard s bytes (replies_to h.run o s bytes)) l) h
+
+-- ---- settle
+
+-- the number whose acknowledgement was accepted
+abbrev pub acked_number : SessionHistory → Option ℕ
+acked_number s = if s.accepted then s.loaded else None
+
+abbrev pub settle_number : Option ℕ → List Cell → Answer
+settle_number None cells = answer.Refused NotNow
+settle_number (Some k) cells = answer.Settled (length (cells_at k cells))
+
+abbrev pub settle_answer : Option (Option SessionHistory) → Option Lane → Answer
+settle_answer None l = answer.Refused NoSuch
+settle_answer (Some s) None = answer.Refused NoSuch
+settle_answer (Some None) (Some l) = answer.Refused NotNow
+settle_answer (Some (Some s)) (Some l) = settle_number (acked_number s) l.output.cells
+
+-- the number is acknowledged, and the worker carries it no more
+unfoldable pub settled : OutputHistory → ℕ → ℕ → OutputHistory
+settled o w number = record {
+  cells = o.cells;
+  opened = o.opened;
+  acknowledged = o.acknowledged ++ number ∷ [];
+  carried = put_down w o.carried;
+  requests = o.requests;
+  moment = o.moment;
+}
+
+abbrev pub unloaded : SessionHistory → SessionHistory
+unloaded s = record {
+  server = s.server;
+  heard = s.heard;
+  appended = s.appended;
+  sent = s.sent;
+  loaded = None;
+  accepted = false;
+  down = s.down;
+  moment = s.moment;
+}
+
+abbrev pub settle_number_next : Option ℕ → ℕ → ℕ → SessionHistory → Lane → History → History
+settle_number_next None o w s l h = h
+settle_number_next (Some k) o w s l h = with_lane o (with_session w (unloaded s) (with_output l (settled l.output w k))) h
+
+abbrev pub settle_next : ℕ → ℕ → Option (Option SessionHistory) → Option Lane → History → History
+settle_next o w None l h = h
+settle_next o w (Some s) None h = h
+settle_next o w (Some None) (Some l) h = h
+settle_next o w (Some (Some s)) (Some l) h = settle_number_next (acked_number s) o w s l h
+
+-- ---- collect
+
+-- a collect tells a request of the connection that was not told, once all its entries are acknowledged
+abbrev pub is_due : ℕ → OutputHistory → Admission → Bool
+is_due id o a = not a.told && (is_of id a.request && is_settled o.acknowledged a.request)
+
+-- the requests that a collect tells, in the order in which they were entered, which is that of their numbers
+abbrev pub due : ℕ → OutputHistory → List Entered
+due id o = map (λ a. a.request) (filter (is_due id o) o.requests)
+
+abbrev pub collect_open : ℕ → SourceHistory → OutputHistory → Answer
+collect_open id s o = if s.shut then answer.Refused Closed else answer.Told (numbers_of (due id o)) (acks_of (due id o))
+
+abbrev pub collect_answer : ℕ → Option SourceHistory → Option Lane → Answer
+collect_answer id None l = answer.Refused NoSuch
+collect_answer id (Some s) None = answer.Refused NoSuch
+collect_answer id (Some s) (Some l) = collect_open id s l.output
+
+abbrev pub appends : SourceHistory → List ℕ → SourceHistory
+appends s bytes = record { heard = s.heard; admitted = s.admitted; appended = s.appended ++ bytes; shut = s.shut }
+
+abbrev pub told_if : Bool → Admission → Admission
+told_if b a = record { request = a.request; told = a.told || b }
+
+unfoldable pub has_told : ℕ → OutputHistory → OutputHistory
+has_told id o = record {
+  cells = o.cells;
+  opened = o.opened;
+  acknowledged = o.acknowledged;
+  carried = o.carried;
+  requests = map (λ a. told_if (is_due id o a) a) o.requests;
+  moment = o.moment;
+}
+
+abbrev pub collect_next : ℕ → Option SourceHistory → ℕ → Option Lane → History → History
+collect_next id None o l h = h
+collect_next id (Some s) o None h = h
+collect_next id (Some s) o (Some l) h =
+    if s.shut then h
+    else with_lane o (with_output l (has_told id l.output)) (with_connection id (appends s (acks_of (due id l.output))) h)
 
 -- ---- step
 
@@ -224,6 +410,10 @@ answer_to h (event.Flush o now kind) = flush_answer (slice_get h.lanes o) now ki
 answer_to h (event.Up o w server salt now) = up_answer server (session_at w (slice_get h.lanes o)) (slice_get h.lanes o)
 answer_to h (event.Take o w now) = take_answer w (session_at w (slice_get h.lanes o)) (slice_get h.lanes o)
 answer_to h (event.Load o w now) = load_answer w (session_at w (slice_get h.lanes o)) (slice_get h.lanes o) h.run o
+answer_to h (event.Wrote o w count) = wrote_answer (session_at w (slice_get h.lanes o)) count
+answer_to h (event.Heard o w bytes) = heard_answer (session_at w (slice_get h.lanes o)) h.run o bytes
+answer_to h (event.Settle o w) = settle_answer (session_at w (slice_get h.lanes o)) (slice_get h.lanes o)
+answer_to h (event.Collect id o) = collect_answer id (source_at id h.connections) (slice_get h.lanes o)
 
 abbrev pub next : History → Event → History
 next h (event.Accept id nonce auth) = if is_fresh id h.connections then accepted id h else h
@@ -234,6 +424,10 @@ next h (event.Up o w server salt now) =
     up_next o w server now (session_at w (slice_get h.lanes o)) (slice_get h.lanes o) h
 next h (event.Take o w now) = take_next o w (session_at w (slice_get h.lanes o)) (slice_get h.lanes o) now h
 next h (event.Load o w now) = load_next o w (session_at w (slice_get h.lanes o)) (slice_get h.lanes o) now h
+next h (event.Wrote o w count) = wrote_next o w (session_at w (slice_get h.lanes o)) (slice_get h.lanes o) count h
+next h (event.Heard o w bytes) = heard_next o w (session_at w (slice_get h.lanes o)) (slice_get h.lanes o) bytes h
+next h (event.Settle o w) = settle_next o w (session_at w (slice_get h.lanes o)) (slice_get h.lanes o) h
+next h (event.Collect id o) = collect_next id (source_at id h.connections) o (slice_get h.lanes o) h
 
 -- ---- run
 

@@ -1,5 +1,5 @@
-use crate::fault::{Refusal, SourceFault};
-use fwd_msgpack::Bytes;
+use crate::fault::{Refusal, SessionFault, SourceFault};
+use fwd_msgpack::{Bytes, Seq};
 
 /// What the relay answers to an event. `out` is what the event appended to the bytes that wait to be sent.
 #[derive(Debug, Drop)]
@@ -41,6 +41,25 @@ pub enum Answer {
     TookNothing,
     /// The chunk's frame, which now waits to be sent.
     Frame {
+        out: Bytes,
+    },
+    /// What was heard from the server asks for nothing.
+    Quiet {
+        out: Bytes,
+    },
+    /// The server acknowledged the session's chunk.
+    Acked {
+        out: Bytes,
+    },
+    /// A fault put the session down.
+    SessionFaulted(SessionFault),
+    /// The chunk, of so many entries, is settled.
+    Settled {
+        entries: usize,
+    },
+    /// The connection's requests of these numbers are told that all their entries were acknowledged.
+    Told {
+        requests: Seq<u64>,
         out: Bytes,
     },
     /// The event changed nothing.

@@ -33,3 +33,22 @@ pub struct Chunk {
     pub tag: Bytes,
     pub entries: Seq<Bytes>,
 }
+
+/// A run of a request's entries in one chunk: `count` of them, the first of which is the chunk's entry at place
+/// `from`, counted from 0.
+#[derive(Clone, Copy, Debug, PartialEq, Eq)]
+pub struct Span {
+    pub number: u64,
+    pub from: u64,
+    pub count: u64,
+}
+
+/// A request that an output entered: where its entries went, and what its acknowledgement is to carry.
+#[derive(Debug, Drop)]
+pub struct Entered {
+    pub origin: Origin,
+    /// The runs of its entries, in their order.
+    pub spans: Seq<Span>,
+    /// The bytes of the option's `chunk` value, if there is one.
+    pub chunk: Option<Bytes>,
+}

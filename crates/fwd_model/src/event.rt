@@ -55,4 +55,26 @@ pub enum Event {
         worker: u16,
         now: u64,
     },
+    /// A session's link took so many of the bytes that wait to be sent.
+    Wrote {
+        output: u16,
+        worker: u16,
+        count: u64,
+    },
+    /// Bytes are read from a session's link.
+    Heard {
+        output: u16,
+        worker: u16,
+        bytes: Bytes,
+    },
+    /// A worker's acknowledged chunk leaves its output.
+    Settle {
+        output: u16,
+        worker: u16,
+    },
+    /// A connection's requests whose entries are all acknowledged are told so.
+    Collect {
+        conn: u64,
+        output: u16,
+    },
 }

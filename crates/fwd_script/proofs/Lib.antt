@@ -4,5 +4,7 @@ pub mod Spelling
 pub mod ScriptLemmas
 pub mod ReplayLemmas
 pub mod EventText
+pub mod ListText
 pub mod FirstBad
 pub mod History
+pub mod Examples

@@ -11,11 +11,11 @@ use Rattle.std.proofs.lemmas.Str.Parse.{digit_from_value}
 use Rattle.std.proofs.lemmas.List.Splits.{join_with_byte-slice_split}
 use Rattle.hex.specs.Hex.{IsBytes, encode_lower, encode_with}
 use Rattle.fwd_model.specs.declared.event.Event.{Event}
-use Rattle.fwd_model.specs.declared.event.Event.TheVariants.{Accept, Piece, Admit, Flush, Up, Take, Load}
+use Rattle.fwd_model.specs.declared.event.Event.TheVariants.{Accept, Piece, Admit, Flush, Up, Take, Load, Wrote, Heard, Settle, Collect}
 use Rattle.fwd_model.specs.declared.event.FlushKind.{FlushKind}
 use Rattle.fwd_model.specs.declared.event.FlushKind.TheVariants.{Due, All}
 use Rattle.fwd_script.specs.Words.{words, hex_text, number_of, bytes_of, sixteen_of}
-use Rattle.fwd_script.specs.Lines.{kind_text, words_of, line_of, InRange, accept_of, piece_of, admit_of, kind_of, flush_of, session_of, up_of, take_of, load_of, named, of_words, event_of}
+use Rattle.fwd_script.specs.Lines.{kind_text, words_of, line_of, InRange, accept_of, piece_of, admit_of, kind_of, flush_of, session_of, up_of, take_of, load_of, wrote_of, heard_of, settle_of, collect_of, named, of_words, event_of}
 use Rattle.fwd_script.proofs.WordLemmas.{bytes_eq-true, number_of-some, number_of-decimal}
 use Rattle.fwd_script.proofs.HexText.{chosen, then_some, or_false, no_space, bytes_of-some, bytes_of-hex_text, sixteen_of-some, sixteen_of-encode_lower}
 
@@ -191,6 +191,50 @@ load_of-some (output ∷ worker ∷ now ∷ []) e h =
     rw (← some_is (Load o.0 w.0 t.0) e t.2) ((os.0, ws.0, ts.0), same_words-3 _ os.1 ws.1 ts.1)
 load_of-some _ e h = absurd cc
 
+wrote_of-some : (ws : List (List ℕ)) (e : Event) → wrote_of ws ≡ Some e → InRange e × (codes "wrote" ∷ ws ≡ words_of e)
+unfolding wrote_of
+wrote_of-some (output ∷ worker ∷ count ∷ []) e h =
+    let o = then_some (number_of (2 ^ 16) output) _ e h in
+    let w = then_some (number_of (2 ^ 16) worker) _ e o.2 in
+    let n = then_some (number_of (2 ^ 64) count) _ e w.2 in
+    let os = number_of-some (2 ^ 16) output o.0 o.1 in
+    let ws = number_of-some (2 ^ 16) worker w.0 w.1 in
+    let ns = number_of-some (2 ^ 64) count n.0 n.1 in
+    rw (← some_is (Wrote o.0 w.0 n.0) e n.2) ((os.0, ws.0, ns.0), same_words-3 _ os.1 ws.1 ns.1)
+wrote_of-some _ e h = absurd cc
+
+heard_of-some : (ws : List (List ℕ)) (e : Event) → heard_of ws ≡ Some e → InRange e × (codes "heard" ∷ ws ≡ words_of e)
+unfolding heard_of
+heard_of-some (output ∷ worker ∷ bytes ∷ []) e h =
+    let o = then_some (number_of (2 ^ 16) output) _ e h in
+    let w = then_some (number_of (2 ^ 16) worker) _ e o.2 in
+    let b = then_some (bytes_of bytes) _ e w.2 in
+    let os = number_of-some (2 ^ 16) output o.0 o.1 in
+    let ws = number_of-some (2 ^ 16) worker w.0 w.1 in
+    let bs = bytes_of-some bytes b.0 b.1 in
+    rw (← some_is (Heard o.0 w.0 b.0) e b.2) ((os.0, ws.0, bs.0), same_words-3 _ os.1 ws.1 bs.1)
+heard_of-some _ e h = absurd cc
+
+settle_of-some : (ws : List (List ℕ)) (e : Event) → settle_of ws ≡ Some e → InRange e × (codes "settle" ∷ ws ≡ words_of e)
+unfolding settle_of
+settle_of-some (output ∷ worker ∷ []) e h =
+    let o = then_some (number_of (2 ^ 16) output) _ e h in
+    let w = then_some (number_of (2 ^ 16) worker) _ e o.2 in
+    let os = number_of-some (2 ^ 16) output o.0 o.1 in
+    let ws = number_of-some (2 ^ 16) worker w.0 w.1 in
+    rw (← some_is (Settle o.0 w.0) e w.2) ((os.0, ws.0), same_words-2 _ os.1 ws.1)
+settle_of-some _ e h = absurd cc
+
+collect_of-some : (ws : List (List ℕ)) (e : Event) → collect_of ws ≡ Some e → InRange e × (codes "collect" ∷ ws ≡ words_of e)
+unfolding collect_of
+collect_of-some (conn ∷ output ∷ []) e h =
+    let c = then_some (number_of (2 ^ 64) conn) _ e h in
+    let o = then_some (number_of (2 ^ 16) output) _ e c.2 in
+    let cs = number_of-some (2 ^ 64) conn c.0 c.1 in
+    let os = number_of-some (2 ^ 16) output o.0 o.1 in
+    rw (← some_is (Collect c.0 o.0) e o.2) ((cs.0, os.0), same_words-2 _ cs.1 os.1)
+collect_of-some _ e h = absurd cc
+
 -- a test of the name that passed, or failed: what is read is the event's words
 if_named : (name text : List ℕ) (read other : Option Event) (ws : List (List ℕ)) (e : Event)
     → (read ≡ Some e → InRange e × (text ∷ ws ≡ words_of e))
@@ -211,7 +255,11 @@ named-some name ws e =
     if_named name (codes "flush") (flush_of ws) _ ws e (flush_of-some ws e) (
     if_named name (codes "up") (up_of ws) _ ws e (up_of-some ws e) (
     if_named name (codes "take") (take_of ws) _ ws e (take_of-some ws e) (
-    if_named name (codes "load") (load_of ws) None ws e (load_of-some ws e) (λ none. absurd cc)))))))
+    if_named name (codes "load") (load_of ws) _ ws e (load_of-some ws e) (
+    if_named name (codes "wrote") (wrote_of ws) _ ws e (wrote_of-some ws e) (
+    if_named name (codes "heard") (heard_of ws) _ ws e (heard_of-some ws e) (
+    if_named name (codes "settle") (settle_of ws) _ ws e (settle_of-some ws e) (
+    if_named name (codes "collect") (collect_of ws) None ws e (collect_of-some ws e) (λ none. absurd cc)))))))))))
 
 of_words-some : (ws : List (List ℕ)) (e : Event) → of_words ws ≡ Some e → InRange e × (ws ≡ words_of e)
 unfolding of_words
@@ -226,7 +274,7 @@ kind_of-kind_text Due = refl
 kind_of-kind_text All = refl
 
 of_words-words_of : (e : Event) → InRange e → of_words (words_of e) ≡ Some e
-unfolding of_words named accept_of piece_of admit_of flush_of session_of up_of take_of load_of
+unfolding of_words named accept_of piece_of admit_of flush_of session_of up_of take_of load_of wrote_of heard_of settle_of collect_of
 of_words-words_of (Accept conn nonce auth) r = rw (number_of-decimal (2 ^ 64) conn r.0 r.0, sixteen_of-encode_lower nonce r.1 r.2, sixteen_of-encode_lower auth r.3 r.4) refl
 of_words-words_of (Piece conn bytes) r = rw (number_of-decimal (2 ^ 64) conn r.0 r.0, bytes_of-hex_text bytes r.1) refl
 of_words-words_of (Admit conn output now) r = rw (number_of-decimal (2 ^ 64) conn r.0 r.0, number_of-decimal (2 ^ 16) output r.1 (omega arith), number_of-decimal (2 ^ 64) now r.2 r.2) refl
@@ -234,6 +282,10 @@ of_words-words_of (Flush output now kind) r = rw (number_of-decimal (2 ^ 16) out
 of_words-words_of (Up output worker server salt now) r = rw (number_of-decimal (2 ^ 16) output r.0 (omega arith), number_of-decimal (2 ^ 16) worker r.1 (omega arith), number_of-decimal (2 ^ 16) server r.2 (omega arith), number_of-decimal (2 ^ 64) now r.4 r.4, bytes_of-hex_text salt r.3) refl
 of_words-words_of (Take output worker now) r = rw (number_of-decimal (2 ^ 16) output r.0 (omega arith), number_of-decimal (2 ^ 16) worker r.1 (omega arith), number_of-decimal (2 ^ 64) now r.2 r.2) refl
 of_words-words_of (Load output worker now) r = rw (number_of-decimal (2 ^ 16) output r.0 (omega arith), number_of-decimal (2 ^ 16) worker r.1 (omega arith), number_of-decimal (2 ^ 64) now r.2 r.2) refl
+of_words-words_of (Wrote output worker count) r = rw (number_of-decimal (2 ^ 16) output r.0 (omega arith), number_of-decimal (2 ^ 16) worker r.1 (omega arith), number_of-decimal (2 ^ 64) count r.2 r.2) refl
+of_words-words_of (Heard output worker bytes) r = rw (number_of-decimal (2 ^ 16) output r.0 (omega arith), number_of-decimal (2 ^ 16) worker r.1 (omega arith), bytes_of-hex_text bytes r.2) refl
+of_words-words_of (Settle output worker) r = rw (number_of-decimal (2 ^ 16) output r.0 (omega arith), number_of-decimal (2 ^ 16) worker r.1 (omega arith)) refl
+of_words-words_of (Collect conn output) r = rw (number_of-decimal (2 ^ 64) conn r.0 r.0, number_of-decimal (2 ^ 16) output r.1 (omega arith)) refl
 
 Lacks-small : (n : ℕ) → n < 2 ^ 16 → Lacks (decimal n)
 Lacks-small n lt = Lacks-decimal n (omega arith)
@@ -250,6 +302,10 @@ words-line_of (Flush output now kind) r = words-join _ _ (refl, (Lacks-small out
 words-line_of (Up output worker server salt now) r = words-join _ _ (refl, (Lacks-small output r.0, (Lacks-small worker r.1, (Lacks-small server r.2, (Lacks-hex_text salt r.3, (Lacks-decimal now r.4, tt))))))
 words-line_of (Take output worker now) r = words-join _ _ (refl, (Lacks-small output r.0, (Lacks-small worker r.1, (Lacks-decimal now r.2, tt))))
 words-line_of (Load output worker now) r = words-join _ _ (refl, (Lacks-small output r.0, (Lacks-small worker r.1, (Lacks-decimal now r.2, tt))))
+words-line_of (Wrote output worker count) r = words-join _ _ (refl, (Lacks-small output r.0, (Lacks-small worker r.1, (Lacks-decimal count r.2, tt))))
+words-line_of (Heard output worker bytes) r = words-join _ _ (refl, (Lacks-small output r.0, (Lacks-small worker r.1, (Lacks-hex_text bytes r.2, tt))))
+words-line_of (Settle output worker) r = words-join _ _ (refl, (Lacks-small output r.0, (Lacks-small worker r.1, tt)))
+words-line_of (Collect conn output) r = words-join _ _ (refl, (Lacks-decimal conn r.0, (Lacks-small output r.1, tt)))
 
 pub event_of-some : (line : List ℕ) (e : Event) → (event_of line ≡ Some e) ↔ (InRange e × (line ≡ line_of e))
 event_of-some line e = (

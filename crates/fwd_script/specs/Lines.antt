@@ -5,7 +5,7 @@ use Rattle.std.specs.Str.{bytes_eq}
 use Rattle.std.specs.Fmt.{decimal}
 use Rattle.hex.specs.Hex.{encode_lower, IsBytes}
 use Rattle.fwd_model.specs.declared.event.Event.{Event}
-use Rattle.fwd_model.specs.declared.event.Event.TheVariants.{Accept, Piece, Admit, Flush, Up, Take, Load}
+use Rattle.fwd_model.specs.declared.event.Event.TheVariants.{Accept, Piece, Admit, Flush, Up, Take, Load, Wrote, Heard, Settle, Collect}
 use Rattle.fwd_model.specs.declared.event.FlushKind.{FlushKind}
 use Rattle.fwd_model.specs.declared.event.FlushKind.TheVariants.{Due, All}
 use Rattle.fwd_script.specs.Words.{◌>>=◌, words, hex_text, number_of, bytes_of, sixteen_of}
@@ -24,12 +24,16 @@ words_of (Flush output now kind) = codes "flush" ∷ decimal output ∷ decimal 
 words_of (Up output worker server salt now) = codes "up" ∷ decimal output ∷ decimal worker ∷ decimal server ∷ hex_text salt ∷ decimal now ∷ []
 words_of (Take output worker now) = codes "take" ∷ decimal output ∷ decimal worker ∷ decimal now ∷ []
 words_of (Load output worker now) = codes "load" ∷ decimal output ∷ decimal worker ∷ decimal now ∷ []
+words_of (Wrote output worker count) = codes "wrote" ∷ decimal output ∷ decimal worker ∷ decimal count ∷ []
+words_of (Heard output worker bytes) = codes "heard" ∷ decimal output ∷ decimal worker ∷ hex_text bytes ∷ []
+words_of (Settle output worker) = codes "settle" ∷ decimal output ∷ decimal worker ∷ []
+words_of (Collect conn output) = codes "collect" ∷ decimal conn ∷ decimal output ∷ []
 
 -- the line of an event: its words, with one space between each two
 abbrev pub line_of : Event → List ℕ
 line_of event = join_with_byte 32 (words_of event)
 
--- connections and moments have 64 bits; outputs, workers and servers 16; a nonce and an auth salt have 16 bytes
+-- connections, moments and counts of bytes have 64 bits; outputs, workers and servers 16; a nonce and an auth salt have 16 bytes
 abbrev pub InRange : Event → Type 0
 InRange (Accept conn nonce auth) = (conn < 2 ^ 64) × IsBytes nonce × (length nonce ≡ 16) × IsBytes auth × (length auth ≡ 16)
 InRange (Piece conn bytes) = (conn < 2 ^ 64) × IsBytes bytes
@@ -38,6 +42,10 @@ InRange (Flush output now kind) = (output < 2 ^ 16) × (now < 2 ^ 64)
 InRange (Up output worker server salt now) = (output < 2 ^ 16) × (worker < 2 ^ 16) × (server < 2 ^ 16) × IsBytes salt × (now < 2 ^ 64)
 InRange (Take output worker now) = (output < 2 ^ 16) × (worker < 2 ^ 16) × (now < 2 ^ 64)
 InRange (Load output worker now) = (output < 2 ^ 16) × (worker < 2 ^ 16) × (now < 2 ^ 64)
+InRange (Wrote output worker count) = (output < 2 ^ 16) × (worker < 2 ^ 16) × (count < 2 ^ 64)
+InRange (Heard output worker bytes) = (output < 2 ^ 16) × (worker < 2 ^ 16) × IsBytes bytes
+InRange (Settle output worker) = (output < 2 ^ 16) × (worker < 2 ^ 16)
+InRange (Collect conn output) = (conn < 2 ^ 64) × (output < 2 ^ 16)
 
 -- ---- the event that a line spells, by its words
 
@@ -109,6 +117,36 @@ load_of (output ∷ worker ∷ now ∷ []) = do
   Some (Load o w t)
 load_of _ = None
 
+unfoldable pub wrote_of : List (List ℕ) → Option Event
+wrote_of (output ∷ worker ∷ count ∷ []) = do
+  o ← number_of (2 ^ 16) output
+  w ← number_of (2 ^ 16) worker
+  n ← number_of (2 ^ 64) count
+  Some (Wrote o w n)
+wrote_of _ = None
+
+unfoldable pub heard_of : List (List ℕ) → Option Event
+heard_of (output ∷ worker ∷ bytes ∷ []) = do
+  o ← number_of (2 ^ 16) output
+  w ← number_of (2 ^ 16) worker
+  b ← bytes_of bytes
+  Some (Heard o w b)
+heard_of _ = None
+
+unfoldable pub settle_of : List (List ℕ) → Option Event
+settle_of (output ∷ worker ∷ []) = do
+  o ← number_of (2 ^ 16) output
+  w ← number_of (2 ^ 16) worker
+  Some (Settle o w)
+settle_of _ = None
+
+unfoldable pub collect_of : List (List ℕ) → Option Event
+collect_of (conn ∷ output ∷ []) = do
+  c ← number_of (2 ^ 64) conn
+  o ← number_of (2 ^ 16) output
+  Some (Collect c o)
+collect_of _ = None
+
 -- the event of a name and the words after it
 unfoldable pub named : List ℕ → List (List ℕ) → Option Event
 named name rest =
@@ -119,6 +157,10 @@ named name rest =
     else if bytes_eq name (codes "up") then up_of rest
     else if bytes_eq name (codes "take") then take_of rest
     else if bytes_eq name (codes "load") then load_of rest
+    else if bytes_eq name (codes "wrote") then wrote_of rest
+    else if bytes_eq name (codes "heard") then heard_of rest
+    else if bytes_eq name (codes "settle") then settle_of rest
+    else if bytes_eq name (codes "collect") then collect_of rest
     else None
 
 unfoldable pub of_words : List (List ℕ) → Option Event

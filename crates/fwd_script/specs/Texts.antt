@@ -1,5 +1,5 @@
 -- The line of each answer, without its line feed.
-use Rattle.std.specs.Prelude.{ℕ, List, [], ◌∷◌, codes}
+use Rattle.std.specs.Prelude.{ℕ, List, [], ◌∷◌, map, codes}
 use Rattle.std.specs.List.{join_with_byte}
 use Rattle.std.specs.Fmt.{decimal}
 use Rattle.fwd_msgpack.specs.declared.fault.ScanFault.{ScanFault}
@@ -8,10 +8,12 @@ use Rattle.fwd_modes.specs.declared.fault.InputFault.{InputFault}
 use Rattle.fwd_modes.specs.declared.fault.InputFault.TheVariants.{BadShape, BadTag, BadEntry, BadOption, Compressed}
 use Rattle.fwd_model.specs.declared.fault.SourceFault.{SourceFault}
 use Rattle.fwd_model.specs.declared.fault.SourceFault.TheVariants.{Scan, Input, Closed as SourceClosed}
+use Rattle.fwd_model.specs.declared.fault.SessionFault.{SessionFault}
+use Rattle.fwd_model.specs.declared.fault.SessionFault.TheVariants.{BadReply, WrongAck, EarlyAck}
 use Rattle.fwd_model.specs.declared.fault.Refusal.{Refusal}
 use Rattle.fwd_model.specs.declared.fault.Refusal.TheVariants as refusal
 use Rattle.fwd_model.specs.declared.answer.Answer.{Answer}
-use Rattle.fwd_model.specs.declared.answer.Answer.TheVariants.{Accepted, Requests, Faulted, Admitted, NumbersSpent, Closed, Done, Took, TookNothing, Frame, Refused, Memory}
+use Rattle.fwd_model.specs.declared.answer.Answer.TheVariants.{Accepted, Requests, Faulted, Admitted, NumbersSpent, Closed, Done, Took, TookNothing, Frame, Quiet, Acked, SessionFaulted, Settled, Told, Refused, Memory}
 use Rattle.fwd_script.specs.Words.{hex_text}
 
 abbrev pub scan_name : ScanFault → List ℕ
@@ -31,20 +33,43 @@ source_name (Scan fault) = scan_name fault
 source_name (Input fault) = input_name fault
 source_name SourceClosed = codes "Closed"
 
+abbrev pub session_name : SessionFault → List ℕ
+session_name BadReply = codes "BadReply"
+session_name WrongAck = codes "WrongAck"
+session_name EarlyAck = codes "EarlyAck"
+
 abbrev pub refusal_name : Refusal → List ℕ
+refusal_name refusal.NotUp = codes "NotUp"
 refusal_name refusal.Closed = codes "Closed"
 refusal_name refusal.NoSuch = codes "NoSuch"
 refusal_name refusal.NotNow = codes "NotNow"
+
+-- a word, and the bytes that an event appended to what waits to be sent
+abbrev pub out_words : List ℕ → List ℕ → List (List ℕ)
+out_words word out = word ∷ codes "out" ∷ hex_text out ∷ []
 
 -- how many requests wait, and the bytes that an event appended to what waits to be sent
 abbrev pub requests_words : ℕ → List ℕ → List (List ℕ)
 requests_words waiting out = codes "requests" ∷ decimal waiting ∷ codes "out" ∷ hex_text out ∷ []
 
+-- a fault that closed a connection, and the requests before it
+abbrev pub faulted_words : SourceFault → ℕ → List ℕ → List (List ℕ)
+faulted_words fault waiting out = codes "fault" ∷ source_name fault ∷ requests_words waiting out
+
+-- numbers in decimal with one comma between each two, or `-` for none
+abbrev pub list_text : List ℕ → List ℕ
+list_text [] = codes "-"
+list_text (n ∷ ns) = join_with_byte 44 (map decimal (n ∷ ns))
+
+-- which requests are told, and the bytes that an event appended to what waits to be sent
+abbrev pub told_words : List ℕ → List ℕ → List (List ℕ)
+told_words requests out = codes "told" ∷ list_text requests ∷ codes "out" ∷ hex_text out ∷ []
+
 -- the words of an answer
 abbrev pub answer_words : Answer → List (List ℕ)
-answer_words (Accepted out) = codes "accepted" ∷ codes "out" ∷ hex_text out ∷ []
+answer_words (Accepted out) = out_words (codes "accepted") out
 answer_words (Requests waiting out) = requests_words waiting out
-answer_words (Faulted fault waiting out) = codes "fault" ∷ source_name fault ∷ requests_words waiting out
+answer_words (Faulted fault waiting out) = faulted_words fault waiting out
 answer_words (Admitted request entries) = codes "admitted" ∷ decimal request ∷ codes "entries" ∷ decimal entries ∷ []
 answer_words NumbersSpent = codes "fault" ∷ codes "NumbersSpent" ∷ []
 answer_words (Closed chunks) = codes "closed" ∷ decimal chunks ∷ []
@@ -52,6 +77,11 @@ answer_words Done = codes "done" ∷ []
 answer_words (Took number entries) = codes "took" ∷ decimal number ∷ codes "entries" ∷ decimal entries ∷ []
 answer_words TookNothing = codes "took" ∷ codes "-" ∷ []
 answer_words (Frame out) = codes "frame" ∷ hex_text out ∷ []
+answer_words (Quiet out) = out_words (codes "quiet") out
+answer_words (Acked out) = out_words (codes "acked") out
+answer_words (SessionFaulted fault) = codes "fault" ∷ session_name fault ∷ []
+answer_words (Settled entries) = codes "settled" ∷ decimal entries ∷ []
+answer_words (Told requests out) = told_words requests out
 answer_words (Refused refused) = codes "refused" ∷ refusal_name refused ∷ []
 answer_words Memory = codes "memory" ∷ []
 

@@ -1,6 +1,6 @@
 ghost use Rattle.std.specs.Prelude.{◌≡◌, ◌↔◌, ℕ, List, map, IfOk, Some};
 ghost use Rattle.std.specs.Str.{IsUtf8};
-ghost use Rattle.fwd_script.specs.Lines.{accept_of, piece_of, admit_of, kind_of, flush_of, session_of, up_of, take_of, load_of, named, event_of, InRange, line_of};
+ghost use Rattle.fwd_script.specs.Lines.{accept_of, piece_of, admit_of, kind_of, flush_of, session_of, up_of, take_of, load_of, wrote_of, heard_of, settle_of, collect_of, named, event_of, InRange, line_of};
 ghost use Rattle.fwd_model.specs.declared.event.Event.{Event};
 
 use crate::word::{bytes, number, sixteen, small_number, split_words};
@@ -49,6 +49,14 @@ fn event_named(alloc: Global, name: &[u8], rest: &[&[u8]]) -> Result<Option<Even
         Ok(take(rest))
     } else if name == b"load".as_slice() {
         Ok(load(rest))
+    } else if name == b"wrote".as_slice() {
+        Ok(wrote(rest))
+    } else if name == b"heard".as_slice() {
+        heard(alloc, rest)
+    } else if name == b"settle".as_slice() {
+        Ok(settle(rest))
+    } else if name == b"collect".as_slice() {
+        Ok(collect(rest))
     } else {
         Ok(None)
     }
@@ -181,5 +189,66 @@ fn load(words: &[&[u8]]) -> Option<Event>
         output: small_number(output)?,
         worker: small_number(worker)?,
         now: number(now)?,
+    })
+}
+
+#[tactic(auto, unfolding(crate::specs::Lines::wrote_of))]
+fn wrote(words: &[&[u8]]) -> Option<Event>
+    ensures { result ≡ wrote_of (map (λ w. w.now) words.now) }
+{
+    let [output, worker, count] = words else {
+        return None;
+    };
+    Some(Event::Wrote {
+        output: small_number(output)?,
+        worker: small_number(worker)?,
+        count: number(count)?,
+    })
+}
+
+#[tactic(auto, unfolding(crate::specs::Lines::heard_of))]
+fn heard(alloc: Global, words: &[&[u8]]) -> Result<Option<Event>, AllocError>
+    ensures { IfOk result (λ e. e ≡ heard_of (map (λ w. w.now) words.now)) }
+{
+    let [output, worker, piece] = words else {
+        return Ok(None);
+    };
+    let Some(output) = small_number(output) else {
+        return Ok(None);
+    };
+    let Some(worker) = small_number(worker) else {
+        return Ok(None);
+    };
+    let bytes = bytes(alloc, piece)?;
+    Ok(bytes.map(|bytes| Event::Heard {
+        output,
+        worker,
+        bytes,
+    }))
+}
+
+#[tactic(auto, unfolding(crate::specs::Lines::settle_of))]
+fn settle(words: &[&[u8]]) -> Option<Event>
+    ensures { result ≡ settle_of (map (λ w. w.now) words.now) }
+{
+    let [output, worker] = words else {
+        return None;
+    };
+    Some(Event::Settle {
+        output: small_number(output)?,
+        worker: small_number(worker)?,
+    })
+}
+
+#[tactic(auto, unfolding(crate::specs::Lines::collect_of))]
+fn collect(words: &[&[u8]]) -> Option<Event>
+    ensures { result ≡ collect_of (map (λ w. w.now) words.now) }
+{
+    let [conn, output] = words else {
+        return None;
+    };
+    Some(Event::Collect {
+        conn: number(conn)?,
+        output: small_number(output)?,
     })
 }

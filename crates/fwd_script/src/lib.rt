@@ -16,7 +16,7 @@ pub use run::replay;
 pub use script::{Script, next_line, split_script};
 pub use status::{SettingsFault, Status};
 pub use stepping::{Step, answer_lines, bad_line_is_first, replay_with};
-pub use text::{print_answer, refusal_name, source_fault_name};
+pub use text::{print_answer, refusal_name, session_fault_name, source_fault_name};
 
 #[cfg(test)]
 mod tests;

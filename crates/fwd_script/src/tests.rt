@@ -3,9 +3,9 @@ ghost use Rattle.fwd_model.specs.declared.event.Event.{Event};
 ghost use Rattle.fwd_model.specs.declared.answer.Answer.TheVariants.{Closed};
 
 use crate::{SettingsFault, Status, Step, print_answer, read_event, replay_with};
-use fwd_model::{Answer, Event, FlushKind, Refusal, SourceFault};
+use fwd_model::{Answer, Event, FlushKind, Refusal, SessionFault, SourceFault};
 use fwd_modes::InputFault;
-use fwd_msgpack::{Bytes, ScanFault};
+use fwd_msgpack::{Bytes, ScanFault, Seq};
 use std::alloc::{AllocError, Global};
 use std::io;
 use std::io::{ErrorKind, Read, Write};
@@ -118,6 +118,66 @@ fn reads_output_events(rt: HostRuntime) -> Result<(), Fail> {
 }
 
 #[test]
+fn reads_events_of_the_way_back(rt: HostRuntime) -> Result<(), Fail> {
+    let alloc = rt.alloc();
+    let wrote = read_event(alloc, b"wrote 1 2 18446744073709551615")?;
+    assert!(rt;
+        matches!(
+            &wrote,
+            Some(Event::Wrote {
+                output: 1,
+                worker: 2,
+                count: u64::MAX
+            })
+        )
+    );
+    let Some(
+        Event::Heard {
+            output,
+            worker,
+            bytes,
+        },
+    ) = read_event(alloc, b"heard 1 2 81a361636b")?
+    else {
+        return Err(Fail::from("heard"));
+    };
+    assert_eq!(rt; (output, worker), (1, 2));
+    assert_eq!(rt; bytes.as_slice(), b"\x81\xa3ack".as_slice());
+    let nothing = read_event(alloc, b"heard 1 2 -")?;
+    assert!(rt;
+        matches!(
+            &nothing,
+            Some(Event::Heard {
+                output: 1,
+                worker: 2,
+                bytes
+            }) if bytes.is_empty()
+        )
+    );
+    let settle = read_event(alloc, b"settle 1 65535")?;
+    assert!(rt;
+        matches!(
+            &settle,
+            Some(Event::Settle {
+                output: 1,
+                worker: u16::MAX
+            })
+        )
+    );
+    let collect = read_event(alloc, b"collect 18446744073709551615 2")?;
+    assert!(rt;
+        matches!(
+            &collect,
+            Some(Event::Collect {
+                conn: u64::MAX,
+                output: 2
+            })
+        )
+    );
+    Ok(())
+}
+
+#[test]
 fn refuses_other_forms(rt: HostRuntime) -> Result<(), Fail> {
     let lines = [
         "",
@@ -144,7 +204,20 @@ fn refuses_other_forms(rt: HostRuntime) -> Result<(), Fail> {
         "flush 0 0 Due",
         "flush 0 0 some",
         "accept 1 00 00",
-        "wrote 0 0 1",
+        "wrote 0 0",
+        "wrote 0 0 18446744073709551616",
+        "wrote 65536 0 1",
+        "heard 0 0",
+        "heard 0 0 81A3",
+        "heard 0 0 8",
+        "heard 0 65536 -",
+        "settle 0",
+        "settle 0 0 0",
+        "settle 65536 0",
+        "collect 0 65536",
+        "collect 18446744073709551616 0",
+        "collect 1 0 0",
+        "forget 1 0",
     ];
     for line in lines {
         let event = read_event(rt.alloc(), line.as_bytes())?;
@@ -210,6 +283,60 @@ fn prints_answers(rt: HostRuntime) -> Result<(), Fail> {
         (Answer::Refused(Refusal::Closed), "refused Closed"),
         (Answer::Refused(Refusal::NoSuch), "refused NoSuch"),
         (Answer::Memory, "memory"),
+    ];
+    for (answer, want) in &table {
+        let text = print_answer(alloc, answer)?;
+        assert_eq!(rt; text.as_str(), *want);
+    }
+    Ok(())
+}
+
+#[test]
+fn prints_answers_of_the_way_back(rt: HostRuntime) -> Result<(), Fail> {
+    let alloc = rt.alloc();
+    let none = || Bytes::new(alloc);
+    let heard = bytes(alloc, b"\x81\xa3ack\xa1x")?;
+    let ack = bytes(alloc, b"\x81\xa3ack\xa1x")?;
+    let one = Seq::from_slice(alloc, &[1])?;
+    let three = Seq::from_slice(alloc, &[1, 20, u64::MAX])?;
+    let table = [
+        (Answer::Quiet { out: heard }, "quiet out 81a361636ba178"),
+        (Answer::Acked { out: none() }, "acked out -"),
+        (
+            Answer::SessionFaulted(SessionFault::BadReply),
+            "fault BadReply",
+        ),
+        (
+            Answer::SessionFaulted(SessionFault::WrongAck),
+            "fault WrongAck",
+        ),
+        (
+            Answer::SessionFaulted(SessionFault::EarlyAck),
+            "fault EarlyAck",
+        ),
+        (Answer::Settled { entries: 12 }, "settled 12"),
+        (
+            Answer::Told {
+                requests: Seq::new(alloc),
+                out: none(),
+            },
+            "told - out -",
+        ),
+        (
+            Answer::Told {
+                requests: one,
+                out: ack,
+            },
+            "told 1 out 81a361636ba178",
+        ),
+        (
+            Answer::Told {
+                requests: three,
+                out: none(),
+            },
+            "told 1,20,18446744073709551615 out -",
+        ),
+        (Answer::Refused(Refusal::NotUp), "refused NotUp"),
     ];
     for (answer, want) in &table {
         let text = print_answer(alloc, answer)?;

@@ -1,10 +1,11 @@
-ghost use Rattle.std.specs.Prelude.{◌≡◌, IfOk};
+ghost use Rattle.std.specs.Prelude.{◌≡◌, ◌∷◌, map, IfOk};
+ghost use Rattle.std.specs.Fmt.{decimal};
 ghost use Rattle.std.specs.List.{join_with_byte};
 ghost use Rattle.std.specs.String.{string_bytes};
 ghost use Rattle.fwd_script.specs.Words.{hex_text};
-ghost use Rattle.fwd_script.specs.Texts.{scan_name, input_name, source_name, refusal_name, requests_words, text_of};
+ghost use Rattle.fwd_script.specs.Texts.{scan_name, input_name, source_name, session_name, refusal_name, out_words, requests_words, faulted_words, list_text, told_words, text_of};
 
-use fwd_model::{Answer, Refusal, SourceFault};
+use fwd_model::{Answer, Refusal, SessionFault, SourceFault};
 use fwd_modes::InputFault;
 use fwd_msgpack::ScanFault;
 use std::alloc::{AllocError, Global};
@@ -14,20 +15,13 @@ pub fn print_answer(alloc: Global, answer: &Answer) -> Result<String, AllocError
     ensures { IfOk result (λ text. string_bytes text ≡ text_of answer.now) }
 {
     match answer {
-        Answer::Accepted { out } => {
-            let out = hex_word(alloc, out.as_slice())?;
-            format!(in alloc; "accepted out {out}")
-        }
+        Answer::Accepted { out } => with_out(alloc, "accepted", out.as_slice()),
         Answer::Requests { waiting, out } => requests(alloc, *waiting, out.as_slice()),
         Answer::Faulted {
             fault,
             waiting,
             out,
-        } => {
-            let name = source_fault_name(*fault);
-            let requests = requests(alloc, *waiting, out.as_slice())?;
-            format!(in alloc; "fault {name} {requests}")
-        }
+        } => faulted(alloc, *fault, *waiting, out.as_slice()),
         Answer::Admitted { request, entries } => {
             format!(in alloc; "admitted {request} entries {entries}")
         }
@@ -40,12 +34,42 @@ pub fn print_answer(alloc: Global, answer: &Answer) -> Result<String, AllocError
             let out = hex_word(alloc, out.as_slice())?;
             format!(in alloc; "frame {out}")
         }
+        Answer::Quiet { out } => with_out(alloc, "quiet", out.as_slice()),
+        Answer::Acked { out } => with_out(alloc, "acked", out.as_slice()),
+        Answer::SessionFaulted(fault) => {
+            let name = session_fault_name(*fault);
+            format!(in alloc; "fault {name}")
+        }
+        Answer::Settled { entries } => format!(in alloc; "settled {entries}"),
+        Answer::Told { requests, out } => told(alloc, requests.as_slice(), out.as_slice()),
         Answer::Refused(refusal) => {
             let name = refusal_name(*refusal);
             format!(in alloc; "refused {name}")
         }
         Answer::Memory => String::from_str(alloc, "memory"),
     }
+}
+
+/// A word, and the bytes that were appended to what waits to be sent.
+fn with_out(alloc: Global, word: &str, out: &[u8]) -> Result<String, AllocError>
+    ensures { IfOk result (λ text. string_bytes text ≡ join_with_byte 32 (out_words word.now out.now)) }
+{
+    let out = hex_word(alloc, out)?;
+    format!(in alloc; "{word} out {out}")
+}
+
+/// A fault that closed a connection, and the requests before it.
+fn faulted(
+    alloc: Global,
+    fault: SourceFault,
+    waiting: usize,
+    out: &[u8],
+) -> Result<String, AllocError>
+    ensures { IfOk result (λ text. string_bytes text ≡ join_with_byte 32 (faulted_words fault waiting out.now)) }
+{
+    let name = source_fault_name(fault);
+    let requests = requests(alloc, waiting, out)?;
+    format!(in alloc; "fault {name} {requests}")
 }
 
 /// How many requests wait, and the bytes that were appended to what waits to be sent.
@@ -56,6 +80,15 @@ fn requests(alloc: Global, waiting: usize, out: &[u8]) -> Result<String, AllocEr
     format!(in alloc; "requests {waiting} out {out}")
 }
 
+/// Which requests are told, and the bytes that were appended to what waits to be sent.
+fn told(alloc: Global, requests: &[u64], out: &[u8]) -> Result<String, AllocError>
+    ensures { IfOk result (λ text. string_bytes text ≡ join_with_byte 32 (told_words requests.now out.now)) }
+{
+    let list = number_list(alloc, requests)?;
+    let out = hex_word(alloc, out)?;
+    format!(in alloc; "told {list} out {out}")
+}
+
 /// The bytes in lower-case hexadecimal digits, or `-` for no bytes.
 fn hex_word(alloc: Global, bytes: &[u8]) -> Result<String, AllocError>
     ensures { IfOk result (λ text. string_bytes text ≡ hex_text bytes.now) }
@@ -64,6 +97,28 @@ fn hex_word(alloc: Global, bytes: &[u8]) -> Result<String, AllocError>
         return String::from_str(alloc, "-");
     }
     hex::encode(alloc, bytes)
+}
+
+/// The numbers in decimal with one comma between each two, or `-` for no numbers.
+fn number_list(alloc: Global, numbers: &[u64]) -> Result<String, AllocError>
+    ensures { IfOk result (λ text. string_bytes text ≡ list_text numbers.now) }
+{
+    match numbers {
+        [] => String::from_str(alloc, "-"),
+        [first, rest @ ..] => with_commas(alloc, *first, rest),
+    }
+}
+
+/// The first number, and each other after a comma.
+fn with_commas(alloc: Global, first: u64, rest: &[u64]) -> Result<String, AllocError>
+    ensures { IfOk result (λ text. string_bytes text ≡ join_with_byte 44 (map decimal (first ∷ rest.now))) }
+{
+    let mut text = first.to_string(alloc)?;
+    for number in rest {
+        let next = format!(in alloc; ",{number}")?;
+        text.push_str(&next)?;
+    }
+    Ok(text)
 }
 
 /// The name of a fault that closed a connection.
@@ -99,11 +154,23 @@ fn input_fault_name(fault: InputFault) -> &'static str
     }
 }
 
+/// The name of a fault that put a session down.
+pub fn session_fault_name(fault: SessionFault) -> &'static str
+    ensures { result.now ≡ session_name fault }
+{
+    match fault {
+        SessionFault::BadReply => "BadReply",
+        SessionFault::WrongAck => "WrongAck",
+        SessionFault::EarlyAck => "EarlyAck",
+    }
+}
+
 /// The name of a refusal.
 pub fn refusal_name(refusal: Refusal) -> &'static str
     ensures { result.now ≡ refusal_name refusal }
 {
     match refusal {
+        Refusal::NotUp => "NotUp",
         Refusal::Closed => "Closed",
         Refusal::NoSuch => "NoSuch",
         Refusal::NotNow => "NotNow",

@@ -1,23 +1,8 @@
 //! From a Message to the frame that the next hop gets.
 
-use fwd_script::{SettingsFault, Status, replay};
-use std::process::Abort;
+use crate::scripts::replays;
+use fwd_script::{SettingsFault, Status};
 use std::test::Fail;
-
-/// Replays a script, and compares what it wrote and how it ended.
-fn replays(
-    rt: &(impl Abort + AllocGlobal),
-    script: &[u8],
-    written: &[u8],
-    status: Status,
-) -> Result<(), Fail> {
-    let mut reader = script;
-    let mut writer = Vec::new(rt.alloc());
-    let ended = replay(rt.alloc(), &mut reader, &mut writer);
-    assert_eq!(rt; ended, status);
-    assert_eq!(rt; writer.as_slice(), written);
-    Ok(())
-}
 
 #[test]
 fn message_to_frame(rt: HostRuntime) -> Result<(), Fail> {

@@ -5,3 +5,7 @@
 mod first_path;
 #[cfg(test)]
 mod relay;
+#[cfg(test)]
+mod scripts;
+#[cfg(test)]
+mod way_back;

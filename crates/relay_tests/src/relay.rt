@@ -6,6 +6,12 @@ use fwd_msgpack::{Bytes, Seq};
 use std::alloc::{AllocError, Global};
 use std::test::Fail;
 
+/// A request for the one entry `[1, {}]` under the tag `a`.
+const REQUEST: &[u8] = b"\x93\xa1a\x01\x80";
+
+/// The same, which asks for an acknowledgement with the text `x`.
+const ASKING_REQUEST: &[u8] = b"\x94\xa1a\x01\x80\x81\xa5chunk\xa1x";
+
 fn two_outputs(alloc: Global) -> Result<Config, AllocError> {
     let mut outputs = Seq::new(alloc);
     for workers in [2, 1] {
@@ -21,7 +27,8 @@ fn two_outputs(alloc: Global) -> Result<Config, AllocError> {
     })
 }
 
-fn seven_events(alloc: Global) -> Result<Vec<Event>, AllocError> {
+/// From a source's bytes to the frame.
+fn seven_events(alloc: Global, source: &[u8]) -> Result<Vec<Event>, AllocError> {
     let mut events = Vec::new(alloc);
     events.push(Event::Accept {
         conn: 1,
@@ -30,7 +37,7 @@ fn seven_events(alloc: Global) -> Result<Vec<Event>, AllocError> {
     })?;
     events.push(Event::Piece {
         conn: 1,
-        bytes: Bytes::from_slice(alloc, &[0x93, 0xa1, 0x61, 0x01, 0x80])?,
+        bytes: Bytes::from_slice(alloc, source)?,
     })?;
     events.push(Event::Admit {
         conn: 1,
@@ -66,11 +73,35 @@ fn seven_events(alloc: Global) -> Result<Vec<Event>, AllocError> {
 const FRAME: &[u8] =
     b"\x93\xa1a\xc4\x03\x92\x01\x80\x82\xa4size\x01\xa5chunk\xb8////////AAAAAAAAAAAAAQ==";
 
+/// What the next hop answers to that frame.
+const REPLY: &[u8] = b"\x81\xa3ack\xb8////////AAAAAAAAAAAAAQ==";
+
+/// From a frame of 46 bytes to the acknowledgement of its source.
+fn four_events(alloc: Global) -> Result<Vec<Event>, AllocError> {
+    let mut events = Vec::new(alloc);
+    events.push(Event::Wrote {
+        output: 0,
+        worker: 1,
+        count: 46,
+    })?;
+    events.push(Event::Heard {
+        output: 0,
+        worker: 1,
+        bytes: Bytes::from_slice(alloc, REPLY)?,
+    })?;
+    events.push(Event::Settle {
+        output: 0,
+        worker: 1,
+    })?;
+    events.push(Event::Collect { conn: 1, output: 0 })?;
+    Ok(events)
+}
+
 #[test]
 fn runs_seven_events(rt: HostRuntime) -> Result<(), Fail> {
     let alloc = rt.alloc();
     let mut relay = Relay::new(alloc, &two_outputs(alloc)?)?;
-    let answers = relay.run(alloc, seven_events(alloc)?.as_slice())?;
+    let answers = relay.run(alloc, seven_events(alloc, REQUEST)?.as_slice())?;
     assert_eq!(rt; answers.len(), 7);
     assert!(rt; matches!(&answers[0], Answer::Accepted { out } if out.is_empty()));
     assert!(rt; matches!(&answers[1], Answer::Requests { waiting: 1, out } if out.is_empty()));
@@ -102,15 +133,35 @@ fn runs_seven_events(rt: HostRuntime) -> Result<(), Fail> {
 }
 
 #[test]
+fn runs_all_eleven_events(rt: HostRuntime) -> Result<(), Fail> {
+    let alloc = rt.alloc();
+    let mut relay = Relay::new(alloc, &two_outputs(alloc)?)?;
+    let there = relay.run(alloc, seven_events(alloc, ASKING_REQUEST)?.as_slice())?;
+    assert_eq!(rt; there.len(), 7);
+    assert!(rt; matches!(&there[6], Answer::Frame { out } if out.as_slice() == FRAME));
+    let back = relay.run(alloc, four_events(alloc)?.as_slice())?;
+    assert_eq!(rt; back.len(), 4);
+    assert!(rt; matches!(&back[0], Answer::Done));
+    assert!(rt; matches!(&back[1], Answer::Acked { out } if out.is_empty()));
+    assert!(rt; matches!(&back[2], Answer::Settled { entries: 1 }));
+    let Answer::Told { requests, out } = &back[3] else {
+        return Err(Fail::from("nothing told"));
+    };
+    assert_eq!(rt; requests.as_slice(), [1].as_slice());
+    assert_eq!(rt; out.as_slice(), b"\x81\xa3ack\xa1x".as_slice());
+    Ok(())
+}
+
+#[test]
 fn runs_on_from_where_it_stands(rt: HostRuntime) -> Result<(), Fail> {
     let alloc = rt.alloc();
     let mut relay = Relay::new(alloc, &two_outputs(alloc)?)?;
     assert!(rt; relay.run(alloc, &[])?.is_empty());
-    for event in seven_events(alloc)?.iter() {
+    for event in seven_events(alloc, REQUEST)?.iter() {
         let answer = relay.step(alloc, event);
         assert!(rt; !matches!(&answer, Answer::Memory | Answer::Refused(_)));
     }
-    let again = relay.run(alloc, seven_events(alloc)?.as_slice())?;
+    let again = relay.run(alloc, seven_events(alloc, REQUEST)?.as_slice())?;
     assert_eq!(rt; again.len(), 7);
     assert!(rt; matches!(&again[0], Answer::Refused(Refusal::NotNow)));
     assert!(rt; matches!(&again[1], Answer::Requests { waiting: 1, .. }));

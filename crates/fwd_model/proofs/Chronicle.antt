@@ -1,0 +1,262 @@
+-- What the events so far did to each session, each number and each request that an output has.
+use Rattle.std.proofs.Common.{◌≡◌, ℕ, ◌+◌, ◌≤◌, Bool, true, false, eqb, List, [], ◌∷◌, ◌++◌, Some, refl, sym, ap, subst, ◌∙◌, inl, inr, arith}
+use Rattle.std.specs.Prelude.{◌⊎◌, is_some, ◌&&◌, ◌==◌, slice_get, slice_set}
+use Rattle.std.specs.List.{list_any}
+use Rattle.std.proofs.lemmas.Bool.Decides.{nat_tests}
+use Rattle.std.proofs.lemmas.List.{append_assoc, append-nil}
+use Rattle.fwd_modes.specs.Requests.{Request}
+use Rattle.fwd_modes.specs.Frames.{chunk_name}
+use Rattle.fwd_model.specs.declared.cell.Cell.{Cell}
+use Rattle.fwd_model.specs.declared.cell.Entered.{Entered}
+use Rattle.fwd_model.specs.declared.config.Config.{Config}
+use Rattle.fwd_model.specs.declared.event.Event.{Event}
+use Rattle.fwd_model.specs.declared.event.Event.TheVariants as event
+use Rattle.fwd_model.specs.Chunks.{greatest, cells_at, cells_of, chunk_of, first_tag, has_number}
+use Rattle.fwd_model.specs.Books.{entered_as, has_cell}
+use Rattle.fwd_model.specs.History.{SourceHistory, judged, Connection, source_at, with_source, Admission, SessionHistory, is_handed_on, Lane, History}
+use Rattle.fwd_model.specs.Step.{next, after, frame_of}
+use Rattle.fwd_model.specs.Delivered.{HasBegun, WasLoaded, WasSent, WasAcknowledged, cells_from}
+use Rattle.fwd_model.proofs.Reached.{slice_get-set}
+
+-- ---- events are added at the end
+
+pub after-push : (h : History) (es : List Event) (e : Event) → after h (es ++ e ∷ []) ≡ next (after h es) e
+after-push h [] e = refl
+after-push h (d ∷ es) e = after-push (next h d) es e
+
+pub by_last : (P : List Event → Type 0) → P [] → ((es : List Event) (e : Event) → P es → P (es ++ e ∷ [])) → (es : List Event) → P es
+by_last P none more es = go [] es none
+  where
+    go : (done todo : List Event) → P done → P (done ++ todo)
+    go done [] p = subst P (sym (append-nil done)) p
+    go done (e ∷ todo) p = subst P (append_assoc done (e ∷ []) todo) (go (done ++ e ∷ []) todo (more done e p))
+
+later_split : (es before : List Event) (x : Event) (later : List Event) (e : Event) → es ≡ before ++ x ∷ later → es ++ e ∷ [] ≡ before ++ x ∷ (later ++ e ∷ [])
+later_split es before x later e h = ap (λ es. es ++ e ∷ []) h ∙ append_assoc before (x ∷ later) (e ∷ [])
+
+module _ (config : Config) (es : List Event) (e : Event) where
+  pub begun_still : (o w : ℕ) → HasBegun config es o w → HasBegun config (es ++ e ∷ []) o w
+  begun_still o w b = record {
+    before = b.before;
+    server = b.server;
+    salt = b.salt;
+    moment = b.moment;
+    later = b.later ++ e ∷ [];
+    split = later_split es b.before (event.Up o w b.server b.salt b.moment) b.later e b.split;
+    done = b.done;
+  }
+
+  pub loaded_still : (o w : ℕ) (frame : List ℕ) → WasLoaded config es o w frame → WasLoaded config (es ++ e ∷ []) o w frame
+  loaded_still o w frame l = record {
+    before = l.before;
+    moment = l.moment;
+    later = l.later ++ e ∷ [];
+    split = later_split es l.before (event.Load o w l.moment) l.later e l.split;
+    loads = l.loads;
+    begun = l.begun;
+  }
+
+  pub sent_still : (o w : ℕ) (frame : List ℕ) → WasSent config es o w frame → WasSent config (es ++ e ∷ []) o w frame
+  sent_still o w frame s = record {
+    before = s.before;
+    count = s.count;
+    later = s.later ++ e ∷ [];
+    split = later_split es s.before (event.Wrote o w s.count) s.later e s.split;
+    done = s.done;
+    session = s.session;
+    stands = s.stands;
+    taken = s.taken;
+    loaded = s.loaded;
+  }
+
+  pub acked_still : (o w : ℕ) (frame name : List ℕ) → WasAcknowledged config es o w frame name → WasAcknowledged config (es ++ e ∷ []) o w frame name
+  acked_still o w frame name a = record {
+    before = a.before;
+    bytes = a.bytes;
+    later = a.later ++ e ∷ [];
+    split = later_split es a.before (event.Heard o w a.bytes) a.later e a.split;
+    session = a.session;
+    stands = a.stands;
+    is_up = a.is_up;
+    value = a.value;
+    place = a.place;
+    ended = a.ended;
+    names = a.names;
+    sent = a.sent;
+  }
+
+-- ---- sessions and numbers
+
+-- the frame of what stands under a number
+abbrev pub frame_at : Config → ℕ → List Cell → ℕ → List ℕ
+frame_at config o cells k = frame_of config.run o (chunk_of k cells)
+
+-- what was done with the chunk that a session has
+pub record ChunkStory (config : Config) (es : List Event) (o w : ℕ) (cells : List Cell) (s : SessionHistory) (k : ℕ) : Type 0 where
+  pub was_loaded : WasLoaded config es o w (frame_at config o cells k)
+  pub front : List ℕ
+  pub ends : s.appended ≡ front ++ frame_at config o cells k
+  pub was_sent : is_handed_on s ≡ true → WasSent config es o w (frame_at config o cells k)
+  pub was_acked : s.accepted ≡ true → WasAcknowledged config es o w (frame_at config o cells k) (chunk_name config.run o k)
+
+pub record SessionStory (config : Config) (es : List Event) (o w : ℕ) (cells : List Cell) (s : SessionHistory) : Type 0 where
+  pub begun : HasBegun config es o w
+  pub has_one : s.accepted ≡ true → is_some s.loaded ≡ true
+  pub chunk : (k : ℕ) → s.loaded ≡ Some k → ChunkStory config es o w cells s k
+
+-- a worker had the number acknowledged
+abbrev pub NumberStory : Config → List Event → ℕ → List Cell → ℕ → Type 0
+NumberStory config es o cells k = (w : ℕ) × WasAcknowledged config es o w (frame_at config o cells k) (chunk_name config.run o k)
+
+module _ (config : Config) (es : List Event) (e : Event) (o : ℕ) (cells : List Cell) where
+  pub session_still : (w : ℕ) (s : SessionHistory) → SessionStory config es o w cells s → SessionStory config (es ++ e ∷ []) o w cells s
+  session_still w s t = record {
+    begun = begun_still config es e o w t.begun;
+    has_one = t.has_one;
+    chunk = λ k h. let c = t.chunk k h in record {
+      was_loaded = loaded_still config es e o w (frame_at config o cells k) c.was_loaded;
+      front = c.front;
+      ends = c.ends;
+      was_sent = λ b. sent_still config es e o w (frame_at config o cells k) (c.was_sent b);
+      was_acked = λ b. acked_still config es e o w (frame_at config o cells k) (chunk_name config.run o k) (c.was_acked b);
+    };
+  }
+
+  pub number_still : (k : ℕ) → NumberStory config es o cells k → NumberStory config (es ++ e ∷ []) o cells k
+  number_still k n = (n.0, acked_still config es e o n.0 (frame_at config o cells k) (chunk_name config.run o k) n.1)
+
+-- ---- requests
+
+-- some entry is of this request
+abbrev pub has_origin : ℕ → ℕ → List Cell → Bool
+has_origin id r cells = list_any (λ c. (c.origin.conn == id) && (c.origin.request == r)) cells
+
+-- the connection stands, and so many of its requests were admitted
+abbrev pub Admitted : List Connection → ℕ → ℕ → Type 0
+Admitted cs id r = (s : SourceHistory) × (source_at id cs ≡ Some s) × (r ≤ s.admitted)
+
+pub record RequestStory (cs : List Connection) (o : ℕ) (cells : List Cell) (a : Entered) : Type 0 where
+  pub request : Request
+  pub number : ℕ
+  pub moment : ℕ
+  pub place : ℕ
+  pub source : SourceHistory
+  pub entered : a ≡ entered_as request a.origin number
+  pub stands : source_at a.origin.conn cs ≡ Some source
+  pub nth : a.origin.request ≡ place + 1
+  pub admitted : a.origin.request ≤ source.admitted
+  pub asked : slice_get (judged source).requests place ≡ Some request
+  pub route : o ≡ 0
+  pub own : cells_from a.origin.conn a.origin.request cells ≡ cells_of request a.origin number moment
+  pub under : (k : ℕ) → has_cell k (cells_of request a.origin number moment) ≡ true → (k ≤ greatest cells) × (first_tag (cells_at k cells) ≡ request.tag)
+
+abbrev pub AllTold : List Connection → ℕ → List Cell → List Admission → Type 0
+AllTold cs o cells [] = Unit {0}
+AllTold cs o cells (a ∷ admissions) = RequestStory cs o cells a.request × AllTold cs o cells admissions
+
+-- ---- outputs
+
+pub record LaneStory (config : Config) (es : List Event) (cs : List Connection) (o : ℕ) (l : Lane) : Type 0 where
+  pub sessions : (w : ℕ) (s : SessionHistory) → slice_get l.sessions w ≡ Some (Some s) → SessionStory config es o w l.output.cells s
+  pub numbers : (k : ℕ) → has_number k l.output.acknowledged ≡ true → NumberStory config es o l.output.cells k
+  pub own : (id r : ℕ) → has_origin id r l.output.cells ≡ true → Admitted cs id r
+  pub requests : AllTold cs o l.output.cells l.output.requests
+
+pub record Story (config : Config) (es : List Event) (h : History) : Type 0 where
+  pub run : h.run ≡ config.run
+  pub lanes : (o : ℕ) (l : Lane) → slice_get h.lanes o ≡ Some l → LaneStory config es h.connections o l
+
+-- ---- connections grow
+
+-- more was admitted, and what was asked for stays
+abbrev pub Grows : SourceHistory → SourceHistory → Type 0
+Grows s t = (s.admitted ≤ t.admitted) × ((i : ℕ) (q : Request) → slice_get (judged s).requests i ≡ Some q → slice_get (judged t).requests i ≡ Some q)
+
+abbrev pub Extends : List Connection → List Connection → Type 0
+Extends cs ds = (id : ℕ) (s : SourceHistory) → source_at id cs ≡ Some s → (t : SourceHistory) × (source_at id ds ≡ Some t) × Grows s t
+
+pub extends_same : (cs : List Connection) → Extends cs cs
+extends_same cs id s h = (s, h, (omega arith, λ i q e. e))
+
+pub source_at-push : (id : ℕ) (cs : List Connection) (c : Connection) (s : SourceHistory) → source_at id cs ≡ Some s → source_at id (cs ++ c ∷ []) ≡ Some s
+source_at-push id [] c s h = absurd cc
+source_at-push id (d ∷ cs) c s h = grind (arith, nat_tests, source_at-push id cs c s)
+
+pub extends_push : (cs : List Connection) (c : Connection) → Extends cs (cs ++ c ∷ [])
+extends_push cs c id s h = (s, source_at-push id cs c s h, (omega arith, λ i q e. e))
+
+source_at-with_same : (id : ℕ) (s t : SourceHistory) (cs : List Connection) → source_at id cs ≡ Some s → source_at id (with_source id t cs) ≡ Some t
+source_at-with_same id s t [] h = absurd cc
+source_at-with_same id s t (c ∷ cs) h = grind (arith, nat_tests, source_at-with_same id s t cs)
+
+source_at-with_other : (id j : ℕ) (t : SourceHistory) (cs : List Connection) → eqb id j ≡ false → source_at j (with_source id t cs) ≡ source_at j cs
+source_at-with_other id j t [] d = refl
+source_at-with_other id j t (c ∷ cs) d = grind (arith, nat_tests, source_at-with_other id j t cs d)
+
+some_is : {X : Type 0} {x y : X} → Some x ≡ Some y → x ≡ y
+some_is h = cc
+
+pub extends_with : (id : ℕ) (s t : SourceHistory) (cs : List Connection) → source_at id cs ≡ Some s → Grows s t → Extends cs (with_source id t cs)
+extends_with id s t cs here grows j u h = by_test (eqb id j) refl
+  where
+    by_test : (b : Bool) → eqb id j ≡ b → (v : SourceHistory) × (source_at j (with_source id t cs) ≡ Some v) × Grows u v
+    by_test true e =
+        let same : id ≡ j = grind (arith, nat_tests, e) in
+        let is : s ≡ u = some_is (sym here ∙ ap (λ x. source_at x cs) same ∙ h) in
+        (t, subst (λ x. source_at x (with_source id t cs) ≡ Some t) same (source_at-with_same id s t cs here), subst (λ x. Grows x t) is grows)
+    by_test false e = (u, source_at-with_other id j t cs e ∙ h, (omega arith, λ i q f. f))
+
+pub admitted_still : (cs ds : List Connection) (id r : ℕ) → Extends cs ds → Admitted cs id r → Admitted ds id r
+admitted_still cs ds id r ext a =
+    let g = ext id a.0 a.1 in
+    (g.0, g.1, omega (arith, a.2, g.2.0))
+
+pub request_still : (cs ds : List Connection) (o : ℕ) (cells : List Cell) (a : Entered) → Extends cs ds → RequestStory cs o cells a → RequestStory ds o cells a
+request_still cs ds o cells a ext t =
+    let g = ext a.origin.conn t.source t.stands in
+    record {
+      request = t.request;
+      number = t.number;
+      moment = t.moment;
+      place = t.place;
+      source = g.0;
+      entered = t.entered;
+      stands = g.1;
+      nth = t.nth;
+      admitted = omega (arith, t.admitted, g.2.0);
+      asked = g.2.1 t.place t.request t.asked;
+      route = t.route;
+      own = t.own;
+      under = t.under;
+    }
+
+pub all_still : (cs ds : List Connection) (o : ℕ) (cells : List Cell) (admissions : List Admission) → Extends cs ds → AllTold cs o cells admissions → AllTold ds o cells admissions
+all_still cs ds o cells [] ext all = tt
+all_still cs ds o cells (a ∷ admissions) ext all = (request_still cs ds o cells a.request ext all.0, all_still cs ds o cells admissions ext all.1)
+
+pub lane_still : (config : Config) (es : List Event) (e : Event) (cs ds : List Connection) (o : ℕ) (l : Lane) → Extends cs ds → LaneStory config es cs o l → LaneStory config (es ++ e ∷ []) ds o l
+lane_still config es e cs ds o l ext t = record {
+  sessions = λ w s h. session_still config es e o l.output.cells w s (t.sessions w s h);
+  numbers = λ k h. number_still config es e o l.output.cells k (t.numbers k h);
+  own = λ id r h. admitted_still cs ds id r ext (t.own id r h);
+  requests = all_still cs ds o l.output.cells l.output.requests ext t.requests;
+}
+
+-- ---- an event that leaves the outputs, and one that changes one of them
+
+abbrev pub with_parts : History → List Connection → List Lane → History
+with_parts h cs ls = record { run = h.run; connections = cs; lanes = ls }
+
+module _ (config : Config) (es : List Event) (e : Event) (h : History) (t : Story config es h) where
+  pub lanes_stay : (ds : List Connection) → Extends h.connections ds → Story config (es ++ e ∷ []) (with_parts h ds h.lanes)
+  lanes_stay ds ext = record { run = t.run; lanes = λ o l here. lane_still config es e h.connections ds o l ext (t.lanes o l here) }
+
+  pub all_stays : Story config (es ++ e ∷ []) h
+  all_stays = lanes_stay h.connections (extends_same h.connections)
+
+  pub lane_put : (ds : List Connection) (o : ℕ) (m : Lane) → Extends h.connections ds → LaneStory config (es ++ e ∷ []) ds o m → Story config (es ++ e ∷ []) (with_parts h ds (slice_set h.lanes o m))
+  lane_put ds o m ext story = record { run = t.run; lanes = λ j l here. at j l (slice_get-set h.lanes o j m l here) }
+    where
+      at : (j : ℕ) (l : Lane) → ((o ≡ j) × (m ≡ l)) ⊎ ((o ≡ j → ⊥) × (slice_get h.lanes j ≡ Some l)) → LaneStory config (es ++ e ∷ []) ds j l
+      at j l (inl x) = subst (λ k. LaneStory config (es ++ e ∷ []) ds k l) x.0 (subst (λ y. LaneStory config (es ++ e ∷ []) ds o y) x.1 story)
+      at j l (inr x) = lane_still config es e h.connections ds j l ext (t.lanes j l x.1)

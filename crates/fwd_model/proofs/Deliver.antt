@@ -1,0 +1,175 @@
+-- Whoever is told was delivered.
+use Rattle.std.proofs.Common.{◌≡◌, ℕ, zero, suc, ◌+◌, Bool, true, false, cond, eqb, List, [], ◌∷◌, ◌++◌, length, Option, Some, None, refl, sym, ap, subst, ◌∙◌, arith}
+use Rattle.std.specs.Prelude.{map, filter, not, ◌&&◌, ◌||◌, ◌==◌, slice_get}
+use Rattle.std.specs.List.{list_all}
+use Rattle.std.specs.Str.{bytes_eq}
+use Rattle.std.proofs.lemmas.Slice.Eq.{bytes_eq-Decides}
+use Rattle.std.proofs.lemmas.Bool.Decides.{nat_tests}
+use Rattle.fwd_modes.specs.Requests.{Request}
+use Rattle.fwd_modes.specs.Frames.{chunk_frame, chunk_name}
+use Rattle.fwd_model.specs.declared.cell.Cell.{Cell}
+use Rattle.fwd_model.specs.declared.cell.Entered.{Entered}
+use Rattle.fwd_model.specs.declared.cell.Origin.{Origin}
+use Rattle.fwd_model.specs.declared.cell.Span.{Span}
+use Rattle.fwd_model.specs.declared.config.Config.{Config}
+use Rattle.fwd_model.specs.declared.event.Event.{Event}
+use Rattle.fwd_model.specs.declared.answer.Answer.TheVariants as answer
+use Rattle.fwd_model.specs.declared.fault.Refusal.TheVariants.{Closed}
+use Rattle.fwd_model.specs.Chunks.{cells_at, cells_of, chunk_of, first_tag, has_number}
+use Rattle.fwd_model.specs.Books.{entered_as, is_settled, is_of, numbers_of, acks_of, has_cell}
+use Rattle.fwd_model.specs.History.{SourceHistory, Connection, source_at, Admission, OutputHistory, Lane, opening, new_lane}
+use Rattle.fwd_model.specs.Step as step
+use Rattle.fwd_model.specs.Step.{answer_to, is_due, due, IsReached}
+use Rattle.fwd_model.specs.Delivered.{reached, cells_from, whole_frame, WasAcknowledged, IsDelivered, IsTold}
+use Rattle.fwd_model.proofs.Follows.{reached_sane}
+use Rattle.fwd_model.proofs.Chronicle.{frame_at, RequestStory, AllTold, LaneStory, Story, by_last, after-push}
+use Rattle.fwd_model.proofs.ChronicleSteps.{goes_on}
+use Rattle.fwd_model.specs.declared.config.OutputConfig.{OutputConfig}
+
+-- ---- the chronicle of every run
+
+no_sessions : {X : Type 0} (n w : ℕ) (t : X) → slice_get (Rattle.std.specs.Prelude.replicate n None) w ≡ Some (Some t) → ⊥
+no_sessions zero w t e = cc
+no_sessions (suc n) zero t e = cc
+no_sessions (suc n) (suc w) t e = no_sessions n w t e
+
+new_lane_story : (config : Config) (cs : List Connection) (o : ℕ) (c : OutputConfig) → LaneStory config [] cs o (new_lane c)
+new_lane_story config cs o c = record {
+  sessions = λ w s h. absurd (no_sessions c.workers w s h);
+  numbers = λ k h. absurd cc;
+  own = λ id r h. absurd cc;
+  requests = tt;
+}
+
+new_lanes : (config : Config) (cs : List Connection) (configs : List OutputConfig) (base o : ℕ) (l : Lane) → slice_get (map new_lane configs) o ≡ Some l → LaneStory config [] cs (base + o) l
+new_lanes config cs [] base o l h = absurd cc
+new_lanes config cs (c ∷ configs) base zero l h = let same : new_lane c ≡ l = cc in subst (λ x. LaneStory config [] cs (base + 0) x) same (new_lane_story config cs (base + 0) c)
+new_lanes config cs (c ∷ configs) base (suc o) l h = subst (λ n. LaneStory config [] cs n l) (omega arith) (new_lanes config cs configs (base + 1) o l h)
+
+opening_story : (config : Config) → Story config [] (reached config [])
+unfolding opening
+opening_story config = record { run = refl; lanes = λ o l h. subst (λ n. LaneStory config [] [] n l) (omega arith) (new_lanes config [] config.outputs 0 o l h) }
+
+pub every_story : (config : Config) (es : List Event) → Story config es (reached config es)
+every_story config es =
+    by_last (λ es. Story config es (reached config es)) (opening_story config)
+    (λ es e t. subst (λ h. Story config (es ++ e ∷ []) h) (sym (after-push (opening config) es e)) (goes_on config es (reached_sane config (reached config es) (es, refl)) t e)) es
+
+-- ---- what a collect tells
+
+-- a request that is told: entered for the connection, with this number, and settled
+pub record IsFound (cs : List Connection) (o id r : ℕ) (output : OutputHistory) : Type 0 where
+  pub entered : Entered
+  pub story : RequestStory cs o output.cells entered
+  pub conn : entered.origin.conn ≡ id
+  pub number : entered.origin.request ≡ r
+  pub settled : is_settled output.acknowledged entered ≡ true
+
+and_parts : (a b : Bool) → (a && b) ≡ true → (a ≡ true) × (b ≡ true)
+and_parts true b h = (refl, h)
+and_parts false b h = absurd cc
+
+eq_from : (a b : ℕ) → eqb a b ≡ true → a ≡ b
+eq_from a b e = grind (arith, nat_tests, e)
+
+found_by : (cs : List Connection) (o id r : ℕ) (output : OutputHistory) (a : Admission) (rest : List Entered) (b c : Bool) → is_due id output a ≡ b → eqb a.request.origin.request r ≡ c → RequestStory cs o output.cells a.request
+    → (has_number r (numbers_of rest) ≡ true → IsFound cs o id r output) → has_number r (numbers_of (cond b (a.request ∷ rest) rest)) ≡ true → IsFound cs o id r output
+found_by cs o id r output a rest true true due_is same one later h =
+    let parts = and_parts (not a.told) (is_of id a.request && is_settled output.acknowledged a.request) due_is in
+    let both = and_parts (is_of id a.request) (is_settled output.acknowledged a.request) parts.1 in
+    record { entered = a.request; story = one; conn = eq_from a.request.origin.conn id both.0; number = eq_from a.request.origin.request r same; settled = both.1 }
+found_by cs o id r output a rest true false due_is same one later h = later (grind (arith, nat_tests, h, same))
+found_by cs o id r output a rest false c due_is same one later h = later h
+
+due_map : (id : ℕ) (output : OutputHistory) (a : Admission) (admissions : List Admission) (b : Bool)
+    → map (λ (x : Admission). x.request) (cond b (a ∷ filter (is_due id output) admissions) (filter (is_due id output) admissions)) ≡ cond b (a.request ∷ map (λ x. x.request) (filter (is_due id output) admissions)) (map (λ x. x.request) (filter (is_due id output) admissions))
+due_map id output a admissions true = refl
+due_map id output a admissions false = refl
+
+found : (cs : List Connection) (o id r : ℕ) (output : OutputHistory) (admissions : List Admission) → AllTold cs o output.cells admissions → has_number r (numbers_of (map (λ a. a.request) (filter (is_due id output) admissions))) ≡ true → IsFound cs o id r output
+found cs o id r output [] all h = absurd cc
+found cs o id r output (a ∷ admissions) all h =
+    found_by cs o id r output a (map (λ x. x.request) (filter (is_due id output) admissions)) (is_due id output a) (eqb a.request.origin.request r) refl refl all.0 (λ g. found cs o id r output admissions all.1 g)
+    (subst (λ xs. has_number r (numbers_of xs) ≡ true) (due_map id output a admissions (is_due id output a)) h)
+
+-- ---- what is found was delivered
+
+module _ (q : Request) (origin : Origin) (number moment : ℕ) where
+  abbrev mk : List ℕ → Cell
+  mk e = record { tag = q.tag; entry = e; origin = origin; number = number; moment = moment }
+
+  entries_are : (es : List (List ℕ)) → map (λ c. c.entry) (map mk es) ≡ es
+  entries_are [] = refl
+  entries_are (e ∷ es) = ap (λ xs. e ∷ xs) (entries_are es)
+
+  tags_are : (es : List (List ℕ)) → list_all (λ c. bytes_eq c.tag q.tag) (map mk es) ≡ true
+  tags_are [] = refl
+  tags_are (e ∷ es) = grind (arith, nat_tests, tags_are es, (bytes_eq-Decides q.tag q.tag).1 refl)
+
+  number_is-by : (k : ℕ) (rest a : Bool) → eqb number k ≡ a → (rest ≡ true → number ≡ k) → (a || rest) ≡ true → number ≡ k
+  number_is-by k rest true f later h = eq_from number k f
+  number_is-by k rest false f later h = later h
+
+  number_is : (k : ℕ) (es : List (List ℕ)) → has_cell k (map mk es) ≡ true → number ≡ k
+  number_is k [] h = absurd cc
+  number_is k (e ∷ es) h = number_is-by k (has_cell k (map mk es)) (eqb number k) refl (λ g. number_is k es g) h
+
+  settled_is : (acked : List ℕ) (k : ℕ) (es : List (List ℕ)) → has_cell k (map mk es) ≡ true
+      → list_all (λ (s : Span). has_number s.number acked) (cond (eqb (length es) 0) [] (record { number = number; from = 0; count = length es } ∷ [])) ≡ true → has_number number acked ≡ true
+  settled_is acked k [] h g = absurd cc
+  settled_is acked k (e ∷ es) h g = grind (arith, nat_tests, g)
+
+frame_is : (config : Config) (o : ℕ) (tag : List ℕ) (cells : List Cell) (k : ℕ) → first_tag (cells_at k cells) ≡ tag → frame_at config o cells k ≡ whole_frame config o tag cells k
+unfolding chunk_of
+frame_is config o tag cells k e = ap (λ x. chunk_frame x (map (λ c. c.entry) (cells_at k cells)) (chunk_name config.run o k)) e
+
+module _ (config : Config) (es : List Event) (id r o : ℕ) (l : Lane) (here : slice_get (reached config es).lanes o ≡ Some l) (story : LaneStory config es (reached config es).connections o l) (f : IsFound (reached config es).connections o id r l.output) where
+  abbrev t : RequestStory (reached config es).connections o l.output.cells f.entered
+  t = f.story
+
+  own : cells_from id r l.output.cells ≡ cells_of t.request f.entered.origin t.number t.moment
+  own = (λ i. cells_from (sym f.conn i) (sym f.number i) l.output.cells) ∙ t.own
+
+  acked : (k : ℕ) → has_cell k (cells_from id r l.output.cells) ≡ true → has_number k l.output.acknowledged ≡ true
+  acked k h =
+      let g : has_cell k (cells_of t.request f.entered.origin t.number t.moment) ≡ true = subst (λ cs. has_cell k cs ≡ true) own h in
+      let same = number_is t.request f.entered.origin t.number t.moment k t.request.entries g in
+      let settled : is_settled l.output.acknowledged (entered_as t.request f.entered.origin t.number) ≡ true = subst (λ e. is_settled l.output.acknowledged e ≡ true) t.entered f.settled in
+      subst (λ n. has_number n l.output.acknowledged ≡ true) same (settled_is t.request f.entered.origin t.number t.moment l.output.acknowledged k t.request.entries g settled)
+
+  pub found_delivered : IsDelivered config es id r o
+  found_delivered = record {
+    source = t.source;
+    stands = subst (λ x. source_at x (reached config es).connections ≡ Some t.source) f.conn t.stands;
+    place = t.place;
+    number = sym f.number ∙ t.nth;
+    request = t.request;
+    asked = t.asked;
+    route = t.route;
+    lane = l;
+    here = here;
+    entries = ap (map (λ c. c.entry)) own ∙ entries_are t.request f.entered.origin t.number t.moment t.request.entries;
+    tags = ap (list_all (λ c. bytes_eq c.tag t.request.tag)) own ∙ tags_are t.request f.entered.origin t.number t.moment t.request.entries;
+    settled = acked;
+    sent = λ k h.
+        let g : has_cell k (cells_of t.request f.entered.origin t.number t.moment) ≡ true = subst (λ cs. has_cell k cs ≡ true) own h in
+        let n = story.numbers k (acked k h) in
+        (n.0, subst (λ frame. WasAcknowledged config es o n.0 frame (chunk_name config.run o k)) (frame_is config o t.request.tag l.output.cells k (t.under k g).1) n.1);
+  }
+
+told_by : (config : Config) (es : List Event) (id r o : ℕ) (numbers out : List ℕ) (s : Option SourceHistory) (l : Option Lane) → slice_get (reached config es).lanes o ≡ l → Story config es (reached config es)
+    → step.collect_answer id s l ≡ answer.Told numbers out → has_number r numbers ≡ true → IsDelivered config es id r o
+told_by config es id r o numbers out None l here story told among = absurd cc
+told_by config es id r o numbers out (Some s) None here story told among = absurd cc
+told_by config es id r o numbers out (Some s) (Some l) here story told among = at s.shut told
+  where
+    at : (b : Bool) → cond b (answer.Refused Closed) (answer.Told (numbers_of (due id l.output)) (acks_of (due id l.output))) ≡ answer.Told numbers out → IsDelivered config es id r o
+    at true e = absurd cc
+    at false e =
+        let same : numbers_of (due id l.output) ≡ numbers = cc in
+        let lane = story.lanes o l here in
+        found_delivered config es id r o l here lane (found (reached config es).connections o id r l.output l.output.requests lane.requests (subst (λ ns. has_number r ns ≡ true) (sym same) among))
+
+pub told_delivered : (config : Config) (es : List Event) (id r o : ℕ) (t : IsTold config es id r o) → IsDelivered config t.before id r o
+told_delivered config es id r o t =
+    told_by config t.before id r o t.numbers t.out (source_at id (reached config t.before).connections) (slice_get (reached config t.before).lanes o) refl (every_story config t.before) t.told t.among

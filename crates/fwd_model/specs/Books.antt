@@ -1,0 +1,47 @@
+-- Who is to be told: the requests that an output entered, and when their entries are settled.
+use Rattle.std.specs.Prelude.{ℕ, Bool, not, List, [], ◌∷◌, length, map, Option, Some, None, ◌==◌, if◌then◌else◌}
+use Rattle.std.specs.List.{list_all, list_any, concat}
+use Rattle.fwd_modes.specs.Requests.{Request}
+use Rattle.fwd_modes.specs.Acks.{ack_text}
+use Rattle.fwd_model.specs.declared.cell.Cell.{Cell}
+use Rattle.fwd_model.specs.declared.cell.Entered.{Entered}
+use Rattle.fwd_model.specs.declared.cell.Origin.{Origin}
+use Rattle.fwd_model.specs.declared.cell.Span.{Span}
+use Rattle.fwd_model.specs.Chunks.{has_number}
+
+-- the runs of a request's entries, which all have one number that was unused before
+abbrev pub spans_of : Request → ℕ → List Span
+spans_of r number = if length r.entries == 0 then [] else record { number = number; from = 0; count = length r.entries } ∷ []
+
+abbrev pub entered_as : Request → Origin → ℕ → Entered
+entered_as r origin number = record { origin = origin; spans = spans_of r number; chunk = r.chunk }
+
+-- all its entries are acknowledged
+abbrev pub is_settled : List ℕ → Entered → Bool
+is_settled acknowledged q = list_all (λ s. has_number s.number acknowledged) q.spans
+
+abbrev pub is_of : ℕ → Entered → Bool
+is_of conn q = q.origin.conn == conn
+
+-- the acknowledgement that a request asked for, if it asked for one
+abbrev pub ack_asked : Option (List ℕ) → List ℕ
+ack_asked None = []
+ack_asked (Some chunk) = ack_text chunk
+
+abbrev pub ack_of : Entered → List ℕ
+ack_of q = ack_asked q.chunk
+
+-- the acknowledgements that requests asked for, one after the other
+abbrev pub acks_of : List Entered → List ℕ
+acks_of qs = concat (map ack_of qs)
+
+abbrev pub numbers_of : List Entered → List ℕ
+numbers_of qs = map (λ q. q.origin.request) qs
+
+-- some entry has the number
+abbrev pub has_cell : ℕ → List Cell → Bool
+has_cell number cells = list_any (λ c. c.number == number) cells
+
+-- none of its entries is among these
+abbrev pub none_left : List Cell → Entered → Bool
+none_left cells q = list_all (λ s. not (has_cell s.number cells)) q.spans

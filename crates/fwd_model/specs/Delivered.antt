@@ -1,0 +1,119 @@
+-- What it means that a request was delivered, and that its connection was told so.
+use Rattle.std.specs.Prelude.{◌≡◌, ℕ, ◌+◌, ◌≤◌, true, false, ◌&&◌, List, [], ◌∷◌, ◌++◌, length, map, filter, Option, Some, None, ◌==◌, slice_get}
+use Rattle.std.specs.List.{list_all}
+use Rattle.std.specs.Str.{bytes_eq}
+use Rattle.fwd_msgpack.specs.Scans.{values_of}
+use Rattle.fwd_modes.specs.Requests.{Request}
+use Rattle.fwd_modes.specs.Frames.{chunk_frame, chunk_name}
+use Rattle.fwd_modes.specs.Acks.{ack_name}
+use Rattle.fwd_model.specs.declared.cell.Cell.{Cell}
+use Rattle.fwd_model.specs.declared.config.Config.{Config}
+use Rattle.fwd_model.specs.declared.event.Event.{Event}
+use Rattle.fwd_model.specs.declared.event.Event.TheVariants as event
+use Rattle.fwd_model.specs.declared.answer.Answer.TheVariants as answer
+use Rattle.fwd_model.specs.Chunks.{cells_at, has_number}
+use Rattle.fwd_model.specs.Books.{has_cell}
+use Rattle.fwd_model.specs.History.{SourceHistory, judged, source_at, SessionHistory, Lane, History, opening}
+use Rattle.fwd_model.specs.Step.{answer_to, after, session_at, newly_heard}
+
+-- where events lead from the opening state of the settings
+abbrev pub reached : Config → List Event → History
+reached config es = after (opening config) es
+
+abbrev pub standing : Option (Option SessionHistory) → Option SessionHistory
+standing None = None
+standing (Some s) = s
+
+-- the session that a worker of an output has
+abbrev pub session_of : History → ℕ → ℕ → Option SessionHistory
+session_of h o w = standing (session_at w (slice_get h.lanes o))
+
+-- Among the events the worker's session with a server of the output began. It has not ended since: no event ends one.
+pub record HasBegun (config : Config) (es : List Event) (o w : ℕ) : Type 0 where
+  pub before : List Event
+  pub server : ℕ
+  pub salt : List ℕ
+  pub moment : ℕ
+  pub later : List Event
+  pub split : es ≡ before ++ event.Up o w server salt moment ∷ later
+  pub done : answer_to (reached config before) (event.Up o w server salt moment) ≡ answer.Done
+
+-- among the events, after that, the session was loaded with the frame
+pub record WasLoaded (config : Config) (es : List Event) (o w : ℕ) (frame : List ℕ) : Type 0 where
+  pub before : List Event
+  pub moment : ℕ
+  pub later : List Event
+  pub split : es ≡ before ++ event.Load o w moment ∷ later
+  pub loads : answer_to (reached config before) (event.Load o w moment) ≡ answer.Frame frame
+  pub begun : HasBegun config before o w
+
+-- the link took all bytes of the session, of which the last are the frame
+pub record IsTaken (s : SessionHistory) (frame : List ℕ) : Type 0 where
+  pub front : List ℕ
+  pub ends : s.appended ≡ front ++ frame
+  pub through : length s.appended ≤ s.sent
+
+-- among the events, after that, the link took the frame's last byte
+pub record WasSent (config : Config) (es : List Event) (o w : ℕ) (frame : List ℕ) : Type 0 where
+  pub before : List Event
+  pub count : ℕ
+  pub later : List Event
+  pub split : es ≡ before ++ event.Wrote o w count ∷ later
+  pub done : answer_to (reached config before) (event.Wrote o w count) ≡ answer.Done
+  pub session : SessionHistory
+  pub stands : session_of (reached config (before ++ event.Wrote o w count ∷ [])) o w ≡ Some session
+  pub taken : IsTaken session frame
+  pub loaded : WasLoaded config before o w frame
+
+-- among the events, after that, a piece was heard from the session while it was up, and with it the last byte of a value that names the chunk
+pub record WasAcknowledged (config : Config) (es : List Event) (o w : ℕ) (frame name : List ℕ) : Type 0 where
+  pub before : List Event
+  pub bytes : List ℕ
+  pub later : List Event
+  pub split : es ≡ before ++ event.Heard o w bytes ∷ later
+  pub session : SessionHistory
+  pub stands : session_of (reached config before) o w ≡ Some session
+  pub is_up : session.down ≡ false
+  pub value : List ℕ
+  pub place : ℕ
+  pub ended : slice_get (values_of (newly_heard session bytes)) place ≡ Some value
+  pub names : ack_name value ≡ Some name
+  pub sent : WasSent config before o w frame
+
+-- the entries of a connection's request, as an output has them
+abbrev pub cells_from : ℕ → ℕ → List Cell → List Cell
+cells_from id r cells = filter (λ c. (c.origin.conn == id) && (c.origin.request == r)) cells
+
+-- the frame of all entries under a number and a tag
+abbrev pub whole_frame : Config → ℕ → List ℕ → List Cell → ℕ → List ℕ
+whole_frame config o tag cells number = chunk_frame tag (map (λ c. c.entry) (cells_at number cells)) (chunk_name config.run o number)
+
+-- The request of number r of a connection, which numbers its requests from 1, was delivered by an output: the output has
+-- its entries, all, unchanged and in order, under its tag; each number that they have is acknowledged; and a worker's
+-- session was loaded with the frame of all entries under that number and the tag, the link took it to the last byte, and
+-- then the server named it.
+pub record IsDelivered (config : Config) (es : List Event) (id r o : ℕ) : Type 0 where
+  pub source : SourceHistory
+  pub stands : source_at id (reached config es).connections ≡ Some source
+  pub place : ℕ
+  pub number : r ≡ place + 1
+  pub request : Request
+  pub asked : slice_get (judged source).requests place ≡ Some request
+  pub route : o ≡ 0
+  pub lane : Lane
+  pub here : slice_get (reached config es).lanes o ≡ Some lane
+  pub entries : map (λ c. c.entry) (cells_from id r lane.output.cells) ≡ request.entries
+  pub tags : list_all (λ c. bytes_eq c.tag request.tag) (cells_from id r lane.output.cells) ≡ true
+  pub settled : (k : ℕ) → has_cell k (cells_from id r lane.output.cells) ≡ true → has_number k lane.output.acknowledged ≡ true
+  pub sent : (k : ℕ) → has_cell k (cells_from id r lane.output.cells) ≡ true →
+      (w : ℕ) × WasAcknowledged config es o w (whole_frame config o request.tag lane.output.cells k) (chunk_name config.run o k)
+
+-- among the events, the connection was told that the request's entries were all acknowledged
+pub record IsTold (config : Config) (es : List Event) (id r o : ℕ) : Type 0 where
+  pub before : List Event
+  pub numbers : List ℕ
+  pub out : List ℕ
+  pub later : List Event
+  pub split : es ≡ before ++ event.Collect id o ∷ later
+  pub told : answer_to (reached config before) (event.Collect id o) ≡ answer.Told numbers out
+  pub among : has_number r numbers ≡ true
