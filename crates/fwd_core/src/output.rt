@@ -80,8 +80,8 @@ impl OutputState {
         }
     }
 
-    /// Enters a request: its entries take the next unused number, and its tag's old number is closed. A request
-    /// without entries changes nothing but the moment (milliseconds). On an error nothing has changed.
+    /// Enters a request at a moment (milliseconds): its entries take the next unused number, and its tag's old number
+    /// is closed. A request without entries takes no number and closes none. On an error nothing has changed.
     #[tactic(auto, unfolding(fwd_model::specs::LiveStep::output_enters))]
     pub fn admit(
         &mut self,
