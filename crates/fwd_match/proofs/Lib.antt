@@ -1,0 +1,7 @@
+mod Examples
+mod Cuts
+mod Pairs
+mod Spellings
+mod Verdicts
+mod Matchings
+mod Tries

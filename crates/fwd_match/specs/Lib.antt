@@ -1,0 +1,4 @@
+pub mod Patterns
+pub mod Verdicts
+pub mod Marks
+pub mod Steps

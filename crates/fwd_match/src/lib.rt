@@ -1,0 +1,19 @@
+//! Match patterns and routes: which output an event goes to, by its tag (Fluentd's documentation on match patterns).
+#![tactic(auto)]
+
+mod braces;
+mod fault;
+mod fields;
+mod matching;
+mod pattern;
+mod routes;
+mod spelling;
+mod stars;
+mod text;
+
+pub use fault::PatternFault;
+pub use pattern::Pattern;
+pub use routes::Routes;
+
+#[cfg(test)]
+mod tests;
