@@ -7,6 +7,7 @@ pub mod History
 pub mod Openings
 pub mod Parts
 pub mod Places
+pub mod Plains
 pub mod Rows
 pub mod Seen
 pub mod Shortest

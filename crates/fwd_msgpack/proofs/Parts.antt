@@ -1,5 +1,5 @@
 -- A whole value has a head, and the members of an array or a map stand in a row behind it.
-use Rattle.std.proofs.Common.{◌≡◌, ℕ, zero, suc, ◌+◌, ◌-◌, ◌≤◌, Bool, cond, List, [], ◌∷◌, ◌++◌, length, take, drop, Option, Some, None, refl, sym, ap, subst, ◌∙◌, arith, zero-add}
+use Rattle.std.proofs.Common.{◌≡◌, ℕ, zero, suc, ◌+◌, ◌-◌, ◌<◌, ◌≤◌, Bool, cond, List, [], ◌∷◌, ◌++◌, length, take, drop, Option, Some, None, refl, sym, ap, subst, ◌∙◌, arith, zero-add}
 use Rattle.std.proofs.lemmas.Bool.{lt-ltb, le-ltb}
 use Rattle.std.proofs.lemmas.List.{length-append, length-drop, drop_at}
 use Rattle.fwd_msgpack.specs.declared.fault.ScanFault.{ScanFault}
@@ -10,8 +10,8 @@ use Rattle.fwd_msgpack.specs.Heads.{IsWithin, reading_of, payload, members}
 use Rattle.fwd_msgpack.specs.Scans.{Verdict, Whole, Short, Bad, InHead, InPayload, State, Going, Ended, value_ended, payload_ended, item_begun, fault_at, unless_faulty, head_found, verdict_of, start, first_of, whole_len, split_of, rest_of, values_of, row_of_values, most_bytes, most_deep, parts_read, parts_of, IsWhole, IsRow}
 use Rattle.fwd_msgpack.proofs.Fronts.{scanned, scanned-Ended, scanned-Failed, answer_short, answer_reserved, head_scanned, reading_within, ended_shut, ended_opened}
 use Rattle.fwd_msgpack.proofs.Solo.{solo}
-use Rattle.fwd_msgpack.proofs.Wholes.{scanned-append, state_whole}
-use Rattle.fwd_msgpack.proofs.Rows.{split_first, rest_front, values_front}
+use Rattle.fwd_msgpack.proofs.Wholes.{scanned-append, state_whole, Front-from}
+use Rattle.fwd_msgpack.proofs.Rows.{split_first, rest_front, values_front, row_starts, row_of_nothing, Nonempty-from}
 
 len_whole : (v : Verdict) (n : ℕ) → whole_len v ≡ Some n → v ≡ Whole n
 len_whole (Whole m) n e = cc
@@ -127,3 +127,31 @@ parts_by bytes read.Reserved head body h whole e p = absurd cc
 pub parts_row : (bytes : List ℕ) (head : Head) (body : List ℕ) → IsWhole bytes → parts_of bytes ≡ Some (head, body) → payload head ≡ 0 → RowOf (members head) body
 unfolding parts_of
 parts_row bytes head body whole e p = parts_by bytes (reading_of bytes) head body refl whole e p
+
+-- a row of no values has no bytes
+nothing_left : (bytes : List ℕ) → IsRow bytes → length (row_of_values bytes) ≡ 0 → (n : ℕ) → length bytes ≡ n → length bytes ≡ 0
+nothing_left bytes row none zero e = e
+nothing_left bytes row none (suc n) e =
+    let starts = row_starts bytes row (omega arith) in
+    let split = Nonempty-from bytes starts.0 row starts.1 in
+    absurd (omega (arith, ap length split.values))
+
+some_by : (bytes : List ℕ) (n : ℕ) → length bytes ≡ n → 0 < length (row_of_values bytes) → 0 < length bytes
+some_by bytes zero e lt = absurd (omega (arith, ap length (row_of_nothing bytes e)))
+some_by bytes (suc n) e lt = omega arith
+
+-- a row of some values has some bytes
+pub some_row : (bytes : List ℕ) → 0 < length (row_of_values bytes) → 0 < length bytes
+some_row bytes lt = some_by bytes (length bytes) refl lt
+
+-- the only value of a row is the whole row
+pub last_first : (bytes : List ℕ) → IsRow bytes → 1 ≡ length (row_of_values bytes) → first_of most_bytes most_deep bytes ≡ Whole (length bytes)
+last_first bytes row one =
+    let some : 0 < length bytes = some_row bytes (omega arith) in
+    let starts = row_starts bytes row some in
+    let n = starts.0 in
+    let split = Nonempty-from bytes n row starts.1 in
+    let front = Front-from most_bytes most_deep most_bytes most_deep (omega arith) (omega arith) bytes n starts.1 in
+    let none : length (row_of_values (drop n bytes)) ≡ 0 = omega (arith, ap length split.values) in
+    let ends = nothing_left (drop n bytes) split.rest none (length (drop n bytes)) refl in
+    starts.1 ∙ ap Whole (omega (arith, front.within, length-drop n bytes, ends))

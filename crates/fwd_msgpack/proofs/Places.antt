@@ -1,7 +1,7 @@
 -- A stack in an array: its length, its sum, and what a write does to it.
 use Rattle.std.proofs.Common.{◌≡◌, ℕ, zero, suc, ◌+◌, ◌-◌, ◌<◌, ◌≤◌, List, ◌∷◌, length, sum, Some, refl, ap, arith, slice_index, slice_set, get_or-set_other, get_or-set_same, add-one, sub-one}
 use Rattle.std.proofs.lemmas.List.Sums.{sum_by-cons}
-use Rattle.fwd_msgpack.specs.Stacks.{from_last}
+use Rattle.fwd_msgpack.specs.Stacks.{from_last, less_by}
 use Rattle.fwd_msgpack.specs.Scans.{after_value}
 
 pub sum-cons : (x : ℕ) (xs : List ℕ) → sum (x ∷ xs) ≡ x + sum xs
@@ -37,3 +37,8 @@ from_last-set_top (suc n) xs x lt le = rw (sub-one, get_or-set_same xs n x 0 (om
 pub after_value-lacking : (lacking : ℕ) (stack : List ℕ) → 0 < lacking → after_value (lacking ∷ stack) ≡ Some ((lacking - 1) ∷ stack)
 after_value-lacking zero stack lt = absurd (omega arith)
 after_value-lacking (suc lacking) stack lt = rw sub-one refl
+
+-- where nothing is open nothing ends
+pub empty_less : (items n : ℕ) (xs : List ℕ) → n ≤ 0 → from_last n xs ≡ less_by items (from_last n xs)
+empty_less items zero xs le = refl
+empty_less items (suc n) xs le = absurd (omega arith)

@@ -89,6 +89,14 @@ module _ (limit deep : ℕ) where
   unfolding split_of
   stream_at bytes = at_end [] (Open [] []) bytes ([], (InHead [], record { joined = refl; each = tt; at = refl }))
 
+  values_by : (bytes : List ℕ) (split : Split) → IsAt bytes split → AllByRecursion (IsWithinLimits limit deep) (values_of split)
+  values_by bytes (Open values rest) a = a.1.1.each
+  values_by bytes (Broken values fault) a = a.1.each
+
+  -- the values of a stream are within the limits
+  pub values_within : (bytes : List ℕ) → AllByRecursion (IsWithinLimits limit deep) (values_of (split_of limit deep bytes))
+  values_within bytes = values_by bytes (split_of limit deep bytes) (stream_at bytes)
+
   -- the stream is what it is split into
   pub stream_is : (bytes : List ℕ) → AreBytes bytes → IsStream limit deep bytes (split_of limit deep bytes)
   stream_is bytes are = stream_by bytes (split_of limit deep bytes) are (stream_at bytes)

@@ -1,5 +1,5 @@
 -- One turn of the loop over items, at a place of the bytes.
-use Rattle.std.proofs.Common.{◌≡◌, ℕ, ◌+◌, ◌-◌, ◌<◌, ◌≤◌, List, [], ◌∷◌, length, take, drop, Option, Some, None, sym, ap, ◌∙◌, arith}
+use Rattle.std.proofs.Common.{◌≡◌, ℕ, ◌+◌, ◌-◌, ◌<◌, ◌≤◌, List, [], ◌∷◌, length, sum, take, drop, Option, Some, None, refl, sym, ap, ◌∙◌, arith, zero-add}
 use Rattle.std.proofs.lemmas.Bool.{lt-ltb, le-ltb}
 use Rattle.std.proofs.lemmas.List.{take_rest, drop-drop, length-drop}
 use Rattle.fwd_msgpack.specs.declared.fault.ScanFault.{ScanFault}
@@ -8,7 +8,11 @@ use Rattle.fwd_msgpack.specs.declared.head.Head.{Head}
 use Rattle.fwd_msgpack.specs.declared.head.HeadRead.{HeadRead}
 use Rattle.fwd_msgpack.specs.declared.head.HeadRead.TheVariants as read
 use Rattle.fwd_msgpack.specs.Heads.{reading_of, payload, members}
-use Rattle.fwd_msgpack.specs.Scans.{Verdict, Whole, Short, Bad, State, Going, InHead, after_value, goes_on, payload_ended, fault_at, verdict_of}
+use Rattle.fwd_msgpack.specs.Plain.{plain_len, AreMembers}
+use Rattle.fwd_msgpack.proofs.Plains.{ReadsPlain-from, no_members, shut_good}
+use Rattle.fwd_msgpack.specs.Stacks.{innermost, less_by}
+use Rattle.fwd_msgpack.proofs.Places.{sum-cons}
+use Rattle.fwd_msgpack.specs.Scans.{first_of, found_behind, Verdict, Whole, Short, Bad, State, Going, InHead, after_value, goes_on, payload_ended, fault_at, verdict_of}
 use Rattle.fwd_msgpack.proofs.Fronts.{answer, scanned, answer_short, answer_reserved, answer_fault, answer_payload, item_scanned, ended_shut, ended_opened, scanned-Ended}
 
 -- the reading of the bytes from a place on
@@ -52,3 +56,50 @@ module _ (limit deep : ℕ) (bytes : List ℕ) (used : ℕ) (stack : List ℕ) (
       pub whole_here : members head ≤ 0 → after_value stack ≡ None → Whole (used + n + payload head) ≡ total
       whole_here le e =
           sym (ap verdict_of (ended_here le ∙ ap (λ (o : Option (List ℕ)). scanned limit deep (goes_on (used + n + payload head) o) (drop (used + n + payload head) bytes)) e ∙ scanned-Ended limit deep (used + n + payload head) (drop (used + n + payload head) bytes))) ∙ same
+
+module _ (limit deep : ℕ) (bytes : List ℕ) (used : ℕ) (stack : List ℕ) (total : Verdict) (same : answer limit deep used stack (drop used bytes) ≡ total)
+    (size : ℕ) (plain : plain_len (reading_of (take (length bytes - used) (drop used bytes))) ≡ Some size) (inside : used + size ≤ length bytes) (fits : used + size + sum stack ≤ limit) where
+  -- behind a plain item in an open container
+  pub next_plain : (next : List ℕ) → after_value stack ≡ Some next → answer limit deep (used + size) next (drop (used + size) bytes) ≡ total
+  next_plain next e =
+      let p = ReadsPlain-from (take (length bytes - used) (drop used bytes)) size plain in
+      let none = no_members p.head p.shut in
+      let len = p.len in
+      let good = shut_good limit deep (used + p.n) stack p.head p.shut (omega arith) in
+      let le : payload p.head ≤ length bytes - (used + p.n) = omega arith in
+      let at : used + p.n + payload p.head ≡ used + size = omega arith in
+      ap (λ (k : ℕ). answer limit deep k next (drop k bytes)) (sym at)
+      ∙ next_here limit deep bytes used stack total same p.head p.n p.reads good le none next e
+
+  -- a plain item that is the last
+  pub whole_plain : after_value stack ≡ None → Whole (used + size) ≡ total
+  whole_plain e =
+      let p = ReadsPlain-from (take (length bytes - used) (drop used bytes)) size plain in
+      let none = no_members p.head p.shut in
+      let len = p.len in
+      let good = shut_good limit deep (used + p.n) stack p.head p.shut (omega arith) in
+      let le : payload p.head ≤ length bytes - (used + p.n) = omega arith in
+      let at : used + p.n + payload p.head ≡ used + size = omega arith in
+      ap Whole (sym at) ∙ whole_here limit deep bytes used stack total same p.head p.n p.reads good le none e
+
+-- behind members of the innermost container
+pub behind_members : (limit deep : ℕ) (bytes : List ℕ) (used : ℕ) (stack : List ℕ) (items len : ℕ) → AreMembers (take (length bytes - used) (drop used bytes)) items len → items ≤ innermost stack → (items ≡ 0 → len ≡ 0)
+    → used + len + sum stack ≤ limit → found_behind limit deep (used + len) (less_by items stack) bytes ≡ found_behind limit deep used stack bytes
+behind_members limit deep bytes used [] items len are most none fits =
+    let zero_len = none (omega arith) in
+    let at : used + len ≡ used = omega arith in
+    ap (λ (k : ℕ). found_behind limit deep k [] bytes) at
+behind_members limit deep bytes used (lacking ∷ stack) items len are most none fits =
+    let all = take_rest bytes used in
+    let total = sum-cons lacking stack in
+    sym (ap (λ (xs : List ℕ). answer limit deep used (lacking ∷ stack) xs) (sym all)
+    ∙ ap verdict_of (are limit deep used lacking stack most (omega arith))
+    ∙ ap (λ (xs : List ℕ). answer limit deep (used + len) ((lacking - items) ∷ stack) (drop len xs)) all
+    ∙ ap (λ (xs : List ℕ). answer limit deep (used + len) ((lacking - items) ∷ stack) xs) (drop-drop len used bytes))
+
+-- a plain item at the front is the first value
+pub plain_first : (limit deep : ℕ) (bytes : List ℕ) (size : ℕ) → plain_len (reading_of bytes) ≡ Some size → size ≤ length bytes → size ≤ limit → first_of limit deep bytes ≡ Whole size
+unfolding first_of
+plain_first limit deep bytes size plain inside fits =
+    let here = ap (λ (xs : List ℕ). plain_len (reading_of xs)) (take_rest bytes 0) ∙ plain in
+    sym (ap Whole (sym (zero-add size)) ∙ whole_plain limit deep bytes 0 [] (first_of limit deep bytes) refl size here (omega arith) (omega arith) refl)

@@ -1,6 +1,7 @@
 pub mod Cuts
 pub mod Extents
 pub mod Heads
+pub mod Plain
 pub mod Scans
 pub mod Stacks
 pub mod Streams

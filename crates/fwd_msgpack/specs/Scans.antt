@@ -1,10 +1,10 @@
 -- The first value of a stream of bytes, or the first fault, as a fold over the bytes; and what a whole value consists of.
-use Rattle.std.specs.Prelude.{◌≡◌, ℕ, zero, suc, ◌+◌, ◌-◌, ◌&&◌, Bool, if◌then◌else◌, nat_lt, nat_le, List, [], ◌∷◌, ◌++◌, length, drop, fold, sum, Option, Some, None, option_and_then}
+use Rattle.std.specs.Prelude.{◌≡◌, ℤ, ℕ, zero, suc, ◌+◌, ◌-◌, ◌&&◌, Bool, if◌then◌else◌, nat_lt, nat_le, List, [], ◌∷◌, ◌++◌, length, drop, fold, sum, Option, Some, None, option_and_then}
 use Rattle.std.specs.Option.{option_map}
 use Rattle.fwd_msgpack.specs.declared.fault.ScanFault.{ScanFault}
 use Rattle.fwd_msgpack.specs.declared.fault.ScanFault.TheVariants.{Reserved, TooDeep, TooLong}
 use Rattle.fwd_msgpack.specs.declared.head.Head.{Head}
-use Rattle.fwd_msgpack.specs.declared.head.Head.TheVariants.{Int, Str, Bin, Arr, Map}
+use Rattle.fwd_msgpack.specs.declared.head.Head.TheVariants.{Int, Str, Bin, Arr, Map, Ext}
 use Rattle.fwd_msgpack.specs.declared.head.HeadRead.{HeadRead}
 use Rattle.fwd_msgpack.specs.declared.head.HeadRead.TheVariants as read
 use Rattle.fwd_msgpack.specs.Heads.{reading_of, payload, members, opens}
@@ -96,6 +96,10 @@ start = Going 0 [] (InHead [])
 unfoldable pub first_of : (limit deep : ℕ) → List ℕ → Verdict
 first_of limit deep bytes = verdict_of (fold (scan_byte limit deep) start bytes)
 
+-- what a scan finds in the end that stands behind the first used bytes, where an item begins inside these containers
+abbrev pub found_behind : (limit deep used : ℕ) → List ℕ → List ℕ → Verdict
+found_behind limit deep used stack bytes = verdict_of (fold (scan_byte limit deep) (Going used stack (InHead [])) (drop used bytes))
+
 -- A stream so far: the values, and the bytes behind the last one; or the values before the first fault, and the fault.
 pub data Split : Type 0 where
   Open : (values : List (List ℕ)) (rest : List ℕ) → Split
@@ -180,6 +184,14 @@ text_in _ body = None
 -- the payload of a whole value that is a str or a bin
 abbrev pub text_of : List ℕ → Option (List ℕ)
 text_of bytes = option_and_then (λ parts. text_in parts.0 parts.1) (parts_of bytes)
+
+abbrev pub ext_in : Head → List ℕ → Option (ℤ × List ℕ)
+ext_in (Ext kind len) body = Some (kind, body)
+ext_in _ body = None
+
+-- the type and the payload of a whole value that is an extension
+abbrev pub ext_of : List ℕ → Option (ℤ × List ℕ)
+ext_of bytes = option_and_then (λ parts. ext_in parts.0 parts.1) (parts_of bytes)
 
 abbrev pub integer_in : Head → Option (Bool × ℕ)
 integer_in (Int neg mag) = Some (neg, mag)

@@ -1,5 +1,5 @@
 -- Which bytes are a value, and what borrowed values and their iterators show.
-use Rattle.std.specs.Prelude.{◌≡◌, ◌⊎◌, ℕ, zero, suc, true, false, List, [], ◌++◌, length, Option, Some, None}
+use Rattle.std.specs.Prelude.{◌≡◌, ◌⊎◌, ℤ, ℕ, zero, suc, true, false, List, [], ◌++◌, length, Option, Some, None}
 use Rattle.std.specs.Borrow.{Bor}
 use Rattle.fwd_msgpack.specs.declared.value.Value.{Value}
 use Rattle.fwd_msgpack.specs.declared.members.Members.{Members}
@@ -59,3 +59,8 @@ pairs_left pairs = pair_up (members_left pairs.members)
 abbrev pub text_shown : Option (Bor (List ℕ)) → Option (List ℕ)
 text_shown None = None
 text_shown (Some text) = Some text.now
+
+-- the type and the bytes of an extension, if there is one
+abbrev pub ext_shown : Option (ℤ × Bor (List ℕ)) → Option (ℤ × List ℕ)
+ext_shown None = None
+ext_shown (Some ext) = Some (ext.0, ext.1.now)

@@ -7,6 +7,7 @@ mod head;
 mod laws;
 mod limits;
 mod members;
+mod plain;
 mod scan;
 mod seq;
 mod stack;

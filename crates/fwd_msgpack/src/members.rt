@@ -1,17 +1,20 @@
 //! The values in an array or a map, one after the other.
 
-ghost use Rattle.std.specs.Prelude.{◌≡◌};
-ghost use Rattle.fwd_msgpack.specs.Scans.{IsRow};
+ghost use Rattle.std.specs.Prelude.{◌≡◌, ◌<◌, length};
+ghost use Rattle.fwd_msgpack.specs.Scans.{Whole, IsRow, row_of_values, first_of, most_bytes, most_deep};
 ghost use Rattle.std.proofs.Props.{props};
 
 use crate::cutting::cut;
 use crate::limits::Limits;
+use crate::plain::plain_item;
 use crate::value::{Cut, Value};
 
 /// The values that stand in a row, from the first.
 #[derive(Clone, Copy, Debug)]
 pub struct Members<'a> {
     pub(crate) rest: &'a [u8],
+    pub(crate) left: u64,
+    ghost count: { left ≡ length (row_of_values rest.now) },
     ghost row: { IsRow rest.now } by { Prim.hlevel props },
 }
 
@@ -26,15 +29,34 @@ impl<'a> Iterator for Members<'a> {
     ghost remaining = { item_count members_left };
 
     fn next(&mut self) -> Option<Value<'a>> {
-        let rest = self.rest;
-        if rest.is_empty() {
+        if self.left == 0 {
             return None;
         }
-        let Cut::Whole(value, used) = cut(rest, Limits::WIDEST) else {
-            unreachable!()
-        };
-        self.rest = &rest[used..];
-        Some(value)
+        let used = first_len(self.rest, self.left);
+        let (bytes, rest) = self.rest.split_at(used);
+        self.rest = rest;
+        self.left -= 1;
+        Some(Value { bytes })
+    }
+}
+
+/// How many bytes the first of so many values in a row takes. The last one is all that is left, and is not scanned again.
+#[inline(always)]
+fn first_len(row: &[u8], values: u64) -> usize
+    requires row { IsRow row.now }
+    requires count { values ≡ length (row_of_values row.now) }
+    requires some { 0 < values }
+    ensures { first_of most_bytes most_deep row.now ≡ Whole result }
+{
+    if values == 1 {
+        return row.len();
+    }
+    if let Some(size) = plain_item(row, row.len().min(u32::MAX as usize)) {
+        return size;
+    }
+    match cut(row, Limits::WIDEST) {
+        Cut::Whole(_, used) => used,
+        _ => unreachable!(),
     }
 }
 

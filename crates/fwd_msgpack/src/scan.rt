@@ -1,12 +1,13 @@
 //! How far the first value of some bytes reaches.
 
-ghost use Rattle.std.specs.Prelude.{◌≡◌, ◌<◌, ◌^◌, sum};
-ghost use Rattle.fwd_msgpack.specs.Scans.{first_of, fault_at};
+ghost use Rattle.std.specs.Prelude.{◌≡◌, ◌+◌, ◌≤◌, ◌<◌, ◌^◌, length, sum};
+ghost use Rattle.fwd_msgpack.specs.Scans.{first_of, fault_at, found_behind};
 ghost use Rattle.fwd_msgpack.specs.Extents.{verdict_shown};
 
 use crate::fault::ScanFault;
 use crate::head::{Head, HeadRead, read_head};
 use crate::limits::Limits;
+use crate::plain::{plain_item, plain_items};
 use crate::stack::Stack;
 
 /// How far the first value of some bytes reaches.
@@ -27,6 +28,14 @@ pub fn extent_of(bytes: &[u8], limits: Limits) -> Extent
     let mut stack = Stack::new();
     let mut used = 0;
     loop {
+        used = skip_members(bytes, used, &mut stack, limits);
+        if let Some(size) = plain_item(&bytes[used..], room_at(bytes, used, &stack, limits)) {
+            used += size;
+            if stack.end_value() {
+                continue;
+            }
+            return Extent::Whole(used);
+        }
         let (head, len) = match read_head(&bytes[used..]) {
             HeadRead::Whole(head, len) => (head, len),
             HeadRead::Short => return Extent::Short,
@@ -47,6 +56,37 @@ pub fn extent_of(bytes: &[u8], limits: Limits) -> Extent
             return Extent::Whole(used);
         }
     }
+}
+
+/// Goes over the members of the innermost container whose first bytes say their sizes, but its last one. Where the next
+/// item begins.
+#[inline(always)]
+fn skip_members(bytes: &[u8], used: usize, stack: &mut Stack, limits: Limits) -> usize
+    requires inside { used ≤ length bytes.now }
+    requires fits { used + sum stack.old ≤ limits.bytes }
+    ensures same { found_behind limits.bytes limits.depth result stack.new bytes.now ≡ found_behind limits.bytes limits.depth used stack.old bytes.now }
+    ensures opened { length stack.new ≡ length stack.old }
+    ensures inside { result ≤ length bytes.now }
+    ensures fits { result + sum stack.new ≤ limits.bytes }
+    ensures onward { used ≤ result }
+{
+    let room = room_at(bytes, used, stack, limits);
+    let (items, len) = plain_items(&bytes[used..], stack.innermost(), room);
+    stack.end_values(items);
+    used + len
+}
+
+/// How many bytes an item behind the first `used` bytes may have: what there is, and what the limit leaves behind all that
+/// is owed.
+#[inline(always)]
+fn room_at(bytes: &[u8], used: usize, stack: &Stack, limits: Limits) -> usize
+    requires inside { used ≤ length bytes.now }
+    requires fits { used + sum stack.now ≤ limits.bytes }
+    ensures inside { used + result ≤ length bytes.now }
+    ensures fits { used + result + sum stack.now ≤ limits.bytes }
+{
+    let left = u64::from(limits.bytes) - used as u64 - stack.owed();
+    (bytes.len() - used).min(left as usize)
 }
 
 /// What is wrong with a complete head, if anything is, where `used` bytes end with it.

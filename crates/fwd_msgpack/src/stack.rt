@@ -2,6 +2,7 @@
 
 ghost use Rattle.std.specs.Prelude.{◌≡◌, ◌+◌, ◌<◌, ◌≤◌, ◌^◌, [], ◌∷◌, length, sum, Some, None, if◌then◌else◌};
 ghost use Rattle.fwd_msgpack.specs.Scans.{after_value};
+ghost use Rattle.fwd_msgpack.specs.Stacks.{innermost, less_by};
 
 use std::marker::Model;
 
@@ -52,6 +53,30 @@ impl Stack {
         ensures { result ≡ sum self.now }
     {
         self.owed
+    }
+
+    /// How many members the innermost container lacks after the one in progress; 0 where none is open.
+    #[inline(always)]
+    pub fn innermost(&self) -> u32
+        ensures { result ≡ innermost self.now }
+    {
+        if self.depth > 0 {
+            self.lacking[self.depth - 1]
+        } else {
+            0
+        }
+    }
+
+    /// Ends so many values in the innermost container, which goes on behind them.
+    #[inline(always)]
+    pub fn end_values(&mut self, items: u32)
+        requires { items ≤ innermost self.old }
+        ensures { self.new ≡ less_by items self.old }
+    {
+        if self.depth > 0 {
+            self.lacking[self.depth - 1] -= items;
+            self.owed -= u64::from(items);
+        }
     }
 
     /// Opens a container that lacks so many members after its first.

@@ -20,8 +20,8 @@ impl<'a> Value<'a> {
     ghost use Rattle.std.specs.Prelude.{Some, IfSome, ◌+◌, ◌<◌, ◌^◌, length};
     ghost use Rattle.std.specs.List.{concat};
     ghost use Rattle.std.specs.Option.{option_map};
-    ghost use Rattle.fwd_msgpack.specs.Scans.{parts_of, head_of, elements_of, pairs_of, text_of, integer_of};
-    ghost use Rattle.fwd_msgpack.specs.Values.{bytes_of, members_left, pairs_left, text_shown};
+    ghost use Rattle.fwd_msgpack.specs.Scans.{parts_of, head_of, elements_of, pairs_of, text_of, ext_of, integer_of};
+    ghost use Rattle.fwd_msgpack.specs.Values.{bytes_of, members_left, pairs_left, text_shown, ext_shown};
 
     /// The value's bytes, all of them.
     #[inline(always)]
@@ -35,7 +35,8 @@ impl<'a> Value<'a> {
     /// The value's head, and the bytes behind it.
     #[inline(always)]
     fn parts(self) -> (Head, &'a [u8])
-        ensures { parts_of (bytes_of self.entry) ≡ Some (result.0, result.1.now) }
+        ensures value { parts_of (bytes_of self.entry) ≡ Some (result.0, result.1.now) }
+        ensures within { length result.1.now < length (bytes_of self.entry) }
     {
         match read_head(self.bytes) {
             HeadRead::Whole(head, used) => (head, &self.bytes[used..]),
@@ -54,10 +55,14 @@ impl<'a> Value<'a> {
     /// The members of an array, or nothing for another kind.
     pub fn items(self) -> Option<Members<'a>>
         ensures value { option_map members_left result ≡ elements_of (bytes_of self.entry) }
+        ensures within { IfSome result (λ m. length (concat (members_left m)) < length (bytes_of self.entry)) }
         ensures bound { IfSome result (λ m. length (concat (members_left m)) + 1 < 2 ^ 32) }
     {
         match self.parts() {
-            (Head::Arr(_), rest) => Some(Members { rest }),
+            (Head::Arr(n), rest) => Some(Members {
+                rest,
+                left: u64::from(n),
+            }),
             _ => None,
         }
     }
@@ -67,19 +72,34 @@ impl<'a> Value<'a> {
         ensures { option_map pairs_left result ≡ pairs_of (bytes_of self.entry) }
     {
         match self.parts() {
-            (Head::Map(_), rest) => Some(Pairs {
-                members: Members { rest },
+            (Head::Map(n), rest) => Some(Pairs {
+                members: Members {
+                    rest,
+                    left: 2 * u64::from(n),
+                },
             }),
             _ => None,
         }
     }
 
     /// The payload of a str or a bin, or nothing for another kind.
+    #[tactic(auto, using(crate::proofs::Bounds::whole_bounded))]
     pub fn text(self) -> Option<&'a [u8]>
-        ensures { text_shown result ≡ text_of (bytes_of self.entry) }
+        ensures value { text_shown result ≡ text_of (bytes_of self.entry) }
+        ensures bound { IfSome result (λ text. length text.now < 2 ^ 32) }
     {
         match self.parts() {
             (Head::Str(_) | Head::Bin(_), text) => Some(text),
+            _ => None,
+        }
+    }
+
+    /// The type and the payload of an extension, or nothing for another kind.
+    pub fn ext(self) -> Option<(i8, &'a [u8])>
+        ensures { ext_shown result ≡ ext_of (bytes_of self.entry) }
+    {
+        match self.parts() {
+            (Head::Ext { kind, .. }, body) => Some((kind, body)),
             _ => None,
         }
     }

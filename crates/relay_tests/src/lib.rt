@@ -4,8 +4,12 @@
 #[cfg(test)]
 mod first_path;
 #[cfg(test)]
+mod msgpack_values;
+#[cfg(test)]
 mod relay;
 #[cfg(test)]
 mod scripts;
+#[cfg(test)]
+mod spellings;
 #[cfg(test)]
 mod way_back;

@@ -10,8 +10,8 @@ unreachable-requires c =
     let found = whole_head bytes c.args.self.whole in
     c.in_default.not-Whole found.0 found.1.0 (c.read_head.ensures.head ∙ found.1.1)
 
-pub returns : goal.returns
+pub returns-clause-value : goal.returns-clause-value
 unfolding parts_of
-returns c =
+returns-clause-value c =
     let bytes = c.args.self.bytes.now in
     rw (take_rest bytes c.in-Whole.used) (ap (λ r. parts_read r bytes) (sym c.read_head.ensures.head ∙ c.in-Whole.is))
