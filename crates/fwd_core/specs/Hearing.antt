@@ -17,7 +17,7 @@ shown h = record { requests = h.requests.items; rest = h.rest.items; fault = h.f
 -- what comes next says what the bytes say, however many requests came before
 abbrev pub IsNext : List ℕ → Next → Type 0
 IsNext bytes (next.Value value behind) =
-    (length behind.now < length bytes) × ((n : ℕ) → judged_of n bytes ≡ value_then n (request_of (bytes_of value)) (λ k. judged_of k behind.now))
+    (length behind.now < length bytes) × ((n : ℕ) → judged_of n bytes ≡ value_then n (request_of 64 (bytes_of value)) (λ k. judged_of k behind.now))
 IsNext bytes next.Unfinished = (n : ℕ) → judged_of n bytes ≡ resting bytes
 IsNext bytes (next.Fault fault) = (n : ℕ) → judged_of n bytes ≡ failed (Scan fault)
 

@@ -116,7 +116,7 @@ pub fn entered(
     };
     Ok(Entered {
         origin,
-        spans: spans_of(alloc, batch.entries().len(), number)?,
+        spans: spans_of(alloc, batch.len(), number)?,
         chunk,
     })
 }

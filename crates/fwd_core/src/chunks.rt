@@ -29,10 +29,10 @@ pub fn new_cells(
     ensures { IfOk result (λ cells. cells.items ≡ cells_of batch.now origin number moment) }
 {
     let mut cells = Vec::new(alloc);
-    for entry in batch.entries() {
+    for entry in batch.iter() {
         cells.push(Cell {
             tag: Bytes::from_slice(alloc, batch.tag())?,
-            entry: Bytes::from_slice(alloc, entry.as_slice())?,
+            entry: Bytes::from_slice(alloc, entry)?,
             origin,
             number,
             moment,

@@ -61,10 +61,10 @@ fn take_in(
     value: Value<'_>,
 ) -> Result<Option<SourceFault>, AllocError>
     requires { count + length requests.old.items < 2 ^ 64 }
-    ensures value { IfOk result (λ fault. TakesIn requests.old.items requests.new.items count (request_of (bytes_of value.entry)) fault) }
+    ensures value { IfOk result (λ fault. TakesIn requests.old.items requests.new.items count (request_of 64 (bytes_of value.entry)) fault) }
     ensures room { count + length requests.new.items < 2 ^ 64 }
 {
-    match read_request(alloc, value)? {
+    match read_request(alloc, value, limits())? {
         Reading::Heartbeat => Ok(None),
         Reading::Fails(fault) => Ok(Some(SourceFault::Input(fault))),
         Reading::Asks(batch) => {

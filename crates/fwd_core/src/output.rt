@@ -96,7 +96,7 @@ impl OutputState {
         ensures err { OnErr result (self.new ≡ self.old) }
     {
         let moment = self.moment.max(now);
-        if batch.entries().is_empty() {
+        if batch.is_empty() {
             let Ok(request) = book::entered(alloc, batch, origin, self.greatest) else {
                 return Err(AdmitError::Memory);
             };
@@ -128,7 +128,7 @@ impl OutputState {
         let Some(number) = self.greatest.checked_add(1) else {
             return Err(AdmitError::NumbersSpent);
         };
-        let Some(accepted) = self.accepted.checked_add(batch.entries().len() as u64) else {
+        let Some(accepted) = self.accepted.checked_add(batch.len() as u64) else {
             return Err(AdmitError::NumbersSpent);
         };
         let Ok(mut parts) = self.parts_of(alloc, origin, batch, number, moment) else {

@@ -343,7 +343,7 @@ fn admit_from(
         return Ok(Answer::Refused(Refusal::NotNow));
     }
     let request = source.number();
-    let entries = batch.entries().len();
+    let entries = batch.len();
     match lane.admit(alloc, Origin { conn, request }, batch, now) {
         Ok(()) => {
             source.give();

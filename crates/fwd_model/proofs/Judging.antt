@@ -29,7 +29,7 @@ value_joined n (Fails f) front all behind h e = absurd cc
 judge-append : (vs ws : List (List ℕ)) (rest : List ℕ) (end : Judged) (n : ℕ) → (judge n vs (resting rest)).fault ≡ None → judge n (vs ++ ws) end ≡ joined (judge n vs (resting rest)).requests (judge (n + length (judge n vs (resting rest)).requests) ws end)
 judge-append [] ws rest end n e = rw add-zero refl
 judge-append (v ∷ vs) ws rest end n e =
-    value_joined n (request_of v) (λ k. judge k vs (resting rest)) (λ k. judge k (vs ++ ws) end) (λ k. judge k ws end) (λ k f. judge-append vs ws rest end k f) e
+    value_joined n (request_of 64 v) (λ k. judge k vs (resting rest)) (λ k. judge k (vs ++ ws) end) (λ k. judge k ws end) (λ k f. judge-append vs ws rest end k f) e
 
 value_rests : (n : ℕ) (reading : Reading) (others : ℕ → Judged) (rest : List ℕ) → ((k : ℕ) → (others k).fault ≡ None → (others k).rest ≡ rest) → (value_then n reading others).fault ≡ None → (value_then n reading others).rest ≡ rest
 value_rests n Heartbeat others rest h e = h n e
@@ -42,7 +42,7 @@ value_rests n (Fails f) others rest h e = absurd cc
 
 rest-judge : (vs : List (List ℕ)) (rest : List ℕ) (n : ℕ) → (judge n vs (resting rest)).fault ≡ None → (judge n vs (resting rest)).rest ≡ rest
 rest-judge [] rest n e = refl
-rest-judge (v ∷ vs) rest n e = value_rests n (request_of v) (λ k. judge k vs (resting rest)) rest (λ k f. rest-judge vs rest k f) e
+rest-judge (v ∷ vs) rest n e = value_rests n (request_of 64 v) (λ k. judge k vs (resting rest)) rest (λ k f. rest-judge vs rest k f) e
 
 value_fails : (n : ℕ) (reading : Reading) (others : ℕ → Judged) → ((k : ℕ) → (others k).fault ≡ None → ⊥) → (value_then n reading others).fault ≡ None → ⊥
 value_fails n Heartbeat others h e = h n e
@@ -55,7 +55,7 @@ value_fails n (Fails f) others h e = cc
 
 judge-fails : (vs : List (List ℕ)) (fault : SourceFault) (n : ℕ) → (judge n vs (failed fault)).fault ≡ None → ⊥
 judge-fails [] fault n e = cc
-judge-fails (v ∷ vs) fault n e = value_fails n (request_of v) (λ k. judge k vs (failed fault)) (λ k f. judge-fails vs fault k f) e
+judge-fails (v ∷ vs) fault n e = value_fails n (request_of 64 v) (λ k. judge k vs (failed fault)) (λ k f. judge-fails vs fault k f) e
 
 stream-append : (n : ℕ) (s t : Split) (u : (rest : List ℕ) → Split) → (judge_stream n s).fault ≡ None → ((vs : List (List ℕ)) (rest : List ℕ) → s ≡ Open vs rest → t ≡ with_front vs (u rest))
     → judge_stream n t ≡ joined (judge_stream n s).requests (judge_stream (n + length (judge_stream n s).requests) (u (judge_stream n s).rest))
@@ -77,12 +77,12 @@ judged_of-append n a b e =
 
 -- ---- by the verdict on the front
 
-stream_front : (n : ℕ) (v : List ℕ) (s : Split) → judge_stream n (with_front (v ∷ []) s) ≡ value_then n (request_of v) (λ k. judge_stream k s)
+stream_front : (n : ℕ) (v : List ℕ) (s : Split) → judge_stream n (with_front (v ∷ []) s) ≡ value_then n (request_of 64 v) (λ k. judge_stream k s)
 stream_front n v (Open ws rest) = refl
 stream_front n v (Broken ws f) = refl
 
 -- a whole value at the front, and what comes after it
-pub judged_of-whole : (n : ℕ) (bytes : List ℕ) (used : ℕ) → first_of 16777216 64 bytes ≡ Whole used → judged_of n bytes ≡ value_then n (request_of (take used bytes)) (λ k. judged_of k (drop used bytes))
+pub judged_of-whole : (n : ℕ) (bytes : List ℕ) (used : ℕ) → first_of 16777216 64 bytes ≡ Whole used → judged_of n bytes ≡ value_then n (request_of 64 (take used bytes)) (λ k. judged_of k (drop used bytes))
 unfolding judged_of
 judged_of-whole n bytes used e =
     ap (judge_stream n) (split_first 16777216 64 bytes used e) ∙ stream_front n (take used bytes) (split_of 16777216 64 (drop used bytes))

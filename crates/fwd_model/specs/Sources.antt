@@ -41,7 +41,7 @@ value_then count reading others =
 abbrev pub judge : ℕ → List (List ℕ) → Judged → Judged
 judge count [] end = end
 judge count (v ∷ vs) end =
-    elim (request_of v) [
+    elim (request_of 64 v) [
       | Heartbeat ↦ judge count vs end
       | Asks r ↦ if nat_lt (count + 1) (2 ^ 64) then ahead r (judge (count + 1) vs end) else failed Closed
       | Fails f ↦ failed (Input f)

@@ -42,7 +42,7 @@ pub fn live_run_follows()
 
 /// What bytes say, by what stands at their front: a value, less than one, or a fault.
 pub fn judged_by_front()
-    ensures whole { (n : ℕ) (bytes : List ℕ) (used : ℕ) → first_of 16777216 64 bytes ≡ Whole used → judged_of n bytes ≡ value_then n (request_of (take used bytes)) (λ k. judged_of k (drop used bytes)) }
+    ensures whole { (n : ℕ) (bytes : List ℕ) (used : ℕ) → first_of 16777216 64 bytes ≡ Whole used → judged_of n bytes ≡ value_then n (request_of 64 (take used bytes)) (λ k. judged_of k (drop used bytes)) }
     ensures short { (n : ℕ) (bytes : List ℕ) → first_of 16777216 64 bytes ≡ Short → judged_of n bytes ≡ resting bytes }
     ensures bad { (n : ℕ) (bytes : List ℕ) (fault : ScanFault) → first_of 16777216 64 bytes ≡ Bad fault → judged_of n bytes ≡ failed (Scan fault) }
 {}

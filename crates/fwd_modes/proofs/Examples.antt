@@ -5,6 +5,8 @@ use Rattle.fwd_msgpack.specs.Heads.{row_of, named_rows, reading_of, head_bytes}
 use Rattle.fwd_msgpack.specs.Scans.{first_of, fault_at, item_begun, payload_ended, split_of, row_of_values, parts_of}
 use Rattle.fwd_modes.specs.declared.fault.InputFault.TheVariants.{BadShape, BadTag, BadEntry, BadOption, Compressed}
 use Rattle.fwd_modes.specs.Requests.{Reading, Heartbeat, Asks, Fails, request_of}
+use Rattle.fwd_modes.specs.Times.{event_time_of}
+use Rattle.fwd_modes.specs.Entries.{entry_of, listed_entries, packed_entries}
 use Rattle.fwd_modes.specs.Frames.{chunk_frame}
 use Rattle.fwd_modes.specs.Acks.{ack_text, ack_name}
 
@@ -29,106 +31,158 @@ ack_key = 0xa3 ∷ codes "ack"
 abbrev x_text : List ℕ
 x_text = 0xa1 ∷ 0x78 ∷ []
 
-three : request_of (0x93 ∷ 0xa1 ∷ 0x61 ∷ 0x01 ∷ 0x80 ∷ []) ≡ one None
+three : request_of 64 (0x93 ∷ 0xa1 ∷ 0x61 ∷ 0x01 ∷ 0x80 ∷ []) ≡ one None
 unfolding request_of parts_of row_of_values split_of first_of fault_at item_begun payload_ended reading_of row_of named_rows
 three = refl
 
-heartbeat : request_of (0xc0 ∷ []) ≡ Heartbeat
+heartbeat : request_of 64 (0xc0 ∷ []) ≡ Heartbeat
 unfolding request_of parts_of row_of_values split_of first_of fault_at item_begun payload_ended reading_of row_of named_rows
 heartbeat = refl
 
-no_time : request_of (0x93 ∷ 0xa1 ∷ 0x61 ∷ 0xc3 ∷ 0x80 ∷ []) ≡ Fails BadShape
+no_time : request_of 64 (0x93 ∷ 0xa1 ∷ 0x61 ∷ 0xc3 ∷ 0x80 ∷ []) ≡ Fails BadShape
 unfolding request_of parts_of row_of_values split_of first_of fault_at item_begun payload_ended reading_of row_of named_rows
 no_time = refl
 
-no_tag : request_of (0x93 ∷ 0x05 ∷ 0x01 ∷ 0xc0 ∷ []) ≡ Fails BadTag
+no_tag : request_of 64 (0x93 ∷ 0x05 ∷ 0x01 ∷ 0xc0 ∷ []) ≡ Fails BadTag
 unfolding request_of parts_of row_of_values split_of first_of fault_at item_begun payload_ended reading_of row_of named_rows
 no_tag = refl
 
-no_record : request_of (0x93 ∷ 0xa1 ∷ 0x61 ∷ 0x01 ∷ 0xc0 ∷ []) ≡ Fails BadEntry
+no_record : request_of 64 (0x93 ∷ 0xa1 ∷ 0x61 ∷ 0x01 ∷ 0xc0 ∷ []) ≡ Fails BadEntry
 unfolding request_of parts_of row_of_values split_of first_of fault_at item_begun payload_ended reading_of row_of named_rows
 no_record = refl
 
 -- five are too many
-five : request_of (0x95 ∷ 0xa1 ∷ 0x61 ∷ 0x01 ∷ 0x80 ∷ 0x80 ∷ 0x80 ∷ []) ≡ Fails BadShape
+five : request_of 64 (0x95 ∷ 0xa1 ∷ 0x61 ∷ 0x01 ∷ 0x80 ∷ 0x80 ∷ 0x80 ∷ []) ≡ Fails BadShape
 unfolding request_of parts_of row_of_values split_of first_of fault_at item_begun payload_ended reading_of row_of named_rows
 five = refl
 
 -- nil is no option
-nil_option : request_of (with_option (0xc0 ∷ [])) ≡ one None
+nil_option : request_of 64 (with_option (0xc0 ∷ [])) ≡ one None
 unfolding request_of parts_of row_of_values split_of first_of fault_at item_begun payload_ended reading_of row_of named_rows
 nil_option = refl
 
 -- a chunk is kept by its own bytes
-chunk : request_of (with_option (0x81 ∷ chunk_key ++ x_text)) ≡ one (Some x_text)
+chunk : request_of 64 (with_option (0x81 ∷ chunk_key ++ x_text)) ≡ one (Some x_text)
 unfolding request_of parts_of row_of_values split_of first_of fault_at item_begun payload_ended reading_of row_of named_rows
 chunk = refl
 
 -- key and chunk may be bin
-bin_chunk : request_of (with_option (0x81 ∷ 0xc4 ∷ 0x05 ∷ codes "chunk" ++ 0xc4 ∷ 0x01 ∷ 0x78 ∷ [])) ≡ one (Some (0xc4 ∷ 0x01 ∷ 0x78 ∷ []))
+bin_chunk : request_of 64 (with_option (0x81 ∷ 0xc4 ∷ 0x05 ∷ codes "chunk" ++ 0xc4 ∷ 0x01 ∷ 0x78 ∷ [])) ≡ one (Some (0xc4 ∷ 0x01 ∷ 0x78 ∷ []))
 unfolding request_of parts_of row_of_values split_of first_of fault_at item_begun payload_ended reading_of row_of named_rows
 bin_chunk = refl
 
 -- the last chunk counts, and nil stands for none
-nil_chunk_last : request_of (with_option (0x82 ∷ chunk_key ++ x_text ++ chunk_key ++ 0xc0 ∷ [])) ≡ one None
+nil_chunk_last : request_of 64 (with_option (0x82 ∷ chunk_key ++ x_text ++ chunk_key ++ 0xc0 ∷ [])) ≡ one None
 unfolding request_of parts_of row_of_values split_of first_of fault_at item_begun payload_ended reading_of row_of named_rows
 nil_chunk_last = refl
 
 -- a chunk of another kind before the last is no fault
-bad_chunk_first : request_of (with_option (0x82 ∷ chunk_key ++ 0x01 ∷ chunk_key ++ x_text)) ≡ one (Some x_text)
+bad_chunk_first : request_of 64 (with_option (0x82 ∷ chunk_key ++ 0x01 ∷ chunk_key ++ x_text)) ≡ one (Some x_text)
 unfolding request_of parts_of row_of_values split_of first_of fault_at item_begun payload_ended reading_of row_of named_rows
 bad_chunk_first = refl
 
-bad_chunk_last : request_of (with_option (0x82 ∷ chunk_key ++ x_text ++ chunk_key ++ 0x01 ∷ [])) ≡ Fails BadOption
+bad_chunk_last : request_of 64 (with_option (0x82 ∷ chunk_key ++ x_text ++ chunk_key ++ 0x01 ∷ [])) ≡ Fails BadOption
 unfolding request_of parts_of row_of_values split_of first_of fault_at item_begun payload_ended reading_of row_of named_rows
 bad_chunk_last = refl
 
 -- other keys say nothing, also those that are no text
-other_keys : request_of (with_option (0x82 ∷ 0xa4 ∷ codes "size" ++ 0xc3 ∷ 0x01 ∷ x_text)) ≡ one None
+other_keys : request_of 64 (with_option (0x82 ∷ 0xa4 ∷ codes "size" ++ 0xc3 ∷ 0x01 ∷ x_text)) ≡ one None
 unfolding request_of parts_of row_of_values split_of first_of fault_at item_begun payload_ended reading_of row_of named_rows
 other_keys = refl
 
-no_option : request_of (with_option (0x01 ∷ [])) ≡ Fails BadOption
+no_option : request_of 64 (with_option (0x01 ∷ [])) ≡ Fails BadOption
 unfolding request_of parts_of row_of_values split_of first_of fault_at item_begun payload_ended reading_of row_of named_rows
 no_option = refl
 
-gzip : request_of (with_option (0x81 ∷ compressed_key ++ 0xa4 ∷ codes "gzip")) ≡ Fails Compressed
+gzip : request_of 64 (with_option (0x81 ∷ compressed_key ++ 0xa4 ∷ codes "gzip")) ≡ Fails Compressed
 unfolding request_of parts_of row_of_values split_of first_of fault_at item_begun payload_ended reading_of row_of named_rows
 gzip = refl
 
-gzip_as_bin : request_of (with_option (0x81 ∷ compressed_key ++ 0xc4 ∷ 0x04 ∷ codes "gzip")) ≡ Fails Compressed
+gzip_as_bin : request_of 64 (with_option (0x81 ∷ compressed_key ++ 0xc4 ∷ 0x04 ∷ codes "gzip")) ≡ Fails Compressed
 unfolding request_of parts_of row_of_values split_of first_of fault_at item_begun payload_ended reading_of row_of named_rows
 gzip_as_bin = refl
 
-zstd : request_of (with_option (0x81 ∷ compressed_key ++ 0xa4 ∷ codes "zstd")) ≡ Fails Compressed
+zstd : request_of 64 (with_option (0x81 ∷ compressed_key ++ 0xa4 ∷ codes "zstd")) ≡ Fails Compressed
 unfolding request_of parts_of row_of_values split_of first_of fault_at item_begun payload_ended reading_of row_of named_rows
 zstd = refl
 
 -- another value names no compression
-plain_text : request_of (with_option (0x81 ∷ compressed_key ++ 0xa4 ∷ codes "text")) ≡ one None
+plain_text : request_of 64 (with_option (0x81 ∷ compressed_key ++ 0xa4 ∷ codes "text")) ≡ one None
 unfolding request_of parts_of row_of_values split_of first_of fault_at item_begun payload_ended reading_of row_of named_rows
 plain_text = refl
 
 -- here too the last counts
-plain_last : request_of (with_option (0x82 ∷ compressed_key ++ 0xa4 ∷ codes "gzip" ++ compressed_key ++ 0xc0 ∷ [])) ≡ one None
+plain_last : request_of 64 (with_option (0x82 ∷ compressed_key ++ 0xa4 ∷ codes "gzip" ++ compressed_key ++ 0xc0 ∷ [])) ≡ one None
 unfolding request_of parts_of row_of_values split_of first_of fault_at item_begun payload_ended reading_of row_of named_rows
 plain_last = refl
 
-option_before_compression : request_of (with_option (0x82 ∷ compressed_key ++ 0xa4 ∷ codes "gzip" ++ chunk_key ++ 0x01 ∷ [])) ≡ Fails BadOption
+option_before_compression : request_of 64 (with_option (0x82 ∷ compressed_key ++ 0xa4 ∷ codes "gzip" ++ chunk_key ++ 0x01 ∷ [])) ≡ Fails BadOption
 unfolding request_of parts_of row_of_values split_of first_of fault_at item_begun payload_ended reading_of row_of named_rows
 option_before_compression = refl
 
-compression_before_entry : request_of (0x94 ∷ 0xa1 ∷ 0x61 ∷ 0x01 ∷ 0xc0 ∷ 0x81 ∷ compressed_key ++ 0xa4 ∷ codes "gzip") ≡ Fails Compressed
+compression_before_entry : request_of 64 (0x94 ∷ 0xa1 ∷ 0x61 ∷ 0x01 ∷ 0xc0 ∷ 0x81 ∷ compressed_key ++ 0xa4 ∷ codes "gzip") ≡ Fails Compressed
 unfolding request_of parts_of row_of_values split_of first_of fault_at item_begun payload_ended reading_of row_of named_rows
 compression_before_entry = refl
 
-tag_before_option : request_of (0x94 ∷ 0xc0 ∷ 0x01 ∷ 0xc0 ∷ 0x01 ∷ []) ≡ Fails BadTag
+tag_before_option : request_of 64 (0x94 ∷ 0xc0 ∷ 0x01 ∷ 0xc0 ∷ 0x01 ∷ []) ≡ Fails BadTag
 unfolding request_of parts_of row_of_values split_of first_of fault_at item_begun payload_ended reading_of row_of named_rows
 tag_before_option = refl
 
-option_before_entry : request_of (0x94 ∷ 0xa1 ∷ 0x61 ∷ 0x01 ∷ 0xc0 ∷ 0x01 ∷ []) ≡ Fails BadOption
+option_before_entry : request_of 64 (0x94 ∷ 0xa1 ∷ 0x61 ∷ 0x01 ∷ 0xc0 ∷ 0x01 ∷ []) ≡ Fails BadOption
 unfolding request_of parts_of row_of_values split_of first_of fault_at item_begun payload_ended reading_of row_of named_rows
 option_before_entry = refl
+
+-- two entries, whose arrays, times and records keep or lose their spelling as the rules say: the array is written anew
+abbrev two_entries : List ℕ
+two_entries = 0x92 ∷ 0x01 ∷ 0x80 ∷ 0xdc ∷ 0x00 ∷ 0x02 ∷ 0xcc ∷ 0x02 ∷ 0x80 ∷ []
+
+abbrev two : Reading
+two = Asks (record { tag = 0x61 ∷ []; entries = (0x92 ∷ 0x01 ∷ 0x80 ∷ []) ∷ (0x92 ∷ 0xcc ∷ 0x02 ∷ 0x80 ∷ []) ∷ []; chunk = None })
+
+forward : request_of 64 (0x92 ∷ 0xa1 ∷ 0x61 ∷ 0x92 ∷ two_entries) ≡ two
+unfolding request_of listed_entries entry_of parts_of row_of_values split_of first_of fault_at item_begun payload_ended reading_of row_of named_rows
+forward = refl
+
+packed_in_str : request_of 64 (0x92 ∷ 0xa1 ∷ 0x61 ∷ 0xa9 ∷ two_entries) ≡ two
+unfolding request_of packed_entries entry_of parts_of row_of_values split_of first_of fault_at item_begun payload_ended reading_of row_of named_rows
+packed_in_str = refl
+
+packed_in_bin : request_of 64 (0x92 ∷ 0xa1 ∷ 0x61 ∷ 0xc4 ∷ 0x09 ∷ two_entries) ≡ two
+unfolding request_of packed_entries entry_of parts_of row_of_values split_of first_of fault_at item_begun payload_ended reading_of row_of named_rows
+packed_in_bin = refl
+
+-- a byte too many behind the last entry
+packed_and_more : request_of 64 (0x92 ∷ 0xa1 ∷ 0x61 ∷ 0xaa ∷ two_entries ++ 0x92 ∷ []) ≡ Fails BadEntry
+unfolding request_of packed_entries entry_of parts_of row_of_values split_of first_of fault_at item_begun payload_ended reading_of row_of named_rows
+packed_and_more = refl
+
+-- where packed entries may be one container deep, a map in one is too deep
+packed_too_deep : request_of 1 (0x92 ∷ 0xa1 ∷ 0x61 ∷ 0xa9 ∷ two_entries) ≡ Fails BadEntry
+unfolding request_of packed_entries entry_of parts_of row_of_values split_of first_of fault_at item_begun payload_ended reading_of row_of named_rows
+packed_too_deep = refl
+
+no_entries : request_of 64 (0x92 ∷ 0xa1 ∷ 0x61 ∷ 0x90 ∷ []) ≡ Asks (record { tag = 0x61 ∷ []; entries = []; chunk = None })
+unfolding request_of listed_entries entry_of parts_of row_of_values split_of first_of fault_at item_begun payload_ended reading_of row_of named_rows
+no_entries = refl
+
+-- an EventTime of one second and two nanoseconds, in a fixed and in a sized extension
+event_time : event_time_of (0xd7 ∷ 0x00 ∷ 0x00 ∷ 0x00 ∷ 0x00 ∷ 0x01 ∷ 0x00 ∷ 0x00 ∷ 0x00 ∷ 0x02 ∷ []) ≡ Some (record { sec = 1; nanos = 2 })
+unfolding parts_of reading_of row_of named_rows
+event_time = refl
+
+sized_event_time : event_time_of (0xc7 ∷ 0x08 ∷ 0x00 ∷ 0x00 ∷ 0x00 ∷ 0x00 ∷ 0x01 ∷ 0x00 ∷ 0x00 ∷ 0x00 ∷ 0x02 ∷ []) ≡ Some (record { sec = 1; nanos = 2 })
+unfolding parts_of reading_of row_of named_rows
+sized_event_time = refl
+
+-- an extension of another type is no time, and tells Message mode
+other_ext : request_of 64 (0x93 ∷ 0xa1 ∷ 0x61 ∷ 0xd4 ∷ 0x01 ∷ 0x00 ∷ 0x80 ∷ []) ≡ Fails BadEntry
+unfolding request_of parts_of row_of_values split_of first_of fault_at item_begun payload_ended reading_of row_of named_rows
+other_ext = refl
+
+-- a float in the second place tells no mode
+float_second : request_of 64 (0x93 ∷ 0xa1 ∷ 0x61 ∷ 0xca ∷ 0x00 ∷ 0x00 ∷ 0x00 ∷ 0x00 ∷ 0x80 ∷ []) ≡ Fails BadShape
+unfolding request_of parts_of row_of_values split_of first_of fault_at item_begun payload_ended reading_of row_of named_rows
+float_second = refl
 
 acknowledgement : ack_text x_text ≡ 0x81 ∷ ack_key ++ x_text
 unfolding ack_text head_bytes

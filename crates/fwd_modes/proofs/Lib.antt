@@ -1,2 +1,5 @@
 mod Examples
 pub mod TextLemmas
+pub mod EntryLemmas
+pub mod FrameLemmas
+pub mod KeptLemmas

@@ -1,6 +1,6 @@
 -- What the relay writes to the next hop, byte for byte.
-use Rattle.std.specs.Prelude.{ℕ, false, List, ◌++◌, length, codes}
-use Rattle.std.specs.List.{concat}
+use Rattle.std.specs.Prelude.{◌≡◌, ℕ, Some, false, List, ◌++◌, ◌<◌, ◌≤◌, ◌^◌, length, codes}
+use Rattle.std.specs.List.{AllByRecursion, concat}
 use Rattle.std.specs.Int.{w16, w64, to_be_bytes}
 use Rattle.base64.specs.GeneralPurpose.{encode_of}
 use Rattle.base64.specs.Engines.{standard}
@@ -8,6 +8,8 @@ use Rattle.base64.specs.Engines.{standard}
 unfoldable pub use Rattle.base64.specs.Rfc4648.{encode_symbols}
 use Rattle.fwd_msgpack.specs.declared.head.Head.TheVariants.{Int, Str, Bin, Arr, Map}
 use Rattle.fwd_msgpack.specs.Heads.{head_bytes}
+use Rattle.fwd_msgpack.specs.Values.{IsValue}
+use Rattle.fwd_modes.specs.Entries.{entry_of}
 
 -- the name of a chunk: the Base64 of six bytes for the run, two for the output, eight for the number
 unfoldable pub chunk_name : List ℕ → ℕ → ℕ → List ℕ
@@ -29,3 +31,22 @@ packed_frame tag packed count name =
 -- the frame of a chunk: its entries one after the other
 unfoldable pub chunk_frame : List ℕ → List (List ℕ) → List ℕ → List ℕ
 chunk_frame tag entries name = packed_frame tag (concat entries) (length entries) name
+
+-- bytes that are an entry just as it is kept, at most deep deep
+pub record IsKept (deep : ℕ) (entry : List ℕ) : Type 0 where
+  pub kept : entry_of entry ≡ Some entry
+  pub value : IsValue deep entry
+
+-- what a frame is written from
+pub record Frame : Type 0 where
+  pub tag : List ℕ
+  pub entries : List (List ℕ)
+  pub name : List ℕ
+
+-- The frame of a chunk within the limits of a request: a tag of at most 1,024 bytes and a name of at most 256, kept entries,
+-- and less than 2^32 bytes in all.
+pub record IsFrame (deep : ℕ) (frame : Frame) : Type 0 where
+  pub tag : length frame.tag ≤ 1024
+  pub name : length frame.name ≤ 256
+  pub entries : AllByRecursion (IsKept deep) frame.entries
+  pub size : length (chunk_frame frame.tag frame.entries frame.name) < 2 ^ 32

@@ -1,4 +1,6 @@
 pub mod Kinds
+pub mod Times
+pub mod Entries
 pub mod Options
 pub mod Requests
 pub mod Frames

@@ -1,10 +1,13 @@
 -- What a whole value asks for (Forward Protocol Specification v1, "Message Modes").
-use Rattle.std.specs.Prelude.{ℕ, Bool, List, [], ◌∷◌, ◌++◌, Option, Some, None, is_some, is_none, find, unwrap_or, option_and_then, if◌then◌else◌}
+use Rattle.std.specs.Prelude.{ℕ, Bool, List, [], ◌∷◌, Option, Some, None, is_none, find, unwrap_or, option_and_then, if◌then◌else◌}
 use Rattle.std.specs.Option.{option_map}
-use Rattle.fwd_msgpack.specs.Scans.{elements_of, text_of, integer_of}
+use Rattle.fwd_msgpack.specs.declared.head.Head.{Head}
+use Rattle.fwd_msgpack.specs.declared.head.Head.TheVariants.{Int, Ext, Arr, Str, Bin}
+use Rattle.fwd_msgpack.specs.Scans.{elements_of, text_of, head_of}
 use Rattle.fwd_modes.specs.declared.fault.InputFault.{InputFault}
 use Rattle.fwd_modes.specs.declared.fault.InputFault.TheVariants.{BadShape, BadTag, BadEntry, BadOption, Compressed}
-use Rattle.fwd_modes.specs.Kinds.{is_nil, is_map, text_within}
+use Rattle.fwd_modes.specs.Kinds.{is_nil, text_within}
+use Rattle.fwd_modes.specs.Entries.{kept_if, listed_entries, packed_entries}
 use Rattle.fwd_modes.specs.Options.{is_bad_option, is_compressed, chunk_of}
 
 -- what a source asks for: its tag, the entries as they are kept, and the value that its acknowledgement is to carry
@@ -26,24 +29,51 @@ pub record Parts : Type 0 where
   pub entries : Option (List (List ℕ))
   pub option : Option (List ℕ)
 
--- an entry as it is kept: an array of two, the time and the record as they are spelled
-abbrev pub kept_entry : List ℕ → List ℕ → List ℕ
-kept_entry time entry = 0x92 ∷ time ++ entry
+-- how the entries of a request are given
+pub data Mode : Type 0 where
+  Message : Mode
+  Forward : Mode
+  PackedForward : Mode
 
--- one entry, whose record is a map
-abbrev pub one_entry : List ℕ → List ℕ → Option (List (List ℕ))
-one_entry time entry = if is_map entry then Some (kept_entry time entry ∷ []) else None
+-- The second element tells the mode: an integer or an extension is the time of a Message, an array has the entries of
+-- Forward mode, and a str or a bin those of PackedForward mode. No other kind stands there.
+abbrev pub mode_by : Option Head → Option Mode
+mode_by (Some (Int neg mag)) = Some Message
+mode_by (Some (Ext kind len)) = Some Message
+mode_by (Some (Arr n)) = Some Forward
+mode_by (Some (Str len)) = Some PackedForward
+mode_by (Some (Bin len)) = Some PackedForward
+mode_by _ = None
 
--- Message mode: the second is a time, which is an integer
-abbrev pub message : (tag time entry : List ℕ) → Option (List ℕ) → Option Parts
-message tag time entry option =
-    if is_some (integer_of time) then Some (record { tag = tag; entries = one_entry time entry; option = option }) else None
+abbrev pub one_entry : Option (List ℕ) → Option (List (List ℕ))
+one_entry entry = option_map (λ e. e ∷ []) entry
 
--- the parts of an array by its mode, if it has the shape of one
-abbrev pub parts_in : List (List ℕ) → Option Parts
-parts_in (tag ∷ time ∷ entry ∷ []) = message tag time entry None
-parts_in (tag ∷ time ∷ entry ∷ option ∷ []) = message tag time entry (Some option)
-parts_in _ = None
+-- packed bytes, behind the head of a str or a bin
+abbrev pub unpacked : (deep : ℕ) → List ℕ → Option (List (List ℕ))
+unpacked deep bytes = option_and_then (packed_entries deep) (text_of bytes)
+
+-- the rest of a request behind its entries is an option, or nothing
+abbrev pub with_option : (tag : List ℕ) → Option (List (List ℕ)) → List (List ℕ) → Option Parts
+with_option tag entries [] = Some (record { tag = tag; entries = entries; option = None })
+with_option tag entries (option ∷ []) = Some (record { tag = tag; entries = entries; option = Some option })
+with_option tag entries _ = None
+
+-- a Message has its record behind its time
+abbrev pub message : (tag time : List ℕ) → List (List ℕ) → Option Parts
+message tag time (entry ∷ others) = with_option tag (one_entry (kept_if time entry)) others
+message tag time [] = None
+
+-- the parts by the mode
+abbrev pub parts_by : (deep : ℕ) → Option Mode → (tag second : List ℕ) → List (List ℕ) → Option Parts
+parts_by deep None tag second others = None
+parts_by deep (Some Message) tag time others = message tag time others
+parts_by deep (Some Forward) tag entries others = with_option tag (listed_entries entries) others
+parts_by deep (Some PackedForward) tag packed others = with_option tag (unpacked deep packed) others
+
+-- the parts of an array, if it has the shape of a request
+abbrev pub parts_in : (deep : ℕ) → List (List ℕ) → Option Parts
+parts_in deep (tag ∷ second ∷ others) = parts_by deep (mode_by (head_of second)) tag second others
+parts_in deep _ = None
 
 -- a tag is a str or a bin of at most 1,024 bytes
 abbrev pub tag_of : List ℕ → Option (List ℕ)
@@ -75,6 +105,7 @@ abbrev pub of_parts : Option Parts → Reading
 of_parts None = Fails BadShape
 of_parts (Some parts) = unless_fault (first_fault (faults_of parts)) parts
 
--- what a whole value says: nil is a heartbeat, and everything else is a request or has a first fault
-unfoldable pub request_of : List ℕ → Reading
-request_of bytes = if is_nil bytes then Heartbeat else of_parts (option_and_then parts_in (elements_of bytes))
+-- What a whole value says: nil is a heartbeat, and everything else is a request or has a first fault. Packed entries are at
+-- most deep deep.
+unfoldable pub request_of : (deep : ℕ) → List ℕ → Reading
+request_of deep bytes = if is_nil bytes then Heartbeat else of_parts (option_and_then (parts_in deep) (elements_of bytes))

@@ -1,8 +1,12 @@
-ghost use Rattle.std.specs.Prelude.{◌≡◌, ◌<◌, ◌≤◌, ◌^◌, [], ◌∷◌, IfOk, IfSome, length};
+ghost use Rattle.std.specs.Prelude.{◌≡◌, ◌<◌, ◌≤◌, ◌^◌, ◌==◌, IfOk, IfSome, length};
 ghost use Rattle.std.specs.List.{concat};
 ghost use Rattle.std.specs.Option.{option_copied, ForSome};
+ghost use Rattle.fwd_modes.specs.Entries.{ends_of};
+ghost use Rattle.fwd_modes.specs.Readings.{entries_left};
 
-use fwd_msgpack::{Bytes, Seq};
+use crate::entries::Entries;
+use crate::kept::Kept;
+use smallvec::SmallVec;
 use std::alloc::{AllocError, Global};
 use std::marker::Model;
 
@@ -10,49 +14,46 @@ use std::marker::Model;
 /// value that the acknowledgement is to carry, if there is one.
 #[derive(Debug, Drop)]
 pub struct Batch {
-    tag: Bytes,
-    entries: Seq<Bytes>,
-    chunk: Option<Bytes>,
+    tag: SmallVec<u8, 32>,
+    entries: Kept,
+    chunk: Option<SmallVec<u8, 32>>,
 }
 
 impl Model for Batch {
     ghost use Rattle.fwd_modes.specs.Requests.{Request};
+    ghost use Rattle.std.specs.Option.{ForSome, option_map};
 
     ghost Value = { Request };
 
-    ghost view = { λ b. record { tag = b.tag; entries = b.entries; chunk = b.chunk } };
+    ghost view = { λ b. record { tag = b.tag.items; entries = b.entries; chunk = option_map (λ c. c.items) b.chunk } };
 
     ghost use Rattle.std.specs.Prelude.{◌<◌, ◌≤◌, ◌^◌, length};
     ghost use Rattle.std.specs.List.{concat};
-    ghost use Rattle.std.specs.Option.{ForSome};
 
     ghost invariant = { λ b.
-        (length b.tag ≤ 1024)
+        (length b.tag.items ≤ 1024)
         × (length (concat b.entries) < 2 ^ 32)
-        × ForSome b.chunk (λ chunk. length chunk ≤ 261) };
+        × ForSome b.chunk (λ chunk. length chunk.items ≤ 261) };
 }
 
 impl Batch {
-    /// A request of one entry.
-    pub(crate) fn of_one(
+    /// A request of these entries.
+    pub(crate) fn new(
         alloc: Global,
         tag: &[u8],
-        entry: Bytes,
+        entries: Kept,
         chunk: Option<&[u8]>,
     ) -> Result<Self, AllocError>
         requires tag_fits { length tag.now ≤ 1024 }
-        requires entry_fits { length entry < 2 ^ 32 }
         requires chunk_fits { ForSome chunk (λ bytes. length bytes.now ≤ 261) }
-        ensures { IfOk result (λ b. b ≡ record { tag = tag.now; entries = entry ∷ []; chunk = option_copied chunk.entry }) }
+        ensures { IfOk result (λ b. b ≡ record { tag = tag.now; entries = entries; chunk = option_copied chunk.entry }) }
     {
-        let mut entries = Seq::new(alloc);
-        entries.push(entry)?;
         let chunk = match chunk {
-            Some(bytes) => Some(Bytes::from_slice(alloc, bytes)?),
+            Some(bytes) => Some(SmallVec::from_slice(alloc, bytes)?),
             None => None,
         };
         Ok(Batch {
-            tag: Bytes::from_slice(alloc, tag)?,
+            tag: SmallVec::from_slice(alloc, tag)?,
             entries,
             chunk,
         })
@@ -66,12 +67,43 @@ impl Batch {
         self.tag.as_slice()
     }
 
-    /// The entries as they are kept, in order.
-    pub fn entries(&self) -> &[Bytes]
-        ensures value { result.now ≡ self.now.entries }
+    /// The entries as they are kept, one after the other: less than 2^32 bytes.
+    pub fn entries(&self) -> &[u8]
+        ensures value { result.now ≡ concat self.now.entries }
         ensures bound { length (concat self.now.entries) < 2 ^ 32 }
     {
-        self.entries.as_slice()
+        self.entries.bytes()
+    }
+
+    /// Where each entry ends, in bytes from the front of the first.
+    pub fn ends(&self) -> &[u32]
+        ensures { result.now ≡ ends_of self.now.entries }
+    {
+        self.entries.ends()
+    }
+
+    /// The entries one by one, in order.
+    pub fn iter(&self) -> Entries<'_>
+        ensures { entries_left result ≡ self.now.entries }
+    {
+        self.entries.iter()
+    }
+
+    /// How many entries there are. Together they have less than 2^32 bytes.
+    #[tactic(auto, using(crate::proofs::EntryLemmas::length_ends))]
+    pub fn len(&self) -> usize
+        ensures value { result ≡ length self.now.entries }
+        ensures bound { length (concat self.now.entries) < 2 ^ 32 }
+    {
+        self.entries.ends().len()
+    }
+
+    /// Whether there is no entry.
+    #[tactic(auto, using(crate::proofs::EntryLemmas::length_ends))]
+    pub fn is_empty(&self) -> bool
+        ensures { result ≡ (length self.now.entries == 0) }
+    {
+        self.entries.ends().is_empty()
     }
 
     /// The bytes of the option's `chunk` value, head included, if there is one: at most 261.

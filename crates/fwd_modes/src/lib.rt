@@ -2,19 +2,29 @@
 #![tactic(auto)]
 
 mod ack;
+mod asked;
 mod batch;
+mod entries;
+mod entry;
 mod fault;
 mod frame;
+mod kept;
 mod kinds;
-mod message;
+mod laws;
+mod lists;
 mod options;
+mod parts;
 mod request;
+mod time;
 
 pub use ack::{NoAck, read_ack, write_ack};
 pub use batch::Batch;
+pub use entries::Entries;
 pub use fault::InputFault;
 pub use frame::{chunk_name, write_chunk};
+pub use laws::{entries_are_kept, frame_is_value, frame_reads_back, frames_differ, only_its_frame};
 pub use request::{Reading, read_request};
+pub use time::EventTime;
 
 #[cfg(test)]
 mod tests;

@@ -1,18 +1,21 @@
 //! What a whole value asks for (Forward Protocol Specification v1, "Message Modes").
 
-ghost use Rattle.std.specs.Prelude.{◌≡◌, Some, IfOk, option_and_then};
+ghost use Rattle.std.specs.Prelude.{◌≡◌, ◌≤◌, ℕ, Some, IfOk};
 ghost use Rattle.std.specs.Option.{option_map};
-ghost use Rattle.fwd_msgpack.specs.Scans.{elements_of};
 ghost use Rattle.fwd_msgpack.specs.Values.{bytes_of};
-ghost use Rattle.fwd_modes.specs.Requests.{request_of, parts_in, of_parts, kept_entry};
-ghost use Rattle.fwd_modes.specs.Readings.{shown, message_parts, judged};
+ghost use Rattle.fwd_modes.specs.Requests.{request_of, of_parts, one_entry};
+ghost use Rattle.fwd_modes.specs.Readings.{shown, kept as kept_of, entries_given, parts_shown, judged};
 
+use crate::asked::Asked;
 use crate::batch::Batch;
+use crate::entry::Entry;
 use crate::fault::InputFault;
-use crate::kinds::{is_map, is_nil, text_within};
-use crate::message::{Asked, Message};
+use crate::kept::Kept;
+use crate::kinds::{is_nil, text_within};
+use crate::lists::{read_list, read_packed};
 use crate::options::read_option;
-use fwd_msgpack::{Bytes, Value};
+use crate::parts::{Given, Parts};
+use fwd_msgpack::{Limits, Value};
 use std::alloc::{AllocError, Global};
 
 /// The most bytes of a tag.
@@ -29,76 +32,69 @@ pub enum Reading {
     Fails(InputFault),
 }
 
-/// The values of an array of three or four, whose second is an integer.
-fn message_of<'a>(value: Value<'a>) -> Option<Message<'a>>
-    ensures { option_map message_parts result ≡ option_and_then parts_in (elements_of (bytes_of value.entry)) }
+/// What stands beside the entries, or the first fault there in the order tag, option, compression.
+fn judge(parts: Parts<'_>) -> Result<Asked<'_>, InputFault>
+    ensures { (deep : ℕ) → judged (entries_given deep parts.entry.entries) result ≡ of_parts (Some (parts_shown deep parts.entry)) }
 {
-    let mut members = value.items()?;
-    let tag = members.next()?;
-    let time = members.next()?;
-    let entry = members.next()?;
-    let option = members.next();
-    if members.next().is_some() || time.int().is_none() {
-        return None;
-    }
-    Some(Message {
-        tag,
-        time,
-        entry,
-        option,
-    })
-}
-
-/// What a message asks for, or its first fault in the order tag, option, compression, entry.
-fn judge(message: Message<'_>) -> Result<Asked<'_>, InputFault>
-    ensures { judged result ≡ of_parts (Some (message_parts message.entry)) }
-{
-    let Some(tag) = text_within(message.tag, TAG_LIMIT) else {
+    let Some(tag) = text_within(parts.tag, TAG_LIMIT) else {
         return Err(InputFault::BadTag);
     };
-    let said = read_option(message.option)?;
+    let said = read_option(parts.option)?;
     if said.compressed {
         return Err(InputFault::Compressed);
     }
-    if !is_map(message.entry) {
-        return Err(InputFault::BadEntry);
-    }
     Ok(Asked {
         tag,
-        time: message.time.bytes(),
-        entry: message.entry.bytes(),
         chunk: said.chunk,
     })
 }
 
-/// An entry as it is kept.
-fn kept(alloc: Global, time: &[u8], entry: &[u8]) -> Result<Bytes, AllocError>
-    ensures { IfOk result (λ b. b ≡ kept_entry time.now entry.now) }
+/// One entry, if it is one.
+fn read_one(alloc: Global, entry: Option<Entry<'_>>) -> Result<Option<Kept>, AllocError>
+    ensures { IfOk result (λ kept. kept ≡ one_entry (option_map kept_of entry.entry)) }
 {
-    let mut bytes = Vec::new(alloc);
-    bytes.push(0x92)?;
-    bytes.extend_from_slice(time)?;
-    bytes.extend_from_slice(entry)?;
-    Ok(Bytes::from_vec(bytes))
+    let Some(entry) = entry else {
+        return Ok(None);
+    };
+    let mut kept = Kept::new(alloc);
+    kept.push(entry)?;
+    Ok(Some(kept))
+}
+
+/// The entries, if each is one.
+fn read_entries(alloc: Global, given: Given<'_>, depth: u8) -> Result<Option<Kept>, AllocError>
+    requires { depth ≤ 64 }
+    ensures { IfOk result (λ kept. kept ≡ entries_given depth given.entry) }
+{
+    match given {
+        Given::One(entry) => read_one(alloc, entry),
+        Given::List(list) => read_list(alloc, list),
+        Given::Packed(value) => match value.text() {
+            Some(packed) => read_packed(alloc, packed, depth),
+            None => Ok(None),
+        },
+    }
 }
 
 /// What a whole value says: a heartbeat, a request, or the first fault in the order shape, tag, option, compression,
-/// entry.
+/// entry. Packed entries are at most as deep as the limits say, each counted from its own array; the limits' bytes are
+/// those of the value, and have been looked at when it was cut.
 #[tactic(auto, unfolding(crate::specs::Requests::request_of))]
-pub fn read_request(alloc: Global, value: Value<'_>) -> Result<Reading, AllocError>
-    ensures { IfOk result (λ r. shown r ≡ request_of (bytes_of value.entry)) }
+pub fn read_request(alloc: Global, value: Value<'_>, limits: Limits) -> Result<Reading, AllocError>
+    ensures { IfOk result (λ r. shown r ≡ request_of limits.depth (bytes_of value.entry)) }
 {
     if is_nil(value) {
         return Ok(Reading::Heartbeat);
     }
-    let Some(message) = message_of(value) else {
+    let Some(parts) = Parts::of(value) else {
         return Ok(Reading::Fails(InputFault::BadShape));
     };
-    match judge(message) {
-        Ok(asked) => {
-            let entry = kept(alloc, asked.time, asked.entry)?;
-            Ok(Reading::Asks(Batch::of_one(alloc, asked.tag, entry, asked.chunk)?))
-        }
-        Err(fault) => Ok(Reading::Fails(fault)),
+    let asked = match judge(parts) {
+        Ok(asked) => asked,
+        Err(fault) => return Ok(Reading::Fails(fault)),
+    };
+    match read_entries(alloc, parts.entries, limits.depth)? {
+        Some(kept) => Ok(Reading::Asks(Batch::new(alloc, asked.tag, kept, asked.chunk)?)),
+        None => Ok(Reading::Fails(InputFault::BadEntry)),
     }
 }

@@ -2,13 +2,15 @@ use super::*;
 use fwd_msgpack::{Cut, Limits, Value, cut};
 use std::test::Fail;
 
+/// How long and how deep a source's values may be.
+const LIMITS: Limits = Limits {
+    bytes: 16_777_216,
+    depth: 64,
+};
+
 /// The one whole value of the bytes.
 fn value(bytes: &[u8]) -> Result<Value<'_>, Fail> {
-    let limits = Limits {
-        bytes: 16_777_216,
-        depth: 64,
-    };
-    match cut(bytes, limits) {
+    match cut(bytes, LIMITS) {
         Cut::Whole(value, _) => Ok(value),
         _ => Err(Fail::from("no value")),
     }
@@ -19,12 +21,12 @@ const MESSAGE: [u8; 14] = *b"\x94\xa1\x61\x01\x80\x81\xa5chunk\xa1\x78";
 
 #[test]
 fn a_message_is_read(rt: HostRuntime) -> Result<(), Fail> {
-    let Reading::Asks(batch) = read_request(rt.alloc(), value(&MESSAGE)?)? else {
+    let Reading::Asks(batch) = read_request(rt.alloc(), value(&MESSAGE)?, LIMITS)? else {
         return Err(Fail::from("no request"));
     };
     assert_eq!(rt; batch.tag(), b"a".as_slice());
-    assert_eq!(rt; batch.entries().len(), 1);
-    assert_eq!(rt; batch.entries()[0].as_slice(), b"\x92\x01\x80".as_slice());
+    assert_eq!(rt; batch.entries(), b"\x92\x01\x80".as_slice());
+    assert_eq!(rt; batch.ends(), [3].as_slice());
     assert_eq!(rt; batch.chunk(), Some(b"\xa1\x78".as_slice()));
     Ok(())
 }
@@ -45,5 +47,54 @@ fn a_frame_is_written(rt: HostRuntime) -> Result<(), Fail> {
         frame.as_slice(),
         b"\x93\xa1\x61\xc4\x03\x92\x01\x80\x82\xa4size\x01\xa5chunk\xb8AAAAAAAAAAAAAAAAAAAAAQ==".as_slice()
     );
+    Ok(())
+}
+
+/// Two entries in an array, in a str and in a bin; the second one's array and time are spelled at length, and the
+/// entry's array is kept in one byte.
+#[test]
+fn many_entries_are_read(rt: HostRuntime) -> Result<(), Fail> {
+    for bytes in [
+        b"\x92\xa1\x61\x92\x92\x01\x80\xdc\x00\x02\xcc\x02\x80".as_slice(),
+        b"\x92\xa1\x61\xaa\x92\x01\x80\xdc\x00\x02\xcc\x02\x80",
+        b"\x92\xa1\x61\xc4\x0a\x92\x01\x80\xdc\x00\x02\xcc\x02\x80",
+    ] {
+        let Reading::Asks(batch) = read_request(rt.alloc(), value(bytes)?, LIMITS)? else {
+            return Err(Fail::from("no request"));
+        };
+        assert_eq!(rt; batch.tag(), b"a".as_slice());
+        assert_eq!(rt; batch.entries(), b"\x92\x01\x80\x92\xcc\x02\x80".as_slice());
+        assert_eq!(rt; batch.ends(), [3, 7].as_slice());
+        assert_eq!(rt; batch.len(), 2);
+        assert!(rt; !batch.is_empty());
+        assert!(rt; batch.chunk().is_none());
+        let mut entries = batch.iter();
+        assert_eq!(rt; entries.next(), Some(b"\x92\x01\x80".as_slice()));
+        assert_eq!(rt; entries.next(), Some(b"\x92\xcc\x02\x80".as_slice()));
+        assert!(rt; entries.next().is_none());
+    }
+    Ok(())
+}
+
+/// An EventTime in its fixed spelling and in its three sized ones, from the format's page in the standard.
+#[test]
+fn event_times_are_read(rt: HostRuntime) -> Result<(), Fail> {
+    for bytes in [
+        b"\xd7\x00\x00\x00\x00\x01\x00\x00\x00\x02".as_slice(),
+        b"\xc7\x08\x00\x00\x00\x00\x01\x00\x00\x00\x02",
+        b"\xc8\x00\x08\x00\x00\x00\x00\x01\x00\x00\x00\x02",
+        b"\xc9\x00\x00\x00\x08\x00\x00\x00\x00\x01\x00\x00\x00\x02",
+    ] {
+        let time = EventTime::read(value(bytes)?).ok_or(Fail::from("no time"))?;
+        assert_eq!(rt; time.sec(), 1);
+        assert_eq!(rt; time.nanos(), 2);
+    }
+    for bytes in [
+        b"\xd7\x01\x00\x00\x00\x01\x00\x00\x00\x02".as_slice(),
+        b"\xd6\x00\x00\x00\x00\x01",
+        b"\x01",
+    ] {
+        assert!(rt; EventTime::read(value(bytes)?).is_none());
+    }
     Ok(())
 }

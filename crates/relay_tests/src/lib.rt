@@ -2,6 +2,8 @@
 #![tactic(auto)]
 
 #[cfg(test)]
+mod all_modes;
+#[cfg(test)]
 mod first_path;
 #[cfg(test)]
 mod msgpack_values;

@@ -14,5 +14,5 @@ returns-in-Whole c =
     let shorter : length (drop used bytes) < length bytes = omega (arith, length-drop used bytes, c.in-Whole.ensures.extent) in
     rw (take_rest bytes used) (
       shorter,
-      λ n. c.judged_by_front.ensures.whole n bytes used front ∙ ap (λ v. value_then n (request_of v) (λ k. judged_of k (drop used bytes))) (sym c.in-Whole.ensures.front),
+      λ n. c.judged_by_front.ensures.whole n bytes used front ∙ ap (λ v. value_then n (request_of 64 v) (λ k. judged_of k (drop used bytes))) (sym c.in-Whole.ensures.front),
     )

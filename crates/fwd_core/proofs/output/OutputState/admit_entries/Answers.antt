@@ -14,6 +14,6 @@ invariant_of-self-2 c =
     let news = cells_of batch c.args.origin c.in-Some.number c.max-moment.result in
     let count : length (state.cells.items ++ news) ≡ length state.cells.items + length batch.entries = length-append state.cells.items news ∙ ap (λ n. length state.cells.items + n) (length-cells_of batch c.args.origin c.in-Some.number c.max-moment.result) in
     rw (c.in-Ok-append.ensures.items, c.in-Ok.ensures.cells) (
-      entered_fit state.cells.items batch c.args.origin c.in-Some.number c.max-moment.result state.greatest c.self.invariant.0 above small c.entries.ensures.bound,
-      omega (arith, c.self.invariant.1, count, c.in-Some-checked_add.ensures.1, ap length c.entries.ensures.value),
+      entered_fit state.cells.items batch c.args.origin c.in-Some.number c.max-moment.result state.greatest c.self.invariant.0 above small c.len.ensures.bound,
+      omega (arith, c.self.invariant.1, count, c.in-Some-checked_add.ensures.1, c.len.ensures.value),
     )

@@ -1,0 +1,67 @@
+-- Entries (Forward Protocol Specification v1, "Message Modes"): what is one, how it is kept, and where many of them stand.
+use Rattle.std.specs.Prelude.{◌≡◌, ℕ, ◌+◌, ◌-◌, ◌&&◌, List, [], ◌∷◌, ◌++◌, length, take, drop, Option, Some, None, option_and_then, if◌then◌else◌}
+use Rattle.std.specs.List.{concat}
+use Rattle.std.specs.Option.{option_map}
+use Rattle.fwd_msgpack.specs.Scans.{Split, Open, Broken, split_of, most_bytes, elements_of}
+use Rattle.fwd_modes.specs.Kinds.{is_map}
+use Rattle.fwd_modes.specs.Times.{is_time}
+
+-- an entry as it is kept: an array of two, the time and the record as they are spelled
+abbrev pub kept_entry : (time entry : List ℕ) → List ℕ
+kept_entry time entry = 0x92 ∷ time ++ entry
+
+-- a time and a record, which is a map, as they are kept
+abbrev pub kept_if : (time entry : List ℕ) → Option (List ℕ)
+kept_if time entry = if is_time time && is_map entry then Some (kept_entry time entry) else None
+
+-- an array of exactly two
+abbrev pub entry_in : List (List ℕ) → Option (List ℕ)
+entry_in (time ∷ entry ∷ []) = kept_if time entry
+entry_in _ = None
+
+-- the entry that a whole value is, as it is kept
+unfoldable pub entry_of : List ℕ → Option (List ℕ)
+entry_of bytes = option_and_then entry_in (elements_of bytes)
+
+-- something put before a list, if both are there
+abbrev pub before : Option (List ℕ) → Option (List (List ℕ)) → Option (List (List ℕ))
+before None others = None
+before (Some entry) others = option_map (λ entries. entry ∷ entries) others
+
+-- the entries that whole values are, if each of them is one
+abbrev pub entries_of : List (List ℕ) → Option (List (List ℕ))
+entries_of [] = Some []
+entries_of (value ∷ values) = before (entry_of value) (entries_of values)
+
+-- the values of a stream that ends with the last of them
+abbrev pub values_to_the_end : Split → Option (List (List ℕ))
+values_to_the_end (Open values []) = Some values
+values_to_the_end (Open values (byte ∷ rest)) = None
+values_to_the_end (Broken values fault) = None
+
+-- the members of an array, if each is an entry
+unfoldable pub listed_entries : List ℕ → Option (List (List ℕ))
+listed_entries bytes = option_and_then entries_of (elements_of bytes)
+
+-- Packed bytes: whole entries one after the other to the last byte, each at most deep deep from its own array.
+unfoldable pub packed_entries : (deep : ℕ) → List ℕ → Option (List (List ℕ))
+packed_entries deep packed = option_and_then entries_of (values_to_the_end (split_of most_bytes deep packed))
+
+-- where the entries end that stand one after the other from a place on, in bytes
+abbrev pub ends_from : ℕ → List (List ℕ) → List ℕ
+ends_from place [] = []
+ends_from place (entry ∷ entries) = (place + length entry) ∷ ends_from (place + length entry) entries
+
+-- where each entry ends, in bytes from the front of the first
+abbrev pub ends_of : List (List ℕ) → List ℕ
+ends_of entries = ends_from 0 entries
+
+-- the bytes from a place on, cut at these ends
+abbrev pub cut_at : (place : ℕ) (ends bytes : List ℕ) → List (List ℕ)
+cut_at place [] bytes = []
+cut_at place (end ∷ ends) bytes = take (end - place) bytes ∷ cut_at end ends (drop (end - place) bytes)
+
+-- the bytes from a place on have these ends, and nothing behind the last
+pub record AreCut (place : ℕ) (ends bytes : List ℕ) : Type 0 where
+  pub joined : concat (cut_at place ends bytes) ≡ bytes
+  pub ending : ends_from place (cut_at place ends bytes) ≡ ends

@@ -1,0 +1,52 @@
+//! One entry of a request (Forward Protocol Specification v1, "Message Modes").
+
+ghost use Rattle.std.specs.Prelude.{◌≡◌, ◌+◌, ◌≤◌, ◌<◌, ◌^◌, IfSome, length};
+ghost use Rattle.std.specs.Option.{option_map};
+ghost use Rattle.fwd_msgpack.specs.Values.{bytes_of};
+
+use crate::kinds::is_map;
+use crate::time::is_time;
+use fwd_msgpack::Value;
+
+/// The time and the record of an entry, as they are spelled.
+#[derive(Clone, Copy, Debug)]
+pub(crate) struct Entry<'a> {
+    pub(crate) time: &'a [u8],
+    pub(crate) fields: &'a [u8],
+    ghost fits: { 1 + length time.now + length fields.now < 2 ^ 32 },
+}
+
+impl<'a> Entry<'a> {
+    ghost use Rattle.fwd_modes.specs.Entries.{entry_of, kept_if};
+    ghost use Rattle.fwd_modes.specs.Readings.{kept};
+
+    /// A time and a record, if they are a time and a map.
+    pub(crate) fn new(time: Value<'a>, fields: Value<'a>) -> Option<Entry<'a>>
+        requires { 1 + length (bytes_of time) + length (bytes_of fields) < 2 ^ 32 }
+        ensures value { option_map kept result ≡ kept_if (bytes_of time.entry) (bytes_of fields.entry) }
+        ensures same { IfSome result (λ e. length e.time.now + length e.fields.now ≡ length (bytes_of time.entry) + length (bytes_of fields.entry)) }
+    {
+        if !is_time(time) || !is_map(fields) {
+            return None;
+        }
+        Some(Entry {
+            time: time.bytes(),
+            fields: fields.bytes(),
+        })
+    }
+
+    /// The entry that a value is: an array of exactly two, a time and a map.
+    #[tactic(auto, unfolding(crate::specs::Entries::entry_of))]
+    pub(crate) fn read(value: Value<'a>) -> Option<Entry<'a>>
+        ensures value { option_map kept result ≡ entry_of (bytes_of value.entry) }
+        ensures fits { IfSome result (λ e. 1 + length e.time.now + length e.fields.now ≤ length (bytes_of value.entry)) }
+    {
+        let mut members = value.items()?;
+        let time = members.next()?;
+        let fields = members.next()?;
+        if members.next().is_some() {
+            return None;
+        }
+        Entry::new(time, fields)
+    }
+}

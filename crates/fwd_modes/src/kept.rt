@@ -1,0 +1,110 @@
+//! Entries as they are kept: `92`, the time and the record as they were spelled.
+
+ghost use Rattle.std.specs.Prelude.{◌≡◌, ◌+◌, ◌<◌, ◌^◌, [], ◌∷◌, ◌++◌, length, take, IfOk, OnOk, OnErr};
+ghost use Rattle.std.specs.List.{concat};
+ghost use Rattle.fwd_modes.specs.Entries.{kept_entry, ends_of};
+ghost use Rattle.fwd_modes.specs.Readings.{entries_left, kept};
+
+use crate::entries::Entries;
+use crate::entry::Entry;
+use smallvec::SmallVec;
+use std::alloc::{AllocError, Global};
+use std::marker::Model;
+
+/// Entries as they are kept, one after the other, and where each of them ends.
+#[derive(Debug, Drop)]
+pub(crate) struct Kept {
+    bytes: Vec<u8>,
+    ends: SmallVec<u32, 2>,
+}
+
+impl Model for Kept {
+    ghost use Rattle.std.specs.Prelude.{List, ℕ, ◌<◌, ◌^◌, length};
+    ghost use Rattle.fwd_modes.specs.Entries.{cut_at, AreCut};
+
+    ghost Value = { List (List ℕ) };
+
+    ghost view = { λ k. cut_at 0 k.ends.items k.bytes.items };
+
+    ghost invariant = { λ k. AreCut 0 k.ends.items k.bytes.items × (length k.bytes.items < 2 ^ 32) };
+}
+
+/// Adds an entry to the bytes, or changes nothing.
+fn append(bytes: &mut Vec<u8>, entry: Entry<'_>) -> Result<(), AllocError>
+    ensures ok { OnOk result (bytes.new.items ≡ bytes.old.items ++ kept entry.entry) }
+    ensures err { OnErr result (bytes.new.items ≡ bytes.old.items) }
+{
+    let len = bytes.len();
+    let added = append_all(bytes, entry);
+    if added.is_err() {
+        bytes.truncate(len);
+    }
+    added
+}
+
+#[tactic(auto, using(crate::proofs::EntryLemmas::take_front))]
+fn append_all(bytes: &mut Vec<u8>, entry: Entry<'_>) -> Result<(), AllocError>
+    ensures ok { OnOk result (bytes.new.items ≡ bytes.old.items ++ kept entry.entry) }
+    ensures front { take (length bytes.old.items) bytes.new.items ≡ bytes.old.items }
+{
+    bytes.reserve(1 + entry.time.len() + entry.fields.len())?;
+    bytes.push(0x92)?;
+    bytes.extend_from_slice(entry.time)?;
+    bytes.extend_from_slice(entry.fields)
+}
+
+impl Kept {
+    /// No entries.
+    pub(crate) fn new(alloc: Global) -> Self
+        ensures { result ≡ [] }
+    {
+        Kept {
+            bytes: Vec::new(alloc),
+            ends: SmallVec::new(alloc),
+        }
+    }
+
+    /// No entries, and room for so many bytes.
+    pub(crate) fn with_room(alloc: Global, bytes: usize) -> Result<Self, AllocError>
+        ensures { IfOk result (λ kept. kept ≡ []) }
+    {
+        Ok(Kept {
+            bytes: Vec::with_capacity(alloc, bytes)?,
+            ends: SmallVec::new(alloc),
+        })
+    }
+
+    /// Adds an entry at the end, or changes nothing.
+    pub(crate) fn push(&mut self, entry: Entry<'_>) -> Result<(), AllocError>
+        requires { length (concat self.old) + length (kept entry) < 2 ^ 32 }
+        ensures ok { OnOk result (self.new ≡ self.old ++ kept entry.entry ∷ []) }
+        ensures err { OnErr result (self.new ≡ self.old) }
+    {
+        self.ends.reserve(1)?;
+        append(&mut self.bytes, entry)?;
+        self.ends.push_reserved(self.bytes.len() as u32);
+        Ok(())
+    }
+
+    /// The entries, one after the other.
+    pub(crate) fn bytes(&self) -> &[u8]
+        ensures value { result.now ≡ concat self.now }
+        ensures bound { length (concat self.now) < 2 ^ 32 }
+    {
+        &self.bytes
+    }
+
+    /// Where each entry ends.
+    pub(crate) fn ends(&self) -> &[u32]
+        ensures { result.now ≡ ends_of self.now }
+    {
+        self.ends.as_slice()
+    }
+
+    /// The entries one by one.
+    pub(crate) fn iter(&self) -> Entries<'_>
+        ensures { entries_left result ≡ self.now }
+    {
+        Entries::new(&self.bytes, self.ends.as_slice())
+    }
+}
