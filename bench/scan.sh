@@ -1,0 +1,92 @@
+#!/bin/sh
+# How fast MessagePack is cut and requests are read, beside msgpuck's mp_check (Tarantool's scanner, written in C).
+#
+#     sh bench/scan.sh [TURNS [MEGABYTES]]
+#
+# Run at the top of the repository, on a quiet machine. It needs Debian's python3-msgpack and libmsgpuck-dev, which it
+# installs where they are absent, and cc. It proves and builds crates/relay_bench, writes streams to a folder that it
+# removes in the end, and prints one line a stream: MB/s of the fastest of five times TURNS turns (a MB is 10^6 bytes), and the
+# ratio to mp_check's.
+#
+# read_request is measured over values that were cut beforehand, so that its figure is its own.
+#
+# packed_forward: mp_check and cut go over the packed entries as one bin, in no time; read_request goes over each entry. So
+# there its speed is compared with mp_check's over the entries alone, the line packed_entries (whose values are no requests).
+set -eu
+
+turns=${1:-20}
+megabytes=${2:-20}
+
+/usr/bin/python3 -c 'import msgpack' 2>/dev/null && [ -f /usr/include/msgpuck.h ] || {
+    apt-get update -q && apt-get install -qy python3-msgpack libmsgpuck-dev
+} >&2
+
+(cd crates/relay_bench && rt run -- count cut 1 <stdin >/dev/null)
+bench=$PWD/crates/relay_bench/out/relay_bench
+
+folder=$(mktemp -d)
+trap 'rm -rf "$folder"' EXIT
+
+cat >"$folder/check.c" <<'END'
+#define _POSIX_C_SOURCE 200809L
+#include <msgpuck.h>
+#include <stdio.h>
+#include <stdlib.h>
+#include <time.h>
+
+__attribute__((noinline)) static long check_all(const char *at, const char *end) {
+    long values = 0;
+    while (at < end && mp_check(&at, end) == 0)
+        values++;
+    return values;
+}
+
+static double now(void) {
+    struct timespec t;
+    clock_gettime(CLOCK_MONOTONIC, &t);
+    return t.tv_sec + t.tv_nsec / 1e9;
+}
+
+int main(int argc, char **argv) {
+    FILE *file = argc == 3 ? fopen(argv[2], "rb") : NULL;
+    if (!file || fseek(file, 0, SEEK_END))
+        return 1;
+    size_t len = ftell(file);
+    char *stream = malloc(len);
+    rewind(file);
+    if (!stream || fread(stream, 1, len, file) != len)
+        return 1;
+    double least = 1e9;
+    long values = 0;
+    for (int turn = 0; turn < atoi(argv[1]); turn++) {
+        double start = now();
+        values = check_all(stream, stream + len);
+        double took = now() - start;
+        if (took < least)
+            least = took;
+    }
+    printf("values %ld\n%.0f MB/s\n", values, len / least / 1e6);
+    return 0;
+}
+END
+cc -O2 -o "$folder/check" "$folder/check.c" -lmsgpuck
+/usr/bin/python3 bench/streams.py "$folder" "$megabytes"
+
+# the greatest speed that a program prints last in five runs: a run can be slower by a third and more, turn for turn, wherever
+# the system laid out its memory
+speed() {
+    for _ in 1 2 3 4 5; do
+        "$@" | tail -n 1 | cut -d ' ' -f 1
+    done | sort -n | tail -n 1
+}
+
+echo "cores $(nproc), MB/s of the fastest of five times $turns turns over $megabytes MB"
+printf '%-16s %10s %10s %7s %14s %7s\n' stream mp_check cut ratio read_request ratio
+for stream in message forward packed_forward packed_entries; do
+    peer=$(speed "$folder/check" "$turns" "$folder/$stream")
+    cut=$(speed "$bench" speed cut "$turns" "$folder/$stream")
+    read=$(speed "$bench" speed requests "$turns" "$folder/$stream")
+    printf '%s %s %s %s\n' "$stream" "$peer" "$cut" "$read" |
+        awk '{ printf "%-16s %10d %10d %7.2f %14d %7.2f\n", $1, $2, $3, $3 / $2, $4, $4 / $2 }'
+    "$bench" count requests 1 "$folder/$stream" | sed 's/^/    /'
+done
