@@ -1,0 +1,4 @@
+pub mod DrawLemmas
+pub mod Agreeing
+mod Examples
+pub mod Written

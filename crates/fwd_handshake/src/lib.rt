@@ -1,0 +1,25 @@
+//! The handshake of the Forward Protocol: HELO, PING and PONG (Forward Protocol Specification v1, "Handshake Messages").
+#![tactic(auto)]
+
+mod credentials;
+mod digest;
+mod helo;
+mod laws;
+mod nonces;
+mod ping;
+mod pong;
+mod reading;
+mod verdict;
+mod writing;
+
+pub use credentials::{Login, Security, User};
+pub use digest::{key_digest, password_digest};
+pub use helo::{answer_helo, write_helo};
+pub use laws::agreed_sides_pass;
+pub use nonces::{Nonces, draw_salt};
+pub use ping::judge_ping;
+pub use pong::judge_pong;
+pub use verdict::{Denial, HeloAnswer, PingVerdict, PongVerdict};
+
+#[cfg(test)]
+mod tests;
