@@ -72,8 +72,8 @@ END
 cc -O2 -o "$folder/check" "$folder/check.c" -lmsgpuck
 /usr/bin/python3 bench/streams.py "$folder" "$megabytes"
 
-# the greatest speed that a program prints last in five runs: a run can be slower by a third and more, turn for turn, wherever
-# the system laid out its memory
+# the greatest speed that a program prints last in five runs: a run can be slower by a third and more where another process
+# has the core's other thread
 speed() {
     for _ in 1 2 3 4 5; do
         "$@" | tail -n 1 | cut -d ' ' -f 1

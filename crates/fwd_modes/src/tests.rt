@@ -56,8 +56,8 @@ fn a_frame_is_written(rt: HostRuntime) -> Result<(), Fail> {
 fn many_entries_are_read(rt: HostRuntime) -> Result<(), Fail> {
     for bytes in [
         b"\x92\xa1\x61\x92\x92\x01\x80\xdc\x00\x02\xcc\x02\x80".as_slice(),
-        b"\x92\xa1\x61\xaa\x92\x01\x80\xdc\x00\x02\xcc\x02\x80",
-        b"\x92\xa1\x61\xc4\x0a\x92\x01\x80\xdc\x00\x02\xcc\x02\x80",
+        b"\x92\xa1\x61\xa9\x92\x01\x80\xdc\x00\x02\xcc\x02\x80",
+        b"\x92\xa1\x61\xc4\x09\x92\x01\x80\xdc\x00\x02\xcc\x02\x80",
     ] {
         let Reading::Asks(batch) = read_request(rt.alloc(), value(bytes)?, LIMITS)? else {
             return Err(Fail::from("no request"));
@@ -85,7 +85,9 @@ fn event_times_are_read(rt: HostRuntime) -> Result<(), Fail> {
         b"\xc8\x00\x08\x00\x00\x00\x00\x01\x00\x00\x00\x02",
         b"\xc9\x00\x00\x00\x08\x00\x00\x00\x00\x01\x00\x00\x00\x02",
     ] {
-        let time = EventTime::read(value(bytes)?).ok_or(Fail::from("no time"))?;
+        let Some(time) = EventTime::read(value(bytes)?) else {
+            return Err(Fail::from("no time"));
+        };
         assert_eq!(rt; time.sec(), 1);
         assert_eq!(rt; time.nanos(), 2);
     }

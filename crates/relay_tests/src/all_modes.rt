@@ -3,6 +3,7 @@
 use crate::scripts::replays;
 use fwd_script::Status;
 use std::alloc::{AllocError, Global};
+use std::process::Abort;
 use std::test::Fail;
 
 /// A script of a connection whose bytes come in these pieces of hexadecimal digits.
@@ -91,6 +92,18 @@ fn the_fault_that_the_rules_name(rt: HostRuntime) -> Result<(), Fail> {
     Ok(())
 }
 
+/// A request in two pieces, cut at each byte: none waits after the first piece, and it waits after the second.
+fn cut_at_each_byte(rt: &(impl Abort + AllocGlobal), piece: &[u8]) -> Result<(), Fail> {
+    let alloc = rt.alloc();
+    for cut in 1..piece.len() / 2 {
+        let (front, back) = piece.split_at(2 * cut);
+        let script = pieces(alloc, &[front, back])?;
+        let written = answers(alloc, &[b"requests 0 out -", b"requests 1 out -"])?;
+        replays(rt, &script, &written, Status::Done)?;
+    }
+    Ok(())
+}
+
 #[test]
 fn requests_of_every_mode(rt: HostRuntime) -> Result<(), Fail> {
     let alloc = rt.alloc();
@@ -111,12 +124,7 @@ fn requests_of_every_mode(rt: HostRuntime) -> Result<(), Fail> {
         let script = pieces(alloc, &[piece])?;
         let written = answers(alloc, &[b"requests 1 out -"])?;
         replays(&rt, &script, &written, Status::Done)?;
-        for cut in 1..piece.len() / 2 {
-            let (front, back) = piece.split_at(2 * cut);
-            let script = pieces(alloc, &[front, back])?;
-            let written = answers(alloc, &[b"requests 0 out -", b"requests 1 out -"])?;
-            replays(&rt, &script, &written, Status::Done)?;
-        }
+        cut_at_each_byte(&rt, piece)?;
     }
     Ok(())
 }
@@ -139,7 +147,7 @@ fn long_requests(rt: HostRuntime) -> Result<(), Fail> {
         let written = answers(alloc, &[answer])?;
         replays(&rt, &script, &written, Status::Done)?;
     }
-    Ok(())
+    cut_at_each_byte(&rt, &deepest)
 }
 
 #[test]
