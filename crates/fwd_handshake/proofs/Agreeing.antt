@@ -12,7 +12,8 @@ use Rattle.fwd_msgpack.specs.declared.head.Head.TheVariants.{Bool as Boolean, Ar
 use Rattle.fwd_msgpack.specs.Heads.{head_bytes, reading_of, row_of, named_rows}
 use Rattle.fwd_msgpack.specs.Scans.{parts_of}
 use Rattle.fwd_handshake.specs.Digests.{key_digest, password_digest}
-use Rattle.fwd_handshake.specs.Messages.{text, ping_text, pong_text}
+use Rattle.fwd_msgpack.specs.Texts.{text}
+use Rattle.fwd_handshake.specs.Messages.{ping_text, pong_text}
 use Rattle.fwd_handshake.specs.Readings.{is_word, behind, values_behind, bool_of}
 use Rattle.fwd_handshake.specs.declared.credentials.User.{User}
 use Rattle.fwd_handshake.specs.declared.credentials.Security.{Security}
@@ -22,7 +23,8 @@ use Rattle.fwd_handshake.specs.declared.verdict.PingVerdict.TheVariants.{Pass}
 use Rattle.fwd_handshake.specs.declared.verdict.PongVerdict.TheVariants as pong
 use Rattle.fwd_handshake.specs.Agreements.{is_login_of, lets_in, auth_given, IsAgreed}
 use Rattle.fwd_handshake.specs.Verdicts.{Claim, Ping, is_key_digest, ping_in, ping_of, is_of_user, is_of_a_user, lacks_claim, passing, ping_judged, ping_verdict, username_for, proof_for, answering, four_in, pong_judged, pong_verdict}
-use Rattle.fwd_handshake.proofs.Written.{texts, AreShort, row-text, row-texts, row-bool, elements_of-array, text_of-text}
+use Rattle.fwd_msgpack.proofs.Written.{written_elements, text_text}
+use Rattle.fwd_handshake.proofs.Written.{texts, AreShort, row-text, row-texts, row-bool}
 
 -- a digest has 128 bytes
 length-key_digest : (salt host nonce key : List ℕ) → length (key_digest salt host nonce key) ≡ 128
@@ -49,7 +51,7 @@ ping_values h s d u p short =
     let ws : List (List ℕ) = codes "PING" ∷ h ∷ s ∷ d ∷ u ∷ p ∷ [] in
     ap (λ (bytes : List ℕ). values_behind (codes "PING") bytes) (ping_flat h s d u p)
     ∙ ap (λ (e : Option (List (List ℕ))). option_and_then (behind (codes "PING")) e)
-    (elements_of-array 6 (texts ws) (lit≤ tt) ∙ ap (λ (vs : List (List ℕ)). Some vs) (row-texts ws (lit≤ tt, short)))
+    (written_elements (Arr 6) (lit≤ tt) tt (texts ws) ∙ ap (λ (vs : List (List ℕ)). Some vs) (row-texts ws (lit≤ tt, short)))
     ∙ ap (λ (b : Bool). cond b (Some (text h ∷ text s ∷ text d ∷ text u ∷ text p ∷ [])) None) ping_word
 
 -- what a written PING says
@@ -58,11 +60,11 @@ ping_said : (h s d u p : List ℕ) → AreShort (h ∷ s ∷ d ∷ u ∷ p ∷ [
 ping_said h s d u p short =
     ap (λ (vs : Option (List (List ℕ))). option_and_then ping_in vs) (ping_values h s d u p short)
     ∙ rw (
-      text_of-text h (omega (arith, short.0)),
-      text_of-text s (omega (arith, short.1.0)),
-      text_of-text d (omega (arith, short.1.1.0)),
-      text_of-text u (omega (arith, short.1.1.1.0)),
-      text_of-text p (omega (arith, short.1.1.1.1.0)),
+      text_text h (omega (arith, short.0)),
+      text_text s (omega (arith, short.1.0)),
+      text_text d (omega (arith, short.1.1.0)),
+      text_text u (omega (arith, short.1.1.1.0)),
+      text_text p (omega (arith, short.1.1.1.1.0)),
     ) refl
 
 -- ---- the server's side
@@ -154,7 +156,7 @@ pong_values h d short =
     let rest : List ℕ = head_bytes (Boolean true) ++ texts ws in
     ap (λ (bytes : List ℕ). values_behind (codes "PONG") bytes) (pong_flat h d)
     ∙ ap (λ (e : Option (List (List ℕ))). option_and_then (behind (codes "PONG")) e) (
-    elements_of-array 5 (text (codes "PONG") ++ rest) (lit≤ tt)
+    written_elements (Arr 5) (lit≤ tt) tt (text (codes "PONG") ++ rest)
     ∙ ap (λ (vs : List (List ℕ)). Some vs) (
     row-text (codes "PONG") rest (lit≤ tt)
     ∙ ap (λ (vs : List (List ℕ)). text (codes "PONG") ∷ vs) (
@@ -177,4 +179,4 @@ pong_passes login security nonce salt key agreed =
     rw agreed.server (pong_values host digest (agreed.short_server, (short, tt))) in
     let keyed : is_key_digest login.shared_key salt host nonce digest ≡ true = rw agreed.client (same digest) in
     ap (λ (vs : Option (List (List ℕ))). pong_judged login salt nonce (option_and_then four_in vs)) written
-    ∙ rw (true_bool, text_of-text [] (lit≤ tt), text_of-text host (omega (arith, agreed.short_server)), text_of-text digest (omega (arith, short)), keyed) refl
+    ∙ rw (true_bool, text_text [] (lit≤ tt), text_text host (omega (arith, agreed.short_server)), text_text digest (omega (arith, short)), keyed) refl

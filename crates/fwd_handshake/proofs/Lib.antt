@@ -1,4 +1,5 @@
 pub mod DrawLemmas
 pub mod Agreeing
+pub mod Answered
 mod Examples
 pub mod Written

@@ -1,15 +1,12 @@
 -- The messages of a handshake, byte for byte (Forward Protocol Specification v1, "Handshake Messages"). Every head is the
 -- shortest.
 use Rattle.std.specs.Prelude.{ℕ, Bool, true, false, List, [], ◌∷◌, ◌++◌, length, codes}
-use Rattle.fwd_msgpack.specs.declared.head.Head.TheVariants.{Bool as Boolean, Str, Bin, Arr, Map}
+use Rattle.fwd_msgpack.specs.declared.head.Head.TheVariants.{Bool as Boolean, Bin, Arr, Map}
 use Rattle.fwd_msgpack.specs.Heads.{head_bytes}
+use Rattle.fwd_msgpack.specs.Texts.{text}
 use Rattle.fwd_handshake.specs.declared.credentials.User.{User}
 use Rattle.fwd_handshake.specs.declared.verdict.Denial.{Denial}
 use Rattle.fwd_handshake.specs.declared.verdict.Denial.TheVariants.{KeyMismatch, UserMismatch}
-
--- a str of these bytes
-abbrev pub text : List ℕ → List ℕ
-text bytes = head_bytes (Str (length bytes)) ++ bytes
 
 -- a bin of these bytes
 abbrev pub binary : List ℕ → List ℕ

@@ -1,20 +1,14 @@
 -- What the values of a handshake's messages say. Texts are taken as str or bin, but for the word that names a message,
 -- which is a str.
-use Rattle.std.specs.Prelude.{ℕ, Bool, true, false, ◌&&◌, List, [], ◌∷◌, map, filter, Option, Some, None, option_and_then, if◌then◌else◌}
-use Rattle.std.specs.List.{last_or}
-use Rattle.std.specs.Option.{option_eq}
-use Rattle.std.specs.Str.{bytes_eq}
+use Rattle.std.specs.Prelude.{ℕ, Bool, true, false, ◌&&◌, List, [], ◌∷◌, Option, Some, None, option_and_then, if◌then◌else◌}
 use Rattle.fwd_msgpack.specs.declared.head.Head.{Head}
 use Rattle.fwd_msgpack.specs.declared.head.Head.TheVariants.{Bool as Boolean, Str}
 use Rattle.fwd_msgpack.specs.Scans.{text_of, head_of, elements_of}
+use Rattle.fwd_msgpack.specs.Texts.{is_text, last_under}
 
 abbrev pub is_str_head : Option Head → Bool
 is_str_head (Some (Str len)) = true
 is_str_head _ = false
-
--- the value is a str or a bin of these bytes
-abbrev pub is_text : List ℕ → List ℕ → Bool
-is_text text bytes = option_eq bytes_eq (text_of bytes) (Some text)
 
 -- the value is a str of these bytes
 abbrev pub is_word : List ℕ → List ℕ → Bool
@@ -27,14 +21,6 @@ bool_in _ = None
 -- the bool that a value is
 abbrev pub bool_of : List ℕ → Option Bool
 bool_of bytes = bool_in (head_of bytes)
-
--- the values under a key, in order; keys that are no text are no key
-abbrev pub values_under : List ℕ → List (List ℕ × List ℕ) → List (List ℕ)
-values_under key pairs = map (λ p. p.1) (filter (λ p. is_text key p.0) pairs)
-
--- the value under a key: of a key that is given more than once the last counts
-abbrev pub last_under : List ℕ → List (List ℕ × List ℕ) → Option (List ℕ)
-last_under key pairs = last_or None (values_under key pairs)
 
 -- the payload of the str or bin under a key
 abbrev pub text_under : List ℕ → List (List ℕ × List ℕ) → Option (List ℕ)

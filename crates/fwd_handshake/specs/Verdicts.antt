@@ -4,6 +4,7 @@ use Rattle.std.specs.Prelude.{ℕ, Bool, true, false, not, ◌&&◌, List, [], �
 use Rattle.std.specs.List.{list_any}
 use Rattle.std.specs.Str.{bytes_eq}
 use Rattle.fwd_msgpack.specs.Scans.{text_of, pairs_of}
+use Rattle.fwd_msgpack.specs.Texts.{last_under}
 use Rattle.fwd_handshake.specs.declared.credentials.User.{User}
 use Rattle.fwd_handshake.specs.declared.credentials.Security.{Security}
 use Rattle.fwd_handshake.specs.declared.credentials.Login.{Login}
@@ -18,7 +19,7 @@ use Rattle.fwd_handshake.specs.declared.verdict.PongVerdict.{PongVerdict}
 use Rattle.fwd_handshake.specs.declared.verdict.PongVerdict.TheVariants as pong
 use Rattle.fwd_handshake.specs.Digests.{key_digest, password_digest}
 use Rattle.fwd_handshake.specs.Messages.{ping_text, pong_text, denying}
-use Rattle.fwd_handshake.specs.Readings.{bool_of, last_under, text_under, values_behind}
+use Rattle.fwd_handshake.specs.Readings.{bool_of, text_under, values_behind}
 
 -- The user that a client says it is: a username, and the digest of a password.
 pub record Claim : Type 0 where

@@ -3,19 +3,20 @@
 ghost use Rattle.std.specs.Prelude.{◌≡◌, ◌++◌, ◌<◌, ◌^◌, [], length, codes, option_and_then, IfOk};
 ghost use Rattle.std.specs.Option.{option_map};
 ghost use Rattle.fwd_msgpack.specs.Scans.{pairs_of};
+ghost use Rattle.fwd_msgpack.specs.Texts.{text};
 ghost use Rattle.fwd_msgpack.specs.Values.{bytes_of, pairs_left};
-ghost use Rattle.fwd_handshake.specs.Messages.{auth_value, helo_text, text};
+ghost use Rattle.fwd_handshake.specs.Messages.{auth_value, binary, helo_text};
 ghost use Rattle.fwd_handshake.specs.Readings.{values_behind};
 ghost use Rattle.fwd_handshake.specs.Verdicts.{helo_of, helo_under, username_for, proof_for, answering, helo_answer};
-ghost use Rattle.fwd_handshake.specs.Shown.{helo_shown};
+ghost use Rattle.fwd_handshake.specs.Shown.{helo_shown, salt_bytes};
 
 use crate::credentials::{Login, Security};
 use crate::digest::{key_bytes, key_digest, password_digest};
 use crate::nonces::Nonces;
-use crate::reading::{bool_of, last_under, text_under, values_behind};
+use crate::reading::{bool_of, text_under, values_behind};
+use crate::salt::Salt;
 use crate::verdict::HeloAnswer;
-use crate::writing::{write_binary, write_text};
-use fwd_msgpack::{Bytes, Head, Pairs, Value, write_head};
+use fwd_msgpack::{Bytes, Head, Pairs, Value, write_head, write_text};
 use std::alloc::{AllocError, Global};
 
 /// What a HELO says.
@@ -24,6 +25,15 @@ struct Helo<'a> {
     nonce: &'a [u8],
     auth: &'a [u8],
     keepalive: bool,
+}
+
+/// Appends a bin.
+fn write_binary(out: &mut Vec<u8>, bytes: &[u8]) -> Result<(), AllocError>
+    requires { length bytes.now < 2 ^ 32 }
+    ensures { IfOk result (λ _. out.new.items ≡ out.old.items ++ binary bytes.now) }
+{
+    write_head(out, Head::Bin(bytes.len() as u32))?;
+    out.extend_from_slice(bytes)
 }
 
 /// Appends the auth salt, which is the empty str where no users are set.
@@ -63,7 +73,8 @@ fn helo_under<'a>(pairs: Pairs<'a>) -> Option<Helo<'a>>
     Some(Helo {
         nonce: text_under(pairs, b"nonce")?,
         auth: text_under(pairs, b"auth").unwrap_or(&[]),
-        keepalive: last_under(pairs, b"keepalive")
+        keepalive: pairs
+            .last_under(b"keepalive")
             .and_then(bool_of)
             .unwrap_or(true),
     })
@@ -102,14 +113,14 @@ fn write_claim(out: &mut Vec<u8>, login: &Login, auth: &[u8]) -> Result<(), Allo
 fn write_ping(
     alloc: Global,
     login: &Login,
-    salt: &[u8],
+    salt: Salt<'_>,
     nonce: &[u8],
     auth: &[u8],
 ) -> Result<Bytes, AllocError>
-    requires { length salt.now < 2 ^ 32 }
-    ensures { IfOk result (λ ping. ping ≡ answering login.now salt.now nonce.now auth.now) }
+    ensures { IfOk result (λ ping. ping ≡ answering login.now (salt_bytes salt.entry) nonce.now auth.now) }
 {
     let host = login.hostname.as_slice();
+    let salt = salt.bytes();
     let mut out = Vec::new(alloc);
     write_head(&mut out, Head::Arr(6))?;
     write_text(&mut out, b"PING")?;
@@ -125,17 +136,16 @@ fn write_ping(
 
 /// What a value is that the next hop sent at first, and the PING that answers it. The first case that holds counts: no
 /// HELO; a HELO, whose `auth` counts as empty where it is no str and no bin, and whose `keepalive` as true where it is no
-/// bool (Forward Protocol Specification v1, "Handshake Messages", "HELO" and "PING"). The salt has less than 2^32 bytes. The
-/// only error is want of memory.
+/// bool (Forward Protocol Specification v1, "Handshake Messages", "HELO" and "PING"). The only error is want of
+/// memory.
 #[tactic(auto, unfolding(crate::specs::Verdicts::helo_answer))]
 pub fn answer_helo(
     alloc: Global,
     value: Value<'_>,
     login: &Login,
-    salt: &[u8],
+    salt: Salt<'_>,
 ) -> Result<HeloAnswer, AllocError>
-    requires { length salt.now < 2 ^ 32 }
-    ensures { IfOk result (λ answer. answer ≡ helo_answer login.now salt.now (bytes_of value.entry)) }
+    ensures { IfOk result (λ answer. answer ≡ helo_answer login.now (salt_bytes salt.entry) (bytes_of value.entry)) }
 {
     let Some(helo) = helo_of(value) else {
         return Ok(HeloAnswer::NotHelo);

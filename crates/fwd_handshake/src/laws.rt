@@ -1,13 +1,23 @@
 //! Laws of the definitions: each is the contract of a function that does nothing.
 
-ghost use Rattle.std.specs.Prelude.{◌≡◌, ◌<◌, List, ℕ, length};
+ghost use Rattle.std.specs.Prelude.{◌≡◌, ◌<◌, ◌^◌, true, List, ℕ, length};
+ghost use Rattle.fwd_handshake.specs.declared.credentials.User.{User};
 ghost use Rattle.fwd_handshake.specs.declared.credentials.Security.{Security};
 ghost use Rattle.fwd_handshake.specs.declared.credentials.Login.{Login};
 ghost use Rattle.fwd_handshake.specs.declared.nonces.Nonces.{Nonces};
+ghost use Rattle.fwd_handshake.specs.declared.verdict.HeloAnswer.TheVariants.{Ping as Answers};
 ghost use Rattle.fwd_handshake.specs.declared.verdict.PingVerdict.TheVariants.{Pass};
 ghost use Rattle.fwd_handshake.specs.declared.verdict.PongVerdict.TheVariants as pong;
 ghost use Rattle.fwd_handshake.specs.Agreements.{IsAgreed, auth_given};
-ghost use Rattle.fwd_handshake.specs.Verdicts.{answering, passing, ping_verdict, pong_verdict};
+ghost use Rattle.fwd_handshake.specs.Messages.{helo_text};
+ghost use Rattle.fwd_handshake.specs.Verdicts.{answering, passing, helo_answer, ping_verdict, pong_verdict};
+
+/// The HELO that a server writes is answered by the PING for its nonce and its auth salt, which is empty where no users are
+/// set, and says that the link is kept.
+pub fn written_helo_is_answered()
+    ensures { (login : Login) (users : List User) (nonce auth salt : List ℕ) → length (helo_text users nonce auth) < 2 ^ 32 →
+        helo_answer login salt (helo_text users nonce auth) ≡ Answers (answering login salt nonce (auth_given users auth)) nonce true }
+{}
 
 /// Two sides that know the same key, and of whom the server knows the client's user where it has users, let each other
 /// pass: the PING that the client writes is good, and so is the PONG that answers it.

@@ -9,16 +9,17 @@ mod nonces;
 mod ping;
 mod pong;
 mod reading;
+mod salt;
 mod verdict;
-mod writing;
 
 pub use credentials::{Login, Security, User};
 pub use digest::{key_digest, password_digest};
 pub use helo::{answer_helo, write_helo};
-pub use laws::agreed_sides_pass;
+pub use laws::{agreed_sides_pass, written_helo_is_answered};
 pub use nonces::{Nonces, draw_salt};
 pub use ping::judge_ping;
 pub use pong::judge_pong;
+pub use salt::Salt;
 pub use verdict::{Denial, HeloAnswer, PingVerdict, PongVerdict};
 
 #[cfg(test)]

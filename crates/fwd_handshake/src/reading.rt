@@ -3,25 +3,15 @@
 ghost use Rattle.std.specs.Prelude.{◌≡◌};
 ghost use Rattle.std.specs.Option.{option_copied, option_map};
 ghost use Rattle.fwd_msgpack.specs.Values.{bytes_of, members_left, pairs_left};
-ghost use Rattle.fwd_handshake.specs.Readings.{is_text, is_word, bool_of, last_under, text_under, values_behind};
+ghost use Rattle.fwd_handshake.specs.Readings.{is_word, bool_of, text_under, values_behind};
 
 use fwd_msgpack::{Head, Members, Pairs, Value};
-
-/// Whether a value is a str or a bin of these bytes.
-fn is_text(value: Value<'_>, text: &[u8]) -> bool
-    ensures { result ≡ is_text text.now (bytes_of value.entry) }
-{
-    match value.text() {
-        Some(bytes) => bytes == text,
-        None => false,
-    }
-}
 
 /// Whether a value is a str of these bytes.
 fn is_word(value: Value<'_>, word: &[u8]) -> bool
     ensures { result ≡ is_word word.now (bytes_of value.entry) }
 {
-    matches!(value.head(), Head::Str(_)) && is_text(value, word)
+    matches!(value.head(), Head::Str(_)) && value.is_text(word)
 }
 
 /// The bool that a value is.
@@ -34,24 +24,11 @@ pub(crate) fn bool_of(value: Value<'_>) -> Option<bool>
     }
 }
 
-/// The value under a key: of a key that is given more than once the last counts.
-pub(crate) fn last_under<'a>(pairs: Pairs<'a>, key: &[u8]) -> Option<Value<'a>>
-    ensures { option_map bytes_of result ≡ last_under key.now (pairs_left pairs.entry) }
-{
-    let mut last = None;
-    for (name, value) in pairs {
-        if is_text(name, key) {
-            last = Some(value);
-        }
-    }
-    last
-}
-
 /// The payload of the str or bin under a key.
 pub(crate) fn text_under<'a>(pairs: Pairs<'a>, key: &[u8]) -> Option<&'a [u8]>
     ensures { option_copied result ≡ text_under key.now (pairs_left pairs.entry) }
 {
-    last_under(pairs, key)?.text()
+    pairs.last_under(key)?.text()
 }
 
 /// The values behind the word that names a message, which is an array.

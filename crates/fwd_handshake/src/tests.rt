@@ -134,7 +134,9 @@ fn draws_are_the_key_stream(rt: HostRuntime) {
         drawn.auth,
         *b"\xbd\xd2\x19\xb8\xa0\x8d\xed\x1a\xa8\x36\xef\xcc\x8b\x77\x0d\xc7"
     );
-    assert_eq!(rt; draw_salt(&mut rng), *b"da41597c5157488d7724e03fb8d84a37");
+    let salt = draw_salt(&mut rng);
+    assert_eq!(rt; salt, *b"da41597c5157488d7724e03fb8d84a37");
+    assert_eq!(rt; Salt::from(&salt).bytes(), salt.as_slice());
 }
 
 #[test]
@@ -208,7 +210,10 @@ fn a_helo_is_answered(rt: HostRuntime) -> Result<(), Fail> {
     for (text, kept) in [(HELO, true), (HELO_ONCE, false)] {
         let helo = hex::decode(rt.alloc(), text)?;
         let login = brown_client(rt.alloc())?;
-        let answer = answer_helo(rt.alloc(), value(&helo)?, &login, b"The quick ")?;
+        let Some(salt) = Salt::new(b"The quick ") else {
+            return Err(Fail::from("no salt"));
+        };
+        let answer = answer_helo(rt.alloc(), value(&helo)?, &login, salt)?;
         let HeloAnswer::Ping {
             bytes,
             nonce,

@@ -1,104 +1,22 @@
 -- A frame is a request for what it was written from.
-use Rattle.std.proofs.Common.{◌≡◌, ℕ, zero, suc, ◌<◌, ◌≤◌, ◌^◌, true, false, cond, List, [], ◌∷◌, ◌++◌, length, drop, Some, None, refl, sym, ap, subst, ◌∙◌, inl, inr, append_assoc, zero-add, arith}
+use Rattle.std.proofs.Common.{◌≡◌, ℕ, ◌<◌, ◌≤◌, ◌^◌, false, cond, List, [], ◌∷◌, ◌++◌, length, Some, None, refl, sym, ap, subst, ◌∙◌, append_assoc, arith}
 use Rattle.std.specs.Prelude.{codes, option_and_then, is_none, unwrap_or}
 use Rattle.std.specs.List.{concat, AllByRecursion}
-use Rattle.std.specs.Option.{option_map}
 use Rattle.std.proofs.lemmas.Bool.{le-leb}
-use Rattle.std.proofs.lemmas.List.{append-nil, length-append, take_at, drop_at}
-use Rattle.fwd_msgpack.specs.declared.head.Head.{Head}
-use Rattle.fwd_msgpack.specs.declared.head.Head.TheVariants.{Int, Str, Bin, Arr, Map}
-use Rattle.fwd_msgpack.specs.Heads.{IsHead, IsSpelled, head_bytes, reading_of, payload, members, opens}
-use Rattle.fwd_msgpack.specs.Scans.{Whole, Ended, Open, verdict_of, first_of, split_of, with_front, values_of, row_of_values, pair_up, most_bytes, most_deep, parts_read, parts_of, head_of, elements_in, elements_of, pairs_in, pairs_of, text_in, text_of}
-use Rattle.fwd_msgpack.specs.Values.{AreHead, IsPlain, InARow, IsContainer, IsValue}
-use Rattle.fwd_msgpack.proofs.Complete.{over_value, value_some}
-use Rattle.fwd_msgpack.proofs.Fronts.{scanned, scanned-Ended}
-use Rattle.fwd_msgpack.proofs.Rows.{split_first}
-use Rattle.fwd_msgpack.proofs.Spellings.{read_back}
+use Rattle.std.proofs.lemmas.List.{append-nil, length-append}
+use Rattle.fwd_msgpack.specs.declared.head.Head.TheVariants.{Int, Bin, Arr, Map}
+use Rattle.fwd_msgpack.specs.Heads.{head_bytes}
+use Rattle.fwd_msgpack.specs.Scans.{pair_up, most_bytes, head_of, elements_of, pairs_of, text_of}
+use Rattle.fwd_msgpack.specs.Values.{IsPlain, IsContainer, IsValue}
+use Rattle.fwd_msgpack.specs.Texts.{text, last_under}
+use Rattle.fwd_msgpack.proofs.Complete.{value_some}
+use Rattle.fwd_msgpack.proofs.Written.{values_split, values_row, written_head, written_text, written_elements, written_pairs, written_plain, written_container, text_plain, text_text, head_text, plain_value, container_value, in_a_row}
 use Rattle.fwd_modes.specs.Entries.{entries_of, values_to_the_end, packed_entries}
-use Rattle.fwd_modes.specs.Frames.{text, frame_option, chunk_frame, IsKept, Frame, IsFrame}
-use Rattle.fwd_modes.specs.Kinds.{is_nil_head, fitting_text, last_under}
+use Rattle.fwd_modes.specs.Frames.{frame_option, chunk_frame, IsKept, Frame, IsFrame}
+use Rattle.fwd_modes.specs.Kinds.{is_nil_head, fitting_text}
 use Rattle.fwd_modes.specs.Options.{option_pairs, unless_nil, chunk_under, chunk_of, is_bad_chunk, are_bad_pairs, is_bad_option, is_compression, is_compressed}
 use Rattle.fwd_modes.specs.declared.fault.InputFault.TheVariants.{BadTag, BadOption, Compressed, BadEntry}
 use Rattle.fwd_modes.specs.Requests.{Request, Heartbeat, Asks, Parts, mode_by, with_option, parts_by, parts_in, tag_of, first_fault, asked, unless_fault, of_parts, request_of}
-
--- ---- values in front of more
-
-pub first_value : (limit most deep : ℕ) (own rest : List ℕ) → IsValue deep own → deep ≤ most → length own ≤ limit → first_of limit most (own ++ rest) ≡ Whole (length own)
-unfolding first_of
-first_value limit most deep own rest value shallow short =
-    ap verdict_of (over_value deep own value limit most 0 [] rest (omega arith) (omega arith) ∙ ap (λ n. scanned limit most (Ended n) rest) (zero-add (length own)) ∙ scanned-Ended limit most (length own) rest)
-
--- values one after the other are a stream of just these
-pub values_split : (limit most deep : ℕ) (values : List (List ℕ)) → AllByRecursion (IsValue deep) values → deep ≤ most → length (concat values) ≤ limit → split_of limit most (concat values) ≡ Open values []
-unfolding split_of
-values_split limit most deep [] each shallow short = refl
-values_split limit most deep (v ∷ values) each shallow short =
-    let size = length-append v (concat values) in
-    let first = first_value limit most deep v (concat values) each.0 shallow (omega (arith, size, short)) in
-    split_first limit most (v ++ concat values) (length v) first
-    ∙ ap (λ xs. with_front (xs ∷ []) (split_of limit most (drop (length v) (v ++ concat values)))) (take_at v (concat values) (length v) refl)
-    ∙ ap (λ xs. with_front (v ∷ []) (split_of limit most xs)) (drop_at v (concat values) (length v) refl)
-    ∙ ap (with_front (v ∷ [])) (values_split limit most deep values each.1 shallow (omega (arith, size, short)))
-
-pub values_row : (deep : ℕ) (values : List (List ℕ)) → AllByRecursion (IsValue deep) values → deep ≤ most_deep → length (concat values) ≤ most_bytes → row_of_values (concat values) ≡ values
-unfolding row_of_values
-values_row deep values each shallow short = ap values_of (values_split most_bytes most_deep deep values each shallow short)
-
--- ---- written heads
-
-module _ (head : Head) (is : IsHead head) (spelled : IsSpelled head) where
-  pub written_parts : (body : List ℕ) → parts_of (head_bytes head ++ body) ≡ Some (head, body)
-  unfolding parts_of
-  written_parts body =
-      ap (λ r. parts_read r (head_bytes head ++ body)) (read_back head body is spelled) ∙ ap (λ xs. Some (head, xs)) (drop_at (head_bytes head) body (length (head_bytes head)) refl)
-
-  pub written_head : (body : List ℕ) → head_of (head_bytes head ++ body) ≡ Some head
-  written_head body = ap (option_map (λ parts. parts.0)) (written_parts body)
-
-  pub written_text : (body : List ℕ) → text_of (head_bytes head ++ body) ≡ text_in head body
-  written_text body = ap (option_and_then (λ parts. text_in parts.0 parts.1)) (written_parts body)
-
-  pub written_elements : (body : List ℕ) → elements_of (head_bytes head ++ body) ≡ elements_in head body
-  written_elements body = ap (option_and_then (λ parts. elements_in parts.0 parts.1)) (written_parts body)
-
-  pub written_pairs : (body : List ℕ) → pairs_of (head_bytes head ++ body) ≡ pairs_in head body
-  written_pairs body = ap (option_and_then (λ parts. pairs_in parts.0 parts.1)) (written_parts body)
-
-  alone : AreHead head (head_bytes head)
-  alone = ap reading_of (sym (append-nil (head_bytes head))) ∙ read_back head [] is spelled
-
-  pub written_plain : (body : List ℕ) → opens head ≡ false → length body ≡ payload head → IsPlain (head_bytes head ++ body)
-  written_plain body shut len = record { head = head; front = head_bytes head; body = body; parts = refl; spelled = alone; shut = shut; len = len }
-
-  pub written_container : (P : List ℕ → Type 0) (body : List ℕ) → opens head ≡ true → InARow P (members head) body → IsContainer P (head_bytes head ++ body)
-  written_container P body opened row = record { head = head; front = head_bytes head; body = body; parts = refl; spelled = alone; opened = opened; row = row }
-
--- ---- texts
-
-text_plain : (bytes : List ℕ) → length bytes < 2 ^ 32 → IsPlain (text bytes)
-text_plain bytes short = written_plain (Str (length bytes)) short tt bytes refl refl
-
-pub text_text : (bytes : List ℕ) → length bytes < 2 ^ 32 → text_of (text bytes) ≡ Some bytes
-text_text bytes short = written_text (Str (length bytes)) short tt bytes
-
-pub head_text : (bytes : List ℕ) → length bytes < 2 ^ 32 → head_of (text bytes) ≡ Some (Str (length bytes))
-head_text bytes short = written_head (Str (length bytes)) short tt bytes
-
--- ---- rows
-
-plain_value : (deep : ℕ) (bytes : List ℕ) → IsPlain bytes → IsValue deep bytes
-unfolding IsValue
-plain_value zero bytes plain = plain
-plain_value (suc deep) bytes plain = inl plain
-
-pub container_value : (deep : ℕ) (bytes : List ℕ) → IsContainer (IsValue deep) bytes → IsValue (suc deep) bytes
-unfolding IsValue
-container_value deep bytes container = inr container
-
-pub in_a_row : (P : List ℕ → Type 0) (values : List (List ℕ)) → AllByRecursion P values → InARow P (length values) (concat values)
-unfolding InARow
-in_a_row P [] each = refl
-in_a_row P (v ∷ values) each = (v, (concat values, (refl, each.0, in_a_row P values each.1)))
 
 five_parts : (a b c d e : List ℕ) → a ++ b ++ c ++ d ++ e ≡ a ++ (b ++ (c ++ (d ++ (e ++ []))))
 five_parts a b c d e =
@@ -296,10 +214,10 @@ asked_by frame = record { tag = frame.tag; entries = frame.entries; chunk = Some
 pub back : (deep : ℕ) (frame : Frame) → IsFrame deep frame → request_of deep (chunk_frame frame.tag frame.entries frame.name) ≡ Asks (asked_by frame)
 back deep frame is = frame_reads_back deep frame.tag frame.entries frame.name is.tag is.name is.entries (omega (arith, is.size))
 
-asks_same : (r s : Request) → Asks r ≡ Asks s → r ≡ s
+pub asks_same : (r s : Request) → Asks r ≡ Asks s → r ≡ s
 asks_same r s e = cc
 
-some_same : {A : Type 0} (x y : A) → Some x ≡ Some y → x ≡ y
+pub some_same : {A : Type 0} (x y : A) → Some x ≡ Some y → x ≡ y
 some_same x y e = cc
 
 pub only : (deep : ℕ) (frame : Frame) (r : Request) (value : List ℕ) → IsFrame deep frame → request_of deep value ≡ Asks r → value ≡ chunk_frame frame.tag frame.entries frame.name → r ≡ asked_by frame

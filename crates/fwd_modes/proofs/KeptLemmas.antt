@@ -13,13 +13,14 @@ use Rattle.fwd_msgpack.specs.Streams.{IsWithinLimits}
 use Rattle.fwd_msgpack.proofs.Bounds.{elements_bounded}
 use Rattle.fwd_msgpack.proofs.Complete.{head_more}
 use Rattle.fwd_msgpack.proofs.Splittings.{values_within, whole_value, elements_are}
+use Rattle.fwd_msgpack.proofs.Written.{first_value, values_row, written_elements, written_container, container_value, in_a_row}
 use Rattle.fwd_modes.specs.Kinds.{is_map, is_nil}
 use Rattle.fwd_modes.specs.Times.{is_time}
 use Rattle.fwd_modes.specs.Entries.{kept_entry, kept_if, entry_in, entry_of, before, entries_of, values_to_the_end, listed_entries, packed_entries}
 use Rattle.fwd_modes.specs.Frames.{IsKept}
 use Rattle.fwd_modes.specs.declared.fault.InputFault.{InputFault}
 use Rattle.fwd_modes.specs.Requests.{Request, Reading, Heartbeat, Asks, Parts, Mode, Message, Forward, PackedForward, mode_by, one_entry, unpacked, with_option, message, parts_by, parts_in, faults_of, first_fault, asked, unless_fault, of_parts, request_of}
-use Rattle.fwd_modes.proofs.FrameLemmas.{first_value, values_row, written_elements, written_container, container_value, in_a_row}
+use Rattle.fwd_modes.proofs.FrameLemmas.{asks_same, some_same}
 
 -- ---- the members of an array
 
@@ -40,9 +41,6 @@ parts_at : (head : Head) (front body bytes : List ℕ) → bytes ≡ front ++ bo
 unfolding parts_of
 parts_at head front body bytes parts spelled =
     ap (λ xs. parts_read (reading_of xs) xs) parts ∙ ap (λ r. parts_read r (front ++ body)) (head_more head front body spelled) ∙ ap (λ xs. Some (head, xs)) (drop_at front body (length front) refl)
-
-some_same : {A : Type 0} (x y : A) → Some x ≡ Some y → x ≡ y
-some_same x y e = cc
 
 no_elements : (head : Head) (body : List ℕ) (values : List (List ℕ)) → opens head ≡ false → elements_in head body ≡ Some values → ⊥
 no_elements Nil body values shut e = cc
@@ -234,9 +232,6 @@ parts_kept deep (tag ∷ second ∷ others) parts shallow is e = by_mode deep (m
 asked_kept : (o : Option (List (List ℕ))) → AreKept o → AllByRecursion (IsKept most_deep) (unwrap_or o [])
 asked_kept None kept = tt
 asked_kept (Some entries) kept = kept
-
-asks_same : (r s : Request) → Asks r ≡ Asks s → r ≡ s
-asks_same r s e = cc
 
 faultless : (fault : Option InputFault) (parts : Parts) (r : Request) → AreKept parts.entries → unless_fault fault parts ≡ Asks r → AllByRecursion (IsKept most_deep) r.entries
 faultless (Some fault) parts r kept e = absurd cc

@@ -4,8 +4,7 @@ use Rattle.std.specs.Prelude.{ℕ, List, ◌++◌, Option, codes, option_and_the
 use Rattle.fwd_msgpack.specs.declared.head.Head.TheVariants.{Map}
 use Rattle.fwd_msgpack.specs.Heads.{head_bytes}
 use Rattle.fwd_msgpack.specs.Scans.{pairs_of, text_of}
-use Rattle.fwd_modes.specs.Kinds.{last_under}
-use Rattle.fwd_modes.specs.Frames.{text}
+use Rattle.fwd_msgpack.specs.Texts.{last_under, text}
 
 -- the acknowledgement of a chunk, whose value stands in it by its own bytes: {"ack": chunk}
 unfoldable pub ack_text : List ℕ → List ℕ

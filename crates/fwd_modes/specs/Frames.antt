@@ -6,17 +6,15 @@ use Rattle.base64.specs.GeneralPurpose.{encode_of}
 use Rattle.base64.specs.Engines.{standard}
 -- for examples that compute a name
 unfoldable pub use Rattle.base64.specs.Rfc4648.{encode_symbols}
-use Rattle.fwd_msgpack.specs.declared.head.Head.TheVariants.{Int, Str, Bin, Arr, Map}
+use Rattle.fwd_msgpack.specs.declared.head.Head.TheVariants.{Int, Bin, Arr, Map}
 use Rattle.fwd_msgpack.specs.Heads.{head_bytes}
+use Rattle.fwd_msgpack.specs.Texts.{text}
 use Rattle.fwd_msgpack.specs.Values.{IsValue}
 use Rattle.fwd_modes.specs.Entries.{entry_of}
 
 -- the name of a chunk: the Base64 of six bytes for the run, two for the output, eight for the number
 unfoldable pub chunk_name : List ℕ → ℕ → ℕ → List ℕ
 chunk_name run output number = encode_of standard (run ++ to_be_bytes w16 output ++ to_be_bytes w64 number)
-
-abbrev pub text : List ℕ → List ℕ
-text bytes = head_bytes (Str (length bytes)) ++ bytes
 
 -- how many entries a frame has, and its name: {"size": count, "chunk": name}
 abbrev pub frame_option : ℕ → List ℕ → List ℕ

@@ -1,7 +1,8 @@
 -- The option of a request (Forward Protocol Specification v1, "Option"): its chunk, and its faults. Other keys say nothing.
 use Rattle.std.specs.Prelude.{ℕ, Bool, true, false, ◌||◌, List, [], Option, Some, None, is_none, codes, option_and_then, if◌then◌else◌}
 use Rattle.fwd_msgpack.specs.Scans.{pairs_of}
-use Rattle.fwd_modes.specs.Kinds.{is_nil, is_text, text_within, last_under}
+use Rattle.fwd_msgpack.specs.Texts.{is_text, last_under}
+use Rattle.fwd_modes.specs.Kinds.{is_nil, text_within}
 
 -- The pairs of an option. One that is left out or nil has none, and what is neither a map nor nil is no option.
 abbrev pub option_pairs : Option (List ℕ) → Option (List (List ℕ × List ℕ))

@@ -5,9 +5,7 @@ ghost use Rattle.std.specs.Option.{option_map};
 ghost use Rattle.fwd_msgpack.specs.Values.{bytes_of};
 ghost use Rattle.fwd_modes.specs.Acks.{ack_text, ack_name};
 
-use crate::frame::write_text;
-use crate::kinds::last_under;
-use fwd_msgpack::{Head, Value, write_head};
+use fwd_msgpack::{Head, Value, write_head, write_text};
 use std::alloc::{AllocError, Global};
 
 /// A value acknowledges nothing: it is no map, or its last `ack` is no str and no bin, or it has none. This is
@@ -34,6 +32,6 @@ pub fn read_ack<'a>(value: Value<'a>) -> Result<&'a [u8], NoAck>
     ensures none { OnErr result (ack_name (bytes_of value.entry) ≡ None) }
 {
     let pairs = value.pairs().ok_or(NoAck)?;
-    let name = last_under(pairs, b"ack").ok_or(NoAck)?;
+    let name = pairs.last_under(b"ack").ok_or(NoAck)?;
     name.text().ok_or(NoAck)
 }

@@ -4,10 +4,10 @@ ghost use Rattle.std.specs.Prelude.{◌≡◌, ◌+◌, ◌^◌, ◌<◌, ◌++�
 ghost use Rattle.std.specs.Int.{w16, w64, to_be_bytes};
 ghost use Rattle.base64.specs.GeneralPurpose.{encode_of};
 ghost use Rattle.base64.specs.Engines.{standard};
-ghost use Rattle.fwd_modes.specs.Frames.{chunk_name, packed_frame, frame_option, text};
+ghost use Rattle.fwd_modes.specs.Frames.{chunk_name, packed_frame, frame_option};
 
 use base64::engine::general_purpose::STANDARD;
-use fwd_msgpack::{Head, write_head};
+use fwd_msgpack::{Head, write_head, write_text};
 use std::alloc::{AllocError, Global};
 
 /// The Base64 of sixteen bytes.
@@ -36,14 +36,6 @@ pub fn chunk_name(run: &[u8; 6], output: u16, number: u64) -> [u8; 24]
     ensures { result ≡ chunk_name run.now output number }
 {
     encoded(&name_bytes(run, output, number))
-}
-
-pub(crate) fn write_text(out: &mut Vec<u8>, bytes: &[u8]) -> Result<(), AllocError>
-    requires { length bytes.now < 2 ^ 32 }
-    ensures { IfOk result (λ _. out.new.items ≡ out.old.items ++ text bytes.now) }
-{
-    write_head(out, Head::Str(bytes.len() as u32))?;
-    out.extend_from_slice(bytes)
 }
 
 fn write_option(out: &mut Vec<u8>, count: u64, name: &[u8]) -> Result<(), AllocError>

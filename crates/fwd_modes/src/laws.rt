@@ -3,8 +3,9 @@
 ghost use Rattle.std.specs.Prelude.{◌≡◌, ◌<◌, ◌≤◌, ◌^◌, ℕ, List, Some, length};
 ghost use Rattle.std.specs.List.{AllByRecursion};
 ghost use Rattle.fwd_msgpack.specs.Scans.{IsWhole, most_deep};
+ghost use Rattle.fwd_msgpack.specs.Texts.{text};
 ghost use Rattle.fwd_msgpack.specs.Values.{IsValue};
-ghost use Rattle.fwd_modes.specs.Frames.{IsKept, chunk_frame, text, Frame, IsFrame};
+ghost use Rattle.fwd_modes.specs.Frames.{IsKept, chunk_frame, Frame, IsFrame};
 ghost use Rattle.fwd_modes.specs.Requests.{Request, Asks, request_of};
 
 /// A frame is one value, two containers deep.

@@ -6,7 +6,7 @@ ghost use Rattle.fwd_msgpack.specs.Values.{bytes_of};
 ghost use Rattle.fwd_modes.specs.Options.{unless_nil, chunk_of, is_bad_chunk, is_bad_option, is_compression, is_compressed};
 
 use crate::fault::InputFault;
-use crate::kinds::{is_nil, is_text, last_under, text_within};
+use crate::kinds::{is_nil, text_within};
 use fwd_msgpack::Value;
 
 /// The most bytes of a chunk's text.
@@ -33,7 +33,7 @@ fn is_compression(value: Option<Value<'_>>) -> bool
     ensures { result ≡ is_compression (option_map bytes_of value.entry) }
 {
     match value {
-        Some(name) => is_text(name, b"gzip") || is_text(name, b"zstd"),
+        Some(name) => name.is_text(b"gzip") || name.is_text(b"zstd"),
         None => false,
     }
 }
@@ -78,7 +78,7 @@ pub(crate) fn read_option<'a>(option: Option<Value<'a>>) -> Result<Said<'a>, Inp
     let Some(pairs) = option.pairs() else {
         return Err(InputFault::BadOption);
     };
-    let chunk = read_chunk(last_under(pairs, b"chunk"))?;
-    let compressed = is_compression(last_under(pairs, b"compressed"));
+    let chunk = read_chunk(pairs.last_under(b"chunk"))?;
+    let compressed = is_compression(pairs.last_under(b"compressed"));
     Ok(Said { chunk, compressed })
 }

@@ -11,6 +11,7 @@ pub mod Plains
 pub mod Rows
 pub mod Seen
 pub mod Shortest
+pub mod Sizes
 pub mod Solo
 pub mod Sound
 pub mod Spellings
@@ -19,4 +20,5 @@ pub mod Turns
 pub mod Uniques
 pub mod Wholes
 pub mod Within
+pub mod Written
 pub mod Bounds

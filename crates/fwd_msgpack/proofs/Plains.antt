@@ -1,7 +1,7 @@
 -- Items that open nothing, read in one step, and many of them in a row.
-use Rattle.std.proofs.Common.{◌≡◌, ℕ, ◌+◌, ◌-◌, ◌<◌, ◌≤◌, Bool, true, false, cond, List, [], ◌∷◌, length, sum, take, drop, Option, Some, None, refl, sym, ap, ◌∙◌, arith, add-zero}
+use Rattle.std.proofs.Common.{◌≡◌, ℕ, ◌+◌, ◌-◌, ◌<◌, ◌≤◌, Bool, true, false, cond, List, [], ◌∷◌, ◌++◌, length, sum, take, drop, Option, Some, None, refl, sym, ap, subst, ◌∙◌, arith, add-zero}
 use Rattle.std.proofs.lemmas.Bool.{le-ltb}
-use Rattle.std.proofs.lemmas.List.{take_rest, drop-drop, length-drop}
+use Rattle.std.proofs.lemmas.List.{take_rest, take-append-drop, drop-append-le, drop-drop, length-drop, length-take}
 use Rattle.fwd_msgpack.specs.declared.head.Head.{Head}
 use Rattle.fwd_msgpack.specs.declared.head.Head.TheVariants.{Nil, Bool as Boolean, Int, Float, Str, Bin, Arr, Map, Ext}
 use Rattle.fwd_msgpack.specs.declared.head.HeadRead.{HeadRead}
@@ -11,6 +11,7 @@ use Rattle.fwd_msgpack.specs.Plain.{plain_len, AreMembers}
 use Rattle.fwd_msgpack.specs.Scans.{State, Going, InHead, goes_on, fault_at}
 use Rattle.fwd_msgpack.proofs.Fronts.{scanned, item_scanned, ended_shut}
 use Rattle.fwd_msgpack.proofs.Places.{sum-cons, after_value-lacking}
+use Rattle.fwd_msgpack.proofs.Wholes.{scanned-append}
 use Rattle.fwd_msgpack.proofs.Within.{IsGood-none}
 
 -- the head of a plain item at the front
@@ -80,10 +81,10 @@ members_none bytes limit deep from lacking stack most fits =
     ∙ ap (λ (k : ℕ). scanned limit deep (Going (from + 0) (k ∷ stack) (InHead [])) bytes) all
 
 -- one item more
-pub members_more : (bytes : List ℕ) (items used size : ℕ) → AreMembers bytes items used → plain_len (reading_of (take (length bytes - used) (drop used bytes))) ≡ Some size → used + size ≤ length bytes
+pub members_more : (bytes : List ℕ) (items used size : ℕ) → AreMembers bytes items used → plain_len (reading_of (drop used bytes)) ≡ Some size → used + size ≤ length bytes
     → AreMembers bytes (items + 1) (used + size)
 members_more bytes items used size before plain le limit deep from lacking stack most fits =
-    let p = ReadsPlain-from (drop used bytes) size (ap (λ (xs : List ℕ). plain_len (reading_of xs)) (sym (take_rest bytes used)) ∙ plain) in
+    let p = ReadsPlain-from (drop used bytes) size plain in
     let left : lacking - items - 1 ≡ lacking - (items + 1) = omega arith in
     let at : from + used + size ≡ from + (used + size) = omega arith in
     before limit deep from lacking stack (omega arith) (omega arith)
@@ -91,3 +92,50 @@ members_more bytes items used size before plain le limit deep from lacking stack
     ∙ ap (λ (xs : List ℕ). scanned limit deep (Going (from + used + size) ((lacking - items - 1) ∷ stack) (InHead [])) xs) (drop-drop size used bytes)
     ∙ ap (λ (k : ℕ). scanned limit deep (Going (from + used + size) (k ∷ stack) (InHead [])) (drop (used + size) bytes)) left
     ∙ ap (λ (k : ℕ). scanned limit deep (Going k ((lacking - (items + 1)) ∷ stack) (InHead [])) (drop (used + size) bytes)) at
+
+-- members of a front are members of all
+pub members_within : (bytes : List ℕ) (room items used : ℕ) → AreMembers (take room bytes) items used → used ≤ room → room ≤ length bytes → AreMembers bytes items used
+members_within bytes room items used front le inside limit deep from lacking stack most fits =
+    let all : take room bytes ++ drop room bytes ≡ bytes = take-append-drop room bytes in
+    let short : used ≤ length (take room bytes) = omega (arith, length-take room bytes) in
+    ap (λ (xs : List ℕ). scanned limit deep (Going from (lacking ∷ stack) (InHead [])) xs) (sym all)
+    ∙ scanned-append limit deep (Going from (lacking ∷ stack) (InHead [])) (take room bytes) (drop room bytes)
+    ∙ ap (λ (s : State). scanned limit deep s (drop room bytes)) (front limit deep from lacking stack most fits)
+    ∙ sym (scanned-append limit deep (Going (from + used) ((lacking - items) ∷ stack) (InHead [])) (drop used (take room bytes)) (drop room bytes))
+    ∙ ap (λ (xs : List ℕ). scanned limit deep (Going (from + used) ((lacking - items) ∷ stack) (InHead [])) xs) (sym (drop-append-le used (take room bytes) (drop room bytes) short) ∙ ap (λ (xs : List ℕ). drop used xs) all)
+
+-- so many items were passed, and the rest is behind them
+pub record Passed (bytes rest : List ℕ) (items : ℕ) : Type 0 where
+  pub at : rest ≡ drop (length bytes - length rest) bytes
+  pub inside : length rest ≤ length bytes
+  pub none : items ≡ 0 → length rest ≡ length bytes
+  pub same : AreMembers bytes items (length bytes - length rest)
+
+pub passed_none : (bytes : List ℕ) → Passed bytes bytes 0
+passed_none bytes =
+    let zero_len : 0 ≡ length bytes - length bytes = omega arith in
+    record {
+      at = ap (λ (k : ℕ). drop k bytes) zero_len;
+      inside = omega arith;
+      none = λ e. refl;
+      same = subst (λ (k : ℕ). AreMembers bytes 0 k) zero_len (members_none bytes);
+    }
+
+behind_more : (bytes rest : List ℕ) (items size : ℕ) → Passed bytes rest items → plain_len (reading_of rest) ≡ Some size → size ≤ length rest → Passed bytes (drop size rest) (items + 1)
+behind_more bytes rest items size p plain le =
+    let used = length bytes - length rest in
+    let len = length-drop size rest in
+    let inside = p.inside in
+    let on : used + size ≡ length bytes - length (drop size rest) = omega arith in
+    let here : plain_len (reading_of (drop used bytes)) ≡ Some size = ap (λ (xs : List ℕ). plain_len (reading_of xs)) (sym p.at) ∙ plain in
+    record {
+      at = ap (λ (xs : List ℕ). drop size xs) p.at ∙ drop-drop size used bytes ∙ ap (λ (k : ℕ). drop k bytes) on;
+      inside = omega arith;
+      none = λ e. absurd (omega (arith, e));
+      same = subst (λ (k : ℕ). AreMembers bytes (items + 1) k) on (members_more bytes items used size p.same here (omega arith));
+    }
+
+-- one more is passed
+pub passed_more : (bytes rest : List ℕ) (items size : ℕ) → Passed bytes rest items → plain_len (reading_of rest) ≡ Some size → size ≤ length rest → Passed bytes (take (length rest - size) (drop size rest)) (items + 1)
+passed_more bytes rest items size p plain le =
+    subst (λ (xs : List ℕ). Passed bytes xs (items + 1)) (sym (take_rest rest size)) (behind_more bytes rest items size p plain le)

@@ -83,18 +83,15 @@ module _ (limit deep : ℕ) (bytes : List ℕ) (used : ℕ) (stack : List ℕ) (
       ap Whole (sym at) ∙ whole_here limit deep bytes used stack total same p.head p.n p.reads good le none e
 
 -- behind members of the innermost container
-pub behind_members : (limit deep : ℕ) (bytes : List ℕ) (used : ℕ) (stack : List ℕ) (items len : ℕ) → AreMembers (take (length bytes - used) (drop used bytes)) items len → items ≤ innermost stack → (items ≡ 0 → len ≡ 0)
+pub behind_members : (limit deep : ℕ) (bytes : List ℕ) (used : ℕ) (stack : List ℕ) (items len : ℕ) → AreMembers (drop used bytes) items len → items ≤ innermost stack → (items ≡ 0 → len ≡ 0)
     → used + len + sum stack ≤ limit → found_behind limit deep (used + len) (less_by items stack) bytes ≡ found_behind limit deep used stack bytes
 behind_members limit deep bytes used [] items len are most none fits =
     let zero_len = none (omega arith) in
     let at : used + len ≡ used = omega arith in
     ap (λ (k : ℕ). found_behind limit deep k [] bytes) at
 behind_members limit deep bytes used (lacking ∷ stack) items len are most none fits =
-    let all = take_rest bytes used in
     let total = sum-cons lacking stack in
-    sym (ap (λ (xs : List ℕ). answer limit deep used (lacking ∷ stack) xs) (sym all)
-    ∙ ap verdict_of (are limit deep used lacking stack most (omega arith))
-    ∙ ap (λ (xs : List ℕ). answer limit deep (used + len) ((lacking - items) ∷ stack) (drop len xs)) all
+    sym (ap verdict_of (are limit deep used lacking stack most (omega arith))
     ∙ ap (λ (xs : List ℕ). answer limit deep (used + len) ((lacking - items) ∷ stack) xs) (drop-drop len used bytes))
 
 -- a plain item at the front is the first value

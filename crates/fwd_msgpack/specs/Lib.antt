@@ -5,4 +5,5 @@ pub mod Plain
 pub mod Scans
 pub mod Stacks
 pub mod Streams
+pub mod Texts
 pub mod Values

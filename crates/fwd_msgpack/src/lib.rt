@@ -25,7 +25,7 @@ pub use limits::Limits;
 pub use members::{Members, Pairs};
 pub use seq::{Bytes, Seq};
 pub use value::{Cut, Value};
-pub use writing::write_head;
+pub use writing::{write_head, write_text};
 
 #[cfg(test)]
 mod tests;

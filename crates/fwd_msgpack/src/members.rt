@@ -66,6 +66,25 @@ pub struct Pairs<'a> {
     pub(crate) members: Members<'a>,
 }
 
+impl<'a> Pairs<'a> {
+    ghost use Rattle.std.specs.Option.{option_map};
+    ghost use Rattle.fwd_msgpack.specs.Texts.{last_under};
+    ghost use Rattle.fwd_msgpack.specs.Values.{bytes_of, pairs_left};
+
+    /// The value under a key, which is a str or a bin of these bytes: of a key that is given more than once the last counts.
+    pub fn last_under(self, key: &[u8]) -> Option<Value<'a>>
+        ensures { option_map bytes_of result ≡ last_under key.now (pairs_left self.entry) }
+    {
+        let mut last = None;
+        for (name, value) in self {
+            if name.is_text(key) {
+                last = Some(value);
+            }
+        }
+        last
+    }
+}
+
 impl<'a> Iterator for Pairs<'a> {
     type Item = (Value<'a>, Value<'a>);
 

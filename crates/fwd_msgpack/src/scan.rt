@@ -71,7 +71,7 @@ fn skip_members(bytes: &[u8], used: usize, stack: &mut Stack, limits: Limits) ->
     ensures onward { used ≤ result }
 {
     let room = room_at(bytes, used, stack, limits);
-    let (items, len) = plain_items(&bytes[used..], stack.innermost(), room);
+    let (items, len) = plain_items(&bytes[used..used + room], stack.innermost());
     stack.end_values(items);
     used + len
 }

@@ -232,6 +232,15 @@ fn written_heads(rt: HostRuntime) -> Result<(), Fail> {
 }
 
 #[test]
+fn written_texts(rt: HostRuntime) -> Result<(), Fail> {
+    let mut out = Vec::new(rt.alloc());
+    write_text(&mut out, b"")?;
+    write_text(&mut out, b"ack")?;
+    assert_eq!(rt; out.as_slice(), b"\xa0\xa3ack".as_slice());
+    Ok(())
+}
+
+#[test]
 fn readers(rt: HostRuntime) {
     let bytes = [
         0x93, 0xa1, 0x61, 0xff, 0x81, 0xa1, 0x6b, 0xc4, 0x02, 0x01, 0x02,

@@ -21,6 +21,7 @@ impl<'a> Value<'a> {
     ghost use Rattle.std.specs.List.{concat};
     ghost use Rattle.std.specs.Option.{option_map};
     ghost use Rattle.fwd_msgpack.specs.Scans.{parts_of, head_of, elements_of, pairs_of, text_of, ext_of, integer_of};
+    ghost use Rattle.fwd_msgpack.specs.Texts.{is_text};
     ghost use Rattle.fwd_msgpack.specs.Values.{bytes_of, members_left, pairs_left, text_shown, ext_shown};
 
     /// The value's bytes, all of them.
@@ -91,6 +92,16 @@ impl<'a> Value<'a> {
         match self.parts() {
             (Head::Str(_) | Head::Bin(_), text) => Some(text),
             _ => None,
+        }
+    }
+
+    /// Whether the value is a str or a bin of these bytes.
+    pub fn is_text(self, text: &[u8]) -> bool
+        ensures { result ≡ is_text text.now (bytes_of self.entry) }
+    {
+        match self.text() {
+            Some(bytes) => bytes == text,
+            None => false,
         }
     }
 

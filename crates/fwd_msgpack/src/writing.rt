@@ -1,8 +1,9 @@
-//! Heads as bytes, each in its shortest spelling.
+//! Heads and texts as bytes, each in its shortest spelling.
 
-ghost use Rattle.std.specs.Prelude.{◌≡◌, ◌≤◌, ◌<◌, ◌^◌, ◌*◌, ◌⊎◌, [], ◌∷◌, ◌++◌, is_ok, if◌then◌else◌, OnOk, OnErr};
+ghost use Rattle.std.specs.Prelude.{◌≡◌, ◌≤◌, ◌<◌, ◌^◌, ◌*◌, ◌⊎◌, [], ◌∷◌, ◌++◌, length, is_ok, if◌then◌else◌, OnOk, OnErr};
 ghost use Rattle.std.specs.Int.{w8, w16, w32, w64, to_be_bytes, cast_unsigned};
 ghost use Rattle.fwd_msgpack.specs.Heads.{IsSpelled, head_bytes, unsigned_bytes, negative_bytes, float_bytes, str_bytes, bin_bytes, arr_bytes, map_bytes, ext_len_bytes, ext_sized_bytes};
+ghost use Rattle.fwd_msgpack.specs.Texts.{text};
 
 use crate::head::Head;
 use std::alloc::AllocError;
@@ -170,4 +171,19 @@ pub fn write_head(out: &mut Vec<u8>, head: Head) -> Result<(), AllocError>
         Head::Map(n) => put_map(out, n),
         Head::Ext { kind, len } => put_ext(out, kind.cast_unsigned(), len),
     }
+}
+
+/// Appends a str of these bytes, which are less than 2^32. An `Err` changes nothing.
+pub fn write_text(out: &mut Vec<u8>, bytes: &[u8]) -> Result<(), AllocError>
+    requires { length bytes.now < 2 ^ 32 }
+    ensures ok { OnOk result (out.new.items ≡ out.old.items ++ text bytes.now) }
+    ensures err { OnErr result (out.new.items ≡ out.old.items) }
+{
+    let len = out.len();
+    write_head(out, Head::Str(bytes.len() as u32))?;
+    let written = out.extend_from_slice(bytes);
+    if written.is_err() {
+        out.truncate(len);
+    }
+    written
 }

@@ -3,7 +3,8 @@
 use crate::words::{bytes, client, key, nonces, server, users, value, word_of};
 use anyhow::{Result, bail};
 use fwd_handshake::{
-    Denial, HeloAnswer, PingVerdict, PongVerdict, answer_helo, judge_ping, judge_pong, write_helo,
+    Denial, HeloAnswer, PingVerdict, PongVerdict, Salt, answer_helo, judge_ping, judge_pong,
+    write_helo,
 };
 use std::alloc::Global;
 
@@ -38,11 +39,11 @@ fn answer_to_helo(alloc: Global, words: &[&str]) -> Result<String> {
     };
     let login = client(alloc, host, key(alloc, shared)?, name, password)?;
     let salt = bytes(alloc, salt)?;
-    if salt.len() >= 0x1_0000_0000 {
+    let Some(salt) = Salt::new(&salt) else {
         bail!("a salt of {} bytes", salt.len());
-    }
+    };
     let helo = bytes(alloc, helo)?;
-    match answer_helo(alloc, value(&helo)?, &login, &salt)? {
+    match answer_helo(alloc, value(&helo)?, &login, salt)? {
         HeloAnswer::Ping {
             bytes,
             nonce,

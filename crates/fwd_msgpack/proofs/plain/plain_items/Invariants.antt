@@ -1,13 +1,11 @@
-use Rattle.std.proofs.Common.{◌≡◌, ◌-◌, ◌≤◌}
-use Rattle.fwd_msgpack.specs.Plain.{AreMembers}
+use Rattle.std.proofs.Common.{◌-◌, ◌≤◌}
+use Rattle.fwd_msgpack.proofs.Plains.{Passed}
 use Rattle.fwd_msgpack.proofs.plain.plain_items.Given as goal
 
 abbrev pub invariant-loop-items : goal.invariant-loop-items
 invariant-loop-items l = record {
-  fits : l.used ≤ l.room;
+  passed : Passed l.bytes l.rest l.items;
   most : l.items ≤ l.most;
-  none : l.items ≡ 0 → l.used ≡ 0;
-  same : AreMembers l.bytes l.items l.used;
 }
 
 abbrev pub decreases-loop-items : goal.decreases-loop-items
