@@ -3,16 +3,17 @@ use Rattle.std.proofs.Common.{◌≡◌, ℕ, zero, suc, ◌+◌, Bool, true, fa
 use Rattle.std.proofs.Math.ListN.{set}
 use Rattle.std.specs.Prelude.{not, is_some, length, nat_lt, ◌==◌, slice_get, slice_set}
 use Rattle.fwd_modes.specs.Requests.{Request}
+use Rattle.fwd_match.specs.Patterns.{route}
 use Rattle.fwd_model.specs.declared.cell.Chunk.{Chunk}
 use Rattle.fwd_model.specs.Step.{is_loaded, frame_of}
 use Rattle.fwd_model.specs.Live.{LiveSource, LiveConnection, LiveSession, LiveWorker, LiveLane, LiveRelay}
-use Rattle.fwd_model.specs.LiveStep.{live_source_at, with_live_lane, with_live_connection, with_live_worker, worker_with, fresh_session, session_loads, live_takes, live_take_next, live_up_next, live_load_next, live_load_next_with, live_piece_next, live_admit_next, live_admit_waiting_next, worker_at, source_hears, source_gives, source_shuts, output_is_spent, output_enters, with_live_output}
+use Rattle.fwd_model.specs.LiveStep.{live_source_at, with_live_lane, with_live_connection, with_live_worker, worker_with, fresh_session, session_loads, live_takes, live_take_next, live_up_next, live_load_next, live_load_next_with, live_piece_next, live_admit_next, live_admit_routed_next, live_admit_waiting_next, worker_at, source_hears, source_gives, source_shuts, output_is_spent, output_enters, with_live_output}
 use Rattle.fwd_core.specs.Hearing.{source_next}
 use Rattle.fwd_model.specs.LiveStep.{session_sends, session_hears, live_replies, live_wrote_next, live_wrote_session, live_heard_next, live_heard_session, live_settle_next, live_settle_session_next, live_settle_number_next, live_acked_number, live_collect_next, live_due, source_appends, output_told}
 use Rattle.fwd_model.specs.Books.{acks_of}
 use Rattle.fwd_core.specs.Lanes.{lane_up, lane_takes, lane_loads, worker_loads, lane_sends, worker_sends, lane_hears, worker_hears, lane_settles, settles_session, settles_number}
 use Rattle.fwd_core.specs.Places.{IsPlace}
-use Rattle.fwd_core.specs.Relays.{admit_source, admit_lane, told_source, told_lane}
+use Rattle.fwd_core.specs.Relays.{routed_source, routed_lane, admit_source, admit_lane, told_source, told_lane}
 
 pub set_same : {X : Type 0} (xs : List X) (i : ℕ) (x : X) → slice_get xs i ≡ Some x → set xs i x ≡ xs
 set_same [] i x h = refl
@@ -21,7 +22,7 @@ set_same (a ∷ xs) (suc i) x h = ap (λ ys. a ∷ ys) (set_same xs i x h)
 
 -- an output as it was, in its place
 lane_stays : (r : LiveRelay) (o : ℕ) (l : LiveLane) → slice_get r.lanes o ≡ Some l → with_live_lane o l r ≡ r
-lane_stays r o l here = λ i. record { run = r.run; last = r.last; connections = r.connections; lanes = set_same r.lanes o l here i }
+lane_stays r o l here = λ i. record { run = r.run; routes = r.routes; last = r.last; connections = r.connections; lanes = set_same r.lanes o l here i }
 
 worker_stays : (l : LiveLane) (w : ℕ) (x : LiveWorker) → slice_get l.workers w ≡ Some x → with_live_worker l w x ≡ l
 worker_stays l w x here = λ i. record { config = l.config; output = l.output; workers = set_same l.workers w x here i }
@@ -124,13 +125,13 @@ settles_next_at r o w l here = settles_at r o l here w (slice_get l.workers w)
 -- ---- connections
 
 abbrev pub with_source_at : ℕ → LiveConnection → LiveRelay → LiveRelay
-with_source_at place c r = record { run = r.run; last = r.last; connections = slice_set r.connections place c; lanes = r.lanes }
+with_source_at place c r = record { run = r.run; routes = r.routes; last = r.last; connections = slice_set r.connections place c; lanes = r.lanes }
 
 placed : (r : LiveRelay) (id place : ℕ) (at : IsPlace id r.connections place) (s : LiveSource) → with_source_at place (record { id = id; source = s }) r ≡ with_live_connection id s r
-placed r id place at s = λ i. record { run = r.run; last = r.last; connections = sym (at.put s) i; lanes = r.lanes }
+placed r id place at s = λ i. record { run = r.run; routes = r.routes; last = r.last; connections = sym (at.put s) i; lanes = r.lanes }
 
 source_stays : (r : LiveRelay) (id place : ℕ) (at : IsPlace id r.connections place) → with_source_at place (record { id = id; source = at.source }) r ≡ r
-source_stays r id place at = λ i. record { run = r.run; last = r.last; connections = set_same r.connections place (record { id = id; source = at.source }) at.here i; lanes = r.lanes }
+source_stays r id place at = λ i. record { run = r.run; routes = r.routes; last = r.last; connections = set_same r.connections place (record { id = id; source = at.source }) at.here i; lanes = r.lanes }
 
 piece_by : (r : LiveRelay) (id place : ℕ) (bytes : List ℕ) (at : IsPlace id r.connections place) (b : Bool)
     → with_source_at place (record { id = id; source = cond b at.source (source_hears at.source bytes) }) r ≡ cond b r (with_live_connection id (source_hears at.source bytes) r)
@@ -144,17 +145,17 @@ piece_next_at r id place bytes at = piece_by r id place bytes at at.source.close
 -- ---- admit
 
 abbrev pub with_both : ℕ → LiveConnection → ℕ → LiveLane → LiveRelay → LiveRelay
-with_both place c o l r = record { run = r.run; last = r.last; connections = slice_set r.connections place c; lanes = slice_set r.lanes o l }
+with_both place c o l r = record { run = r.run; routes = r.routes; last = r.last; connections = slice_set r.connections place c; lanes = slice_set r.lanes o l }
 
 module _ (r : LiveRelay) (id place : ℕ) (at : IsPlace id r.connections place) (o : ℕ) (l : LiveLane) (here : slice_get r.lanes o ≡ Some l) where
   both_stay : with_both place (record { id = id; source = at.source }) o l r ≡ r
-  both_stay = λ i. record { run = r.run; last = r.last; connections = set_same r.connections place (record { id = id; source = at.source }) at.here i; lanes = set_same r.lanes o l here i }
+  both_stay = λ i. record { run = r.run; routes = r.routes; last = r.last; connections = set_same r.connections place (record { id = id; source = at.source }) at.here i; lanes = set_same r.lanes o l here i }
 
   one_stays : (s : LiveSource) → with_both place (record { id = id; source = s }) o l r ≡ with_live_connection id s r
-  one_stays s = λ i. record { run = r.run; last = r.last; connections = sym (at.put s) i; lanes = set_same r.lanes o l here i }
+  one_stays s = λ i. record { run = r.run; routes = r.routes; last = r.last; connections = sym (at.put s) i; lanes = set_same r.lanes o l here i }
 
   both_change : (s : LiveSource) (m : LiveLane) → with_both place (record { id = id; source = s }) o m r ≡ with_live_lane o m (with_live_connection id s r)
-  both_change s m = λ i. record { run = r.run; last = r.last; connections = sym (at.put s) i; lanes = slice_set r.lanes o m }
+  both_change s m = λ i. record { run = r.run; routes = r.routes; last = r.last; connections = sym (at.put s) i; lanes = slice_set r.lanes o m }
 
   admit_by : (q : Request) (now : ℕ) (a b : Bool)
       → with_both place (record { id = id; source = cond a at.source (cond b (source_shuts at.source) (source_gives at.source)) }) o
@@ -165,12 +166,16 @@ module _ (r : LiveRelay) (id place : ℕ) (at : IsPlace id r.connections place) 
   admit_by q now false true = one_stays (source_shuts at.source)
   admit_by q now false false = both_change (source_gives at.source) (with_live_output l (output_enters l.output (record { conn = id; request = at.source.admitted + 1 }) q now))
 
-  admit_waiting : (qs : List Request) (now : ℕ) → with_both place (record { id = id; source = admit_source at.source qs o l }) o (admit_lane id at.source qs o l now) r ≡ live_admit_waiting_next id at.source qs o l now r
+  admit_routed : (to : Option ℕ) (q : Request) (now : ℕ) → with_both place (record { id = id; source = routed_source to at.source q o l }) o (routed_lane to id at.source q o l now) r ≡ live_admit_routed_next to id at.source q o l now r
+  admit_routed None q now = one_stays (source_shuts at.source)
+  admit_routed (Some first) q now = admit_by q now (not (first == o)) (output_is_spent l.output q)
+
+  admit_waiting : (qs : List Request) (now : ℕ) → with_both place (record { id = id; source = admit_source r.routes at.source qs o l }) o (admit_lane r.routes id at.source qs o l now) r ≡ live_admit_waiting_next id at.source qs o l now r
   admit_waiting [] now = both_stay
-  admit_waiting (q ∷ qs) now = admit_by q now (not (o == 0)) (output_is_spent l.output q)
+  admit_waiting (q ∷ qs) now = admit_routed (route r.routes q.tag) q now
 
 pub admit_next_at : (r : LiveRelay) (id place : ℕ) (at : IsPlace id r.connections place) (o : ℕ) (l : LiveLane) (here : slice_get r.lanes o ≡ Some l) (now : ℕ)
-    → with_both place (record { id = id; source = admit_source at.source at.source.waiting o l }) o (admit_lane id at.source at.source.waiting o l now) r
+    → with_both place (record { id = id; source = admit_source r.routes at.source at.source.waiting o l }) o (admit_lane r.routes id at.source at.source.waiting o l now) r
     ≡ live_admit_next id (live_source_at id r.connections) o (slice_get r.lanes o) now r
 admit_next_at r id place at o l here now =
     admit_waiting r id place at o l here at.source.waiting now ∙ (λ i. live_admit_next id (sym at.found i) o (sym here i) now r)
@@ -248,11 +253,11 @@ module _ (R S : LiveRelay) (same : R ≡ S) (o place : ℕ) (at_o : place ≡ o)
       ∙ (λ i. live_collect_next id (live_source_at id (same i).connections) o (slice_get (same i).lanes o) (same i))
 
   pub admit_done : (id spot now : ℕ) (at : IsPlace id R.connections spot) (s t : LiveSource) (c : LiveConnection) → at.source ≡ s
-      → c ≡ record { id = id; source = t } → t ≡ admit_source s s.waiting o l → new ≡ admit_lane id s s.waiting o l now
+      → c ≡ record { id = id; source = t } → t ≡ admit_source R.routes s s.waiting o l → new ≡ admit_lane R.routes id s s.waiting o l now
       → with_both spot c place new R ≡ live_admit_next id (live_source_at id S.connections) o (slice_get S.lanes o) now S
   admit_done id spot now at s t c own named source_is lane_is =
-      let source : t ≡ admit_source at.source at.source.waiting o l = source_is ∙ ap (λ x. admit_source x x.waiting o l) (sym own) in
-      let lane : new ≡ admit_lane id at.source at.source.waiting o l now = lane_is ∙ ap (λ x. admit_lane id x x.waiting o l now) (sym own) in
+      let source : t ≡ admit_source R.routes at.source at.source.waiting o l = source_is ∙ ap (λ x. admit_source R.routes x x.waiting o l) (sym own) in
+      let lane : new ≡ admit_lane R.routes id at.source at.source.waiting o l now = lane_is ∙ ap (λ x. admit_lane R.routes id x x.waiting o l now) (sym own) in
       (λ i. with_both spot (named i) (at_o i) new R)
       ∙ (λ i. with_both spot (record { id = id; source = source i }) o (lane i) R)
       ∙ admit_next_at R id spot at o l here_o now

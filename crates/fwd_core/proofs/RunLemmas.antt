@@ -5,7 +5,7 @@ use Rattle.std.proofs.lemmas.List.{append-nil, length-append}
 use Rattle.std.proofs.lemmas.List.Elements.{filter-append}
 use Rattle.fwd_model.specs.declared.event.Event.{Event}
 use Rattle.fwd_model.specs.declared.answer.Answer.{Answer}
-use Rattle.fwd_model.specs.declared.answer.Answer.TheVariants.{Memory, Accepted, Requests, Faulted, Admitted, NumbersSpent, Closed, Done, Took, TookNothing, Frame, Quiet, Acked, SessionFaulted, Settled, Told, Refused}
+use Rattle.fwd_model.specs.declared.answer.Answer.TheVariants.{Memory, Accepted, Requests, Faulted, Admitted, NoRoute, NumbersSpent, Closed, Done, Took, TookNothing, Frame, Quiet, Acked, SessionFaulted, Settled, Told, Refused}
 use Rattle.fwd_model.specs.Live.{LiveRelay}
 use Rattle.fwd_model.specs.LiveStep.{live_answer_to, live_next, live_answers, live_after}
 use Rattle.fwd_core.specs.Runs.{is_memory, told, kept}
@@ -38,6 +38,7 @@ is_want (Accepted out) t = absurd cc
 is_want (Requests waiting out) t = absurd cc
 is_want (Faulted fault waiting out) t = absurd cc
 is_want (Admitted request entries) t = absurd cc
+is_want NoRoute t = absurd cc
 is_want NumbersSpent t = absurd cc
 is_want (Closed chunks) t = absurd cc
 is_want Done t = absurd cc

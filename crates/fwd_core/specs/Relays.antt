@@ -1,5 +1,6 @@
 -- What an event does to the parts of the relay, in the words of the live step.
-use Rattle.std.specs.Prelude.{ℕ, not, List, [], ◌∷◌, ◌+◌, ◌==◌, if◌then◌else◌}
+use Rattle.std.specs.Prelude.{ℕ, not, List, [], ◌∷◌, ◌+◌, ◌==◌, Option, Some, None, if◌then◌else◌}
+use Rattle.fwd_match.specs.Patterns.{route}
 use Rattle.fwd_modes.specs.Requests.{Request}
 use Rattle.fwd_model.specs.declared.answer.Answer.{Answer}
 use Rattle.fwd_model.specs.declared.answer.Answer.TheVariants as answer
@@ -14,17 +15,25 @@ accept_answer id r = if is_above id r.last then answer.Accepted [] else answer.R
 abbrev pub accept_next : ℕ → LiveRelay → LiveRelay
 accept_next id r = if is_above id r.last then live_accepted id r else r
 
--- the source once its first waiting request was tried
-abbrev pub admit_source : LiveSource → List Request → ℕ → LiveLane → LiveSource
-admit_source s [] o l = s
-admit_source s (q ∷ qs) o l = if not (o == 0) then s else (if output_is_spent l.output q then source_shuts s else source_gives s)
+-- the source once its first waiting request, which goes to this output, was tried
+abbrev pub routed_source : Option ℕ → LiveSource → Request → ℕ → LiveLane → LiveSource
+routed_source None s q o l = source_shuts s
+routed_source (Some first) s q o l = if not (first == o) then s else (if output_is_spent l.output q then source_shuts s else source_gives s)
+
+abbrev pub admit_source : List (List (List ℕ)) → LiveSource → List Request → ℕ → LiveLane → LiveSource
+admit_source routes s [] o l = s
+admit_source routes s (q ∷ qs) o l = routed_source (route routes q.tag) s q o l
 
 -- the output once the request was tried
-abbrev pub admit_lane : ℕ → LiveSource → List Request → ℕ → LiveLane → ℕ → LiveLane
-admit_lane id s [] o l now = l
-admit_lane id s (q ∷ qs) o l now =
-    if not (o == 0) then l
+abbrev pub routed_lane : Option ℕ → ℕ → LiveSource → Request → ℕ → LiveLane → ℕ → LiveLane
+routed_lane None id s q o l now = l
+routed_lane (Some first) id s q o l now =
+    if not (first == o) then l
     else (if output_is_spent l.output q then l else with_live_output l (output_enters l.output (record { conn = id; request = s.admitted + 1 }) q now))
+
+abbrev pub admit_lane : List (List (List ℕ)) → ℕ → LiveSource → List Request → ℕ → LiveLane → ℕ → LiveLane
+admit_lane routes id s [] o l now = l
+admit_lane routes id s (q ∷ qs) o l now = routed_lane (route routes q.tag) id s q o l now
 
 -- the source once it is told what is due
 abbrev pub told_source : ℕ → LiveSource → LiveLane → LiveSource

@@ -16,6 +16,7 @@ use crate::connection::{Connection, place_of};
 use crate::lane::Lane;
 use crate::output::{AdmitError, Due};
 use crate::source::Source;
+use fwd_match::Routes;
 use fwd_model::{
     Answer, Config, Event, FlushKind, Origin, OutputConfig, Refusal, live_run_follows,
 };
@@ -27,6 +28,7 @@ use std::marker::Model;
 #[derive(Drop)]
 pub struct Relay {
     run: [u8; 6],
+    routes: Routes,
     last: Option<u64>,
     connections: Vec<Connection>,
     lanes: Vec<Lane>,
@@ -37,19 +39,21 @@ impl Model for Relay {
 
     ghost Value = { LiveRelay };
 
-    ghost view = { λ r. record { run = r.run; last = r.last; connections = r.connections.items; lanes = r.lanes.items } };
+    ghost view = { λ r. record { run = r.run; routes = r.routes; last = r.last; connections = r.connections.items; lanes = r.lanes.items } };
 }
 
 impl Relay {
     /// A relay before its first event.
-    pub fn new(alloc: Global, config: &Config) -> Result<Self, AllocError>
-        ensures { IfOk result (λ r. r ≡ live (opening config.now)) }
+    pub fn new(alloc: Global, config: Config) -> Result<Self, AllocError>
+        ensures { IfOk result (λ r. r ≡ live (opening config)) }
     {
+        let lanes = lanes_of(alloc, config.outputs.as_slice())?;
         Ok(Relay {
             run: config.run,
+            routes: config.routes,
             last: None,
             connections: Vec::new(alloc),
-            lanes: lanes_of(alloc, config.outputs.as_slice())?,
+            lanes,
         })
     }
 
@@ -161,7 +165,7 @@ impl Relay {
         output: u16,
         now: u64,
     ) -> Result<Answer, AllocError>
-        ensures answer { IfOk result (λ a. a ≡ live_admit_answer (live_source_at conn self.old.connections) output (slice_get self.old.lanes output)) }
+        ensures answer { IfOk result (λ a. a ≡ live_admit_answer self.old.routes (live_source_at conn self.old.connections) output (slice_get self.old.lanes output)) }
         ensures next { OnOk result (self.new ≡ live_admit_next conn (live_source_at conn self.old.connections) output (slice_get self.old.lanes output) now self.old) }
         ensures err { OnErr result (self.new ≡ self.old) }
     {
@@ -174,7 +178,15 @@ impl Relay {
         }
         let connection = &mut self.connections[place];
         let lane = &mut self.lanes[lane_place];
-        admit_from(alloc, &mut connection.source, lane, conn, output, now)
+        admit_from(
+            alloc,
+            &self.routes,
+            &mut connection.source,
+            lane,
+            conn,
+            output,
+            now,
+        )
     }
 
     /// Open chunks of an output are closed.
@@ -324,22 +336,27 @@ fn lanes_of(alloc: Global, configs: &[OutputConfig]) -> Result<Vec<Lane>, AllocE
 /// The first request that waits at the source is entered at the output. On an error nothing has changed.
 fn admit_from(
     alloc: Global,
+    routes: &Routes,
     source: &mut Source,
     lane: &mut Lane,
     conn: u64,
     output: u16,
     now: u64,
 ) -> Result<Answer, AllocError>
-    ensures answer { IfOk result (λ a. a ≡ live_admit_answer (Some source.old) output (Some lane.old)) }
-    ensures source { OnOk result (source.new ≡ admit_source source.old source.old.waiting output lane.old) }
-    ensures lane { OnOk result (lane.new ≡ admit_lane conn source.old source.old.waiting output lane.old now) }
+    ensures answer { IfOk result (λ a. a ≡ live_admit_answer routes.now (Some source.old) output (Some lane.old)) }
+    ensures source { OnOk result (source.new ≡ admit_source routes.now source.old source.old.waiting output lane.old) }
+    ensures lane { OnOk result (lane.new ≡ admit_lane routes.now conn source.old source.old.waiting output lane.old now) }
     ensures source_err { OnErr result (source.new ≡ source.old) }
     ensures lane_err { OnErr result (lane.new ≡ lane.old) }
 {
     let Some(batch) = source.first() else {
         return Ok(Answer::Refused(Refusal::NotNow));
     };
-    if output != 0 {
+    let Some(first) = routes.first(batch.tag()) else {
+        source.shut();
+        return Ok(Answer::NoRoute);
+    };
+    if first != output {
         return Ok(Answer::Refused(Refusal::NotNow));
     }
     let request = source.number();

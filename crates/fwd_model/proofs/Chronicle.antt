@@ -12,6 +12,7 @@ use Rattle.fwd_model.specs.declared.config.Config.{Config}
 use Rattle.fwd_model.specs.declared.event.Event.{Event}
 use Rattle.fwd_model.specs.declared.event.Event.TheVariants as event
 use Rattle.fwd_model.specs.Chunks.{greatest, cells_at, cells_of, chunk_of, first_tag, has_number}
+use Rattle.fwd_match.specs.Patterns.{route}
 use Rattle.fwd_model.specs.Books.{entered_as, has_cell}
 use Rattle.fwd_model.specs.History.{SourceHistory, judged, Connection, source_at, with_source, Admission, SessionHistory, is_handed_on, Lane, History}
 use Rattle.fwd_model.specs.Step.{next, after, frame_of}
@@ -135,7 +136,7 @@ has_origin id r cells = list_any (λ c. (c.origin.conn == id) && (c.origin.reque
 abbrev pub Admitted : List Connection → ℕ → ℕ → Type 0
 Admitted cs id r = (s : SourceHistory) × (source_at id cs ≡ Some s) × (r ≤ s.admitted)
 
-pub record RequestStory (cs : List Connection) (o : ℕ) (cells : List Cell) (a : Entered) : Type 0 where
+pub record RequestStory (routes : List (List (List ℕ))) (cs : List Connection) (o : ℕ) (cells : List Cell) (a : Entered) : Type 0 where
   pub request : Request
   pub number : ℕ
   pub moment : ℕ
@@ -146,13 +147,13 @@ pub record RequestStory (cs : List Connection) (o : ℕ) (cells : List Cell) (a 
   pub nth : a.origin.request ≡ place + 1
   pub admitted : a.origin.request ≤ source.admitted
   pub asked : slice_get (judged source).requests place ≡ Some request
-  pub route : o ≡ 0
+  pub first_match : route routes request.tag ≡ Some o
   pub own : cells_from a.origin.conn a.origin.request cells ≡ cells_of request a.origin number moment
   pub under : (k : ℕ) → has_cell k (cells_of request a.origin number moment) ≡ true → (k ≤ greatest cells) × (first_tag (cells_at k cells) ≡ request.tag)
 
-abbrev pub AllTold : List Connection → ℕ → List Cell → List Admission → Type 0
-AllTold cs o cells [] = Unit {0}
-AllTold cs o cells (a ∷ admissions) = RequestStory cs o cells a.request × AllTold cs o cells admissions
+abbrev pub AllTold : List (List (List ℕ)) → List Connection → ℕ → List Cell → List Admission → Type 0
+AllTold routes cs o cells [] = Unit {0}
+AllTold routes cs o cells (a ∷ admissions) = RequestStory routes cs o cells a.request × AllTold routes cs o cells admissions
 
 -- ---- outputs
 
@@ -160,10 +161,11 @@ pub record LaneStory (config : Config) (es : List Event) (cs : List Connection) 
   pub sessions : (w : ℕ) (s : SessionHistory) → slice_get l.sessions w ≡ Some (Some s) → SessionStory config es o w l.output.cells s
   pub numbers : (k : ℕ) → has_number k l.output.acknowledged ≡ true → NumberStory config es o l.output.cells k
   pub own : (id r : ℕ) → has_origin id r l.output.cells ≡ true → Admitted cs id r
-  pub requests : AllTold cs o l.output.cells l.output.requests
+  pub requests : AllTold config.routes cs o l.output.cells l.output.requests
 
 pub record Story (config : Config) (es : List Event) (h : History) : Type 0 where
   pub run : h.run ≡ config.run
+  pub routes : h.routes ≡ config.routes
   pub lanes : (o : ℕ) (l : Lane) → slice_get h.lanes o ≡ Some l → LaneStory config es h.connections o l
 
 -- ---- connections grow
@@ -211,8 +213,8 @@ admitted_still cs ds id r ext a =
     let g = ext id a.0 a.1 in
     (g.0, g.1, omega (arith, a.2, g.2.0))
 
-pub request_still : (cs ds : List Connection) (o : ℕ) (cells : List Cell) (a : Entered) → Extends cs ds → RequestStory cs o cells a → RequestStory ds o cells a
-request_still cs ds o cells a ext t =
+pub request_still : (routes : List (List (List ℕ))) (cs ds : List Connection) (o : ℕ) (cells : List Cell) (a : Entered) → Extends cs ds → RequestStory routes cs o cells a → RequestStory routes ds o cells a
+request_still routes cs ds o cells a ext t =
     let g = ext a.origin.conn t.source t.stands in
     record {
       request = t.request;
@@ -225,37 +227,37 @@ request_still cs ds o cells a ext t =
       nth = t.nth;
       admitted = omega (arith, t.admitted, g.2.0);
       asked = g.2.1 t.place t.request t.asked;
-      route = t.route;
+      first_match = t.first_match;
       own = t.own;
       under = t.under;
     }
 
-pub all_still : (cs ds : List Connection) (o : ℕ) (cells : List Cell) (admissions : List Admission) → Extends cs ds → AllTold cs o cells admissions → AllTold ds o cells admissions
-all_still cs ds o cells [] ext all = tt
-all_still cs ds o cells (a ∷ admissions) ext all = (request_still cs ds o cells a.request ext all.0, all_still cs ds o cells admissions ext all.1)
+pub all_still : (routes : List (List (List ℕ))) (cs ds : List Connection) (o : ℕ) (cells : List Cell) (admissions : List Admission) → Extends cs ds → AllTold routes cs o cells admissions → AllTold routes ds o cells admissions
+all_still routes cs ds o cells [] ext all = tt
+all_still routes cs ds o cells (a ∷ admissions) ext all = (request_still routes cs ds o cells a.request ext all.0, all_still routes cs ds o cells admissions ext all.1)
 
 pub lane_still : (config : Config) (es : List Event) (e : Event) (cs ds : List Connection) (o : ℕ) (l : Lane) → Extends cs ds → LaneStory config es cs o l → LaneStory config (es ++ e ∷ []) ds o l
 lane_still config es e cs ds o l ext t = record {
   sessions = λ w s h. session_still config es e o l.output.cells w s (t.sessions w s h);
   numbers = λ k h. number_still config es e o l.output.cells k (t.numbers k h);
   own = λ id r h. admitted_still cs ds id r ext (t.own id r h);
-  requests = all_still cs ds o l.output.cells l.output.requests ext t.requests;
+  requests = all_still config.routes cs ds o l.output.cells l.output.requests ext t.requests;
 }
 
 -- ---- an event that leaves the outputs, and one that changes one of them
 
 abbrev pub with_parts : History → List Connection → List Lane → History
-with_parts h cs ls = record { run = h.run; connections = cs; lanes = ls }
+with_parts h cs ls = record { run = h.run; routes = h.routes; connections = cs; lanes = ls }
 
 module _ (config : Config) (es : List Event) (e : Event) (h : History) (t : Story config es h) where
   pub lanes_stay : (ds : List Connection) → Extends h.connections ds → Story config (es ++ e ∷ []) (with_parts h ds h.lanes)
-  lanes_stay ds ext = record { run = t.run; lanes = λ o l here. lane_still config es e h.connections ds o l ext (t.lanes o l here) }
+  lanes_stay ds ext = record { run = t.run; routes = t.routes; lanes = λ o l here. lane_still config es e h.connections ds o l ext (t.lanes o l here) }
 
   pub all_stays : Story config (es ++ e ∷ []) h
   all_stays = lanes_stay h.connections (extends_same h.connections)
 
   pub lane_put : (ds : List Connection) (o : ℕ) (m : Lane) → Extends h.connections ds → LaneStory config (es ++ e ∷ []) ds o m → Story config (es ++ e ∷ []) (with_parts h ds (slice_set h.lanes o m))
-  lane_put ds o m ext story = record { run = t.run; lanes = λ j l here. at j l (slice_get-set h.lanes o j m l here) }
+  lane_put ds o m ext story = record { run = t.run; routes = t.routes; lanes = λ j l here. at j l (slice_get-set h.lanes o j m l here) }
     where
       at : (j : ℕ) (l : Lane) → ((o ≡ j) × (m ≡ l)) ⊎ ((o ≡ j → ⊥) × (slice_get h.lanes j ≡ Some l)) → LaneStory config (es ++ e ∷ []) ds j l
       at j l (inl x) = subst (λ k. LaneStory config (es ++ e ∷ []) ds k l) x.0 (subst (λ y. LaneStory config (es ++ e ∷ []) ds o y) x.1 story)

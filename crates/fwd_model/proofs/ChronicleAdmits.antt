@@ -6,6 +6,7 @@ use Rattle.std.proofs.lemmas.List.{append-nil}
 use Rattle.std.proofs.lemmas.List.Elements.{filter-append}
 use Rattle.fwd_modes.specs.Requests.{Request}
 use Rattle.fwd_modes.specs.Frames.{chunk_name}
+use Rattle.fwd_match.specs.Patterns.{route}
 use Rattle.fwd_model.specs.declared.cell.Cell.{Cell}
 use Rattle.fwd_model.specs.declared.cell.Entered.{Entered}
 use Rattle.fwd_model.specs.declared.cell.Origin.{Origin}
@@ -118,7 +119,7 @@ module _ (config : Config) (es : List Event) (e : Event) (cs ds : List Connectio
   abbrev all : List Cell
   all = l.output.cells ++ news
 
-  request_moves : (a : Entered) → (a.origin.conn ≡ id → a.origin.request ≡ number → ⊥) → RequestStory ds o l.output.cells a → RequestStory ds o all a
+  request_moves : (a : Entered) → (a.origin.conn ≡ id → a.origin.request ≡ number → ⊥) → RequestStory config.routes ds o l.output.cells a → RequestStory config.routes ds o all a
   request_moves a other t = record {
     request = t.request;
     number = t.number;
@@ -130,7 +131,7 @@ module _ (config : Config) (es : List Event) (e : Event) (cs ds : List Connectio
     nth = t.nth;
     admitted = t.admitted;
     asked = t.asked;
-    route = t.route;
+    first_match = t.first_match;
     own = filter-append (λ c. (c.origin.conn == a.origin.conn) && (c.origin.request == a.origin.request)) l.output.cells news
         ∙ ap (λ xs. cells_from a.origin.conn a.origin.request l.output.cells ++ xs) (none_of_another q.tag origin fresh moment a.origin.conn a.origin.request q.entries (λ f g. other (sym f) (sym g)))
         ∙ append-nil (cells_from a.origin.conn a.origin.request l.output.cells) ∙ t.own;
@@ -141,7 +142,7 @@ module _ (config : Config) (es : List Event) (e : Event) (cs ds : List Connectio
   }
 
   -- the connection of a request that was entered before had admitted it
-  was_before : (s : SourceHistory) → source_at id cs ≡ Some s → number ≡ s.admitted + 1 → (a : Entered) → RequestStory cs o l.output.cells a → a.origin.conn ≡ id → a.origin.request ≡ number → ⊥
+  was_before : (s : SourceHistory) → source_at id cs ≡ Some s → number ≡ s.admitted + 1 → (a : Entered) → RequestStory config.routes cs o l.output.cells a → a.origin.conn ≡ id → a.origin.request ≡ number → ⊥
   was_before s here is a t f g =
       let same : t.source ≡ s = some_is (sym t.stands ∙ ap (λ x. source_at x cs) f ∙ here) in
       let le : a.origin.request ≤ s.admitted = subst (λ x. a.origin.request ≤ x.admitted) same t.admitted in
@@ -150,18 +151,18 @@ module _ (config : Config) (es : List Event) (e : Event) (cs ds : List Connectio
       some_is : {x y : SourceHistory} → Some x ≡ Some y → x ≡ y
       some_is h = cc
 
-  all_move : (s : SourceHistory) → source_at id cs ≡ Some s → number ≡ s.admitted + 1 → (admissions : List Admission) → AllTold cs o l.output.cells admissions → AllTold ds o l.output.cells admissions → AllTold ds o all admissions
+  all_move : (s : SourceHistory) → source_at id cs ≡ Some s → number ≡ s.admitted + 1 → (admissions : List Admission) → AllTold config.routes cs o l.output.cells admissions → AllTold config.routes ds o l.output.cells admissions → AllTold config.routes ds o all admissions
   all_move s here is [] old still = tt
   all_move s here is (a ∷ admissions) old still = (request_moves a.request (was_before s here is a.request old.0) still.0, all_move s here is admissions old.1 still.1)
 
-  all_push : (admissions : List Admission) (a : Admission) → AllTold ds o all admissions → RequestStory ds o all a.request → AllTold ds o all (admissions ++ a ∷ [])
+  all_push : (admissions : List Admission) (a : Admission) → AllTold config.routes ds o all admissions → RequestStory config.routes ds o all a.request → AllTold config.routes ds o all (admissions ++ a ∷ [])
   all_push [] a told one = (one, tt)
   all_push (b ∷ admissions) a told one = (told.0, all_push admissions a told.1 one)
 
   -- the request that is entered
-  enters : (s t : SourceHistory) → source_at id cs ≡ Some s → number ≡ s.admitted + 1 → source_at id ds ≡ Some t → t.admitted ≡ s.admitted + 1 → slice_get (judged t).requests s.admitted ≡ Some q → o ≡ 0
-      → ((i r : ℕ) → has_origin i r l.output.cells ≡ true → Admitted cs i r) → RequestStory ds o all (entered_as q origin fresh)
-  enters s t here is there more asked route own = record {
+  enters : (s t : SourceHistory) → source_at id cs ≡ Some s → number ≡ s.admitted + 1 → source_at id ds ≡ Some t → t.admitted ≡ s.admitted + 1 → slice_get (judged t).requests s.admitted ≡ Some q → route config.routes q.tag ≡ Some o
+      → ((i r : ℕ) → has_origin i r l.output.cells ≡ true → Admitted cs i r) → RequestStory config.routes ds o all (entered_as q origin fresh)
+  enters s t here is there more asked first own = record {
     request = q;
     number = fresh;
     moment = moment;
@@ -172,7 +173,7 @@ module _ (config : Config) (es : List Event) (e : Event) (cs ds : List Connectio
     nth = is;
     admitted = omega (arith, is, more);
     asked = asked;
-    route = route;
+    first_match = first;
     own = filter-append (λ c. (c.origin.conn == id) && (c.origin.request == number)) l.output.cells news
         ∙ (λ i. none_yet id number l.output.cells unseen i ++ all_own q.tag origin fresh moment q.entries i);
     under = λ k h.
@@ -198,9 +199,9 @@ module _ (config : Config) (es : List Event) (e : Event) (cs ds : List Connectio
       unseen = seen (has_origin id number l.output.cells) refl
 
   pub lane_enters : (s t : SourceHistory) → IsSaneLane l → Extends cs ds → LaneStory config es cs o l → source_at id cs ≡ Some s → number ≡ s.admitted + 1 → source_at id ds ≡ Some t → t.admitted ≡ s.admitted + 1
-      → slice_get (judged t).requests s.admitted ≡ Some q → o ≡ 0 → LaneStory config (es ++ e ∷ []) ds o (with_output l (entered l.output id number q now))
+      → slice_get (judged t).requests s.admitted ≡ Some q → route config.routes q.tag ≡ Some o → LaneStory config (es ++ e ∷ []) ds o (with_output l (entered l.output id number q now))
   unfolding entered
-  lane_enters s t sane ext story here is there more asked route =
+  lane_enters s t sane ext story here is there more asked first =
       let still = lane_still config es e cs ds o l ext story in record {
         sessions = λ w u h. let v = still.sessions w u h in record {
           begun = v.begun;
@@ -209,7 +210,7 @@ module _ (config : Config) (es : List Event) (e : Event) (cs ds : List Connectio
         };
         numbers = λ k h. let n = still.numbers k h in (n.0, subst (λ f. WasAcknowledged config (es ++ e ∷ []) o n.0 f (chunk_name config.run o k)) (frame_stays config o l.output.cells q origin moment k (sane.acked_below k h)) n.1);
         own = λ i r h. by i r (either (has_origin i r l.output.cells) (has_origin i r news) (sym (has_origin-append i r l.output.cells news) ∙ h));
-        requests = all_push l.output.requests (record { request = entered_as q origin fresh; told = false }) (all_move s here is l.output.requests story.requests still.requests) (enters s t here is there more asked route story.own);
+        requests = all_push l.output.requests (record { request = entered_as q origin fresh; told = false }) (all_move s here is l.output.requests story.requests still.requests) (enters s t here is there more asked first story.own);
       }
     where
       carried : (w : ℕ) (u : SessionHistory) → slice_get l.sessions w ≡ Some (Some u) → (k : ℕ) → u.loaded ≡ Some k → k ≤ greatest l.output.cells

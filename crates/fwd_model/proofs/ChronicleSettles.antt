@@ -45,9 +45,9 @@ lane_settles config es e cs o w l s k here acked t =
       requests = put.requests;
     }
 
-all_told : (cs : List Connection) (o : ℕ) (cells : List Cell) (p : Admission → Bool) (admissions : List Admission) → AllTold cs o cells admissions → AllTold cs o cells (map (λ a. told_if (p a) a) admissions)
-all_told cs o cells p [] all = tt
-all_told cs o cells p (a ∷ admissions) all = (all.0, all_told cs o cells p admissions all.1)
+all_told : (routes : List (List (List ℕ))) (cs : List Connection) (o : ℕ) (cells : List Cell) (p : Admission → Bool) (admissions : List Admission) → AllTold routes cs o cells admissions → AllTold routes cs o cells (map (λ a. told_if (p a) a) admissions)
+all_told routes cs o cells p [] all = tt
+all_told routes cs o cells p (a ∷ admissions) all = (all.0, all_told routes cs o cells p admissions all.1)
 
 pub lane_tells : (config : Config) (es : List Event) (e : Event) (cs ds : List Connection) (o id : ℕ) (l : Lane) → Extends cs ds → LaneStory config es cs o l → LaneStory config (es ++ e ∷ []) ds o (with_output l (has_told id l.output))
 unfolding has_told
@@ -56,5 +56,5 @@ lane_tells config es e cs ds o id l ext t =
       sessions = still.sessions;
       numbers = still.numbers;
       own = still.own;
-      requests = all_told ds o l.output.cells (is_due id l.output) l.output.requests still.requests;
+      requests = all_told config.routes ds o l.output.cells (is_due id l.output) l.output.requests still.requests;
     }

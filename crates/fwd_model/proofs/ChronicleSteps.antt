@@ -3,6 +3,7 @@ use Rattle.std.proofs.Common.{◌≡◌, ℕ, zero, suc, ◌+◌, ◌≤◌, Boo
 use Rattle.std.specs.Prelude.{is_some, not, ◌==◌, nat_lt, slice_get}
 use Rattle.std.proofs.lemmas.Bool.Decides.{nat_tests}
 use Rattle.fwd_modes.specs.Requests.{Request}
+use Rattle.fwd_match.specs.Patterns.{route}
 use Rattle.fwd_model.specs.declared.cell.Carry.{Carry}
 use Rattle.fwd_model.specs.declared.config.Config.{Config}
 use Rattle.fwd_model.specs.declared.event.Event.{Event}
@@ -89,8 +90,8 @@ module _ (config : Config) (es : List Event) (sane : IsSane (reached config es))
       at true f = absurd cc
       at false f = first_of-drop s.admitted (judged s).requests q qs f
 
-  is_zero : (o : ℕ) → not (o == 0) ≡ false → o ≡ 0
-  is_zero o e = grind (arith, nat_tests, e)
+  same_place : (first o : ℕ) → not (first == o) ≡ false → first ≡ o
+  same_place first o e = grind (arith, nat_tests, e)
 
   source_there : (id : ℕ) (s u : SourceHistory) → source_at id h.connections ≡ Some s → Grows s u → source_at id (with_source id u h.connections) ≡ Some u
   source_there id s u here grows = found id s u h.connections here
@@ -99,20 +100,26 @@ module _ (config : Config) (es : List Event) (sane : IsSane (reached config es))
       found id s u [] f = absurd cc
       found id s u (c ∷ cs) f = grind (arith, nat_tests, found id s u cs)
 
-  admit_by : (id o now : ℕ) (s : SourceHistory) (q : Request) (qs : List Request) (l : Lane) (a b : Bool) → source_at id h.connections ≡ Some s → slice_get h.lanes o ≡ Some l → waiting s ≡ q ∷ qs → not (o == 0) ≡ a
+  admit_by : (id o now first : ℕ) (s : SourceHistory) (q : Request) (qs : List Request) (l : Lane) (a b : Bool) → source_at id h.connections ≡ Some s → slice_get h.lanes o ≡ Some l → waiting s ≡ q ∷ qs
+      → route h.routes q.tag ≡ Some first → not (first == o) ≡ a
       → On (event.Admit id o now) (cond a h (cond b (with_connection id (shuts s) h) (with_lane o (with_output l (entered l.output id (s.admitted + 1) q now)) (with_connection id (takes_first s) h))))
-  admit_by id o now s q qs l true b here lane wait e = nothing (event.Admit id o now)
-  admit_by id o now s q qs l false true here lane wait e = connection_put (event.Admit id o now) id s (shuts s) here (grows_more s (shuts s) refl (omega arith))
-  admit_by id o now s q qs l false false here lane wait e =
+  admit_by id o now first s q qs l true b here lane wait routed e = nothing (event.Admit id o now)
+  admit_by id o now first s q qs l false true here lane wait routed e = connection_put (event.Admit id o now) id s (shuts s) here (grows_more s (shuts s) refl (omega arith))
+  admit_by id o now first s q qs l false false here lane wait routed e =
       let grows = grows_more s (takes_first s) refl (omega arith) in
       let ext = extends_with id s (takes_first s) h.connections here grows in
       lane_put config es (event.Admit id o now) h t (with_source id (takes_first s) h.connections) o (with_output l (entered l.output id (s.admitted + 1) q now)) ext
       (lane_enters config es (event.Admit id o now) h.connections (with_source id (takes_first s) h.connections) o l id (s.admitted + 1) now q s (takes_first s) (own_lane o l lane) ext (t.lanes o l lane) here refl
-      (source_there id s (takes_first s) here grows) refl (waiting_is s q qs wait) (is_zero o e))
+      (source_there id s (takes_first s) here grows) refl (waiting_is s q qs wait) (ap (λ rs. route rs q.tag) (sym t.routes) ∙ routed ∙ ap Some (same_place first o e)))
+
+  admit_routed : (id o now : ℕ) (to : Option ℕ) (s : SourceHistory) (q : Request) (qs : List Request) (l : Lane) → source_at id h.connections ≡ Some s → slice_get h.lanes o ≡ Some l → waiting s ≡ q ∷ qs
+      → route h.routes q.tag ≡ to → On (event.Admit id o now) (step.admit_routed_next to id s q o l now h)
+  admit_routed id o now None s q qs l here lane wait routed = connection_put (event.Admit id o now) id s (shuts s) here (grows_more s (shuts s) refl (omega arith))
+  admit_routed id o now (Some first) s q qs l here lane wait routed = admit_by id o now first s q qs l (not (first == o)) (step.has_no_number l.output q) here lane wait routed refl
 
   admit_waiting : (id o now : ℕ) (s : SourceHistory) (qs : List Request) (l : Lane) → source_at id h.connections ≡ Some s → slice_get h.lanes o ≡ Some l → waiting s ≡ qs → On (event.Admit id o now) (step.admit_waiting_next id s qs o l now h)
   admit_waiting id o now s [] l here lane wait = nothing (event.Admit id o now)
-  admit_waiting id o now s (q ∷ qs) l here lane wait = admit_by id o now s q qs l (not (o == 0)) (step.has_no_number l.output q) here lane wait refl
+  admit_waiting id o now s (q ∷ qs) l here lane wait = admit_routed id o now (route h.routes q.tag) s q qs l here lane wait refl
 
   admit_on : (id o now : ℕ) (s : Option SourceHistory) (l : Option Lane) → source_at id h.connections ≡ s → slice_get h.lanes o ≡ l → On (event.Admit id o now) (step.admit_next id s o l now h)
   admit_on id o now None l here lane = nothing (event.Admit id o now)

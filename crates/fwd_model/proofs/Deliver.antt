@@ -48,7 +48,7 @@ new_lanes config cs (c ∷ configs) base (suc o) l h = subst (λ n. LaneStory co
 
 opening_story : (config : Config) → Story config [] (reached config [])
 unfolding opening
-opening_story config = record { run = refl; lanes = λ o l h. subst (λ n. LaneStory config [] [] n l) (omega arith) (new_lanes config [] config.outputs 0 o l h) }
+opening_story config = record { run = refl; routes = refl; lanes = λ o l h. subst (λ n. LaneStory config [] [] n l) (omega arith) (new_lanes config [] config.outputs 0 o l h) }
 
 pub every_story : (config : Config) (es : List Event) → Story config es (reached config es)
 every_story config es =
@@ -58,9 +58,9 @@ every_story config es =
 -- ---- what a collect tells
 
 -- a request that is told: entered for the connection, with this number, and settled
-pub record IsFound (cs : List Connection) (o id r : ℕ) (output : OutputHistory) : Type 0 where
+pub record IsFound (routes : List (List (List ℕ))) (cs : List Connection) (o id r : ℕ) (output : OutputHistory) : Type 0 where
   pub entered : Entered
-  pub story : RequestStory cs o output.cells entered
+  pub story : RequestStory routes cs o output.cells entered
   pub conn : entered.origin.conn ≡ id
   pub number : entered.origin.request ≡ r
   pub settled : is_settled output.acknowledged entered ≡ true
@@ -72,24 +72,24 @@ and_parts false b h = absurd cc
 eq_from : (a b : ℕ) → eqb a b ≡ true → a ≡ b
 eq_from a b e = grind (arith, nat_tests, e)
 
-found_by : (cs : List Connection) (o id r : ℕ) (output : OutputHistory) (a : Admission) (rest : List Entered) (b c : Bool) → is_due id output a ≡ b → eqb a.request.origin.request r ≡ c → RequestStory cs o output.cells a.request
-    → (has_number r (numbers_of rest) ≡ true → IsFound cs o id r output) → has_number r (numbers_of (cond b (a.request ∷ rest) rest)) ≡ true → IsFound cs o id r output
-found_by cs o id r output a rest true true due_is same one later h =
+found_by : (routes : List (List (List ℕ))) (cs : List Connection) (o id r : ℕ) (output : OutputHistory) (a : Admission) (rest : List Entered) (b c : Bool) → is_due id output a ≡ b → eqb a.request.origin.request r ≡ c → RequestStory routes cs o output.cells a.request
+    → (has_number r (numbers_of rest) ≡ true → IsFound routes cs o id r output) → has_number r (numbers_of (cond b (a.request ∷ rest) rest)) ≡ true → IsFound routes cs o id r output
+found_by routes cs o id r output a rest true true due_is same one later h =
     let parts = and_parts (not a.told) (is_of id a.request && is_settled output.acknowledged a.request) due_is in
     let both = and_parts (is_of id a.request) (is_settled output.acknowledged a.request) parts.1 in
     record { entered = a.request; story = one; conn = eq_from a.request.origin.conn id both.0; number = eq_from a.request.origin.request r same; settled = both.1 }
-found_by cs o id r output a rest true false due_is same one later h = later (grind (arith, nat_tests, h, same))
-found_by cs o id r output a rest false c due_is same one later h = later h
+found_by routes cs o id r output a rest true false due_is same one later h = later (grind (arith, nat_tests, h, same))
+found_by routes cs o id r output a rest false c due_is same one later h = later h
 
 due_map : (id : ℕ) (output : OutputHistory) (a : Admission) (admissions : List Admission) (b : Bool)
     → map (λ (x : Admission). x.request) (cond b (a ∷ filter (is_due id output) admissions) (filter (is_due id output) admissions)) ≡ cond b (a.request ∷ map (λ x. x.request) (filter (is_due id output) admissions)) (map (λ x. x.request) (filter (is_due id output) admissions))
 due_map id output a admissions true = refl
 due_map id output a admissions false = refl
 
-found : (cs : List Connection) (o id r : ℕ) (output : OutputHistory) (admissions : List Admission) → AllTold cs o output.cells admissions → has_number r (numbers_of (map (λ a. a.request) (filter (is_due id output) admissions))) ≡ true → IsFound cs o id r output
-found cs o id r output [] all h = absurd cc
-found cs o id r output (a ∷ admissions) all h =
-    found_by cs o id r output a (map (λ x. x.request) (filter (is_due id output) admissions)) (is_due id output a) (eqb a.request.origin.request r) refl refl all.0 (λ g. found cs o id r output admissions all.1 g)
+found : (routes : List (List (List ℕ))) (cs : List Connection) (o id r : ℕ) (output : OutputHistory) (admissions : List Admission) → AllTold routes cs o output.cells admissions → has_number r (numbers_of (map (λ a. a.request) (filter (is_due id output) admissions))) ≡ true → IsFound routes cs o id r output
+found routes cs o id r output [] all h = absurd cc
+found routes cs o id r output (a ∷ admissions) all h =
+    found_by routes cs o id r output a (map (λ x. x.request) (filter (is_due id output) admissions)) (is_due id output a) (eqb a.request.origin.request r) refl refl all.0 (λ g. found routes cs o id r output admissions all.1 g)
     (subst (λ xs. has_number r (numbers_of xs) ≡ true) (due_map id output a admissions (is_due id output a)) h)
 
 -- ---- what is found was delivered
@@ -123,8 +123,8 @@ frame_is : (config : Config) (o : ℕ) (tag : List ℕ) (cells : List Cell) (k :
 unfolding chunk_of
 frame_is config o tag cells k e = ap (λ x. chunk_frame x (map (λ c. c.entry) (cells_at k cells)) (chunk_name config.run o k)) e
 
-module _ (config : Config) (es : List Event) (id r o : ℕ) (l : Lane) (here : slice_get (reached config es).lanes o ≡ Some l) (story : LaneStory config es (reached config es).connections o l) (f : IsFound (reached config es).connections o id r l.output) where
-  abbrev t : RequestStory (reached config es).connections o l.output.cells f.entered
+module _ (config : Config) (es : List Event) (id r o : ℕ) (l : Lane) (here : slice_get (reached config es).lanes o ≡ Some l) (story : LaneStory config es (reached config es).connections o l) (f : IsFound config.routes (reached config es).connections o id r l.output) where
+  abbrev t : RequestStory config.routes (reached config es).connections o l.output.cells f.entered
   t = f.story
 
   own : cells_from id r l.output.cells ≡ cells_of t.request f.entered.origin t.number t.moment
@@ -145,7 +145,7 @@ module _ (config : Config) (es : List Event) (id r o : ℕ) (l : Lane) (here : s
     number = sym f.number ∙ t.nth;
     request = t.request;
     asked = t.asked;
-    route = t.route;
+    first_match = t.first_match;
     lane = l;
     here = here;
     entries = ap (map (λ c. c.entry)) own ∙ entries_are t.request f.entered.origin t.number t.moment t.request.entries;
@@ -168,7 +168,7 @@ told_by config es id r o numbers out (Some s) (Some l) here story told among = a
     at false e =
         let same : numbers_of (due id l.output) ≡ numbers = cc in
         let lane = story.lanes o l here in
-        found_delivered config es id r o l here lane (found (reached config es).connections o id r l.output l.output.requests lane.requests (subst (λ ns. has_number r ns ≡ true) (sym same) among))
+        found_delivered config es id r o l here lane (found config.routes (reached config es).connections o id r l.output l.output.requests lane.requests (subst (λ ns. has_number r ns ≡ true) (sym same) among))
 
 pub told_delivered : (config : Config) (es : List Event) (id r o : ℕ) (t : IsTold config es id r o) → IsDelivered config t.before id r o
 told_delivered config es id r o t =

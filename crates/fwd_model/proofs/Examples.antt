@@ -6,11 +6,12 @@ use Rattle.fwd_msgpack.specs.Scans.{first_of, fault_at, item_begun, payload_ende
 use Rattle.fwd_modes.specs.Requests.{request_of}
 use Rattle.fwd_modes.specs.Frames.{chunk_frame, chunk_name, encode_symbols}
 use Rattle.fwd_modes.specs.Acks.{ack_text, ack_name}
+use Rattle.fwd_match.specs.Patterns.{route, pattern_matches, matches}
 use Rattle.fwd_model.specs.declared.answer.Answer.TheVariants as answer
 use Rattle.fwd_model.specs.declared.event.Event.{Event}
 use Rattle.fwd_model.specs.declared.event.Event.TheVariants as event
 use Rattle.fwd_model.specs.declared.event.FlushKind.TheVariants.{All, Due}
-use Rattle.fwd_model.specs.declared.fault.Refusal.TheVariants.{NoSuch, NotNow, NotUp}
+use Rattle.fwd_model.specs.declared.fault.Refusal.TheVariants.{NoSuch, NotNow, NotUp, Closed}
 use Rattle.fwd_model.specs.declared.fault.SessionFault.TheVariants.{BadReply, WrongAck, EarlyAck}
 use Rattle.fwd_model.specs.declared.config.Config.{Config}
 use Rattle.fwd_model.specs.History.{opening}
@@ -22,6 +23,7 @@ use Rattle.fwd_model.specs.Step.{answers, after, entered, flushed, taken, settle
 abbrev settings : Config
 settings = record {
   run = replicate 6 0;
+  routes = ((42 ∷ 42 ∷ []) ∷ []) ∷ [];
   outputs = record { workers = 2; servers = 2; flush_interval = 1000 } ∷ [];
 }
 
@@ -57,7 +59,7 @@ answered : answers (opening settings) events ≡
     answer.Refused NoSuch ∷
     answer.Refused NotNow ∷
     answer.Refused NotNow ∷ []
-unfolding opening entered flushed taken chunk_of judged_of request_of parts_of row_of_values split_of first_of fault_at item_begun payload_ended reading_of row_of named_rows
+unfolding opening route pattern_matches matches entered flushed taken chunk_of judged_of request_of parts_of row_of_values split_of first_of fault_at item_begun payload_ended reading_of row_of named_rows
 answered = refl
 
 -- ---- the way back: the source is told once the server acknowledged its chunk
@@ -134,7 +136,7 @@ brought_back : answers (opening settings) whole_way ≡
     answer.SessionFaulted EarlyAck ∷
     answer.Refused NotNow ∷
     answer.Refused NotUp ∷ []
-unfolding opening entered flushed taken settled has_told chunk_of chunk_frame chunk_name encode_symbols ack_text ack_name head_bytes reply_stream judged_of request_of parts_of row_of_values split_of first_of fault_at item_begun payload_ended reading_of row_of named_rows
+unfolding opening route pattern_matches matches entered flushed taken settled has_told chunk_of chunk_frame chunk_name encode_symbols ack_text ack_name head_bytes reply_stream judged_of request_of parts_of row_of_values split_of first_of fault_at item_begun payload_ended reading_of row_of named_rows
 brought_back = refl
 
 -- a second acknowledgement is early, and the first one stands
@@ -146,14 +148,49 @@ acknowledged_twice : answers (after (opening settings) until_sent) (
     answer.SessionFaulted EarlyAck ∷
     answer.Settled 1 ∷
     answer.Told (1 ∷ []) (0x81 ∷ 0xa3 ∷ 0x61 ∷ 0x63 ∷ 0x6b ∷ 0xa1 ∷ 0x78 ∷ []) ∷ []
-unfolding opening entered flushed taken settled has_told chunk_of chunk_frame chunk_name encode_symbols ack_text ack_name head_bytes reply_stream judged_of request_of parts_of row_of_values split_of first_of fault_at item_begun payload_ended reading_of row_of named_rows
+unfolding opening route pattern_matches matches entered flushed taken settled has_told chunk_of chunk_frame chunk_name encode_symbols ack_text ack_name head_bytes reply_stream judged_of request_of parts_of row_of_values split_of first_of fault_at item_begun payload_ended reading_of row_of named_rows
 acknowledged_twice = refl
 
 -- another name, and a value that is no acknowledgement
 wrong_name : answers (after (opening settings) until_sent) (event.Heard 0 0 (0x81 ∷ 0xa3 ∷ 0x61 ∷ 0x63 ∷ 0x6b ∷ 0xa1 ∷ 0x41 ∷ []) ∷ event.Settle 0 0 ∷ []) ≡ answer.SessionFaulted WrongAck ∷ answer.Refused NotNow ∷ []
-unfolding opening entered flushed taken settled has_told chunk_of chunk_frame chunk_name encode_symbols ack_text ack_name head_bytes reply_stream judged_of request_of parts_of row_of_values split_of first_of fault_at item_begun payload_ended reading_of row_of named_rows
+unfolding opening route pattern_matches matches entered flushed taken settled has_told chunk_of chunk_frame chunk_name encode_symbols ack_text ack_name head_bytes reply_stream judged_of request_of parts_of row_of_values split_of first_of fault_at item_begun payload_ended reading_of row_of named_rows
 wrong_name = refl
 
 no_acknowledgement : answers (after (opening settings) until_sent) (event.Heard 0 0 (0xc0 ∷ []) ∷ event.Heard 0 0 (0xc3 ∷ []) ∷ event.Settle 0 0 ∷ []) ≡ answer.Quiet [] ∷ answer.SessionFaulted BadReply ∷ answer.Refused NotNow ∷ []
-unfolding opening entered flushed taken settled has_told chunk_of chunk_frame chunk_name encode_symbols ack_text ack_name head_bytes reply_stream judged_of request_of parts_of row_of_values split_of first_of fault_at item_begun payload_ended reading_of row_of named_rows
+unfolding opening route pattern_matches matches entered flushed taken settled has_told chunk_of chunk_frame chunk_name encode_symbols ack_text ack_name head_bytes reply_stream judged_of request_of parts_of row_of_values split_of first_of fault_at item_begun payload_ended reading_of row_of named_rows
 no_acknowledgement = refl
+
+-- ---- which output an event goes to
+
+-- the patterns `b` and `*` of two outputs: `a` goes to the second, `b` to the first, `a.b` to none
+abbrev two_outputs : Config
+two_outputs = record {
+  run = replicate 6 0;
+  routes = ((98 ∷ []) ∷ []) ∷ ((42 ∷ []) ∷ []) ∷ [];
+  outputs = record { workers = 1; servers = 1; flush_interval = 1000 } ∷ record { workers = 1; servers = 1; flush_interval = 1000 } ∷ [];
+}
+
+routed : answers (opening two_outputs) (
+    event.Accept 1 (replicate 16 0) (replicate 16 0) ∷
+    event.Piece 1 (0x93 ∷ 0xa1 ∷ 0x61 ∷ 0x01 ∷ 0x80 ∷ 0x93 ∷ 0xa1 ∷ 0x62 ∷ 0x01 ∷ 0x80 ∷ 0x93 ∷ 0xa3 ∷ 0x61 ∷ 0x2e ∷ 0x62 ∷ 0x01 ∷ 0x80 ∷ 0x93 ∷ 0xa1 ∷ 0x61 ∷ 0x01 ∷ 0x80 ∷ []) ∷
+    event.Admit 1 0 0 ∷
+    event.Admit 1 1 0 ∷
+    event.Admit 1 1 0 ∷
+    event.Admit 1 0 0 ∷
+    event.Admit 1 2 0 ∷
+    event.Admit 1 1 0 ∷
+    event.Admit 1 1 0 ∷
+    event.Piece 1 [] ∷ []
+    ) ≡
+    answer.Accepted [] ∷
+    answer.Requests 4 [] ∷
+    answer.Refused NotNow ∷
+    answer.Admitted 1 1 ∷
+    answer.Refused NotNow ∷
+    answer.Admitted 2 1 ∷
+    answer.Refused NoSuch ∷
+    answer.NoRoute ∷
+    answer.Refused NotNow ∷
+    answer.Refused Closed ∷ []
+unfolding opening route pattern_matches matches entered judged_of request_of parts_of row_of_values split_of first_of fault_at item_begun payload_ended reading_of row_of named_rows
+routed = refl

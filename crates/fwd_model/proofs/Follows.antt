@@ -61,12 +61,13 @@ module _ (h : History) (sane : IsSane h) where
       )
 
   admit_followed : (id o now : ℕ) → Followed h (event.Admit id o now)
+  unfolding live
   admit_followed id o now =
       let has : (s : SourceHistory) → source_at id h.connections ≡ Some s → AdmitsItsOwn s = λ s e. own_source id s e in
       let own : (l : Lane) → slice_get h.lanes o ≡ Some l → IsSaneLane l = λ l e. own_lane o l e in
       let here = sym (live_source_here id) in
       let lane = sym (lane_at-live o h) in (
-        admit_answer-live (source_at id h.connections) o (slice_get h.lanes o) ∙ (λ i. livestep.live_admit_answer (here i) o (lane i)),
+        admit_answer-live h.routes (source_at id h.connections) o (slice_get h.lanes o) ∙ (λ i. livestep.live_admit_answer h.routes (here i) o (lane i)),
         admit_next-live id (source_at id h.connections) o (slice_get h.lanes o) now h own ∙ (λ i. livestep.live_admit_next id (here i) o (lane i) now (live h)),
         admit_next-sane id (source_at id h.connections) o (slice_get h.lanes o) now h sane has own,
       )

@@ -5,6 +5,7 @@ use Rattle.std.specs.List.{list_all}
 use Rattle.std.proofs.lemmas.Bool.Decides.{nat_tests}
 use Rattle.std.proofs.lemmas.List.{length-append, length-map, length-drop}
 use Rattle.fwd_modes.specs.Requests.{Request}
+use Rattle.fwd_match.specs.Patterns.{route}
 use Rattle.fwd_model.specs.declared.cell.Cell.{Cell}
 use Rattle.fwd_model.specs.declared.cell.Carry.{Carry}
 use Rattle.fwd_model.specs.declared.cell.Span.{Span}
@@ -211,16 +212,20 @@ takes_first-own s r rs e = at s.shut e
 
 -- ---- admit
 
-waiting_answer : (s : SourceHistory) (rs : List Request) (o : ℕ) (l : Lane) → step.admit_waiting s rs o l ≡ livestep.live_admit_waiting (live_source s) rs o (live_lane l)
+routed_answer : (to : Option ℕ) (s : SourceHistory) (r : Request) (o : ℕ) (l : Lane) → step.admit_routed to s r o l ≡ livestep.live_admit_routed to (live_source s) r o (live_lane l)
 unfolding live_source live_lane live_output
-waiting_answer s [] o l = refl
-waiting_answer s (r ∷ rs) o l = refl
+routed_answer None s r o l = refl
+routed_answer (Some first) s r o l = refl
 
-pub admit_answer-live : (s : Option SourceHistory) (o : ℕ) (l : Option Lane) → step.admit_answer s o l ≡ livestep.live_admit_answer (option_map live_source s) o (option_map live_lane l)
+waiting_answer : (routes : List (List (List ℕ))) (s : SourceHistory) (rs : List Request) (o : ℕ) (l : Lane) → step.admit_waiting routes s rs o l ≡ livestep.live_admit_waiting routes (live_source s) rs o (live_lane l)
+waiting_answer routes s [] o l = refl
+waiting_answer routes s (r ∷ rs) o l = routed_answer (route routes r.tag) s r o l
+
+pub admit_answer-live : (routes : List (List (List ℕ))) (s : Option SourceHistory) (o : ℕ) (l : Option Lane) → step.admit_answer routes s o l ≡ livestep.live_admit_answer routes (option_map live_source s) o (option_map live_lane l)
 unfolding live_source
-admit_answer-live None o l = refl
-admit_answer-live (Some s) o None = refl
-admit_answer-live (Some s) o (Some l) = waiting_answer s (waiting s) o l
+admit_answer-live routes None o l = refl
+admit_answer-live routes (Some s) o None = refl
+admit_answer-live routes (Some s) o (Some l) = waiting_answer routes s (waiting s) o l
 
 enters-live : (id : ℕ) (s : SourceHistory) (r : Request) (o : ℕ) (l : Lane) (now : ℕ) (h : History) → IsSaneLane l
     → live (with_lane o (with_output l (entered l.output id (s.admitted + 1) r now)) (with_connection id (takes_first s) h))
@@ -229,18 +234,27 @@ enters-live id s r o l now h own =
     with_lane-live o (with_output l (entered l.output id (s.admitted + 1) r now)) (with_connection id (takes_first s) h)
     ∙ (λ i. with_live_lane o (entered-live l id (s.admitted + 1) r now own i) ((with_connection-live id (takes_first s) h ∙ ap (λ x. with_live_connection id x (live h)) (takes_first-live s)) i))
 
+shut-live : (id : ℕ) (s : SourceHistory) (h : History) → live (with_connection id (shuts s) h) ≡ with_live_connection id (source_shuts (live_source s)) (live h)
+shut-live id s h = with_connection-live id (shuts s) h ∙ ap (λ x. with_live_connection id x (live h)) (shuts-live s)
+
 admit_at : (id : ℕ) (s : SourceHistory) (r : Request) (o : ℕ) (l : Lane) (now : ℕ) (h : History) (a b : Bool) → IsSaneLane l
     → live (cond a h (cond b (with_connection id (shuts s) h) (with_lane o (with_output l (entered l.output id (s.admitted + 1) r now)) (with_connection id (takes_first s) h))))
     ≡ cond a (live h) (cond b (with_live_connection id (source_shuts (live_source s)) (live h)) (with_live_lane o (with_live_output (live_lane l) (output_enters (live_lane l).output (record { conn = id; request = s.admitted + 1 }) r now)) (with_live_connection id (source_gives (live_source s)) (live h))))
 admit_at id s r o l now h true b own = refl
-admit_at id s r o l now h false true own = with_connection-live id (shuts s) h ∙ ap (λ x. with_live_connection id x (live h)) (shuts-live s)
+admit_at id s r o l now h false true own = shut-live id s h
 admit_at id s r o l now h false false own = enters-live id s r o l now h own
+
+routed_next : (to : Option ℕ) (id : ℕ) (s : SourceHistory) (r : Request) (o : ℕ) (l : Lane) (now : ℕ) (h : History) → IsSaneLane l
+    → live (step.admit_routed_next to id s r o l now h) ≡ livestep.live_admit_routed_next to id (live_source s) r o (live_lane l) now (live h)
+unfolding live_source live_lane live_output
+routed_next None id s r o l now h own = shut-live id s h
+routed_next (Some first) id s r o l now h own = admit_at id s r o l now h (not (first == o)) (step.has_no_number l.output r) own
 
 waiting_next : (id : ℕ) (s : SourceHistory) (rs : List Request) (o : ℕ) (l : Lane) (now : ℕ) (h : History) → IsSaneLane l
     → live (step.admit_waiting_next id s rs o l now h) ≡ livestep.live_admit_waiting_next id (live_source s) rs o (live_lane l) now (live h)
-unfolding live_source live_lane live_output
+unfolding live
 waiting_next id s [] o l now h own = refl
-waiting_next id s (r ∷ rs) o l now h own = admit_at id s r o l now h (not (o == 0)) (step.has_no_number l.output r) own
+waiting_next id s (r ∷ rs) o l now h own = routed_next (route h.routes r.tag) id s r o l now h own
 
 pub admit_next-live : (id : ℕ) (s : Option SourceHistory) (o : ℕ) (l : Option Lane) (now : ℕ) (h : History) → ((k : Lane) → l ≡ Some k → IsSaneLane k)
     → live (step.admit_next id s o l now h) ≡ livestep.live_admit_next id (option_map live_source s) o (option_map live_lane l) now (live h)
@@ -259,9 +273,14 @@ admit_sane-at id s r rs o l now h false true sane has own e = with_connection-sa
 admit_sane-at id s r rs o l now h false false sane has own e =
     with_lane-sane o (with_output l (entered l.output id (s.admitted + 1) r now)) (with_connection id (takes_first s) h) (with_connection-sane id (takes_first s) h sane (takes_first-own s r rs e)) (entered-sane l id (s.admitted + 1) r now own)
 
+routed_sane : (to : Option ℕ) (id : ℕ) (s : SourceHistory) (r : Request) (rs : List Request) (o : ℕ) (l : Lane) (now : ℕ) (h : History) → IsSane h → AdmitsItsOwn s → IsSaneLane l → waiting s ≡ r ∷ rs
+    → IsSane (step.admit_routed_next to id s r o l now h)
+routed_sane None id s r rs o l now h sane has own e = with_connection-sane id (shuts s) h sane (shuts-own s has)
+routed_sane (Some first) id s r rs o l now h sane has own e = admit_sane-at id s r rs o l now h (not (first == o)) (step.has_no_number l.output r) sane has own e
+
 waiting_sane : (id : ℕ) (s : SourceHistory) (rs : List Request) (o : ℕ) (l : Lane) (now : ℕ) (h : History) → IsSane h → AdmitsItsOwn s → IsSaneLane l → waiting s ≡ rs → IsSane (step.admit_waiting_next id s rs o l now h)
 waiting_sane id s [] o l now h sane has own e = sane
-waiting_sane id s (r ∷ rs) o l now h sane has own e = admit_sane-at id s r rs o l now h (not (o == 0)) (step.has_no_number l.output r) sane has own e
+waiting_sane id s (r ∷ rs) o l now h sane has own e = routed_sane (route h.routes r.tag) id s r rs o l now h sane has own e
 
 pub admit_next-sane : (id : ℕ) (s : Option SourceHistory) (o : ℕ) (l : Option Lane) (now : ℕ) (h : History) → IsSane h → ((t : SourceHistory) → s ≡ Some t → AdmitsItsOwn t) → ((k : Lane) → l ≡ Some k → IsSaneLane k) → IsSane (step.admit_next id s o l now h)
 admit_next-sane id None o l now h sane has own = sane

@@ -24,6 +24,7 @@ pub with_lane-live : (o : ℕ) (l : Lane) (h : History) → live (with_lane o l 
 unfolding live
 with_lane-live o l h = λ i. record {
   run = h.run;
+  routes = h.routes;
   last = (live h).last;
   connections = map live_connection h.connections;
   lanes = map-set live_lane h.lanes o l i;

@@ -34,7 +34,7 @@ pub accepted-live : (id : ℕ) (h : History) → live (accepted id h) ≡ live_a
 unfolding live live_source judged_of split_of
 accepted-live id h =
     let c : Connection = record { id = id; source = record { heard = []; admitted = 0; appended = []; shut = false } } in
-    λ i. record { run = h.run; last = last_id-push h.connections c i; connections = map-append live_connection h.connections (c ∷ []) i; lanes = map live_lane h.lanes }
+    λ i. record { run = h.run; routes = h.routes; last = last_id-push h.connections c i; connections = map-append live_connection h.connections (c ∷ []) i; lanes = map live_lane h.lanes }
 
 lt_from : (a b : ℕ) → ltb a b ≡ true → a < b
 lt_from a b h = grind (arith, nat_tests)
@@ -64,6 +64,7 @@ pub with_connection-live : (id : ℕ) (s : SourceHistory) (h : History) → live
 unfolding live
 with_connection-live id s h = λ i. record {
   run = h.run;
+  routes = h.routes;
   last = last_id-with_source id s h.connections i;
   connections = with_source-live id s h.connections i;
   lanes = map live_lane h.lanes;

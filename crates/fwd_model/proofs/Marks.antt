@@ -15,6 +15,7 @@ use Rattle.fwd_model.specs.declared.answer.Answer.TheVariants as answer
 use Rattle.fwd_model.specs.declared.fault.Refusal.TheVariants.{Closed}
 use Rattle.fwd_model.specs.Chunks.{carry_of}
 use Rattle.fwd_model.specs.Books.{is_of, is_settled, numbers_of, acks_of}
+use Rattle.fwd_match.specs.Patterns.{route}
 use Rattle.fwd_model.specs.History.{SourceHistory, source_at, is_closed, waiting, SessionHistory, to_send, Admission, OutputHistory, Lane, History, opening, new_lane}
 use Rattle.fwd_model.specs.Step as step
 use Rattle.fwd_model.specs.Step.{answer_to, next, session_at, with_lane, with_output, with_session, is_due, due, told_if, has_told}
@@ -103,15 +104,19 @@ module _ (config : Config) (es : List Event) (m : Marked config es (reached conf
       by (inl old) = still e o l l.output.requests here refl i a old told
       by (inr new) = let f : false ≡ true = ap (λ (x : Admission). x.told) new ∙ told in absurd cc
 
-  admit_waiting : (id o now : ℕ) (s : SourceHistory) (qs : List Request) (l : Lane) → slice_get h.lanes o ≡ Some l → On (event.Admit id o now) (step.admit_waiting_next id s qs o l now h)
-  admit_waiting id o now s [] l here = nothing (event.Admit id o now) h refl
-  admit_waiting id o now s (q ∷ qs) l here =
-      unless (event.Admit id o now) (not (o == 0)) h
+  admit_routed : (id o now : ℕ) (to : Option ℕ) (s : SourceHistory) (q : Request) (l : Lane) → slice_get h.lanes o ≡ Some l → On (event.Admit id o now) (step.admit_routed_next to id s q o l now h)
+  admit_routed id o now None s q l here = nothing (event.Admit id o now) (step.with_connection id (step.shuts s) h) refl
+  admit_routed id o now (Some first) s q l here =
+      unless (event.Admit id o now) (not (first == o)) h
       (cond (step.has_no_number l.output q) (step.with_connection id (step.shuts s) h) (with_lane o (with_output l (step.entered l.output id (s.admitted + 1) q now)) (step.with_connection id (step.takes_first s) h)))
       (nothing (event.Admit id o now) h refl)
       (unless (event.Admit id o now) (step.has_no_number l.output q) (step.with_connection id (step.shuts s) h) (with_lane o (with_output l (step.entered l.output id (s.admitted + 1) q now)) (step.with_connection id (step.takes_first s) h))
       (nothing (event.Admit id o now) (step.with_connection id (step.shuts s) h) refl)
       (put (event.Admit id o now) o (with_output l (step.entered l.output id (s.admitted + 1) q now)) (step.with_connection id (step.takes_first s) h) refl (entered_marks (event.Admit id o now) id o (s.admitted + 1) now q l here)))
+
+  admit_waiting : (id o now : ℕ) (s : SourceHistory) (qs : List Request) (l : Lane) → slice_get h.lanes o ≡ Some l → On (event.Admit id o now) (step.admit_waiting_next id s qs o l now h)
+  admit_waiting id o now s [] l here = nothing (event.Admit id o now) h refl
+  admit_waiting id o now s (q ∷ qs) l here = admit_routed id o now (route h.routes q.tag) s q l here
 
   admit_on : (id o now : ℕ) (s : Option SourceHistory) (l : Option Lane) → slice_get h.lanes o ≡ l → On (event.Admit id o now) (step.admit_next id s o l now h)
   admit_on id o now None l here = nothing (event.Admit id o now) h refl

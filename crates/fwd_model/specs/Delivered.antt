@@ -12,6 +12,7 @@ use Rattle.fwd_model.specs.declared.event.Event.{Event}
 use Rattle.fwd_model.specs.declared.event.Event.TheVariants as event
 use Rattle.fwd_model.specs.declared.answer.Answer.TheVariants as answer
 use Rattle.fwd_model.specs.Chunks.{cells_at, has_number}
+use Rattle.fwd_match.specs.Patterns.{route}
 use Rattle.fwd_model.specs.Books.{has_cell}
 use Rattle.fwd_model.specs.History.{SourceHistory, judged, source_at, SessionHistory, Lane, History, opening}
 use Rattle.fwd_model.specs.Step.{answer_to, after, session_at, newly_heard}
@@ -88,8 +89,8 @@ cells_from id r cells = filter (λ c. (c.origin.conn == id) && (c.origin.request
 abbrev pub whole_frame : Config → ℕ → List ℕ → List Cell → ℕ → List ℕ
 whole_frame config o tag cells number = chunk_frame tag (map (λ c. c.entry) (cells_at number cells)) (chunk_name config.run o number)
 
--- The request of number r of a connection, which numbers its requests from 1, was delivered by an output: the output has
--- its entries, all, unchanged and in order, under its tag; each number that they have is acknowledged; and a worker's
+-- The request of number r of a connection, which numbers its requests from 1, was delivered by an output: it is the first
+-- output whose pattern matches the request's tag; the output has its entries, all, unchanged and in order, under its tag; each number that they have is acknowledged; and a worker's
 -- session was loaded with the frame of all entries under that number and the tag, the link took it to the last byte, and
 -- then the server named it.
 pub record IsDelivered (config : Config) (es : List Event) (id r o : ℕ) : Type 0 where
@@ -99,7 +100,7 @@ pub record IsDelivered (config : Config) (es : List Event) (id r o : ℕ) : Type
   pub number : r ≡ place + 1
   pub request : Request
   pub asked : slice_get (judged source).requests place ≡ Some request
-  pub route : o ≡ 0
+  pub first_match : route config.routes request.tag ≡ Some o
   pub lane : Lane
   pub here : slice_get (reached config es).lanes o ≡ Some lane
   pub entries : map (λ c. c.entry) (cells_from id r lane.output.cells) ≡ request.entries

@@ -81,8 +81,10 @@ pub record Lane : Type 0 where
   pub output : OutputHistory
   pub sessions : List (Option SessionHistory)
 
+-- the relay: what tells its run from others, the pattern of each output as its expanded words, the connections, and the outputs
 pub record History : Type 0 where
   pub run : List ℕ
+  pub routes : List (List (List ℕ))
   pub connections : List Connection
   pub lanes : List Lane
 
@@ -95,4 +97,4 @@ new_lane c = record {
 
 -- before any event
 unfoldable pub opening : Config → History
-opening config = record { run = config.run; connections = []; lanes = map new_lane config.outputs }
+opening config = record { run = config.run; routes = config.routes; connections = []; lanes = map new_lane config.outputs }

@@ -115,6 +115,7 @@ live_lane l = record { config = l.config; output = live_output l.output; workers
 -- the greatest id accepted is kept, since connections may go
 pub record LiveRelay : Type 0 where
   pub run : List ℕ
+  pub routes : List (List (List ℕ))
   pub last : Option ℕ
   pub connections : List LiveConnection
   pub lanes : List LiveLane
@@ -127,6 +128,7 @@ last_id (c ∷ d ∷ cs) = last_id (d ∷ cs)
 unfoldable pub live : History → LiveRelay
 live h = record {
   run = h.run;
+  routes = h.routes;
   last = last_id h.connections;
   connections = map live_connection h.connections;
   lanes = map live_lane h.lanes;

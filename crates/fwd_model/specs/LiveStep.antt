@@ -12,6 +12,7 @@ use Rattle.fwd_model.specs.declared.answer.Answer.TheVariants as answer
 use Rattle.fwd_model.specs.declared.fault.Refusal.TheVariants.{Closed, NoSuch, NotNow, NotUp}
 use Rattle.fwd_model.specs.declared.cell.Entered.{Entered}
 use Rattle.fwd_modes.specs.Frames.{chunk_name}
+use Rattle.fwd_match.specs.Patterns.{route}
 use Rattle.fwd_model.specs.Chunks.{cells_of, open_after, is_spent, closes, least_free, chunk_of, cells_at, put_down}
 use Rattle.fwd_model.specs.Sources.{Judged, judged_of}
 use Rattle.fwd_model.specs.Books.{entered_as, is_of, none_left, numbers_of, acks_of}
@@ -36,6 +37,7 @@ is_above id (Some k) = nat_lt k id
 abbrev pub live_accepted : ℕ → LiveRelay → LiveRelay
 live_accepted id r = record {
   run = r.run;
+  routes = r.routes;
   last = Some id;
   connections = r.connections ++ record { id = id; source = record { rest = []; waiting = []; admitted = 0; unsent = []; shut = false; closed = false } } ∷ [];
   lanes = r.lanes;
@@ -61,7 +63,7 @@ live_piece_answer (Some s) bytes =
     if s.closed then answer.Refused Closed else told (judged_piece s bytes).fault (length (s.waiting ++ (judged_piece s bytes).requests))
 
 abbrev pub with_live_connection : ℕ → LiveSource → LiveRelay → LiveRelay
-with_live_connection id s r = record { run = r.run; last = r.last; connections = with_live_source id s r.connections; lanes = r.lanes }
+with_live_connection id s r = record { run = r.run; routes = r.routes; last = r.last; connections = with_live_source id s r.connections; lanes = r.lanes }
 
 abbrev pub live_piece_next : ℕ → Option LiveSource → List ℕ → LiveRelay → LiveRelay
 live_piece_next id None bytes r = r
@@ -102,25 +104,33 @@ abbrev pub with_live_output : LiveLane → LiveOutput → LiveLane
 with_live_output l o = record { config = l.config; output = o; workers = l.workers }
 
 abbrev pub with_live_lane : ℕ → LiveLane → LiveRelay → LiveRelay
-with_live_lane o l r = record { run = r.run; last = r.last; connections = r.connections; lanes = slice_set r.lanes o l }
+with_live_lane o l r = record { run = r.run; routes = r.routes; last = r.last; connections = r.connections; lanes = slice_set r.lanes o l }
 
-abbrev pub live_admit_waiting : LiveSource → List Request → ℕ → LiveLane → Answer
-live_admit_waiting s [] o l = answer.Refused NotNow
-live_admit_waiting s (r ∷ rs) o l =
-    if not (o == 0) then answer.Refused NotNow
+abbrev pub live_admit_routed : Option ℕ → LiveSource → Request → ℕ → LiveLane → Answer
+live_admit_routed None s r o l = answer.NoRoute
+live_admit_routed (Some first) s r o l =
+    if not (first == o) then answer.Refused NotNow
     else (if output_is_spent l.output r then answer.NumbersSpent else answer.Admitted (s.admitted + 1) (length r.entries))
 
-abbrev pub live_admit_answer : Option LiveSource → ℕ → Option LiveLane → Answer
-live_admit_answer None o l = answer.Refused NoSuch
-live_admit_answer (Some s) o None = answer.Refused NoSuch
-live_admit_answer (Some s) o (Some l) = live_admit_waiting s s.waiting o l
+abbrev pub live_admit_waiting : List (List (List ℕ)) → LiveSource → List Request → ℕ → LiveLane → Answer
+live_admit_waiting routes s [] o l = answer.Refused NotNow
+live_admit_waiting routes s (r ∷ rs) o l = live_admit_routed (route routes r.tag) s r o l
+
+abbrev pub live_admit_answer : List (List (List ℕ)) → Option LiveSource → ℕ → Option LiveLane → Answer
+live_admit_answer routes None o l = answer.Refused NoSuch
+live_admit_answer routes (Some s) o None = answer.Refused NoSuch
+live_admit_answer routes (Some s) o (Some l) = live_admit_waiting routes s s.waiting o l
+
+abbrev pub live_admit_routed_next : Option ℕ → ℕ → LiveSource → Request → ℕ → LiveLane → ℕ → LiveRelay → LiveRelay
+live_admit_routed_next None id s q o l now r = with_live_connection id (source_shuts s) r
+live_admit_routed_next (Some first) id s q o l now r =
+    if not (first == o) then r
+    else (if output_is_spent l.output q then with_live_connection id (source_shuts s) r
+    else with_live_lane o (with_live_output l (output_enters l.output (record { conn = id; request = s.admitted + 1 }) q now)) (with_live_connection id (source_gives s) r))
 
 abbrev pub live_admit_waiting_next : ℕ → LiveSource → List Request → ℕ → LiveLane → ℕ → LiveRelay → LiveRelay
 live_admit_waiting_next id s [] o l now r = r
-live_admit_waiting_next id s (q ∷ qs) o l now r =
-    if not (o == 0) then r
-    else (if output_is_spent l.output q then with_live_connection id (source_shuts s) r
-    else with_live_lane o (with_live_output l (output_enters l.output (record { conn = id; request = s.admitted + 1 }) q now)) (with_live_connection id (source_gives s) r))
+live_admit_waiting_next id s (q ∷ qs) o l now r = live_admit_routed_next (route r.routes q.tag) id s q o l now r
 
 abbrev pub live_admit_next : ℕ → Option LiveSource → ℕ → Option LiveLane → ℕ → LiveRelay → LiveRelay
 live_admit_next id None o l now r = r
@@ -444,7 +454,7 @@ live_collect_next id (Some s) o (Some l) r =
 abbrev pub live_answer_to : LiveRelay → Event → Answer
 live_answer_to r (event.Accept id nonce auth) = if is_above id r.last then answer.Accepted [] else answer.Refused NotNow
 live_answer_to r (event.Piece id bytes) = live_piece_answer (live_source_at id r.connections) bytes
-live_answer_to r (event.Admit id o now) = live_admit_answer (live_source_at id r.connections) o (slice_get r.lanes o)
+live_answer_to r (event.Admit id o now) = live_admit_answer r.routes (live_source_at id r.connections) o (slice_get r.lanes o)
 live_answer_to r (event.Flush o now kind) = live_flush_answer (slice_get r.lanes o) now kind
 live_answer_to r (event.Up o w server salt now) =
     live_up_answer server (worker_at w (slice_get r.lanes o)) (slice_get r.lanes o)

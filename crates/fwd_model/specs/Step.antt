@@ -3,6 +3,7 @@ use Rattle.std.specs.Prelude.{◌≡◌, ℕ, ◌+◌, Bool, true, false, not, �
 use Rattle.std.specs.List.{list_all}
 use Rattle.fwd_modes.specs.Requests.{Request}
 use Rattle.fwd_modes.specs.Frames.{chunk_frame, chunk_name}
+use Rattle.fwd_match.specs.Patterns.{route}
 use Rattle.fwd_model.specs.declared.cell.Cell.{Cell}
 use Rattle.fwd_model.specs.declared.cell.Carry.{Carry}
 use Rattle.fwd_model.specs.declared.cell.Chunk.{Chunk}
@@ -29,7 +30,7 @@ abbrev pub is_fresh : ℕ → List Connection → Bool
 is_fresh id cs = list_all (λ c. nat_lt c.id id) cs
 
 abbrev pub accepted : ℕ → History → History
-accepted id h = record { run = h.run; connections = h.connections ++ record { id = id; source = record { heard = []; admitted = 0; appended = []; shut = false } } ∷ []; lanes = h.lanes }
+accepted id h = record { run = h.run; routes = h.routes; connections = h.connections ++ record { id = id; source = record { heard = []; admitted = 0; appended = []; shut = false } } ∷ []; lanes = h.lanes }
 
 -- ---- piece
 
@@ -46,7 +47,7 @@ piece_answer (Some s) bytes =
     if is_closed s then answer.Refused Closed else told (judged (hears s bytes)).fault (length (waiting (hears s bytes)))
 
 abbrev pub with_connection : ℕ → SourceHistory → History → History
-with_connection id s h = record { run = h.run; connections = with_source id s h.connections; lanes = h.lanes }
+with_connection id s h = record { run = h.run; routes = h.routes; connections = with_source id s h.connections; lanes = h.lanes }
 
 abbrev pub piece_next : ℕ → Option SourceHistory → List ℕ → History → History
 piece_next id None bytes h = h
@@ -78,25 +79,35 @@ abbrev pub with_output : Lane → OutputHistory → Lane
 with_output l o = record { config = l.config; output = o; sessions = l.sessions }
 
 abbrev pub with_lane : ℕ → Lane → History → History
-with_lane o l h = record { run = h.run; connections = h.connections; lanes = slice_set h.lanes o l }
+with_lane o l h = record { run = h.run; routes = h.routes; connections = h.connections; lanes = slice_set h.lanes o l }
 
-abbrev pub admit_waiting : SourceHistory → List Request → ℕ → Lane → Answer
-admit_waiting s [] o l = answer.Refused NotNow
-admit_waiting s (r ∷ rs) o l =
-    if not (o == 0) then answer.Refused NotNow
+-- the request goes to the first output whose pattern matches its tag, and to no other
+abbrev pub admit_routed : Option ℕ → SourceHistory → Request → ℕ → Lane → Answer
+admit_routed None s r o l = answer.NoRoute
+admit_routed (Some first) s r o l =
+    if not (first == o) then answer.Refused NotNow
     else (if has_no_number l.output r then answer.NumbersSpent else answer.Admitted (s.admitted + 1) (length r.entries))
 
-abbrev pub admit_answer : Option SourceHistory → ℕ → Option Lane → Answer
-admit_answer None o l = answer.Refused NoSuch
-admit_answer (Some s) o None = answer.Refused NoSuch
-admit_answer (Some s) o (Some l) = admit_waiting s (waiting s) o l
+abbrev pub admit_waiting : List (List (List ℕ)) → SourceHistory → List Request → ℕ → Lane → Answer
+admit_waiting routes s [] o l = answer.Refused NotNow
+admit_waiting routes s (r ∷ rs) o l = admit_routed (route routes r.tag) s r o l
+
+abbrev pub admit_answer : List (List (List ℕ)) → Option SourceHistory → ℕ → Option Lane → Answer
+admit_answer routes None o l = answer.Refused NoSuch
+admit_answer routes (Some s) o None = answer.Refused NoSuch
+admit_answer routes (Some s) o (Some l) = admit_waiting routes s (waiting s) o l
+
+-- a request that no pattern matches shuts its source
+abbrev pub admit_routed_next : Option ℕ → ℕ → SourceHistory → Request → ℕ → Lane → ℕ → History → History
+admit_routed_next None id s r o l now h = with_connection id (shuts s) h
+admit_routed_next (Some first) id s r o l now h =
+    if not (first == o) then h
+    else (if has_no_number l.output r then with_connection id (shuts s) h
+    else with_lane o (with_output l (entered l.output id (s.admitted + 1) r now)) (with_connection id (takes_first s) h))
 
 abbrev pub admit_waiting_next : ℕ → SourceHistory → List Request → ℕ → Lane → ℕ → History → History
 admit_waiting_next id s [] o l now h = h
-admit_waiting_next id s (r ∷ rs) o l now h =
-    if not (o == 0) then h
-    else (if has_no_number l.output r then with_connection id (shuts s) h
-    else with_lane o (with_output l (entered l.output id (s.admitted + 1) r now)) (with_connection id (takes_first s) h))
+admit_waiting_next id s (r ∷ rs) o l now h = admit_routed_next (route h.routes r.tag) id s r o l now h
 
 abbrev pub admit_next : ℕ → Option SourceHistory → ℕ → Option Lane → ℕ → History → History
 admit_next id None o l now h = h
@@ -405,7 +416,7 @@ collect_next id (Some s) o (Some l) h =
 abbrev pub answer_to : History → Event → Answer
 answer_to h (event.Accept id nonce auth) = if is_fresh id h.connections then answer.Accepted [] else answer.Refused NotNow
 answer_to h (event.Piece id bytes) = piece_answer (source_at id h.connections) bytes
-answer_to h (event.Admit id o now) = admit_answer (source_at id h.connections) o (slice_get h.lanes o)
+answer_to h (event.Admit id o now) = admit_answer h.routes (source_at id h.connections) o (slice_get h.lanes o)
 answer_to h (event.Flush o now kind) = flush_answer (slice_get h.lanes o) now kind
 answer_to h (event.Up o w server salt now) = up_answer server (session_at w (slice_get h.lanes o)) (slice_get h.lanes o)
 answer_to h (event.Take o w now) = take_answer w (session_at w (slice_get h.lanes o)) (slice_get h.lanes o)

@@ -24,6 +24,9 @@ pub enum Answer {
         request: u64,
         entries: usize,
     },
+    /// No output's pattern matches the tag of the connection's first waiting request. The connection is closed without
+    /// an answer to its source.
+    NoRoute,
     /// The output has no numbers left. The connection is closed without an answer to its source.
     NumbersSpent,
     /// So many chunks were closed.

@@ -1,3 +1,4 @@
+use fwd_match::Routes;
 use fwd_msgpack::Seq;
 
 /// What one output is set to.
@@ -16,6 +17,8 @@ pub struct OutputConfig {
 pub struct Config {
     /// Six bytes that tell this run of the program from others, in the names of its chunks.
     pub run: [u8; 6],
-    /// The outputs, in file order. An event goes to the first that matches its tag.
+    /// The pattern of each output, in file order. An event goes to the first output whose pattern matches its tag.
+    pub routes: Routes,
+    /// The outputs, in file order.
     pub outputs: Seq<OutputConfig>,
 }

@@ -1,17 +1,19 @@
 -- A replay against the live part of a history is one against the history.
-use Rattle.std.proofs.Common.{◌≡◌, ℕ, List, [], ◌∷◌, Option, Some, None, refl, sym, ap, subst, ◌∙◌}
+use Rattle.std.proofs.Common.{◌≡◌, ℕ, List, [], ◌∷◌, Option, Some, None, Result, Ok, Err, inl, inr, refl, sym, ap, subst, ◌∙◌}
 use Rattle.std.specs.List.{flat_map}
 use Rattle.std.specs.Prelude.{IfSome}
 use Rattle.std.specs.Io.KnownBytes.{Appends}
 use Rattle.fwd_model.specs.declared.event.Event.{Event}
-use Rattle.fwd_model.specs.History.{History}
+use Rattle.fwd_model.specs.declared.config.Config.{Config}
+use Rattle.fwd_model.specs.History.{History, opening}
 use Rattle.fwd_model.specs.Step as model
-use Rattle.fwd_model.specs.Step.{answer_to, next}
+use Rattle.fwd_model.specs.Step.{answer_to, next, IsReached}
+use Rattle.fwd_script.specs.Configs.{config_in}
+use Rattle.fwd_script.specs.Script.{lines_of, settings_of, event_lines, head_len}
 use Rattle.fwd_model.specs.Live.{LiveRelay, live}
 use Rattle.fwd_model.specs.LiveStep.{live_answer_to, live_next, live_answers}
-use Rattle.fwd_script.specs.Replay.{events_of, answers, answer_line, output, Replays}
+use Rattle.fwd_script.specs.Replay.{events_of, answers, answer_line, output, Ends, Opens, Replays}
 use Rattle.fwd_script.specs.declared.status.Status.{Status}
-use Rattle.fwd_script.specs.declared.status.SettingsFault.TheVariants.{NotToml}
 use Rattle.fwd_script.specs.declared.status.Status.TheVariants.{Done, BadSettings, BadLine, Memory, Input, Output}
 
 history_answers : (h : History) (es : List Event) → answers answer_to next h es ≡ model.answers h es
@@ -28,13 +30,38 @@ module _ (h : History) (r : LiveRelay) (shown : r ≡ live h) (law : (es : List 
       let es = events_of lines in
       ap (flat_map answer_line) (live_answers_same r es ∙ ap (λ x. live_answers x es) shown ∙ sym (law es) ∙ sym (history_answers h es))
 
-  pub of_history : (status : Status) (script : List ℕ) (old new : Option (List ℕ)) → Replays status live_answer_to live_next r script old new → Replays status answer_to next h script old new
-  of_history Done script old new f = (f.0, (f.1.0, subst (λ bytes. Appends old new bytes) (same_output _) f.1.1))
-  of_history (BadLine n) script old new f = (f.0, (f.1.0, subst (λ bytes. Appends old new bytes) (same_output _) f.1.1))
-  of_history (BadSettings NotToml) script old new f = f
-  of_history Memory script old new f = (f.0, f.1, f.2, subst (λ bytes. Appends old new bytes) (same_output f.0) f.3)
-  of_history Input script old new f = f
-  of_history Output script old new f = tt
+  -- how a run over lines ended
+  pub of_history : (status : Status) (count : ℕ) (lines : List (List ℕ)) (old new : Option (List ℕ)) → Ends status live_answer_to live_next r count lines old new → Ends status answer_to next h count lines old new
+  of_history Done count lines old new f = (f.0, subst (λ bytes. Appends old new bytes) (same_output lines) f.1)
+  of_history (BadLine n) count lines old new f = (f.0, subst (λ bytes. Appends old new bytes) (same_output lines) f.1)
+  of_history (BadSettings fault) count lines old new f = f
+  of_history Memory count lines old new f = (f.0, f.1, f.2, subst (λ bytes. Appends old new bytes) (same_output f.0) f.3)
+  of_history Input count lines old new f = f
+  of_history Output count lines old new f = tt
+
+-- a script that was answered by a relay that its settings opened
+pub opened_replays : (script text : List ℕ) (relay : LiveRelay) (status : Status) (count : ℕ) (lines : List (List ℕ)) (old new : Option (List ℕ))
+    → ((config : Config) (h : History) (es : List Event) → IsReached config h → model.answers h es ≡ live_answers (live h) es)
+    → Opens text (Ok relay) → text ≡ settings_of script → count ≡ head_len (lines_of script) → lines ≡ event_lines (lines_of script)
+    → Ends status live_answer_to live_next relay count lines old new → Replays status script old new
+opened_replays script text relay status count lines old new law opened same before behind ended =
+    by status (subst (λ ls. Ends status answer_to next (opening config) (head_len (lines_of script)) ls old new) behind
+    (subst (λ n. Ends status answer_to next (opening config) n lines old new) before
+    (of_history (opening config) relay opened.2 (λ es. law config (opening config) es ([], refl)) status count lines old new ended)))
+  where
+    config : Config
+    config = opened.0
+
+    good : config_in (settings_of script) ≡ Ok config
+    good = ap config_in (sym same) ∙ opened.1
+
+    by : (status : Status) → Ends status answer_to next (opening config) (head_len (lines_of script)) (event_lines (lines_of script)) old new → Replays status script old new
+    by Done e = (config, good, e)
+    by (BadLine n) e = (config, good, e)
+    by (BadSettings fault) e = absurd e
+    by Memory e = inr (config, good, e)
+    by Input e = absurd e
+    by Output e = tt
 
 pub if_some_weaker : {A : Type 0} (P Q : A → Type 0) (o : Option A) → ((x : A) → P x → Q x) → IfSome o P → IfSome o Q
 if_some_weaker P Q None f h = tt

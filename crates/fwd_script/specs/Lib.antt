@@ -5,4 +5,5 @@ pub mod Script
 pub mod Replay
 pub mod Stops
 pub mod Statuses
-pub mod RowSettings
+pub mod Configs
+pub mod Checks

@@ -1,14 +1,18 @@
 -- What a replay writes, and how it ends.
-use Rattle.std.specs.Prelude.{◌≡◌, ◌≢◌, ℕ, ◌+◌, List, [], ◌∷◌, ◌++◌, Option, Some, None, is_none, if◌then◌else◌, map, length, MatchOption}
+use Rattle.std.specs.Prelude.{◌≡◌, ◌⊎◌, Result, Ok, Err, ℕ, ◌+◌, List, [], ◌∷◌, ◌++◌, Option, Some, None, is_none, if◌then◌else◌, map, length, MatchOption}
 use Rattle.std.specs.List.{flat_map}
 use Rattle.std.specs.Option.{option_map_or}
 use Rattle.std.specs.Io.KnownBytes.{Appends, Keeps}
 use Rattle.fwd_model.specs.declared.event.Event.{Event}
 use Rattle.fwd_model.specs.declared.answer.Answer.{Answer}
+use Rattle.fwd_model.specs.declared.config.Config.{Config}
+use Rattle.fwd_model.specs.History.{opening}
+use Rattle.fwd_model.specs.Live.{LiveRelay, live}
+use Rattle.fwd_model.specs.Step.{answer_to, next}
+use Rattle.fwd_script.specs.Configs.{config_in}
 use Rattle.fwd_script.specs.Lines.{event_of}
 use Rattle.fwd_script.specs.Texts.{text_of}
 use Rattle.fwd_script.specs.Script.{lines_of, settings_of, event_lines, head_len}
-use Rattle.fwd_script.specs.declared.status.SettingsFault.TheVariants.{NotToml}
 use Rattle.fwd_script.specs.declared.status.Status.{Status}
 use Rattle.fwd_script.specs.declared.status.Status.TheVariants.{Done, BadSettings, BadLine, Memory, Input, Output}
 
@@ -49,16 +53,27 @@ Ends Output answer_to next s count lines old new = Unit {0}
 Ends (BadSettings fault) answer_to next s count lines old new = ⊥
 Ends Input answer_to next s count lines old new = ⊥
 
--- How the replay of a script ended, and what it wrote. Until settings are read, only an empty text of settings is taken.
-abbrev pub Replays : {S : Type 0} → Status → (S → Event → Answer) → (S → Event → S) → S → List ℕ → Option (List ℕ) → Option (List ℕ) → Type 0
-Replays Done answer_to next s script old new =
-    (settings_of script ≡ []) × Ends Done answer_to next s (head_len (lines_of script)) (event_lines (lines_of script)) old new
-Replays (BadLine n) answer_to next s script old new =
-    (settings_of script ≡ []) × Ends (BadLine n) answer_to next s (head_len (lines_of script)) (event_lines (lines_of script)) old new
-Replays (BadSettings NotToml) answer_to next s script old new = (settings_of script ≢ []) × Keeps old new
-Replays Memory answer_to next s script old new = WritesFront answer_to next s (event_lines (lines_of script)) old new
-Replays Input answer_to next s script old new = Keeps old new
-Replays Output answer_to next s script old new = Unit {0}
+-- How the replay of a script ended, and what it wrote: by its settings, the answers of the abstract relay from its opening state.
+abbrev pub Replays : Status → List ℕ → Option (List ℕ) → Option (List ℕ) → Type 0
+Replays Done script old new =
+    (config : Config) × (config_in (settings_of script) ≡ Ok config) × Ends Done answer_to next (opening config) (head_len (lines_of script)) (event_lines (lines_of script)) old new
+Replays (BadLine n) script old new =
+    (config : Config) × (config_in (settings_of script) ≡ Ok config) × Ends (BadLine n) answer_to next (opening config) (head_len (lines_of script)) (event_lines (lines_of script)) old new
+Replays (BadSettings fault) script old new = (config_in (settings_of script) ≡ Err fault) × Keeps old new
+Replays Memory script old new =
+    Keeps old new ⊎ ((config : Config) × (config_in (settings_of script) ≡ Ok config) × WritesFront answer_to next (opening config) (event_lines (lines_of script)) old new)
+Replays Input script old new = Keeps old new
+Replays Output script old new = Unit {0}
+
+-- how a relay was opened by a script's text of settings, or why it was not
+abbrev pub Opens : List ℕ → Result LiveRelay Status → Type 0
+Opens text (Ok relay) = (config : Config) × (config_in text ≡ Ok config) × (relay ≡ live (opening config))
+Opens text (Err (BadSettings fault)) = config_in text ≡ Err fault
+Opens text (Err Memory) = Unit {0}
+Opens text (Err Done) = ⊥
+Opens text (Err (BadLine n)) = ⊥
+Opens text (Err Input) = ⊥
+Opens text (Err Output) = ⊥
 
 -- ---- what those words say together
 

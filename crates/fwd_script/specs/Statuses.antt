@@ -1,8 +1,7 @@
 -- What a program tells of the end of a replay: its exit status, and a line on standard error.
 use Rattle.std.specs.Prelude.{ℕ, List, [], ◌++◌, codes}
 use Rattle.std.specs.Fmt.{decimal}
-use Rattle.fwd_script.specs.declared.status.SettingsFault.{SettingsFault}
-use Rattle.fwd_script.specs.declared.status.SettingsFault.TheVariants.{NotToml}
+use Rattle.fwd_settings.specs.Faults.{fault_text}
 use Rattle.fwd_script.specs.declared.status.Status.{Status}
 use Rattle.fwd_script.specs.declared.status.Status.TheVariants.{Done, BadSettings, BadLine, Memory, Input, Output}
 
@@ -14,13 +13,10 @@ exit_code Memory = 4
 exit_code Input = 5
 exit_code Output = 5
 
-abbrev pub settings_text : SettingsFault → List ℕ
-settings_text NotToml = codes "not toml"
-
 -- the line, without its line feed
 abbrev pub status_text : Status → List ℕ
 status_text Done = []
-status_text (BadSettings fault) = codes "settings: " ++ settings_text fault
+status_text (BadSettings fault) = codes "settings: " ++ fault_text fault
 status_text (BadLine number) = codes "line " ++ (decimal number ++ codes ": bad event")
 status_text Memory = codes "memory"
 status_text Input = codes "input"

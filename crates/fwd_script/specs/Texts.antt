@@ -13,7 +13,7 @@ use Rattle.fwd_model.specs.declared.fault.SessionFault.TheVariants.{BadReply, Wr
 use Rattle.fwd_model.specs.declared.fault.Refusal.{Refusal}
 use Rattle.fwd_model.specs.declared.fault.Refusal.TheVariants as refusal
 use Rattle.fwd_model.specs.declared.answer.Answer.{Answer}
-use Rattle.fwd_model.specs.declared.answer.Answer.TheVariants.{Accepted, Requests, Faulted, Admitted, NumbersSpent, Closed, Done, Took, TookNothing, Frame, Quiet, Acked, SessionFaulted, Settled, Told, Refused, Memory}
+use Rattle.fwd_model.specs.declared.answer.Answer.TheVariants.{Accepted, Requests, Faulted, Admitted, NoRoute, NumbersSpent, Closed, Done, Took, TookNothing, Frame, Quiet, Acked, SessionFaulted, Settled, Told, Refused, Memory}
 use Rattle.fwd_script.specs.Words.{hex_text}
 
 abbrev pub scan_name : ScanFault → List ℕ
@@ -71,6 +71,7 @@ answer_words (Accepted out) = out_words (codes "accepted") out
 answer_words (Requests waiting out) = requests_words waiting out
 answer_words (Faulted fault waiting out) = faulted_words fault waiting out
 answer_words (Admitted request entries) = codes "admitted" ∷ decimal request ∷ codes "entries" ∷ decimal entries ∷ []
+answer_words NoRoute = codes "fault" ∷ codes "NoRoute" ∷ []
 answer_words NumbersSpent = codes "fault" ∷ codes "NumbersSpent" ∷ []
 answer_words (Closed chunks) = codes "closed" ∷ decimal chunks ∷ []
 answer_words Done = codes "done" ∷ []

@@ -1,6 +1,8 @@
 //! Scripts as text: what a line of a script means, and what the line of an answer says.
 #![tactic(auto)]
 
+mod checking;
+mod config;
 mod event;
 mod input;
 mod run;
@@ -10,12 +12,14 @@ mod stepping;
 mod text;
 mod word;
 
+pub use checking::check;
+pub use config::read_config;
 pub use event::{events_are_text, one_spelling, read_event};
 pub use input::{InputError, read_input};
 pub use run::replay;
 pub use script::{Script, next_line, split_script};
-pub use status::{SettingsFault, Status};
-pub use stepping::{Step, answer_lines, bad_line_is_first, replay_with};
+pub use status::Status;
+pub use stepping::{Step, answer_lines, answer_script, bad_line_is_first};
 pub use text::{print_answer, refusal_name, session_fault_name, source_fault_name};
 
 #[cfg(test)]

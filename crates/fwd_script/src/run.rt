@@ -1,17 +1,17 @@
 //! The replay of a script against the relay that runs.
 
-ghost use Rattle.std.specs.Prelude.{◌≡◌, IfOk, IfSome};
-ghost use Rattle.fwd_model.specs.History.{opening};
-ghost use Rattle.fwd_model.specs.Step.{answer_to, next};
-ghost use Rattle.fwd_script.specs.Replay.{Replays};
-ghost use Rattle.fwd_script.specs.RowSettings.{row_config};
+ghost use Rattle.std.specs.Prelude.{◌≡◌, IfSome};
+ghost use Rattle.fwd_script.specs.Replay.{Opens, Replays};
 
+use crate::config::read_config;
+use crate::input::{InputError, read_input};
+use crate::script::split_script;
 use crate::status::Status;
-use crate::stepping::{Step, replay_with};
+use crate::stepping::{Step, answer_script};
 use fwd_core::Relay;
-use fwd_model::{Answer, Config, Event, OutputConfig, live_run_follows};
-use fwd_msgpack::Seq;
-use std::alloc::{AllocError, Global};
+use fwd_model::{Answer, Event, live_run_follows};
+use fwd_settings::SettingsFault;
+use std::alloc::Global;
 use std::io::{Read, Write};
 
 impl Step for Relay {
@@ -26,39 +26,41 @@ impl Step for Relay {
     }
 }
 
-/// The settings that an empty text stands for: one output with two workers and two servers, whose chunks are due
-/// after 1,000 ms.
-fn row_settings(alloc: Global) -> Result<Config, AllocError>
-    ensures { IfOk result (λ config. config ≡ row_config) }
+/// A relay before its first event, by a script's text of settings.
+fn open_relay(alloc: Global, text: &[u8]) -> Result<Relay, Status>
+    ensures { Opens text.now result }
 {
-    let mut outputs = Seq::new(alloc);
-    outputs.push(OutputConfig {
-        workers: 2,
-        servers: 2,
-        flush_interval: 1000,
-    })?;
-    Ok(Config {
-        run: [0; 6],
-        outputs,
-    })
+    let config = match read_config(alloc, text) {
+        Ok(config) => config,
+        Err(SettingsFault::Memory) => return Err(Status::Memory),
+        Err(fault) => return Err(Status::BadSettings(fault)),
+    };
+    match Relay::new(alloc, config) {
+        Ok(relay) => Ok(relay),
+        Err(_) => Err(Status::Memory),
+    }
 }
 
 /// Replays a script: reads all of the input (at most 2^32 reads), and then answers the event of each line on a line
 /// of its own. The first line `---` ends the settings; an empty text of settings stands for one output with two
-/// workers and two servers, and no other is taken yet.
+/// workers and two servers, which takes each tag.
 ///
-/// At `Done` and at `BadLine` what was written is the lines of the abstract relay's answers to the events of the
-/// lines before the first bad one; `BadLine` has that line's number, counted from 1 over all of the input.
+/// At `Done` and at `BadLine` what was written is the lines of the abstract relay's answers, from its opening state by these
+/// settings, to the events of the lines before the first bad one; `BadLine` has that line's number, counted from 1 over all
+/// of the input. At `BadSettings` nothing was written, and the fault is the first of the settings.
 pub fn replay<R: Read, W: Write>(alloc: Global, reader: &mut R, writer: &mut W) -> Status
-    ensures { IfSome (R.remaining reader.old) (λ script.
-        Replays result answer_to next (opening row_config) script (W.contents writer.old) (W.contents writer.new)) }
+    ensures { IfSome (R.remaining reader.old) (λ script. Replays result script (W.contents writer.old) (W.contents writer.new)) }
 {
     live_run_follows();
-    let Ok(config) = row_settings(alloc) else {
-        return Status::Memory;
+    let input = match read_input(alloc, reader) {
+        Ok(input) => input,
+        Err(InputError::Memory) => return Status::Memory,
+        Err(InputError::Failed) => return Status::Input,
     };
-    let Ok(mut relay) = Relay::new(alloc, &config) else {
-        return Status::Memory;
+    let script = split_script(input.as_slice());
+    let mut relay = match open_relay(alloc, script.settings) {
+        Ok(relay) => relay,
+        Err(status) => return status,
     };
-    replay_with(alloc, &mut relay, reader, writer)
+    answer_script(alloc, &mut relay, script, writer)
 }

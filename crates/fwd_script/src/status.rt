@@ -1,30 +1,11 @@
 ghost use Rattle.std.specs.Prelude.{◌≡◌};
 ghost use Rattle.fwd_script.specs.Statuses.{exit_code};
 
+use fwd_settings::SettingsFault;
 use std::fmt;
 
-/// Why settings are refused.
-#[derive(Clone, Copy, Debug, PartialEq, Eq)]
-pub enum SettingsFault {
-    /// The text is no TOML.
-    NotToml = 2,
-}
-
-impl fmt::Display for SettingsFault {
-    ghost use Rattle.std.specs.Prelude.{Some};
-    ghost use Rattle.fwd_script.specs.Statuses.{settings_text};
-
-    ghost output = { λ fault. Some (settings_text fault) };
-
-    fn fmt<W: fmt::Write>(&self, f: &mut fmt::Formatter<W>) -> fmt::Result {
-        match self {
-            SettingsFault::NotToml => write!(f, "not toml"),
-        }
-    }
-}
-
 /// How a replay ended.
-#[derive(Clone, Copy, Debug, PartialEq, Eq)]
+#[derive(Debug, Drop)]
 pub enum Status {
     /// Each line of the script was answered.
     Done,
@@ -42,8 +23,8 @@ pub enum Status {
 
 impl Status {
     /// The exit status of a program that ends so.
-    pub fn exit_code(self) -> u8
-        ensures { result ≡ exit_code self }
+    pub fn exit_code(&self) -> u8
+        ensures { result ≡ exit_code self.now }
     {
         match self {
             Status::Done => 0,

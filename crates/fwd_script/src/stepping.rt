@@ -1,22 +1,21 @@
-ghost use Rattle.std.specs.Prelude.{◌≡◌, ℕ, List, ◌^◌, ◌+◌, ◌<◌, ◌⊎◌, ◌++◌, None, Some, length, MatchResult, IfOk, IfSome};
+ghost use Rattle.std.specs.Prelude.{◌≡◌, ℕ, List, ◌^◌, ◌+◌, ◌<◌, ◌⊎◌, ◌++◌, None, Some, length, MatchResult, IfOk};
 ghost use Rattle.std.specs.String.{string_bytes};
-ghost use Rattle.std.specs.Io.KnownBytes.{Appends, Keeps};
+ghost use Rattle.std.specs.Io.KnownBytes.{Appends};
 ghost use Rattle.fwd_model.specs.declared.event.Event.{Event};
 ghost use Rattle.fwd_model.specs.declared.answer.Answer.{Answer};
 ghost use Rattle.fwd_model.specs.declared.answer.Answer.TheVariants.{Memory};
 ghost use Rattle.fwd_script.specs.Lines.{event_of};
 ghost use Rattle.fwd_script.specs.Script.{lines_of};
-ghost use Rattle.fwd_script.specs.Replay.{answer_line, Ends, Replays, SplitsAtBad};
+ghost use Rattle.fwd_script.specs.Replay.{answer_line, Ends, SplitsAtBad};
 ghost use Rattle.fwd_script.specs.Stops.{Stops};
 
 use crate::event::read_event;
-use crate::input::{InputError, read_input};
-use crate::script::{next_line, split_script};
-use crate::status::{SettingsFault, Status};
+use crate::script::{Script, next_line};
+use crate::status::Status;
 use crate::text::print_answer;
 use fwd_model::{Answer, Event};
 use std::alloc::{AllocError, Global};
-use std::io::{Read, Write};
+use std::io::Write;
 
 /// What answers one event after the other, and goes on from state to state.
 pub trait Step {
@@ -31,33 +30,6 @@ pub trait Step {
         ensures answer { (result ≡ Memory)
             ⊎ ((result ≡ answer_to self.old event.now) × (self.new ≡ next self.old event.now)) }
         ensures memory { result ≡ Memory → self.new ≡ self.old };
-}
-
-/// Replays a script against a relay that was opened with the settings of an empty text: reads all of the input,
-/// answers the event of each line, and writes each answer on a line of its own. No other settings are taken yet.
-pub fn replay_with<S: Step, R: Read, W: Write>(
-    alloc: Global,
-    relay: &mut S,
-    reader: &mut R,
-    writer: &mut W,
-) -> Status
-    ensures { IfSome (R.remaining reader.old) (λ script.
-        Replays result S.answer_to S.next relay.old script (W.contents writer.old) (W.contents writer.new)) }
-{
-    let input = match read_input(alloc, reader) {
-        Ok(input) => input,
-        Err(InputError::Memory) => return Status::Memory,
-        Err(InputError::Failed) => return Status::Input,
-    };
-    let script = split_script(input.as_slice());
-    if !script.settings.is_empty() {
-        return Status::BadSettings(SettingsFault::NotToml);
-    }
-    let status = answer_lines(alloc, relay, script.events, script.lines_before, writer);
-    match writer.flush() {
-        Ok(()) => status,
-        Err(_) => Status::Output,
-    }
 }
 
 /// The bad line is the first that is no event: each line before it is one of the events that are answered, and
@@ -102,6 +74,24 @@ pub fn answer_lines<S: Step, W: Write>(
         rest = after;
     }
     Status::Done
+}
+
+/// Answers the events of a script, as `answer_lines` does, and flushes the writer.
+pub fn answer_script<S: Step, W: Write>(
+    alloc: Global,
+    relay: &mut S,
+    script: Script<'_>,
+    writer: &mut W,
+) -> Status
+    requires { script.lines_before + length script.events.now < 2 ^ 64 }
+    ensures { Ends result S.answer_to S.next relay.old script.entry.lines_before (lines_of script.entry.events.now)
+        (W.contents writer.old) (W.contents writer.new) }
+{
+    let status = answer_lines(alloc, relay, script.events, script.lines_before, writer);
+    match writer.flush() {
+        Ok(()) => status,
+        Err(_) => Status::Output,
+    }
 }
 
 /// Answers the event of a line, and writes the answer on a line of its own.

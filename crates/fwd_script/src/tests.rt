@@ -2,10 +2,13 @@ ghost use Rattle.std.specs.Prelude.{◌+◌, ◌%◌, ℕ};
 ghost use Rattle.fwd_model.specs.declared.event.Event.{Event};
 ghost use Rattle.fwd_model.specs.declared.answer.Answer.TheVariants.{Closed};
 
-use crate::{SettingsFault, Status, Step, print_answer, read_event, replay_with};
-use fwd_model::{Answer, Event, FlushKind, Refusal, SessionFault, SourceFault};
+use crate::{
+    Status, Step, answer_script, print_answer, read_config, read_event, replay, split_script,
+};
+use fwd_model::{Answer, Event, FlushKind, OutputConfig, Refusal, SessionFault, SourceFault};
 use fwd_modes::InputFault;
 use fwd_msgpack::{Bytes, ScanFault, Seq};
+use fwd_settings::SettingsFault;
 use std::alloc::{AllocError, Global};
 use std::io;
 use std::io::{ErrorKind, Read, Write};
@@ -267,6 +270,7 @@ fn prints_answers(rt: HostRuntime) -> Result<(), Fail> {
             },
             "admitted 1 entries 1",
         ),
+        (Answer::NoRoute, "fault NoRoute"),
         (Answer::NumbersSpent, "fault NumbersSpent"),
         (Answer::Closed { chunks: 0 }, "closed 0"),
         (Answer::Done, "done"),
@@ -369,44 +373,109 @@ impl Step for Counter {
     }
 }
 
-/// Replays a script against a counter that stands at 8.
-fn replayed(alloc: Global, mut script: &[u8], out: &mut Vec<u8>) -> Status {
+/// Answers a script by a counter that stands at 8.
+fn replayed(alloc: Global, script: &[u8], out: &mut Vec<u8>) -> Status {
     let mut counter = Counter { count: 8 };
-    replay_with(alloc, &mut counter, &mut script, out)
+    answer_script(alloc, &mut counter, split_script(script), out)
+}
+
+/// A status as a program tells it: the exit status, and the text.
+fn told(alloc: Global, status: &Status) -> Result<String, Fail> {
+    let code = status.exit_code();
+    Ok(format!(in alloc; "{code} {status}")?)
 }
 
 #[test]
 fn replays_scripts(rt: HostRuntime) -> Result<(), Fail> {
     let alloc = rt.alloc();
-    let bad_settings = Status::BadSettings(SettingsFault::NotToml);
     let table = [
-        ("---\nhello", Status::BadLine(2), ""),
-        ("---\n", Status::Done, ""),
-        ("", Status::Done, ""),
-        ("take 0 0 0\n", bad_settings, ""),
-        ("x\n---\ntake 0 0 0\n", bad_settings, ""),
-        (
-            "---\ntake 0 0 0\nload 0 0 0",
-            Status::Done,
-            "closed 8\nclosed 9\n",
-        ),
+        ("---\nhello", "3 line 2: bad event", ""),
+        ("---\n", "0 ", ""),
+        ("", "0 ", ""),
+        ("---\ntake 0 0 0\nload 0 0 0", "0 ", "closed 8\nclosed 9\n"),
         (
             "---\ntake 0 0 0\n\nload 0 0 0\n",
-            Status::BadLine(3),
+            "3 line 3: bad event",
             "closed 8\n",
         ),
-        ("---\ntake 0 0 0\r\n", Status::BadLine(2), ""),
-        ("---\ntake 0 0 0\n---\n", Status::BadLine(3), "closed 8\n"),
+        ("---\ntake 0 0 0\r\n", "3 line 2: bad event", ""),
+        (
+            "---\ntake 0 0 0\n---\n",
+            "3 line 3: bad event",
+            "closed 8\n",
+        ),
     ];
     for (script, want, text) in table {
         let mut out = Vec::new(alloc);
-        assert_eq!(rt;
-            replayed(alloc, script.as_bytes(), &mut out),
-            want,
-            "{script}"
-        );
+        let status = replayed(alloc, script.as_bytes(), &mut out);
+        assert_eq!(rt; told(alloc, &status)?.as_str(), want, "{script}");
         assert_eq!(rt; out.as_slice(), text.as_bytes());
     }
+    Ok(())
+}
+
+/// Settings that are refused: nothing is answered.
+#[test]
+fn refuses_settings(rt: HostRuntime) -> Result<(), Fail> {
+    let alloc = rt.alloc();
+    let table = [
+        ("flush 0 0 all\n", "1 settings: not toml"),
+        ("x\n---\nflush 0 0 all\n", "1 settings: not toml"),
+        ("\n---\nflush 0 0 all\n", "1 settings: missing output"),
+        (
+            "[[output]]\nworkers = 17\n---\n",
+            "1 settings: missing output[0].match",
+        ),
+        (
+            "[[output]]\nmatch = \"a*\"\n---\n",
+            "1 settings: bad pattern output[0].match",
+        ),
+    ];
+    for (script, want) in table {
+        let mut out = Vec::new(alloc);
+        let status = replay(alloc, &mut script.as_bytes(), &mut out);
+        assert_eq!(rt; told(alloc, &status)?.as_str(), want, "{script}");
+        assert!(rt; out.is_empty());
+    }
+    Ok(())
+}
+
+/// What an empty text of settings stands for, and what a text that leaves most keys out.
+#[test]
+fn reads_configs(rt: HostRuntime) -> Result<(), Fail> {
+    let alloc = rt.alloc();
+    let Ok(row) = read_config(alloc, b"") else {
+        return Err(Fail::from("the row settings"));
+    };
+    assert_eq!(rt; row.run, [0; 6]);
+    assert_eq!(rt; row.routes.first(b"a.b"), Some(0));
+    let two_of_each = OutputConfig {
+        workers: 2,
+        servers: 2,
+        flush_interval: 1000,
+    };
+    assert_eq!(rt; row.outputs.as_slice(), [two_of_each].as_slice());
+    let text = b"[relay]\nrun_id = \"0123456789aB\"\n\
+[[output]]\nmatch = \"a\"\n[[output.server]]\naddress = \"[::1]:1\"\n\
+[[output]]\nmatch = \"a b\"\nflush_interval = 0\nworkers = 16\n[[output.server]]\naddress = \"1.2.3.4:5\"\n";
+    let Ok(config) = read_config(alloc, text.as_slice()) else {
+        return Err(Fail::from("good settings"));
+    };
+    assert_eq!(rt; config.run, [0x01, 0x23, 0x45, 0x67, 0x89, 0xab]);
+    assert_eq!(rt; config.routes.first(b"a"), Some(0));
+    assert_eq!(rt; config.routes.first(b"b"), Some(1));
+    assert_eq!(rt; config.routes.first(b"c"), None);
+    let first = OutputConfig {
+        workers: 1,
+        servers: 1,
+        flush_interval: 5000,
+    };
+    let second = OutputConfig {
+        workers: 16,
+        servers: 1,
+        flush_interval: 0,
+    };
+    assert_eq!(rt; config.outputs.as_slice(), [first, second].as_slice());
     Ok(())
 }
 
@@ -454,22 +523,17 @@ fn tells_failed_reads_and_writes(rt: HostRuntime) -> Result<(), Fail> {
     let alloc = rt.alloc();
     let mut out = Vec::new(alloc);
     let mut torn = Torn {
-        left: b"---\ntake 0 0 0\n",
+        left: b"---\nflush 0 0 all\n",
     };
-    let mut counter = Counter { count: 0 };
-    assert_eq!(rt;
-        replay_with(alloc, &mut counter, &mut torn, &mut out),
-        Status::Input
-    );
+    let torn_off = replay(alloc, &mut torn, &mut out);
+    assert_eq!(rt; told(alloc, &torn_off)?.as_str(), "5 input");
     assert!(rt; out.is_empty());
 
-    for (room, want) in [(2, Status::BadLine(4)), (1, Status::Output)] {
-        let mut script = b"---\ntake 0 0 0\ntake 0 0 0\nx\n".as_slice();
+    for (room, want) in [(2, "3 line 4: bad event"), (1, "5 output")] {
+        let mut script = b"---\nflush 0 0 all\nflush 0 0 all\nx\n".as_slice();
         let mut full = Full { room };
-        assert_eq!(rt;
-            replay_with(alloc, &mut counter, &mut script, &mut full),
-            want
-        );
+        let status = replay(alloc, &mut script, &mut full);
+        assert_eq!(rt; told(alloc, &status)?.as_str(), want);
     }
     Ok(())
 }
@@ -488,10 +552,10 @@ fn tells_statuses(rt: HostRuntime) -> Result<(), Fail> {
         (Status::Input, 5, "input"),
         (Status::Output, 5, "output"),
     ];
-    for (status, code, text) in table {
-        assert_eq!(rt; status.exit_code(), code);
+    for (status, code, text) in &table {
+        assert_eq!(rt; status.exit_code(), *code);
         let told = status.to_string(rt.alloc())?;
-        assert_eq!(rt; told.as_str(), text);
+        assert_eq!(rt; told.as_str(), *text);
     }
     Ok(())
 }

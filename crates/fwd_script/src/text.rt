@@ -25,6 +25,7 @@ pub fn print_answer(alloc: Global, answer: &Answer) -> Result<String, AllocError
         Answer::Admitted { request, entries } => {
             format!(in alloc; "admitted {request} entries {entries}")
         }
+        Answer::NoRoute => String::from_str(alloc, "fault NoRoute"),
         Answer::NumbersSpent => String::from_str(alloc, "fault NumbersSpent"),
         Answer::Closed { chunks } => format!(in alloc; "closed {chunks}"),
         Answer::Done => String::from_str(alloc, "done"),

@@ -1,7 +1,8 @@
 //! From a Message to the frame that the next hop gets.
 
 use crate::scripts::replays;
-use fwd_script::{SettingsFault, Status};
+use fwd_script::Status;
+use fwd_settings::SettingsFault;
 use std::test::Fail;
 
 #[test]

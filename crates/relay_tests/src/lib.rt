@@ -10,6 +10,8 @@ mod msgpack_values;
 #[cfg(test)]
 mod relay;
 #[cfg(test)]
+mod routing;
+#[cfg(test)]
 mod scripts;
 #[cfg(test)]
 mod spellings;

@@ -1,5 +1,6 @@
 //! The relay, called as a library.
 
+use crate::scripts::routes_of;
 use fwd_core::Relay;
 use fwd_model::{Answer, Config, Event, FlushKind, OutputConfig, Refusal};
 use fwd_msgpack::{Bytes, Seq};
@@ -12,7 +13,8 @@ const REQUEST: &[u8] = b"\x93\xa1a\x01\x80";
 /// The same, which asks for an acknowledgement with the text `x`.
 const ASKING_REQUEST: &[u8] = b"\x94\xa1a\x01\x80\x81\xa5chunk\xa1x";
 
-fn two_outputs(alloc: Global) -> Result<Config, AllocError> {
+/// The first output takes the tag `a`, the second each other.
+fn two_outputs(alloc: Global) -> Result<Config, Fail> {
     let mut outputs = Seq::new(alloc);
     for workers in [2, 1] {
         outputs.push(OutputConfig {
@@ -23,6 +25,7 @@ fn two_outputs(alloc: Global) -> Result<Config, AllocError> {
     }
     Ok(Config {
         run: [0xff; 6],
+        routes: routes_of(alloc, &["a", "**"])?,
         outputs,
     })
 }
@@ -100,7 +103,7 @@ fn four_events(alloc: Global) -> Result<Vec<Event>, AllocError> {
 #[test]
 fn runs_seven_events(rt: HostRuntime) -> Result<(), Fail> {
     let alloc = rt.alloc();
-    let mut relay = Relay::new(alloc, &two_outputs(alloc)?)?;
+    let mut relay = Relay::new(alloc, two_outputs(alloc)?)?;
     let answers = relay.run(alloc, seven_events(alloc, REQUEST)?.as_slice())?;
     assert_eq!(rt; answers.len(), 7);
     assert!(rt; matches!(&answers[0], Answer::Accepted { out } if out.is_empty()));
@@ -135,7 +138,7 @@ fn runs_seven_events(rt: HostRuntime) -> Result<(), Fail> {
 #[test]
 fn runs_all_eleven_events(rt: HostRuntime) -> Result<(), Fail> {
     let alloc = rt.alloc();
-    let mut relay = Relay::new(alloc, &two_outputs(alloc)?)?;
+    let mut relay = Relay::new(alloc, two_outputs(alloc)?)?;
     let there = relay.run(alloc, seven_events(alloc, ASKING_REQUEST)?.as_slice())?;
     assert_eq!(rt; there.len(), 7);
     assert!(rt; matches!(&there[6], Answer::Frame { out } if out.as_slice() == FRAME));
@@ -155,7 +158,7 @@ fn runs_all_eleven_events(rt: HostRuntime) -> Result<(), Fail> {
 #[test]
 fn runs_on_from_where_it_stands(rt: HostRuntime) -> Result<(), Fail> {
     let alloc = rt.alloc();
-    let mut relay = Relay::new(alloc, &two_outputs(alloc)?)?;
+    let mut relay = Relay::new(alloc, two_outputs(alloc)?)?;
     assert!(rt; relay.run(alloc, &[])?.is_empty());
     for event in seven_events(alloc, REQUEST)?.iter() {
         let answer = relay.step(alloc, event);

@@ -28,4 +28,4 @@ returns-clause-next c =
     on_ok_weaker c.admit_from.result
     (λ d. admit_done _ c.args.self.now c.self.view_is c.args.output c.from-lane_place.result c.from-lane_place.ensures l c.admit_from.new.lane here c.args.conn c.in-Some.place c.args.now at s t _
     (own.0 ∙ sym (ap (λ y. y.source) shown)) (ap (λ n. record { id = n; source = t }) (ap (λ y. y.id) shown ∙ own.1)) d.0 d.1)
-    (both (t ≡ admit_source s s.waiting c.args.output l) (c.admit_from.new.lane ≡ admit_lane c.args.conn s s.waiting c.args.output l c.args.now) c.admit_from.result c.admit_from.ensures.source c.admit_from.ensures.lane)
+    (both (t ≡ admit_source c.self.inside.routes s s.waiting c.args.output l) (c.admit_from.new.lane ≡ admit_lane c.self.inside.routes c.args.conn s s.waiting c.args.output l c.args.now) c.admit_from.result c.admit_from.ensures.source c.admit_from.ensures.lane)

@@ -1,0 +1,12 @@
+use Rattle.std.proofs.Common.{◌≡◌, ◌+◌, ◌++◌, map, length, vec_len}
+use Rattle.fwd_script.proofs.config.patterns_of.Given as goal
+
+-- the patterns so far, and then those of the outputs that are left
+abbrev pub invariant-loop-outputs : goal.invariant-loop-outputs
+invariant-loop-outputs l = record {
+  all : l.patterns.items ++ map (λ o. o.pattern) l.outputs.items ≡ map (λ o. o.pattern) l.fn.outputs.items;
+  count : vec_len l.patterns + length l.outputs.items ≡ length l.fn.outputs.items;
+}
+
+abbrev pub decreases-loop-outputs : goal.decreases-loop-outputs
+decreases-loop-outputs l = length l.outputs.items

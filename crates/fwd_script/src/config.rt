@@ -1,0 +1,101 @@
+//! What settings set the relay to.
+
+ghost use Rattle.std.specs.Prelude.{◌≡◌, ◌≢◌, ◌≤◌, ◌^◌, ◌<◌, true, map, length, vec_len, IfOk, Err};
+ghost use Rattle.std.specs.List.{list_all};
+ghost use Rattle.fwd_settings.specs.Ranges.{in_range, output_in_range};
+ghost use Rattle.fwd_script.specs.Configs.{settings_text, output_config, config_of, config_in};
+
+use fwd_match::{Pattern, Routes};
+use fwd_model::{Config, OutputConfig};
+use fwd_msgpack::Seq;
+use fwd_settings::{OutputSettings, Settings, SettingsFault, accepted_is_in_range, read_settings};
+use std::alloc::{AllocError, Global};
+
+/// What an empty text of settings stands for.
+const ROW_SETTINGS: &[u8] = b"[relay]
+run_id = \"000000000000\"
+[[output]]
+match = \"**\"
+workers = 2
+chunk_limit = 1000
+total_limit = 100000
+flush_interval = 1000
+retry_wait = 500
+retry_max = 4000
+ack_wait = 10000
+[[output.server]]
+address = \"127.0.0.1:24225\"
+[[output.server]]
+address = \"127.0.0.1:24226\"
+standby = true
+";
+
+/// The settings of a script.
+#[tactic(auto, unfolding(crate::specs::Configs::row_text))]
+fn settings_text(text: &[u8]) -> &[u8]
+    ensures { result.now ≡ settings_text text.now }
+{
+    if text.is_empty() { ROW_SETTINGS } else { text }
+}
+
+/// What an output is set to.
+fn config_for(output: &OutputSettings) -> OutputConfig
+    requires { output_in_range output.now ≡ true }
+    ensures { result ≡ output_config output.now }
+{
+    OutputConfig {
+        workers: output.workers,
+        servers: output.servers.len() as u16,
+        flush_interval: output.flush_interval,
+    }
+}
+
+/// What each output is set to.
+fn configs_of(alloc: Global, outputs: &[OutputSettings]) -> Result<Vec<OutputConfig>, AllocError>
+    requires { list_all output_in_range outputs.now ≡ true }
+    ensures { IfOk result (λ configs. configs.items ≡ map output_config outputs.now) }
+{
+    let mut configs = Vec::new(alloc);
+    for output in outputs {
+        configs.push(config_for(output))?;
+    }
+    Ok(configs)
+}
+
+/// The pattern of each output.
+fn patterns_of(alloc: Global, mut outputs: Vec<OutputSettings>) -> Result<Vec<Pattern>, AllocError>
+    ensures items { IfOk result (λ patterns. patterns.items ≡ map (λ o. o.pattern) outputs.items) }
+    ensures len { IfOk result (λ patterns. vec_len patterns ≡ length outputs.items) }
+{
+    let mut patterns = Vec::new(alloc);
+    while !outputs.is_empty() {
+        let output = outputs.remove(0);
+        patterns.push(output.pattern)?;
+    }
+    Ok(patterns)
+}
+
+/// What settings set the relay to. Without a run id it is zeros.
+fn config_of(alloc: Global, settings: Settings) -> Result<Config, AllocError>
+    requires { in_range settings ≡ true }
+    ensures { IfOk result (λ config. config ≡ config_of settings) }
+{
+    let run = settings.relay.run_id.unwrap_or([0; 6]);
+    let outputs = configs_of(alloc, settings.outputs.as_slice())?;
+    let patterns = patterns_of(alloc, settings.outputs.into_vec())?;
+    Ok(Config {
+        run,
+        routes: Routes::new(patterns),
+        outputs: Seq::from_vec(outputs),
+    })
+}
+
+/// What a script's text of settings sets the relay to: an empty text stands for one output of two workers and two servers, which
+/// takes each tag. It answers the text's first fault.
+pub fn read_config(alloc: Global, text: &[u8]) -> Result<Config, SettingsFault>
+    ensures { result ≢ Err SettingsFault.Memory → result ≡ config_in text.now }
+{
+    accepted_is_in_range();
+    let settings = read_settings(alloc, settings_text(text))?;
+    Ok(config_of(alloc, settings)?)
+}

@@ -1,0 +1,94 @@
+-- The definitions at work on small values and texts.
+use Rattle.std.proofs.Common.{◌≡◌, [], ◌∷◌, Some, None, pos, negsuc, refl}
+use Rattle.std.specs.Prelude.{codes}
+use Rattle.std.specs.Fmt.{digits}
+use Rattle.std.specs.Net.Reader.{read_number, read_octet, read_ipv4, read_segment, read_segments, read_ipv6, read_port, read_scope_id, read_socket_v4, read_socket_v6}
+use Rattle.hex.specs.Hex.{decode_pairs}
+use Rattle.toml.specs.Data.{string, integer, table, no_members, member}
+use Rattle.fwd_settings.specs.declared.fault.SettingsFault.TheVariants as faults
+use Rattle.fwd_settings.specs.declared.place.Place.TheVariants.{Output, Server}
+use Rattle.fwd_settings.specs.declared.place.Flaw.TheVariants.{WrongKind, OutOfRange}
+use Rattle.fwd_settings.specs.Addresses.{v4_from, v6_from, socket_of, address_of_text}
+use Rattle.fwd_settings.specs.Faults.{key_under, fault_text}
+use Rattle.fwd_settings.specs.Kinds.{number_flaw, flag_flaw, text_flaw, digits_flaw, fault_at, setting_at, number_key, required_address_key}
+use Rattle.fwd_settings.specs.Keys.{retry_max, server_fault}
+use Rattle.fwd_settings.specs.Unknown.{least_from}
+
+greatest_worker : number_flaw 1 16 (integer (pos 16)) ≡ None
+greatest_worker = refl
+
+one_worker_more : number_flaw 1 16 (integer (pos 17)) ≡ Some OutOfRange
+one_worker_more = refl
+
+below_zero : number_flaw 0 16 (integer (negsuc 0)) ≡ Some OutOfRange
+below_zero = refl
+
+a_text_is_no_number : number_flaw 0 16 (string (codes "1")) ≡ Some WrongKind
+a_text_is_no_number = refl
+
+a_number_is_no_flag : flag_flaw (integer (pos 1)) ≡ Some WrongKind
+a_number_is_no_flag = refl
+
+an_empty_name : text_flaw 1 255 (string (codes "")) ≡ Some OutOfRange
+an_empty_name = refl
+
+either_case : digits_flaw 2 (string (codes "aBC9")) ≡ None
+unfolding decode_pairs
+either_case = refl
+
+an_odd_length : digits_flaw 2 (string (codes "aBC")) ≡ Some OutOfRange
+unfolding decode_pairs
+an_odd_length = refl
+
+no_digit : digits_flaw 2 (string (codes "aBCg")) ≡ Some OutOfRange
+unfolding decode_pairs
+no_digit = refl
+
+an_address : address_of_text (codes "10.0.0.1:80") ≡ Some (v4_from (10 ∷ 0 ∷ 0 ∷ 1 ∷ [], 80))
+unfolding address_of_text socket_of read_socket_v4 read_ipv4 read_octet read_number read_port
+an_address = refl
+
+a_long_address : address_of_text (codes "[::1]:80") ≡ Some (v6_from (0 ∷ 0 ∷ 0 ∷ 0 ∷ 0 ∷ 0 ∷ 0 ∷ 1 ∷ [], 80, 0, 0))
+unfolding address_of_text socket_of read_socket_v4 read_socket_v6 read_ipv4 read_ipv6 read_segments read_segment read_octet read_number read_port read_scope_id
+a_long_address = refl
+
+port_nought : address_of_text (codes "10.0.0.1:0") ≡ None
+unfolding address_of_text socket_of read_socket_v4 read_ipv4 read_octet read_number read_port
+port_nought = refl
+
+a_scope : address_of_text (codes "[::1%0]:80") ≡ None
+unfolding address_of_text socket_of read_socket_v4 read_socket_v6 read_ipv4 read_ipv6 read_segments read_segment read_octet read_number read_port read_scope_id
+a_scope = refl
+
+a_key : key_under (Server 0 12) (codes "address") ≡ codes "output[0].server[12].address"
+unfolding digits
+a_key = refl
+
+a_fault : fault_text (faults.OutOfRange (codes "output")) ≡ codes "out of range output"
+a_fault = refl
+
+-- the longest wait grows with the first
+a_short_wait : setting_at no_members (retry_max no_members) ≡ 60000
+unfolding setting_at number_key
+a_short_wait = refl
+
+a_long_wait : setting_at no_members (retry_max (member (codes "retry_wait") (integer (pos 60001)) no_members)) ≡ 60001
+unfolding setting_at number_key
+a_long_wait = refl
+
+below_the_wait : fault_at (Output 0) (member (codes "retry_max") (integer (pos 999)) no_members) (retry_max no_members) ≡ Some (faults.OutOfRange (codes "output[0].retry_max"))
+unfolding fault_at setting_at number_key digits
+below_the_wait = refl
+
+-- the address is judged before the flag
+first_the_address : server_fault 0 1 (table (member (codes "standby") (integer (pos 1)) no_members)) ≡ Some (faults.Missing (codes "output[0].server[1].address"))
+unfolding fault_at required_address_key digits
+first_the_address = refl
+
+no_server : server_fault 0 1 (integer (pos 1)) ≡ Some (faults.WrongKind (codes "output[0].server[1]"))
+unfolding digits
+no_server = refl
+
+-- the least key by its bytes, not by its number
+least_by_bytes : least_from None (codes "output[1].b" ∷ codes "output[12].z" ∷ codes "output[2].a" ∷ []) ≡ Some (codes "output[12].z")
+least_by_bytes = refl

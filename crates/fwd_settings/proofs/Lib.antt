@@ -1,0 +1,8 @@
+pub mod AddressLemmas
+pub mod DocumentLemmas
+mod Examples
+pub mod FirstLemmas
+pub mod KeyLemmas
+pub mod ListLemmas
+pub mod UnknownLemmas
+pub mod RangeLemmas

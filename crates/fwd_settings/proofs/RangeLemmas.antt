@@ -1,0 +1,203 @@
+-- Settings that are accepted are in their ranges.
+use Rattle.std.proofs.Common.{◌≡◌, ℕ, zero, suc, ◌+◌, ◌≤◌, Bool, true, false, cond, List, [], ◌∷◌, length, max, Option, Some, None, Result, Ok, Err, refl, sym, ap, subst, ◌∙◌, arith}
+use Rattle.std.specs.Prelude.{map, not, ◌&&◌, nat_le, codes, ℤ, pos, negsuc, option_map, is_some, slice_get}
+use Rattle.std.specs.List.{list_all}
+use Rattle.std.proofs.lemmas.Bool.Decides.{nat_tests}
+use Rattle.std.proofs.lemmas.List.{length-map}
+use Rattle.toml.specs.Data.{Data, string, integer, float, boolean, datetime, array, table, Members, no_members, get_member}
+use Rattle.fwd_settings.specs.declared.fault.SettingsFault.{SettingsFault}
+use Rattle.fwd_settings.specs.declared.place.Place.{Place}
+use Rattle.fwd_settings.specs.declared.place.Place.TheVariants.{Root, Relay, Output}
+use Rattle.fwd_settings.specs.declared.place.Flaw.{Flaw}
+use Rattle.fwd_settings.specs.declared.place.Flaw.TheVariants.{OutOfRange}
+use Rattle.fwd_settings.specs.declared.settings.Settings.{Settings}
+use Rattle.fwd_settings.specs.declared.settings.ServerSettings.{ServerSettings}
+use Rattle.fwd_settings.specs.Faults.{fault_with, key_under}
+use Rattle.fwd_settings.specs.Kinds.{Key, optional, required, given, unless_out, is_within, number_flaw, number_of, number_key, text_flaw, text_key, list_flaw, list_of, required_list_key, each, fault_at, setting_at}
+use Rattle.fwd_settings.specs.Keys.{first, table_of, table_in, outputs, relay_table, relay_settings, connections, relay_hostname, output_table, output_fault, output_settings, workers, chunk_limit, total_limit, flush_interval, retry_wait, retry_max, ack_wait, output_hostname, username, password, servers, servers_in, server_settings, standby_fault}
+use Rattle.fwd_settings.specs.Whole.{relay_fault, root_table, root_settings, judged, of_document, document_of, settings_of}
+use Rattle.fwd_settings.specs.Ranges.{relay_in_range, output_in_range, in_range}
+
+-- ---- no fault
+
+unmapped : {A B : Type 0} (f : A → B) (x : Option A) → option_map f x ≡ None → x ≡ None
+unmapped f None h = refl
+unmapped f (Some a) h = absurd cc
+
+no_flaw : {A : Type 0} (place : Place) (members : Members) (key : Key A) → fault_at place members key ≡ None → key.flaw (get_member key.name members) ≡ None
+unfolding fault_at
+no_flaw place members key h = unmapped (λ flaw. fault_with flaw (key_under place key.name)) (key.flaw (get_member key.name members)) h
+
+first_none : (x : Option SettingsFault) (xs : List (Option SettingsFault)) → first (x ∷ xs) ≡ None → (x ≡ None) × (first xs ≡ None)
+first_none None xs h = (refl, h)
+first_none (Some fault) xs h = absurd cc
+
+-- where there is no first fault there is none at all
+none_at : (xs : List (Option SettingsFault)) (i : ℕ) (x : Option SettingsFault) → first xs ≡ None → slice_get xs i ≡ Some x → x ≡ None
+none_at [] i x h e = absurd cc
+none_at (y ∷ ys) zero x h e = let same : y ≡ x = cc in sym same ∙ (first_none y ys h).0
+none_at (y ∷ ys) (suc i) x h e = none_at ys i x (first_none y ys h).1 e
+
+within : (b : Bool) → unless_out b ≡ None → b ≡ true
+within true h = refl
+within false h = absurd cc
+
+-- ---- the kinds
+
+number_given : (least most default : ℕ) (value : Option Data) → is_within least most default ≡ true → optional (number_flaw least most) value ≡ None → is_within least most (given number_of default value) ≡ true
+number_given least most default None d h = d
+number_given least most default (Some (integer (pos n))) d h = within (is_within least most n) h
+number_given least most default (Some (integer (negsuc n))) d h = absurd cc
+number_given least most default (Some (string x)) d h = absurd cc
+number_given least most default (Some (float x)) d h = absurd cc
+number_given least most default (Some (boolean x)) d h = absurd cc
+number_given least most default (Some (datetime x)) d h = absurd cc
+number_given least most default (Some (array x)) d h = absurd cc
+number_given least most default (Some (table x)) d h = absurd cc
+
+number_within : (place : Place) (members : Members) (name : List ℕ) (least most default : ℕ) → is_within least most default ≡ true → fault_at place members (number_key name least most default) ≡ None
+    → is_within least most (setting_at members (number_key name least most default)) ≡ true
+unfolding setting_at number_key
+number_within place members name least most default d h = number_given least most default (get_member name members) d (no_flaw place members (number_key name least most default) h)
+
+text_given : (least most : ℕ) (default : List ℕ) (value : Option Data) → is_within least most (length default) ≡ true → optional (text_flaw least most) value ≡ None
+    → is_within least most (length (given Rattle.toml.specs.Data.as_str default value)) ≡ true
+text_given least most default None d h = d
+text_given least most default (Some (string x)) d h = within (is_within least most (length x)) h
+text_given least most default (Some (integer x)) d h = absurd cc
+text_given least most default (Some (float x)) d h = absurd cc
+text_given least most default (Some (boolean x)) d h = absurd cc
+text_given least most default (Some (datetime x)) d h = absurd cc
+text_given least most default (Some (array x)) d h = absurd cc
+text_given least most default (Some (table x)) d h = absurd cc
+
+text_within : (place : Place) (members : Members) (name : List ℕ) (least most : ℕ) (default : List ℕ) → is_within least most (length default) ≡ true → fault_at place members (text_key name least most default) ≡ None
+    → is_within least most (length (setting_at members (text_key name least most default))) ≡ true
+unfolding setting_at text_key
+text_within place members name least most default d h = text_given least most default (get_member name members) d (no_flaw place members (text_key name least most default) h)
+
+list_given : (most : ℕ) (value : Option Data) → required (list_flaw most) value ≡ None → is_within 1 most (length (given list_of [] value)) ≡ true
+list_given most None h = absurd cc
+list_given most (Some (array x)) h = within (is_within 1 most (length (Rattle.fwd_settings.specs.Kinds.data_in x))) h
+list_given most (Some (string x)) h = absurd cc
+list_given most (Some (integer x)) h = absurd cc
+list_given most (Some (float x)) h = absurd cc
+list_given most (Some (boolean x)) h = absurd cc
+list_given most (Some (datetime x)) h = absurd cc
+list_given most (Some (table x)) h = absurd cc
+
+list_within : (place : Place) (members : Members) (name : List ℕ) (most : ℕ) → fault_at place members (required_list_key name most) ≡ None → is_within 1 most (length (setting_at members (required_list_key name most))) ≡ true
+unfolding setting_at required_list_key
+list_within place members name most h = list_given most (get_member name members) (no_flaw place members (required_list_key name most) h)
+
+-- ---- the tables
+
+both : (a b : Bool) → a ≡ true → b ≡ true → (a && b) ≡ true
+both a b h g = ap (λ x. x && b) h ∙ g
+
+relay_within : (members : Members) → first (relay_table members) ≡ None → relay_in_range (relay_settings members) ≡ true
+relay_within members h =
+    let text = text_within Relay members (codes "hostname") 1 255 (codes "relay") refl (none_at (relay_table members) 2 (fault_at Relay members relay_hostname) h refl) in
+    let count = number_within Relay members (codes "connections") 1 1024 256 refl (none_at (relay_table members) 5 (fault_at Relay members connections) h refl) in
+    both (is_within 1 255 (length (setting_at members relay_hostname))) (is_within 1 1024 (setting_at members connections)) text count
+
+standby_none : (output : ℕ) (listed : List ServerSettings) → standby_fault output listed ≡ None → not (list_all (λ server. server.standby) listed) ≡ true
+standby_none output listed h = by (list_all (λ server. server.standby) listed) h
+  where
+    by : (b : Bool) → cond b (Some (Rattle.fwd_settings.specs.declared.fault.SettingsFault.TheVariants.OutOfRange (key_under (Output output) (codes "server")))) None ≡ None → not b ≡ true
+    by true f = absurd cc
+    by false f = refl
+
+greater_default : (wait : ℕ) → is_within 1 86400000 wait ≡ true → is_within wait 86400000 (max 60000 wait) ≡ true
+greater_default wait h = grind (arith, nat_tests, h)
+
+at_most : (least most n : ℕ) → is_within least most n ≡ true → nat_le n most ≡ true
+at_most least most n h = grind (arith, nat_tests, h)
+
+module _ (output : ℕ) (members : Members) (h : first (output_table output members) ≡ None) where
+  number_here : (i : ℕ) (name : List ℕ) (least most default : ℕ) → is_within least most default ≡ true → slice_get (output_table output members) i ≡ Some (fault_at (Output output) members (number_key name least most default))
+      → is_within least most (setting_at members (number_key name least most default)) ≡ true
+  number_here i name least most default d e =
+      number_within (Output output) members name least most default d (none_at (output_table output members) i (fault_at (Output output) members (number_key name least most default)) h e)
+
+  text_here : (i : ℕ) (name : List ℕ) (least : ℕ) (default : List ℕ) → is_within least 255 (length default) ≡ true → slice_get (output_table output members) i ≡ Some (fault_at (Output output) members (text_key name least 255 default))
+      → is_within least 255 (length (setting_at members (text_key name least 255 default))) ≡ true
+  text_here i name least default d e =
+      text_within (Output output) members name least 255 default d (none_at (output_table output members) i (fault_at (Output output) members (text_key name least 255 default)) h e)
+
+  members_within : output_in_range (output_settings (table members)) ≡ true
+  members_within =
+      let wait = number_here 5 (codes "retry_wait") 1 86400000 1000 refl refl in
+      let most = number_here 6 (codes "retry_max") (setting_at members retry_wait) 86400000 (max 60000 (setting_at members retry_wait)) (greater_default (setting_at members retry_wait) wait) refl in
+      let user = at_most 0 255 (length (setting_at members username)) (text_here 9 (codes "username") 0 (codes "") refl refl) in
+      let secret = at_most 0 255 (length (setting_at members password)) (text_here 10 (codes "password") 0 (codes "") refl refl) in
+      let listed = list_within (Output output) members (codes "server") 16 (none_at (output_table output members) 11 (fault_at (Output output) members servers) h refl) in
+      let count = ap (is_within 1 16) (length-map (setting_at members servers) server_settings) ∙ listed in
+      let usable = standby_none output (servers_in members) (none_at (output_table output members) 13 (standby_fault output (servers_in members)) h refl) in
+      grind (
+        arith,
+        nat_tests,
+        number_here 1 (codes "workers") 1 16 1 refl refl,
+        number_here 2 (codes "chunk_limit") 1 16000000 8000000 refl refl,
+        number_here 3 (codes "total_limit") 1 1000000000000 512000000 refl refl,
+        number_here 4 (codes "flush_interval") 0 86400000 5000 refl refl,
+        wait,
+        most,
+        number_here 7 (codes "ack_wait") 1 86400000 190000 refl refl,
+        text_here 8 (codes "hostname") 1 (codes "relay") refl refl,
+        user,
+        secret,
+        count,
+        usable,
+      )
+
+output_within : (output : ℕ) (value : Data) → output_fault output value ≡ None → output_in_range (output_settings value) ≡ true
+output_within output (table members) h = members_within output members h
+output_within output (string x) h = absurd cc
+output_within output (integer x) h = absurd cc
+output_within output (float x) h = absurd cc
+output_within output (boolean x) h = absurd cc
+output_within output (datetime x) h = absurd cc
+output_within output (array x) h = absurd cc
+
+outputs_within : (n : ℕ) (values : List Data) → first (each output_fault n values) ≡ None → list_all output_in_range (map output_settings values) ≡ true
+outputs_within n [] h = refl
+outputs_within n (value ∷ values) h =
+    let f = first_none (output_fault n value) (each output_fault (n + 1) values) h in
+    both (output_in_range (output_settings value)) (list_all output_in_range (map output_settings values)) (output_within n value f.0) (outputs_within (n + 1) values f.1)
+
+-- ---- the whole text
+
+relay_here : (root : Members) → relay_fault (get_member (codes "relay") root) ≡ None → relay_in_range (relay_settings (table_in (codes "relay") root)) ≡ true
+relay_here root h = by (get_member (codes "relay") root) h
+  where
+    by : (value : Option Data) → relay_fault value ≡ None
+        → relay_in_range (relay_settings (Rattle.std.specs.Prelude.unwrap_or (Rattle.std.specs.Prelude.option_and_then Rattle.toml.specs.Data.as_table value) no_members)) ≡ true
+    by None f = relay_within no_members f
+    by (Some (table members)) f = relay_within members f
+    by (Some (string x)) f = absurd cc
+    by (Some (integer x)) f = absurd cc
+    by (Some (float x)) f = absurd cc
+    by (Some (boolean x)) f = absurd cc
+    by (Some (datetime x)) f = absurd cc
+    by (Some (array x)) f = absurd cc
+
+root_within : (root : Members) → first (root_table root) ≡ None → in_range (root_settings root) ≡ true
+root_within root h =
+    let relay = relay_here root (none_at (root_table root) 0 (relay_fault (get_member (codes "relay") root)) h refl) in
+    let listed = list_within Root root (codes "output") 64 (none_at (root_table root) 1 (fault_at Root root outputs) h refl) in
+    let count : is_within 1 64 (length (map output_settings (setting_at root outputs))) ≡ true = ap (is_within 1 64) (length-map (setting_at root outputs) output_settings) ∙ listed in
+    let all = outputs_within 0 (setting_at root outputs) (none_at (root_table root) 2 (first (each output_fault 0 (setting_at root outputs))) h refl) in
+    both (relay_in_range (root_settings root).relay) (is_within 1 64 (length (root_settings root).outputs) && list_all output_in_range (root_settings root).outputs) relay
+    (both (is_within 1 64 (length (root_settings root).outputs)) (list_all output_in_range (root_settings root).outputs) count all)
+
+judged_within : (fault : Option SettingsFault) (settings accepted : Settings) → (fault ≡ None → in_range settings ≡ true) → judged fault settings ≡ Ok accepted → in_range accepted ≡ true
+judged_within None settings accepted h e = let same : settings ≡ accepted = cc in subst (λ s. in_range s ≡ true) same (h refl)
+judged_within (Some fault) settings accepted h e = absurd cc
+
+document_within : (document : Option Members) (accepted : Settings) → of_document document ≡ Ok accepted → in_range accepted ≡ true
+document_within None accepted e = absurd cc
+document_within (Some root) accepted e = judged_within (first (root_table root)) (root_settings root) accepted (root_within root) e
+
+pub accepted_within : (text : List ℕ) (accepted : Settings) → settings_of text ≡ Ok accepted → in_range accepted ≡ true
+accepted_within text accepted e = document_within (document_of text) accepted e

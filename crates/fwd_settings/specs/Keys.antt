@@ -1,0 +1,201 @@
+-- The table of keys: each with its kind, its range and its default, and the order in which they are judged.
+use Rattle.std.specs.Prelude.{ℕ, Bool, false, List, [], ◌∷◌, map, codes, max, Option, Some, None, unwrap_or, option_and_then, if◌then◌else◌}
+use Rattle.std.specs.List.{list_all}
+use Rattle.std.specs.declared.net.socket_addr.SocketAddr.{SocketAddr}
+use Rattle.toml.specs.Data.{Data, table, Members, no_members, get_member, as_table}
+use Rattle.fwd_settings.specs.declared.fault.SettingsFault.{SettingsFault}
+use Rattle.fwd_settings.specs.declared.fault.SettingsFault.TheVariants.{WrongKind, OutOfRange}
+use Rattle.fwd_settings.specs.declared.place.Place.TheVariants.{Relay, Output, Server}
+use Rattle.fwd_settings.specs.declared.settings.RelaySettings.{RelaySettings}
+use Rattle.fwd_settings.specs.declared.settings.OutputSettings.{OutputSettings}
+use Rattle.fwd_settings.specs.declared.settings.ServerSettings.{ServerSettings}
+use Rattle.fwd_settings.specs.Addresses.{home}
+use Rattle.fwd_settings.specs.Faults.{own_key, key_under}
+use Rattle.fwd_settings.specs.Kinds.{Key, each, fault_at, setting_at, number_key, flag_key, text_key, digits_key, address_key, address_key_or, required_address_key, required_pattern_key, required_list_key}
+
+-- the first of some faults
+abbrev pub first : List (Option SettingsFault) → Option SettingsFault
+first [] = None
+first (None ∷ more) = first more
+first (Some fault ∷ more) = Some fault
+
+-- the table that a value is, or an empty one
+abbrev pub table_of : Data → Members
+table_of (table members) = members
+table_of _ = no_members
+
+-- the table under a name, or an empty one
+abbrev pub table_in : List ℕ → Members → Members
+table_in name members = unwrap_or (option_and_then as_table (get_member name members)) no_members
+
+-- ---- the whole text
+
+abbrev pub outputs : Key (List Data)
+outputs = required_list_key (codes "output") 64
+
+abbrev pub root_names : List (List ℕ)
+root_names = codes "relay" ∷ codes "output" ∷ []
+
+-- ---- relay
+
+abbrev pub listen : Key SocketAddr
+listen = address_key_or (codes "listen") home
+
+abbrev pub monitor : Key (Option SocketAddr)
+monitor = address_key (codes "monitor")
+
+abbrev pub relay_hostname : Key (List ℕ)
+relay_hostname = text_key (codes "hostname") 1 255 (codes "relay")
+
+-- here stands `shared_key`, a text of 1 to 1,024 bytes, once sources log in
+
+abbrev pub run_id : Key (Option (List ℕ))
+run_id = digits_key (codes "run_id") 6
+
+abbrev pub seed : Key (Option (List ℕ))
+seed = digits_key (codes "seed") 32
+
+abbrev pub connections : Key ℕ
+connections = number_key (codes "connections") 1 1024 256
+
+-- here stands `user`, a list of tables, once sources log in
+
+abbrev pub relay_names : List (List ℕ)
+relay_names =
+    codes "listen" ∷ codes "monitor" ∷ codes "hostname" ∷ codes "run_id" ∷ codes "seed" ∷ codes "connections" ∷ []
+
+abbrev pub relay_table : Members → List (Option SettingsFault)
+relay_table relay =
+    fault_at Relay relay listen ∷
+    fault_at Relay relay monitor ∷
+    fault_at Relay relay relay_hostname ∷
+    fault_at Relay relay run_id ∷
+    fault_at Relay relay seed ∷
+    fault_at Relay relay connections ∷ []
+
+abbrev pub relay_settings : Members → RelaySettings
+relay_settings relay = record {
+  listen = setting_at relay listen;
+  monitor = setting_at relay monitor;
+  hostname = setting_at relay relay_hostname;
+  run_id = setting_at relay run_id;
+  seed = setting_at relay seed;
+  connections = setting_at relay connections;
+}
+
+-- ---- output[i].server[j]
+
+abbrev pub address : Key SocketAddr
+address = required_address_key (codes "address")
+
+abbrev pub standby : Key Bool
+standby = flag_key (codes "standby") false
+
+abbrev pub server_names : List (List ℕ)
+server_names = codes "address" ∷ codes "standby" ∷ []
+
+abbrev pub server_table : (output server : ℕ) → Members → List (Option SettingsFault)
+server_table output server members =
+    fault_at (Server output server) members address ∷
+    fault_at (Server output server) members standby ∷ []
+
+abbrev pub server_fault : (output server : ℕ) → Data → Option SettingsFault
+server_fault output server (table members) = first (server_table output server members)
+server_fault output server _ = Some (WrongKind (own_key (Server output server)))
+
+abbrev pub server_settings : Data → ServerSettings
+server_settings value =
+    record { address = setting_at (table_of value) address; standby = setting_at (table_of value) standby }
+
+-- ---- output[i]
+
+abbrev pub pattern : Key (List (List ℕ))
+pattern = required_pattern_key (codes "match")
+
+abbrev pub workers : Key ℕ
+workers = number_key (codes "workers") 1 16 1
+
+abbrev pub chunk_limit : Key ℕ
+chunk_limit = number_key (codes "chunk_limit") 1 16000000 8000000
+
+abbrev pub total_limit : Key ℕ
+total_limit = number_key (codes "total_limit") 1 1000000000000 512000000
+
+abbrev pub flush_interval : Key ℕ
+flush_interval = number_key (codes "flush_interval") 0 86400000 5000
+
+abbrev pub retry_wait : Key ℕ
+retry_wait = number_key (codes "retry_wait") 1 86400000 1000
+
+-- from the output's `retry_wait` on
+abbrev pub retry_max : Members → Key ℕ
+retry_max output =
+    let wait = setting_at output retry_wait in number_key (codes "retry_max") wait 86400000 (max 60000 wait)
+
+abbrev pub ack_wait : Key ℕ
+ack_wait = number_key (codes "ack_wait") 1 86400000 190000
+
+abbrev pub output_hostname : Key (List ℕ)
+output_hostname = text_key (codes "hostname") 1 255 (codes "relay")
+
+-- here stands `shared_key`, a text of 1 to 1,024 bytes, once sessions log in
+
+abbrev pub username : Key (List ℕ)
+username = text_key (codes "username") 0 255 (codes "")
+
+abbrev pub password : Key (List ℕ)
+password = text_key (codes "password") 0 255 (codes "")
+
+abbrev pub servers : Key (List Data)
+servers = required_list_key (codes "server") 16
+
+abbrev pub output_names : List (List ℕ)
+output_names =
+    codes "match" ∷ codes "workers" ∷ codes "chunk_limit" ∷ codes "total_limit" ∷ codes "flush_interval" ∷
+    codes "retry_wait" ∷ codes "retry_max" ∷ codes "ack_wait" ∷ codes "hostname" ∷ codes "username" ∷
+    codes "password" ∷ codes "server" ∷ []
+
+abbrev pub servers_in : Members → List ServerSettings
+servers_in output = map server_settings (setting_at output servers)
+
+-- a list of servers that are all standbys is out of range
+abbrev pub standby_fault : ℕ → List ServerSettings → Option SettingsFault
+standby_fault output listed =
+    if list_all (λ server. server.standby) listed then Some (OutOfRange (key_under (Output output) (codes "server"))) else None
+
+abbrev pub output_table : ℕ → Members → List (Option SettingsFault)
+output_table output members =
+    fault_at (Output output) members pattern ∷
+    fault_at (Output output) members workers ∷
+    fault_at (Output output) members chunk_limit ∷
+    fault_at (Output output) members total_limit ∷
+    fault_at (Output output) members flush_interval ∷
+    fault_at (Output output) members retry_wait ∷
+    fault_at (Output output) members (retry_max members) ∷
+    fault_at (Output output) members ack_wait ∷
+    fault_at (Output output) members output_hostname ∷
+    fault_at (Output output) members username ∷
+    fault_at (Output output) members password ∷
+    fault_at (Output output) members servers ∷
+    first (each (server_fault output) 0 (setting_at members servers)) ∷
+    standby_fault output (servers_in members) ∷ []
+
+abbrev pub output_fault : ℕ → Data → Option SettingsFault
+output_fault output (table members) = first (output_table output members)
+output_fault output _ = Some (WrongKind (own_key (Output output)))
+
+abbrev pub output_settings : Data → OutputSettings
+output_settings value = let output = table_of value in record {
+  pattern = setting_at output pattern;
+  workers = setting_at output workers;
+  chunk_limit = setting_at output chunk_limit;
+  total_limit = setting_at output total_limit;
+  flush_interval = setting_at output flush_interval;
+  retry_wait = setting_at output retry_wait;
+  retry_max = setting_at output (retry_max output);
+  ack_wait = setting_at output ack_wait;
+  hostname = setting_at output output_hostname;
+  username = setting_at output username;
+  password = setting_at output password;
+  servers = servers_in output;
+}

@@ -1,0 +1,53 @@
+-- Keys that no table has.
+use Rattle.std.specs.Prelude.{ℕ, Bool, not, List, [], ◌∷◌, ◌++◌, map, filter, codes, Option, Some, None, option_map, if◌then◌else◌}
+use Rattle.std.specs.List.{list_any, flat_map}
+use Rattle.std.specs.Str.{bytes_eq}
+use Rattle.std.specs.Ordering.{nat_cmp, is_lt}
+use Rattle.std.specs.Cmp.Lexicographic.{slice_cmp}
+use Rattle.toml.specs.Data.{Data, Members, no_members, member}
+use Rattle.fwd_settings.specs.declared.fault.SettingsFault.{SettingsFault}
+use Rattle.fwd_settings.specs.declared.fault.SettingsFault.TheVariants.{Unknown}
+use Rattle.fwd_settings.specs.declared.place.Place.{Place}
+use Rattle.fwd_settings.specs.declared.place.Place.TheVariants.{Root, Relay, Output, Server}
+use Rattle.fwd_settings.specs.Faults.{key_under}
+use Rattle.fwd_settings.specs.Kinds.{each, list_in}
+use Rattle.fwd_settings.specs.Keys.{table_in, table_of, root_names, relay_names, output_names, server_names}
+
+-- the names in a table
+abbrev pub names_in : Members → List (List ℕ)
+names_in no_members = []
+names_in (member name value more) = name ∷ names_in more
+
+abbrev pub is_unknown : List (List ℕ) → List ℕ → Bool
+is_unknown names name = not (list_any (λ known. bytes_eq known name) names)
+
+-- the keys of a table that are none of these names
+abbrev pub unknown_under : Place → List (List ℕ) → Members → List (List ℕ)
+unknown_under place names members = map (key_under place) (filter (is_unknown names) (names_in members))
+
+abbrev pub unknown_in_server : (output server : ℕ) → Data → List (List ℕ)
+unknown_in_server output server value = unknown_under (Server output server) server_names (table_of value)
+
+abbrev pub unknown_in_output : ℕ → Data → List (List ℕ)
+unknown_in_output output value =
+    unknown_under (Output output) output_names (table_of value) ++
+    flat_map (λ keys. keys) (each (unknown_in_server output) 0 (list_in (codes "server") (table_of value)))
+
+-- all unknown keys
+abbrev pub unknown_keys : Members → List (List ℕ)
+unknown_keys root =
+    (unknown_under Root root_names root ++ unknown_under Relay relay_names (table_in (codes "relay") root)) ++
+    flat_map (λ keys. keys) (each unknown_in_output 0 (list_in (codes "output") root))
+
+-- the lesser of two keys by their bytes, of which the first may be missing
+abbrev pub lesser : Option (List ℕ) → List ℕ → List ℕ
+lesser None key = key
+lesser (Some least) key = if is_lt (slice_cmp nat_cmp key least) then key else least
+
+-- the least of some keys and one before them
+abbrev pub least_from : Option (List ℕ) → List (List ℕ) → Option (List ℕ)
+least_from least [] = least
+least_from least (key ∷ more) = least_from (Some (lesser least key)) more
+
+abbrev pub unknown_fault : Members → Option SettingsFault
+unknown_fault root = option_map Unknown (least_from None (unknown_keys root))

@@ -1,0 +1,26 @@
+//! The relay's settings: a TOML text, its keys and their values.
+#![tactic(auto)]
+
+mod fault;
+mod laws;
+mod output;
+mod place;
+mod read;
+mod relay;
+mod section;
+mod seq;
+mod server;
+mod settings;
+mod text;
+mod unknown;
+mod values;
+
+pub use fault::SettingsFault;
+pub use laws::accepted_is_in_range;
+pub use read::read_settings;
+pub use seq::Seq;
+pub use settings::{OutputSettings, RelaySettings, ServerSettings, Settings};
+pub use text::Text;
+
+#[cfg(test)]
+mod tests;

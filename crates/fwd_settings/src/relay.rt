@@ -1,0 +1,73 @@
+//! The table `relay`.
+
+ghost use Rattle.std.specs.Prelude.{◌≡◌, codes};
+ghost use Rattle.toml.specs.Data.{get_member, no_members};
+ghost use Rattle.fwd_settings.specs.Whole.{relay_fault};
+ghost use Rattle.toml.specs.View.{table_view};
+ghost use Rattle.fwd_settings.specs.Kinds.{Answers};
+ghost use Rattle.fwd_settings.specs.Keys.{first, relay_table, relay_settings, table_in};
+ghost use Rattle.fwd_settings.specs.Addresses.{home};
+
+use crate::fault::SettingsFault;
+use crate::place::{Flaw, Place};
+use crate::section::Section;
+use crate::settings::RelaySettings;
+use std::alloc::Global;
+use std::net::{Ipv4Addr, SocketAddr, SocketAddrV4};
+use toml::Table;
+
+/// 127.0.0.1:24224.
+fn home() -> SocketAddr
+    ensures { result ≡ home }
+{
+    SocketAddr::V4(SocketAddrV4::new(Ipv4Addr::new(127, 0, 0, 1), 24224))
+}
+
+/// The settings in the table `relay`.
+fn relay_in(alloc: Global, table: &Table) -> Result<RelaySettings, SettingsFault>
+    ensures { Answers (first (relay_table (table_view table.now))) (relay_settings (table_view table.now)) result }
+{
+    let relay = Section {
+        place: Place::Relay,
+        table,
+    };
+    let listen = relay.address_or(alloc, "listen", home())?;
+    let monitor = relay.address(alloc, "monitor")?;
+    let hostname = relay.text(alloc, "hostname", 1, 255, "relay")?;
+    let run_id = relay.digits(alloc, "run_id")?;
+    let seed = relay.digits(alloc, "seed")?;
+    let connections = relay.count(alloc, "connections", 1024, 256)?;
+    Ok(RelaySettings {
+        listen,
+        monitor,
+        hostname,
+        run_id,
+        seed,
+        connections,
+    })
+}
+
+/// A table with no key.
+fn empty(alloc: Global) -> Table
+    ensures { table_view result ≡ no_members }
+{
+    Table::new(alloc)
+}
+
+/// The settings of the relay: with no table, the defaults.
+pub fn relay_of(alloc: Global, root: &Table) -> Result<RelaySettings, SettingsFault>
+    ensures { Answers (relay_fault (get_member (codes "relay") (table_view root.now))) (relay_settings (table_in (codes "relay") (table_view root.now))) result }
+{
+    let section = Section {
+        place: Place::Root,
+        table: root,
+    };
+    let Some(value) = section.get("relay") else {
+        let nothing = empty(alloc);
+        return relay_in(alloc, &nothing);
+    };
+    match value.as_table() {
+        Some(table) => relay_in(alloc, table),
+        None => Err(Place::Relay.own_fault(alloc, Flaw::WrongKind)),
+    }
+}

@@ -1,0 +1,224 @@
+//! A table of the settings, and the readers of its keys.
+
+ghost use Rattle.std.specs.Prelude.{◌≡◌, ◌≢◌, ◌≤◌, map, IfOk, IfErr, Some, None, option_map};
+ghost use Rattle.toml.specs.Data.{get_member};
+ghost use Rattle.toml.specs.View.{view, table_view};
+ghost use Rattle.fwd_settings.specs.Kinds.{Reads, number_key, flag_key, text_key, digits_key, address_key, address_key_or, required_address_key, required_pattern_key, required_list_key, fault_at, setting_at};
+ghost use Rattle.fwd_settings.specs.Keys as keys;
+
+use crate::fault::SettingsFault;
+use crate::place::{Flaw, Place};
+use crate::text::Text;
+use crate::values::{address_in, digits_in, flag_in, list_in, number_in, text_in};
+use fwd_match::{Pattern, PatternFault};
+use std::alloc::Global;
+use std::net::SocketAddr;
+use toml::{Table, Value};
+
+/// A table, and where it stands. Each reader of a key answers its setting, or what is wrong with it.
+#[derive(Clone, Copy)]
+pub struct Section<'a> {
+    pub place: Place,
+    pub table: &'a Table,
+}
+
+impl<'a> Section<'a> {
+    /// The value under a name.
+    pub fn get(&self, name: &str) -> Option<&'a Value>
+        ensures { option_map (λ value. view value.now) result ≡ get_member name.now (table_view self.now.table.now) }
+    {
+        self.table.get(name)
+    }
+
+    /// A number of its range.
+    #[tactic(auto, unfolding(crate::specs::Kinds::fault_at, crate::specs::Kinds::setting_at, crate::specs::Kinds::number_key))]
+    pub fn number(
+        &self,
+        alloc: Global,
+        name: &str,
+        least: u64,
+        most: u64,
+        default: u64,
+    ) -> Result<u64, SettingsFault>
+        requires { (least ≤ default) × (default ≤ most) }
+        ensures reads { Reads self.now.place (table_view self.now.table.now) (number_key name.now least most default) result }
+        ensures least { IfOk result (λ number. least ≤ number) }
+        ensures most { IfOk result (λ number. number ≤ most) }
+    {
+        match self.get(name) {
+            None => Ok(default),
+            Some(value) => match number_in(value, least, most) {
+                Ok(number) => Ok(number),
+                Err(flaw) => Err(self.place.fault(alloc, name, flaw)),
+            },
+        }
+    }
+
+    /// The greatest time between two tries, which is no shorter than the time after the first loss.
+    pub fn retry_max(&self, alloc: Global, retry_wait: u64) -> Result<u64, SettingsFault>
+        requires wait { retry_wait ≡ setting_at (table_view self.now.table.now) keys.retry_wait }
+        requires within { retry_wait ≤ 86400000 }
+        ensures { Reads self.now.place (table_view self.now.table.now) (keys.retry_max (table_view self.now.table.now)) result }
+    {
+        let default = u64::max(60_000, retry_wait);
+        match self.number(alloc, "retry_max", retry_wait, 86_400_000, default) {
+            Ok(number) => Ok(number),
+            Err(fault) => Err(fault),
+        }
+    }
+
+    /// A count from 1 on.
+    pub fn count(
+        &self,
+        alloc: Global,
+        name: &str,
+        most: u16,
+        default: u16,
+    ) -> Result<u16, SettingsFault>
+        requires { (1 ≤ default) × (default ≤ most) }
+        ensures { Reads self.now.place (table_view self.now.table.now) (number_key name.now 1 most default) result }
+    {
+        match self.number(alloc, name, 1, most as u64, default as u64) {
+            Ok(count) => Ok(count as u16),
+            Err(fault) => Err(fault),
+        }
+    }
+
+    /// True or false.
+    #[tactic(auto, unfolding(crate::specs::Kinds::fault_at, crate::specs::Kinds::setting_at, crate::specs::Kinds::flag_key))]
+    pub fn flag(&self, alloc: Global, name: &str, default: bool) -> Result<bool, SettingsFault>
+        ensures { Reads self.now.place (table_view self.now.table.now) (flag_key name.now default) result }
+    {
+        match self.get(name) {
+            None => Ok(default),
+            Some(value) => match flag_in(value) {
+                Ok(flag) => Ok(flag),
+                Err(flaw) => Err(self.place.fault(alloc, name, flaw)),
+            },
+        }
+    }
+
+    /// A text of so many bytes.
+    #[tactic(auto, unfolding(crate::specs::Kinds::fault_at, crate::specs::Kinds::setting_at, crate::specs::Kinds::text_key))]
+    pub fn text(
+        &self,
+        alloc: Global,
+        name: &str,
+        least: usize,
+        most: usize,
+        default: &str,
+    ) -> Result<Text, SettingsFault>
+        ensures { Reads self.now.place (table_view self.now.table.now) (text_key name.now least most default.now) result }
+    {
+        match self.get(name) {
+            None => Ok(Text::from_str(alloc, default)?),
+            Some(value) => match text_in(value, least, most) {
+                Ok(text) => Ok(Text::from_str(alloc, text)?),
+                Err(flaw) => Err(self.place.fault(alloc, name, flaw)),
+            },
+        }
+    }
+
+    /// So many bytes as hex digits.
+    #[tactic(auto, unfolding(crate::specs::Kinds::fault_at, crate::specs::Kinds::setting_at, crate::specs::Kinds::digits_key))]
+    pub fn digits<const N: usize>(
+        &self,
+        alloc: Global,
+        name: &str,
+    ) -> Result<Option<[u8; N]>, SettingsFault>
+        ensures { Reads self.now.place (table_view self.now.table.now) (digits_key name.now N) result }
+    {
+        match self.get(name) {
+            None => Ok(None),
+            Some(value) => match digits_in(value) {
+                Ok(bytes) => Ok(Some(bytes)),
+                Err(flaw) => Err(self.place.fault(alloc, name, flaw)),
+            },
+        }
+    }
+
+    /// An address, if there is one.
+    #[tactic(auto, unfolding(crate::specs::Kinds::fault_at, crate::specs::Kinds::setting_at, crate::specs::Kinds::address_key))]
+    pub fn address(&self, alloc: Global, name: &str) -> Result<Option<SocketAddr>, SettingsFault>
+        ensures { Reads self.now.place (table_view self.now.table.now) (address_key name.now) result }
+    {
+        match self.get(name) {
+            None => Ok(None),
+            Some(value) => match address_in(value) {
+                Ok(address) => Ok(Some(address)),
+                Err(flaw) => Err(self.place.fault(alloc, name, flaw)),
+            },
+        }
+    }
+
+    /// An address, or the default.
+    #[tactic(auto, unfolding(crate::specs::Kinds::fault_at, crate::specs::Kinds::setting_at, crate::specs::Kinds::address_key_or))]
+    pub fn address_or(
+        &self,
+        alloc: Global,
+        name: &str,
+        default: SocketAddr,
+    ) -> Result<SocketAddr, SettingsFault>
+        ensures { Reads self.now.place (table_view self.now.table.now) (address_key_or name.now default) result }
+    {
+        match self.get(name) {
+            None => Ok(default),
+            Some(value) => match address_in(value) {
+                Ok(address) => Ok(address),
+                Err(flaw) => Err(self.place.fault(alloc, name, flaw)),
+            },
+        }
+    }
+
+    /// An address that has to be there.
+    #[tactic(auto, unfolding(crate::specs::Kinds::fault_at, crate::specs::Kinds::setting_at, crate::specs::Kinds::required_address_key))]
+    pub fn required_address(&self, alloc: Global, name: &str) -> Result<SocketAddr, SettingsFault>
+        ensures { Reads self.now.place (table_view self.now.table.now) (required_address_key name.now) result }
+    {
+        match self.get(name) {
+            None => Err(self.place.fault(alloc, name, Flaw::Missing)),
+            Some(value) => match address_in(value) {
+                Ok(address) => Ok(address),
+                Err(flaw) => Err(self.place.fault(alloc, name, flaw)),
+            },
+        }
+    }
+
+    /// A match pattern that has to be there.
+    #[tactic(auto, unfolding(crate::specs::Kinds::fault_at, crate::specs::Kinds::setting_at, crate::specs::Kinds::required_pattern_key))]
+    pub fn required_pattern(&self, alloc: Global, name: &str) -> Result<Pattern, SettingsFault>
+        ensures { Reads self.now.place (table_view self.now.table.now) (required_pattern_key name.now) result }
+    {
+        let Some(value) = self.get(name) else {
+            return Err(self.place.fault(alloc, name, Flaw::Missing));
+        };
+        let Some(text) = value.as_str() else {
+            return Err(self.place.fault(alloc, name, Flaw::WrongKind));
+        };
+        match Pattern::read(alloc, text) {
+            Ok(pattern) => Ok(pattern),
+            Err(PatternFault::Memory) => Err(SettingsFault::Memory),
+            Err(_) => Err(self.place.fault(alloc, name, Flaw::BadPattern)),
+        }
+    }
+
+    /// The members of a list that has to be there, from 1 to so many.
+    #[tactic(auto, unfolding(crate::specs::Kinds::fault_at, crate::specs::Kinds::setting_at, crate::specs::Kinds::required_list_key))]
+    pub fn required_list(
+        &self,
+        alloc: Global,
+        name: &str,
+        most: usize,
+    ) -> Result<&'a [Value], SettingsFault>
+        ensures ok { IfOk result (λ values. (fault_at self.now.place (table_view self.now.table.now) (required_list_key name.now most) ≡ None) × (map view values.now ≡ setting_at (table_view self.now.table.now) (required_list_key name.now most))) }
+        ensures fault { IfErr result (λ fault. fault ≢ SettingsFault.Memory → fault_at self.now.place (table_view self.now.table.now) (required_list_key name.now most) ≡ Some fault) }
+    {
+        let Some(value) = self.get(name) else {
+            return Err(self.place.fault(alloc, name, Flaw::Missing));
+        };
+        match list_in(value, most) {
+            Ok(values) => Ok(values),
+            Err(flaw) => Err(self.place.fault(alloc, name, flaw)),
+        }
+    }
+}

@@ -1,0 +1,70 @@
+//! The settings, with the defaults where a key is absent.
+
+use crate::seq::Seq;
+use crate::text::Text;
+use fwd_match::Pattern;
+use std::net::SocketAddr;
+
+/// All settings.
+#[derive(Drop)]
+pub struct Settings {
+    /// The relay itself.
+    pub relay: RelaySettings,
+    /// The outputs, from 1 to 64, in the order of the file.
+    pub outputs: Seq<OutputSettings>,
+}
+
+/// The settings of the relay itself. They are not printed, since the seed is a secret.
+#[derive(Drop)]
+pub struct RelaySettings {
+    /// Where sources connect.
+    pub listen: SocketAddr,
+    /// Where the monitor page is served, if it is.
+    pub monitor: Option<SocketAddr>,
+    /// The relay's name, 1 to 255 bytes.
+    pub hostname: Text,
+    /// What tells this run from others.
+    pub run_id: Option<[u8; 6]>,
+    /// Where the random numbers begin.
+    pub seed: Option<[u8; 32]>,
+    /// The most sources at a time, 1 to 1,024.
+    pub connections: u16,
+}
+
+/// The settings of an output. They are not printed, since they hold a password.
+#[derive(Drop)]
+pub struct OutputSettings {
+    /// Which tags come here.
+    pub pattern: Pattern,
+    /// How many sessions it runs at a time, 1 to 16.
+    pub workers: u16,
+    /// The most bytes of entries in a chunk, 1 to 16,000,000.
+    pub chunk_limit: u64,
+    /// The most bytes of entries in all, 1 to 1,000,000,000,000.
+    pub total_limit: u64,
+    /// How long a chunk waits for more entries, in milliseconds, 0 to 86,400,000.
+    pub flush_interval: u64,
+    /// How long a server is left alone after its first loss, in milliseconds, 1 to 86,400,000.
+    pub retry_wait: u64,
+    /// The longest that a server is left alone, in milliseconds, `retry_wait` to 86,400,000.
+    pub retry_max: u64,
+    /// How long an acknowledgement is waited for, in milliseconds, 1 to 86,400,000.
+    pub ack_wait: u64,
+    /// The name that it gives to its servers, 1 to 255 bytes.
+    pub hostname: Text,
+    /// The user that it is to its servers, 0 to 255 bytes.
+    pub username: Text,
+    /// The user's password, 0 to 255 bytes.
+    pub password: Text,
+    /// Its servers, from 1 to 16, in the order of the file. At least one is no standby.
+    pub servers: Seq<ServerSettings>,
+}
+
+/// The settings of an output's server.
+#[derive(Clone, Copy, Debug, Drop)]
+pub struct ServerSettings {
+    /// Where it is reached.
+    pub address: SocketAddr,
+    /// Whether it is only used where the others fail.
+    pub standby: bool,
+}

@@ -1,0 +1,536 @@
+use super::*;
+use std::alloc::{AllocError, Global};
+use std::net::SocketAddr;
+use std::test::Fail;
+
+const MATCH: &str = "[[output]]\nmatch = \"**\"\n";
+
+const SERVER: &str = "[[output.server]]\naddress = \"127.0.0.1:1\"\n";
+
+/// The fault of a text as it is told, or `good`.
+fn told(alloc: Global, text: &str) -> Result<String, AllocError> {
+    match read_settings(alloc, text.as_bytes()) {
+        Ok(_) => String::from_str(alloc, "good"),
+        Err(fault) => format!(in alloc; "{fault}"),
+    }
+}
+
+/// What is told of a line in the table `relay`.
+fn in_relay(alloc: Global, line: &str) -> Result<String, AllocError> {
+    let text = format!(in alloc; "[relay]\n{line}\n{MATCH}{SERVER}")?;
+    told(alloc, text.as_str())
+}
+
+/// What is told of a line in the first output.
+fn in_output(alloc: Global, line: &str) -> Result<String, AllocError> {
+    let text = format!(in alloc; "{MATCH}{line}\n{SERVER}")?;
+    told(alloc, text.as_str())
+}
+
+/// What is told of a line in the second server of the first output.
+fn in_server(alloc: Global, line: &str) -> Result<String, AllocError> {
+    let text = format!(in alloc; "{MATCH}{SERVER}[[output.server]]\n{line}\n")?;
+    told(alloc, text.as_str())
+}
+
+/// A key with a text of so many bytes.
+fn long(alloc: Global, key: &str, length: usize) -> Result<String, AllocError> {
+    let mut line = format!(in alloc; "{key} = \"")?;
+    for _ in 0..length {
+        line.push('a')?;
+    }
+    line.push('"')?;
+    Ok(line)
+}
+
+/// So many outputs, or so many servers of one output.
+fn repeated(alloc: Global, front: &str, part: &str, times: usize) -> Result<String, AllocError> {
+    let mut text = String::from_str(alloc, front)?;
+    for _ in 0..times {
+        text.push_str(part)?;
+    }
+    Ok(text)
+}
+
+#[test]
+fn defaults(rt: HostRuntime) -> Result<(), Fail> {
+    let text = format!(in rt.alloc(); "{MATCH}{SERVER}")?;
+    let settings = read_settings(rt.alloc(), text.as_bytes())?;
+    let relay = &settings.relay;
+    assert_eq!(rt; relay.listen, "127.0.0.1:24224".parse::<SocketAddr>()?);
+    assert!(rt; relay.monitor.is_none());
+    assert_eq!(rt; relay.hostname.as_str(), "relay");
+    assert!(rt; relay.run_id.is_none());
+    assert!(rt; relay.seed.is_none());
+    assert_eq!(rt; relay.connections, 256);
+    assert_eq!(rt; settings.outputs.len(), 1);
+    for output in settings.outputs.as_slice() {
+        assert!(rt; output.pattern.matches(b"a.b"));
+        assert_eq!(rt; output.workers, 1);
+        assert_eq!(rt; output.chunk_limit, 8_000_000);
+        assert_eq!(rt; output.total_limit, 512_000_000);
+        assert_eq!(rt; output.flush_interval, 5000);
+        assert_eq!(rt; output.retry_wait, 1000);
+        assert_eq!(rt; output.retry_max, 60_000);
+        assert_eq!(rt; output.ack_wait, 190_000);
+        assert_eq!(rt; output.hostname.as_str(), "relay");
+        assert_eq!(rt; output.username.as_str(), "");
+        assert_eq!(rt; output.password.as_str(), "");
+        assert_eq!(rt; output.servers.len(), 1);
+        for server in output.servers.as_slice() {
+            assert_eq!(rt; server.address, "127.0.0.1:1".parse::<SocketAddr>()?);
+            assert!(rt; !server.standby);
+        }
+    }
+    Ok(())
+}
+
+#[test]
+fn every_key_set(rt: HostRuntime) -> Result<(), Fail> {
+    let text =
+        "[relay]\nlisten = \"0.0.0.0:1\"\nmonitor = \"[::1]:65535\"\nhostname = \"h\"\nrun_id = \"0123456789aB\"\n\
+        seed = \"00000000000000000000000000000000000000000000000000000000000000Ff\"\nconnections = 2\n\
+        [[output]]\nmatch = \"a.b\"\nworkers = 3\nchunk_limit = 4\ntotal_limit = 5\nflush_interval = 6\nretry_wait = 7\n\
+        retry_max = 8\nack_wait = 9\nhostname = \"o\"\nusername = \"u\"\npassword = \"p\"\n\
+        [[output.server]]\naddress = \"10.0.0.1:2\"\nstandby = true\n[[output.server]]\naddress = \"10.0.0.2:3\"\nstandby = false\n\
+        [[output]]\nmatch = \"c\"\n[[output.server]]\naddress = \"10.0.0.3:4\"\n";
+    let settings = read_settings(rt.alloc(), text.as_bytes())?;
+    let relay = &settings.relay;
+    assert_eq!(rt; relay.listen, "0.0.0.0:1".parse::<SocketAddr>()?);
+    assert_eq!(rt; relay.monitor, Some("[::1]:65535".parse::<SocketAddr>()?));
+    assert_eq!(rt; relay.hostname.as_str(), "h");
+    assert_eq!(rt; relay.run_id, Some([0x01, 0x23, 0x45, 0x67, 0x89, 0xab]));
+    let mut seed = [0; 32];
+    seed[31] = 255;
+    assert_eq!(rt; relay.seed, Some(seed));
+    assert_eq!(rt; relay.connections, 2);
+    let outputs = settings.outputs.as_slice();
+    assert_eq!(rt; outputs.len(), 2);
+    let first = &outputs[0];
+    assert!(rt; first.pattern.matches(b"a.b"));
+    assert_eq!(rt; first.workers, 3);
+    assert_eq!(rt; first.chunk_limit, 4);
+    assert_eq!(rt; first.total_limit, 5);
+    assert_eq!(rt; first.flush_interval, 6);
+    assert_eq!(rt; first.retry_wait, 7);
+    assert_eq!(rt; first.retry_max, 8);
+    assert_eq!(rt; first.ack_wait, 9);
+    assert_eq!(rt; first.hostname.as_str(), "o");
+    assert_eq!(rt; first.username.as_str(), "u");
+    assert_eq!(rt; first.password.as_str(), "p");
+    let servers = first.servers.as_slice();
+    assert_eq!(rt; servers.len(), 2);
+    assert_eq!(rt; servers[0].address, "10.0.0.1:2".parse::<SocketAddr>()?);
+    assert!(rt; servers[0].standby);
+    assert_eq!(rt; servers[1].address, "10.0.0.2:3".parse::<SocketAddr>()?);
+    assert!(rt; !servers[1].standby);
+    assert!(rt; outputs[1].pattern.matches(b"c"));
+    Ok(())
+}
+
+#[test]
+fn keys_of_relay(rt: HostRuntime) -> Result<(), Fail> {
+    for (line, wanted) in [
+        ("", "good"),
+        ("listen = 1", "wrong kind relay.listen"),
+        ("listen = \"127.0.0.1:1\"", "good"),
+        ("listen = \"127.0.0.1:65535\"", "good"),
+        ("listen = \"127.0.0.1:0\"", "out of range relay.listen"),
+        ("listen = \"127.0.0.1:65536\"", "out of range relay.listen"),
+        ("listen = \"127.0.0.1\"", "out of range relay.listen"),
+        ("listen = \"localhost:1\"", "out of range relay.listen"),
+        ("listen = \"[::1]:1\"", "good"),
+        ("listen = \"::1:1\"", "out of range relay.listen"),
+        ("listen = \"[fe80::1%1]:1\"", "out of range relay.listen"),
+        ("listen = \"[fe80::1%0]:1\"", "out of range relay.listen"),
+        ("listen = \"\"", "out of range relay.listen"),
+        ("monitor = true", "wrong kind relay.monitor"),
+        ("monitor = \"127.0.0.1:0\"", "out of range relay.monitor"),
+        ("monitor = \"127.0.0.1:8080\"", "good"),
+        ("hostname = 1", "wrong kind relay.hostname"),
+        ("hostname = \"\"", "out of range relay.hostname"),
+        ("hostname = \"a\"", "good"),
+        ("run_id = 123456789012", "wrong kind relay.run_id"),
+        ("run_id = \"00000000000\"", "out of range relay.run_id"),
+        ("run_id = \"0000000000000\"", "out of range relay.run_id"),
+        ("run_id = \"00000000000000\"", "out of range relay.run_id"),
+        ("run_id = \"00000000000g\"", "out of range relay.run_id"),
+        ("run_id = \"abcdefABCDEF\"", "good"),
+        ("seed = 0", "wrong kind relay.seed"),
+        ("seed = \"00\"", "out of range relay.seed"),
+        ("connections = \"1\"", "wrong kind relay.connections"),
+        ("connections = 1.0", "wrong kind relay.connections"),
+        ("connections = true", "wrong kind relay.connections"),
+        ("connections = [1]", "wrong kind relay.connections"),
+        ("connections = 1979-05-27", "wrong kind relay.connections"),
+        ("connections = -1", "out of range relay.connections"),
+        ("connections = 0", "out of range relay.connections"),
+        ("connections = 1", "good"),
+        ("connections = 1024", "good"),
+        ("connections = 1025", "out of range relay.connections"),
+        (
+            "connections = 9223372036854775807",
+            "out of range relay.connections",
+        ),
+        ("shared_key = \"k\"", "unknown relay.shared_key"),
+        ("user = []", "unknown relay.user"),
+        ("Listen = 1", "unknown relay.Listen"),
+    ] {
+        assert_eq!(rt; in_relay(rt.alloc(), line)?.as_str(), wanted, "at {line}");
+    }
+    for (key, length, wanted) in [
+        ("hostname", 255, "good"),
+        ("hostname", 256, "out of range relay.hostname"),
+    ] {
+        let line = long(rt.alloc(), key, length)?;
+        assert_eq!(rt; in_relay(rt.alloc(), line.as_str())?.as_str(), wanted);
+    }
+    Ok(())
+}
+
+#[test]
+fn keys_of_an_output(rt: HostRuntime) -> Result<(), Fail> {
+    for (line, wanted) in [
+        ("workers = true", "wrong kind output[0].workers"),
+        ("workers = 0", "out of range output[0].workers"),
+        ("workers = 1", "good"),
+        ("workers = 16", "good"),
+        ("workers = 17", "out of range output[0].workers"),
+        ("chunk_limit = \"\"", "wrong kind output[0].chunk_limit"),
+        ("chunk_limit = 0", "out of range output[0].chunk_limit"),
+        ("chunk_limit = 1", "good"),
+        ("chunk_limit = 16000000", "good"),
+        (
+            "chunk_limit = 16000001",
+            "out of range output[0].chunk_limit",
+        ),
+        ("total_limit = []", "wrong kind output[0].total_limit"),
+        ("total_limit = 0", "out of range output[0].total_limit"),
+        ("total_limit = 1", "good"),
+        ("total_limit = 1000000000000", "good"),
+        (
+            "total_limit = 1000000000001",
+            "out of range output[0].total_limit",
+        ),
+        (
+            "flush_interval = 0.5",
+            "wrong kind output[0].flush_interval",
+        ),
+        (
+            "flush_interval = -1",
+            "out of range output[0].flush_interval",
+        ),
+        ("flush_interval = 0", "good"),
+        ("flush_interval = 86400000", "good"),
+        (
+            "flush_interval = 86400001",
+            "out of range output[0].flush_interval",
+        ),
+        ("retry_wait = \"1s\"", "wrong kind output[0].retry_wait"),
+        ("retry_wait = 0", "out of range output[0].retry_wait"),
+        ("retry_wait = 1", "good"),
+        ("retry_wait = 86400000", "good"),
+        ("retry_wait = 86400001", "out of range output[0].retry_wait"),
+        ("retry_max = false", "wrong kind output[0].retry_max"),
+        ("retry_max = 999", "out of range output[0].retry_max"),
+        ("retry_max = 1000", "good"),
+        ("retry_max = 86400000", "good"),
+        ("retry_max = 86400001", "out of range output[0].retry_max"),
+        (
+            "retry_wait = 500\nretry_max = 499",
+            "out of range output[0].retry_max",
+        ),
+        ("retry_wait = 500\nretry_max = 500", "good"),
+        ("retry_wait = 60001", "good"),
+        ("ack_wait = {}", "wrong kind output[0].ack_wait"),
+        ("ack_wait = 0", "out of range output[0].ack_wait"),
+        ("ack_wait = 1", "good"),
+        ("ack_wait = 86400000", "good"),
+        ("ack_wait = 86400001", "out of range output[0].ack_wait"),
+        ("hostname = 1", "wrong kind output[0].hostname"),
+        ("hostname = \"\"", "out of range output[0].hostname"),
+        ("username = 1", "wrong kind output[0].username"),
+        ("username = \"\"", "good"),
+        ("password = 1", "wrong kind output[0].password"),
+        ("password = \"\"", "good"),
+        ("shared_key = \"k\"", "unknown output[0].shared_key"),
+        ("tag = \"a\"", "unknown output[0].tag"),
+    ] {
+        assert_eq!(rt; in_output(rt.alloc(), line)?.as_str(), wanted, "at {line}");
+    }
+    for (key, length, wanted) in [
+        ("hostname", 255, "good"),
+        ("hostname", 256, "out of range output[0].hostname"),
+        ("username", 255, "good"),
+        ("username", 256, "out of range output[0].username"),
+        ("password", 255, "good"),
+        ("password", 256, "out of range output[0].password"),
+    ] {
+        let line = long(rt.alloc(), key, length)?;
+        assert_eq!(rt; in_output(rt.alloc(), line.as_str())?.as_str(), wanted);
+    }
+    Ok(())
+}
+
+#[test]
+fn a_long_wait_lengthens_the_longest(rt: HostRuntime) -> Result<(), Fail> {
+    for (line, wanted) in [
+        ("retry_wait = 59999", 60_000),
+        ("retry_wait = 60001", 60_001),
+    ] {
+        let text = format!(in rt.alloc(); "{MATCH}{line}\n{SERVER}")?;
+        let settings = read_settings(rt.alloc(), text.as_bytes())?;
+        for output in settings.outputs.as_slice() {
+            assert_eq!(rt; output.retry_max, wanted);
+        }
+    }
+    Ok(())
+}
+
+#[test]
+fn keys_of_a_server(rt: HostRuntime) -> Result<(), Fail> {
+    let good = "address = \"127.0.0.1:2\"\n";
+    for (line, wanted) in [
+        ("", "missing output[0].server[1].address"),
+        ("standby = true", "missing output[0].server[1].address"),
+        ("address = 1", "wrong kind output[0].server[1].address"),
+        (
+            "address = \"127.0.0.1:0\"",
+            "out of range output[0].server[1].address",
+        ),
+        ("address = \"[::1]:2\"", "good"),
+    ] {
+        assert_eq!(rt; in_server(rt.alloc(), line)?.as_str(), wanted, "at {line}");
+    }
+    for (line, wanted) in [
+        ("", "good"),
+        ("standby = true", "good"),
+        ("standby = false", "good"),
+        ("standby = 1", "wrong kind output[0].server[1].standby"),
+        (
+            "standby = \"true\"",
+            "wrong kind output[0].server[1].standby",
+        ),
+        ("port = 1", "unknown output[0].server[1].port"),
+    ] {
+        let line = format!(in rt.alloc(); "{good}{line}")?;
+        assert_eq!(rt;
+            in_server(rt.alloc(), line.as_str())?.as_str(),
+            wanted,
+            "at {line}"
+        );
+    }
+    Ok(())
+}
+
+#[test]
+fn patterns(rt: HostRuntime) -> Result<(), Fail> {
+    for (line, wanted) in [
+        ("", "missing output[0].match"),
+        ("match = 1", "wrong kind output[0].match"),
+        ("match = \" \"", "bad pattern output[0].match"),
+        ("match = \"a{b\"", "bad pattern output[0].match"),
+        ("match = \"a*\"", "bad pattern output[0].match"),
+        (
+            "match = \"{a,b}{a,b}{a,b}{a,b}{a,b}{a,b}{a,b}\"",
+            "bad pattern output[0].match",
+        ),
+        ("match = \"{a,b}.c x\"", "good"),
+    ] {
+        let text = format!(in rt.alloc(); "[[output]]\n{line}\n{SERVER}")?;
+        assert_eq!(rt;
+            told(rt.alloc(), text.as_str())?.as_str(),
+            wanted,
+            "at {line}"
+        );
+    }
+    Ok(())
+}
+
+#[test]
+fn tables_and_lists(rt: HostRuntime) -> Result<(), Fail> {
+    for (text, wanted) in [
+        ("", "missing output"),
+        ("[relay]", "missing output"),
+        ("output = []", "out of range output"),
+        ("output = 1", "wrong kind output"),
+        ("[output]\nmatch = \"a\"", "wrong kind output"),
+        ("output = [1]", "wrong kind output[0]"),
+        ("output = [[]]", "wrong kind output[0]"),
+        ("relay = 1\noutput = []", "wrong kind relay"),
+        ("[[relay]]\n[[output]]", "wrong kind relay"),
+        ("[[output]]\nmatch = \"a\"", "missing output[0].server"),
+        (
+            "[[output]]\nmatch = \"a\"\nserver = []",
+            "out of range output[0].server",
+        ),
+        (
+            "[[output]]\nmatch = \"a\"\nserver = true",
+            "wrong kind output[0].server",
+        ),
+        (
+            "[[output]]\nmatch = \"a\"\n[output.server]",
+            "wrong kind output[0].server",
+        ),
+        (
+            "[[output]]\nmatch = \"a\"\nserver = [\"b\"]",
+            "wrong kind output[0].server[0]",
+        ),
+        (
+            "[[output]]\nmatch = \"a\"\n[[output.server]]\naddress = \"1.2.3.4:5\"\nstandby = true",
+            "out of range output[0].server",
+        ),
+        (
+            "[[output]]\nmatch = \"a\"\n[[output.server]]\naddress = \"1.2.3.4:5\"\nstandby = true\n[[output.server]]\nstandby = true",
+            "missing output[0].server[1].address",
+        ),
+        ("[monitor]\n[[output]]", "missing output[0].match"),
+        ("a = ", "not toml"),
+        ("a = 1\na = 2", "not toml"),
+    ] {
+        assert_eq!(rt; told(rt.alloc(), text)?.as_str(), wanted, "at {text}");
+    }
+    Ok(())
+}
+
+#[test]
+fn long_lists(rt: HostRuntime) -> Result<(), Fail> {
+    let output = format!(in rt.alloc(); "{MATCH}{SERVER}")?;
+    for (front, part, times, wanted) in [
+        ("", output.as_str(), 64, "good"),
+        ("", output.as_str(), 65, "out of range output"),
+        (MATCH, SERVER, 16, "good"),
+        (MATCH, SERVER, 17, "out of range output[0].server"),
+        ("", MATCH, 65, "out of range output"),
+    ] {
+        let text = repeated(rt.alloc(), front, part, times)?;
+        assert_eq!(rt;
+            told(rt.alloc(), text.as_str())?.as_str(),
+            wanted,
+            "at {times}"
+        );
+    }
+    Ok(())
+}
+
+#[test]
+fn the_first_fault_is_told(rt: HostRuntime) -> Result<(), Fail> {
+    for (text, wanted) in [
+        (
+            "[relay]\nmonitor = 1\nlisten = 1",
+            "wrong kind relay.listen",
+        ),
+        (
+            "[relay]\nconnections = 0\nseed = 1\nrun_id = 1\nhostname = 1\nmonitor = 1",
+            "wrong kind relay.monitor",
+        ),
+        ("[relay]\nconnections = 0", "out of range relay.connections"),
+        (
+            "[[output]]\nmatch = 1\nworkers = 0\n[relay]\nseed = 1",
+            "wrong kind relay.seed",
+        ),
+        ("[[output]]\nworkers = 0", "missing output[0].match"),
+        (
+            "[[output]]\nmatch = \"a\"\nchunk_limit = 0\nworkers = 0",
+            "out of range output[0].workers",
+        ),
+        (
+            "[[output]]\nmatch = \"a\"\ntotal_limit = 0\nchunk_limit = 0",
+            "out of range output[0].chunk_limit",
+        ),
+        (
+            "[[output]]\nmatch = \"a\"\nretry_wait = 0\nretry_max = 0",
+            "out of range output[0].retry_wait",
+        ),
+        (
+            "[[output]]\nmatch = \"a\"\nserver = 1\npassword = 1",
+            "wrong kind output[0].password",
+        ),
+        (
+            "a = 1\n[[output]]\nmatch = \"a\"",
+            "missing output[0].server",
+        ),
+        (
+            "[[output]]\nmatch = \"a\"\n[[output.server]]\n[[output]]\nmatch = 1",
+            "missing output[0].server[0].address",
+        ),
+        (
+            "[[output]]\nmatch = \"a\"\n[[output.server]]\naddress = \"1.2.3.4:5\"\n[[output.server]]\naddress = 1\nstandby = 1\n[[output]]",
+            "wrong kind output[0].server[1].address",
+        ),
+        (
+            "[[output]]\nmatch = \"a\"\n[[output.server]]\naddress = \"1.2.3.4:5\"\n[[output]]\nmatch = 1",
+            "wrong kind output[1].match",
+        ),
+    ] {
+        assert_eq!(rt; told(rt.alloc(), text)?.as_str(), wanted, "at {text}");
+    }
+    Ok(())
+}
+
+#[test]
+fn the_least_unknown_key_is_told(rt: HostRuntime) -> Result<(), Fail> {
+    for (front, relay, output, server, wanted) in [
+        ("b = 1\na = 1", "", "", "", "unknown a"),
+        ("", "z = 1\nb = 1", "", "", "unknown relay.b"),
+        ("z = 1", "b = 1", "c = 1", "d = 1", "unknown output[0].c"),
+        (
+            "z = 1",
+            "b = 1",
+            "z = 1",
+            "a = 1",
+            "unknown output[0].server[0].a",
+        ),
+        ("o = 1", "b = 1", "c = 1", "d = 1", "unknown o"),
+        ("z = { a = 1 }", "", "", "", "unknown z"),
+        ("\"\" = 1", "", "", "", "unknown "),
+    ] {
+        let text = format!(in rt.alloc();
+            "{front}\n[relay]\n{relay}\n{MATCH}{output}\n{SERVER}{server}\n"
+        )?;
+        assert_eq!(rt;
+            told(rt.alloc(), text.as_str())?.as_str(),
+            wanted,
+            "at {text}"
+        );
+    }
+    let output = format!(in rt.alloc(); "{MATCH}{SERVER}")?;
+    let mut text = repeated(rt.alloc(), "", output.as_str(), 10)?;
+    text.push_str(
+        "[[output]]\nmatch = \"a\"\nz = 1\n[[output.server]]\naddress = \"1.2.3.4:5\"\n",
+    )?;
+    let other = format!(in rt.alloc(); "[[output]]\nmatch = \"a\"\nb = 1\n{SERVER}{text}")?;
+    assert_eq!(rt;
+        told(rt.alloc(), text.as_str())?.as_str(),
+        "unknown output[10].z"
+    );
+    assert_eq!(rt;
+        told(rt.alloc(), other.as_str())?.as_str(),
+        "unknown output[0].b"
+    );
+    let both = format!(in rt.alloc(); "{MATCH}{SERVER}{MATCH}b = 1\n{SERVER}{text}")?;
+    assert_eq!(rt;
+        told(rt.alloc(), both.as_str())?.as_str(),
+        "unknown output[12].z"
+    );
+    Ok(())
+}
+
+#[test]
+fn no_text(rt: HostRuntime) -> Result<(), Fail> {
+    let text = b"[[output]]\nmatch = \"\xff\"\n".as_slice();
+    match read_settings(rt.alloc(), text) {
+        Ok(_) => assert!(rt; false),
+        Err(fault) => assert_eq!(rt; format!(in rt.alloc(); "{fault}")?.as_str(), "not toml"),
+    }
+    Ok(())
+}
+
+#[test]
+fn faults_of_others(rt: HostRuntime) -> Result<(), Fail> {
+    let memory = format!(in rt.alloc(); "{}", SettingsFault::Memory)?;
+    assert_eq!(rt; memory.as_str(), "memory");
+    let unreadable = format!(in rt.alloc(); "{}", SettingsFault::Unreadable)?;
+    assert_eq!(rt; unreadable.as_str(), "unreadable");
+    Ok(())
+}

@@ -1,0 +1,195 @@
+//! Keys that no table has.
+
+ghost use Rattle.std.specs.Prelude.{◌≡◌, map, IfOk, codes, None};
+ghost use Rattle.std.specs.List.{flat_map};
+ghost use Rattle.toml.specs.View.{view, table_view};
+ghost use Rattle.fwd_settings.specs.Kinds.{each, list_in};
+ghost use Rattle.fwd_settings.specs.Keys.{relay_names, table_in};
+ghost use Rattle.fwd_settings.specs.Unknown as spec;
+
+use crate::place::Place;
+use crate::section::Section;
+use crate::text::Text;
+use crate::values::array_in;
+use std::alloc::{AllocError, Global};
+use toml::{Table, Value};
+
+const ROOT: [&str; 2] = ["relay", "output"];
+
+const RELAY: [&str; 6] = [
+    "listen",
+    "monitor",
+    "hostname",
+    "run_id",
+    "seed",
+    "connections",
+];
+
+const OUTPUT: [&str; 12] = [
+    "match",
+    "workers",
+    "chunk_limit",
+    "total_limit",
+    "flush_interval",
+    "retry_wait",
+    "retry_max",
+    "ack_wait",
+    "hostname",
+    "username",
+    "password",
+    "server",
+];
+
+const SERVER: [&str; 2] = ["address", "standby"];
+
+/// The lesser of two keys by their bytes.
+fn lesser(least: Option<Text>, key: Text) -> Text
+    ensures { result ≡ spec.lesser least key }
+{
+    let Some(least) = least else {
+        return key;
+    };
+    if key.as_str().cmp(&least.as_str()).is_lt() {
+        key
+    } else {
+        least
+    }
+}
+
+/// Whether a name is none of these.
+#[tactic(auto, using(crate::proofs::UnknownLemmas::any_shown))]
+fn is_unknown(names: &[&str], name: &str) -> bool
+    ensures { result ≡ spec.is_unknown (map (λ known. known.now) names.now) name.now }
+{
+    !names.contains(&name)
+}
+
+/// The least of the keys of a table that are none of these names, and of one key more.
+#[tactic(auto, using(crate::proofs::UnknownLemmas::names_viewed))]
+fn least_under(
+    alloc: Global,
+    place: Place,
+    names: &[&str],
+    table: &Table,
+    least: Option<Text>,
+) -> Result<Option<Text>, AllocError>
+    ensures { IfOk result (λ key. key ≡ spec.least_from least (spec.unknown_under place (map (λ known. known.now) names.now) (table_view table.now))) }
+{
+    let mut least = least;
+    for name in table.keys() {
+        if is_unknown(names, name.as_str()) {
+            let key = place.key(alloc, name.as_str())?;
+            least = Some(lesser(least, key));
+        }
+    }
+    Ok(least)
+}
+
+/// The members of the list under a name: none if there is no such list.
+fn members_of<'a>(table: &'a Table, place: Place, name: &str) -> &'a [Value]
+    ensures { map view result.now ≡ list_in name.now (table_view table.now) }
+{
+    let section = Section { place, table };
+    match section.get(name) {
+        Some(value) => array_in(value).unwrap_or(&[]),
+        None => &[],
+    }
+}
+
+/// The least of the unknown keys of a server, and of one key more.
+fn least_in_server(
+    alloc: Global,
+    output: usize,
+    server: usize,
+    value: &Value,
+    least: Option<Text>,
+) -> Result<Option<Text>, AllocError>
+    ensures { IfOk result (λ key. key ≡ spec.least_from least (spec.unknown_in_server output server (view value.now))) }
+{
+    match value.as_table() {
+        Some(table) => least_under(alloc, Place::Server(output, server), &SERVER, table, least),
+        None => Ok(least),
+    }
+}
+
+/// The least of the unknown keys of some servers, and of one key more.
+#[tactic(auto, using(crate::proofs::ListLemmas::each_more, crate::proofs::UnknownLemmas::least_append))]
+fn least_in_servers(
+    alloc: Global,
+    output: usize,
+    values: &[Value],
+    least: Option<Text>,
+) -> Result<Option<Text>, AllocError>
+    ensures { IfOk result (λ key. key ≡ spec.least_from least (flat_map (λ keys. keys) (each (spec.unknown_in_server output) 0 (map view values.now)))) }
+{
+    let mut least = least;
+    for server in 0..values.len() {
+        least = least_in_server(alloc, output, server, &values[server], least)?;
+    }
+    Ok(least)
+}
+
+/// The least of the unknown keys of an output, and of one key more.
+#[tactic(auto, using(crate::proofs::UnknownLemmas::least_append))]
+fn least_in_output(
+    alloc: Global,
+    output: usize,
+    value: &Value,
+    least: Option<Text>,
+) -> Result<Option<Text>, AllocError>
+    ensures { IfOk result (λ key. key ≡ spec.least_from least (spec.unknown_in_output output (view value.now))) }
+{
+    let Some(table) = value.as_table() else {
+        return Ok(least);
+    };
+    let place = Place::Output(output);
+    let least = least_under(alloc, place, &OUTPUT, table, least)?;
+    least_in_servers(alloc, output, members_of(table, place, "server"), least)
+}
+
+/// The least of the unknown keys of some outputs, and of one key more.
+#[tactic(auto, using(crate::proofs::ListLemmas::each_more, crate::proofs::UnknownLemmas::least_append))]
+fn least_in_outputs(
+    alloc: Global,
+    values: &[Value],
+    least: Option<Text>,
+) -> Result<Option<Text>, AllocError>
+    ensures { IfOk result (λ key. key ≡ spec.least_from least (flat_map (λ keys. keys) (each spec.unknown_in_output 0 (map view values.now)))) }
+{
+    let mut least = least;
+    for output in 0..values.len() {
+        least = least_in_output(alloc, output, &values[output], least)?;
+    }
+    Ok(least)
+}
+
+/// The least of the unknown keys of the table `relay`, and of one key more.
+fn least_in_relay(
+    alloc: Global,
+    root: &Table,
+    least: Option<Text>,
+) -> Result<Option<Text>, AllocError>
+    ensures { IfOk result (λ key. key ≡ spec.least_from least (spec.unknown_under Place.Relay relay_names (table_in (codes "relay") (table_view root.now)))) }
+{
+    let section = Section {
+        place: Place::Root,
+        table: root,
+    };
+    let Some(value) = section.get("relay") else {
+        return Ok(least);
+    };
+    match value.as_table() {
+        Some(table) => least_under(alloc, Place::Relay, &RELAY, table, least),
+        None => Ok(least),
+    }
+}
+
+/// The least unknown key of all.
+#[tactic(auto, using(crate::proofs::UnknownLemmas::least_append))]
+pub fn least_unknown(alloc: Global, root: &Table) -> Result<Option<Text>, AllocError>
+    ensures { IfOk result (λ key. key ≡ spec.least_from None (spec.unknown_keys (table_view root.now))) }
+{
+    let least = least_under(alloc, Place::Root, &ROOT, root, None)?;
+    let least = least_in_relay(alloc, root, least)?;
+    least_in_outputs(alloc, members_of(root, Place::Root, "output"), least)
+}

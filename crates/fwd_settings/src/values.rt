@@ -1,0 +1,119 @@
+//! What a value is under the rule of its kind.
+
+ghost use Rattle.std.specs.Prelude.{◌≡◌, ◌≤◌, IfOk, IfErr, Some, None, map, option_map};
+ghost use Rattle.toml.specs.Data.{as_str, as_bool};
+ghost use Rattle.toml.specs.View.{view};
+ghost use Rattle.fwd_settings.specs.Kinds.{number_flaw, number_of, flag_flaw, text_flaw, digits_flaw, bytes_of, address_flaw, list_of, list_flaw};
+ghost use Rattle.fwd_settings.specs.Kinds as spec;
+ghost use Rattle.fwd_settings.specs.Addresses.{address_of_text, socket_of};
+
+use crate::place::Flaw;
+use hex::FromHex;
+use std::net::SocketAddr;
+use toml::Value;
+
+/// An integer of this range.
+pub fn number_in(value: &Value, least: u64, most: u64) -> Result<u64, Flaw>
+    ensures ok { IfOk result (λ number. (number_of (view value.now) ≡ Some number) × (number_flaw least most (view value.now) ≡ None)) }
+    ensures flaw { IfErr result (λ flaw. number_flaw least most (view value.now) ≡ Some flaw) }
+    ensures least { IfOk result (λ number. least ≤ number) }
+    ensures most { IfOk result (λ number. number ≤ most) }
+{
+    let number = value.as_integer().ok_or(Flaw::WrongKind)?;
+    let number = u64::try_from(number).map_err(|_| Flaw::OutOfRange)?;
+    if least <= number && number <= most {
+        Ok(number)
+    } else {
+        Err(Flaw::OutOfRange)
+    }
+}
+
+/// True or false.
+pub fn flag_in(value: &Value) -> Result<bool, Flaw>
+    ensures ok { IfOk result (λ flag. (as_bool (view value.now) ≡ Some flag) × (flag_flaw (view value.now) ≡ None)) }
+    ensures flaw { IfErr result (λ flaw. flag_flaw (view value.now) ≡ Some flaw) }
+{
+    value.as_bool().ok_or(Flaw::WrongKind)
+}
+
+/// A text of so many bytes.
+pub fn text_in(value: &Value, least: usize, most: usize) -> Result<&str, Flaw>
+    ensures ok { IfOk result (λ text. (as_str (view value.now) ≡ Some text.now) × (text_flaw least most (view value.now) ≡ None)) }
+    ensures flaw { IfErr result (λ flaw. text_flaw least most (view value.now) ≡ Some flaw) }
+{
+    let text = value.as_str().ok_or(Flaw::WrongKind)?;
+    if least <= text.len() && text.len() <= most {
+        Ok(text)
+    } else {
+        Err(Flaw::OutOfRange)
+    }
+}
+
+/// So many bytes, each as two hex digits.
+pub fn digits_in<const N: usize>(value: &Value) -> Result<[u8; N], Flaw>
+    ensures ok { IfOk result (λ bytes. (bytes_of N (view value.now) ≡ Some bytes) × (digits_flaw N (view value.now) ≡ None)) }
+    ensures flaw { IfErr result (λ flaw. digits_flaw N (view value.now) ≡ Some flaw) }
+{
+    let text = value.as_str().ok_or(Flaw::WrongKind)?;
+    match <[u8; N] as FromHex>::from_hex(text) {
+        Ok(bytes) => Ok(bytes),
+        Err(_) => Err(Flaw::OutOfRange),
+    }
+}
+
+/// The socket address that a text spells.
+#[tactic(auto, using(crate::proofs::AddressLemmas::parsed_socket))]
+fn socket_of(text: &str) -> Option<SocketAddr>
+    ensures { result ≡ socket_of text.now }
+{
+    text.parse::<SocketAddr>().ok()
+}
+
+/// The address that a text spells: a socket address with a port and without a scope.
+#[tactic(auto, unfolding(crate::specs::Addresses::address_of_text))]
+fn address_of(text: &str) -> Option<SocketAddr>
+    ensures { result ≡ address_of_text text.now }
+{
+    let address = socket_of(text)?;
+    if text.as_bytes().contains(&b'%') || address.port() == 0 {
+        None
+    } else {
+        Some(address)
+    }
+}
+
+/// An address.
+pub fn address_in(value: &Value) -> Result<SocketAddr, Flaw>
+    ensures ok { IfOk result (λ address. (spec.address_of (view value.now) ≡ Some address) × (address_flaw (view value.now) ≡ None)) }
+    ensures flaw { IfErr result (λ flaw. address_flaw (view value.now) ≡ Some flaw) }
+{
+    let text = value.as_str().ok_or(Flaw::WrongKind)?;
+    address_of(text).ok_or(Flaw::OutOfRange)
+}
+
+/// The members of a list.
+#[tactic(auto, using(crate::proofs::ListLemmas::array_seen, crate::proofs::ListLemmas::no_array))]
+pub fn array_in(value: &Value) -> Option<&[Value]>
+    ensures { option_map (λ values. map view values.now) result ≡ list_of (view value.now) }
+{
+    match value.as_array() {
+        Some(array) => Some(array.as_slice()),
+        None => None,
+    }
+}
+
+/// The members of a list of 1 to so many.
+#[tactic(auto, using(crate::proofs::ListLemmas::viewed_length))]
+pub fn list_in(value: &Value, most: usize) -> Result<&[Value], Flaw>
+    ensures ok { IfOk result (λ values. (list_of (view value.now) ≡ Some (map view values.now)) × (list_flaw most (view value.now) ≡ None)) }
+    ensures flaw { IfErr result (λ flaw. list_flaw most (view value.now) ≡ Some flaw) }
+{
+    let Some(values) = array_in(value) else {
+        return Err(Flaw::WrongKind);
+    };
+    if 1 <= values.len() && values.len() <= most {
+        Ok(values)
+    } else {
+        Err(Flaw::OutOfRange)
+    }
+}

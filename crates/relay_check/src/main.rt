@@ -1,0 +1,17 @@
+//! Checks files of settings, for the tests: a line of what is told of each, and its exit status.
+#![tactic(auto)]
+
+use fwd_script::check;
+use std::io::Write;
+use std::{env, io};
+
+fn main(rt: HostRuntime) -> io::Result<()> {
+    let mut words = env::args(&rt)?;
+    let _name = words.next();
+    for path in words {
+        let status = check(&rt, path.as_str())?;
+        let code = status.exit_code();
+        println!(rt; "{path}: {code} {status}")?;
+    }
+    Ok(())
+}
