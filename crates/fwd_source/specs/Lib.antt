@@ -1,0 +1,4 @@
+pub mod Judged
+pub mod History
+pub mod Live
+pub mod Hearing

@@ -1,0 +1,103 @@
+//! What a connection's bytes say where a PING is awaited.
+
+ghost use Rattle.std.specs.Prelude.{◌≡◌, ◌+◌, ◌<◌, ◌^◌, ℕ, [], None, Some, true, IfOk, length};
+ghost use Rattle.fwd_handshake.specs.Verdicts.{ping_verdict};
+ghost use Rattle.fwd_source.specs.Judged.{judged_of};
+ghost use Rattle.fwd_source.specs.Hearing.{shown, Greets, Welcomes};
+
+use crate::fault::SourceFault;
+use crate::hearing::{Heard, Next, failed, hear, next_of};
+use fwd_handshake::{Nonces, PingVerdict, Security, judge_ping};
+use fwd_msgpack::{Bytes, Limits};
+use std::alloc::{AllocError, Global};
+
+/// What became of a greeting.
+#[derive(Drop)]
+pub enum Greeting<'a> {
+    /// The PING is good: its PONG, and the bytes behind the PING.
+    Passed(Bytes, &'a [u8]),
+    /// There is no whole value but nil yet, or the first one is no good PING.
+    Ended(Heard),
+}
+
+/// Nothing but nil came yet, and the bytes of an unfinished value.
+fn unfinished(alloc: Global, rest: &[u8]) -> Result<Heard, AllocError>
+    ensures { IfOk result (λ heard. shown heard ≡ record { requests = []; rest = rest.now; pong = []; awaits = true; fault = None }) }
+{
+    Ok(Heard {
+        requests: Vec::new(alloc),
+        rest: Vec::from_slice(alloc, rest)?,
+        pong: Bytes::new(alloc),
+        awaits: true,
+        fault: None,
+    })
+}
+
+/// What becomes of a connection by the verdict on its first value: a denied PING has its PONG, what is no PING has none.
+fn welcome(alloc: Global, verdict: PingVerdict, behind: &[u8]) -> Greeting<'_>
+    ensures { Welcomes verdict behind.now result }
+{
+    match verdict {
+        PingVerdict::Pass(pong) => Greeting::Passed(pong, behind),
+        PingVerdict::Deny(pong, _) => {
+            let mut heard = failed(alloc, Vec::new(alloc), SourceFault::Denied);
+            heard.pong = pong;
+            Greeting::Ended(heard)
+        }
+        PingVerdict::NotPing => {
+            Greeting::Ended(failed(alloc, Vec::new(alloc), SourceFault::NotPing))
+        }
+    }
+}
+
+/// What the bytes say of the PING that is awaited. Nil before it is skipped.
+fn greet<'a>(
+    alloc: Global,
+    security: &Security,
+    nonces: &Nonces,
+    bytes: &'a [u8],
+    limits: Limits,
+) -> Result<Greeting<'a>, AllocError>
+    ensures { IfOk result (λ greeting. (n : ℕ) → Greets limits (ping_verdict security.now nonces.now) n bytes.now greeting) }
+{
+    let mut rest = bytes;
+    'values: loop {
+        match next_of(rest, limits) {
+            Next::Unfinished => return Ok(Greeting::Ended(unfinished(alloc, rest)?)),
+            Next::Fault(fault) => {
+                let heard = failed(alloc, Vec::new(alloc), SourceFault::Scan(fault));
+                return Ok(Greeting::Ended(heard));
+            }
+            Next::Value(value, behind) => {
+                if value.bytes() != b"\xc0".as_slice() {
+                    let verdict = judge_ping(alloc, value, security, nonces)?;
+                    return Ok(welcome(alloc, verdict, behind));
+                }
+                rest = behind;
+            }
+        }
+    }
+}
+
+/// What the bytes say, on a connection of which `count` requests came before, where a PING is awaited.
+pub fn hear_greeting(
+    alloc: Global,
+    security: &Security,
+    nonces: &Nonces,
+    count: u64,
+    bytes: &[u8],
+    limits: Limits,
+) -> Result<Heard, AllocError>
+    requires { count < 2 ^ 64 }
+    ensures value { IfOk result (λ heard. shown heard ≡ judged_of limits (Some (ping_verdict security.now nonces.now)) count bytes.now) }
+    ensures room { IfOk result (λ heard. count + length heard.requests.items < 2 ^ 64) }
+{
+    match greet(alloc, security, nonces, bytes, limits)? {
+        Greeting::Ended(heard) => Ok(heard),
+        Greeting::Passed(pong, behind) => {
+            let mut heard = hear(alloc, count, behind, limits)?;
+            heard.pong = pong;
+            Ok(heard)
+        }
+    }
+}

@@ -1,0 +1,118 @@
+//! What a connection's bytes say where no PING is awaited: its requests, the bytes of an unfinished value, and the
+//! leftmost fault.
+
+ghost use Rattle.std.specs.Prelude.{◌≡◌, ◌+◌, ◌<◌, ◌^◌, [], None, Some, false, IfOk, length};
+ghost use Rattle.fwd_msgpack.specs.Values.{bytes_of};
+ghost use Rattle.fwd_modes.specs.Requests.{request_of};
+ghost use Rattle.fwd_source.specs.Judged.{judged_of};
+ghost use Rattle.fwd_source.specs.Hearing.{shown, IsNext, TakesIn};
+
+use crate::fault::SourceFault;
+use crate::laws::judged_by_front;
+use fwd_modes::{Batch, Reading, read_request};
+use fwd_msgpack::{Bytes, Cut, Limits, ScanFault, Value, cut};
+use std::alloc::{AllocError, Global};
+
+/// What was heard.
+#[derive(Drop)]
+pub struct Heard {
+    pub requests: Vec<Batch>,
+    pub rest: Vec<u8>,
+    pub pong: Bytes,
+    pub awaits: bool,
+    pub fault: Option<SourceFault>,
+}
+
+/// What comes next in a stream.
+#[derive(Clone, Copy)]
+pub enum Next<'a> {
+    /// A value, and the bytes behind it.
+    Value(Value<'a>, &'a [u8]),
+    /// Less than a value.
+    Unfinished,
+    /// No value within the limits.
+    Fault(ScanFault),
+}
+
+/// What comes next in the bytes.
+pub fn next_of(bytes: &[u8], limits: Limits) -> Next<'_>
+    ensures { IsNext limits bytes.now result }
+{
+    judged_by_front();
+    match cut(bytes, limits) {
+        Cut::Whole(value, used) => Next::Value(value, &bytes[used..]),
+        Cut::Short => Next::Unfinished,
+        Cut::Bad(fault) => Next::Fault(fault),
+    }
+}
+
+/// Adds what a value asks for, or answers what is wrong with it. On an error nothing has changed.
+fn take_in(
+    alloc: Global,
+    requests: &mut Vec<Batch>,
+    count: u64,
+    value: Value<'_>,
+    limits: Limits,
+) -> Result<Option<SourceFault>, AllocError>
+    requires { count + length requests.old.items < 2 ^ 64 }
+    ensures value { IfOk result (λ fault. TakesIn requests.old.items requests.new.items count (request_of limits.depth (bytes_of value.entry)) fault) }
+    ensures room { count + length requests.new.items < 2 ^ 64 }
+{
+    match read_request(alloc, value, limits)? {
+        Reading::Heartbeat => Ok(None),
+        Reading::Fails(fault) => Ok(Some(SourceFault::Input(fault))),
+        Reading::Asks(batch) => {
+            let number = count + requests.len() as u64;
+            if number == u64::MAX {
+                return Ok(Some(SourceFault::Closed));
+            }
+            requests.push(batch)?;
+            Ok(None)
+        }
+    }
+}
+
+/// Requests, and a fault behind them.
+pub fn failed(alloc: Global, requests: Vec<Batch>, fault: SourceFault) -> Heard
+    ensures { shown result ≡ record { requests = requests.items; rest = []; pong = []; awaits = false; fault = Some fault } }
+{
+    Heard {
+        requests,
+        rest: Vec::new(alloc),
+        pong: Bytes::new(alloc),
+        awaits: false,
+        fault: Some(fault),
+    }
+}
+
+/// What the bytes say, on a connection of which `count` requests came before, and that awaits no PING.
+pub fn hear(alloc: Global, count: u64, bytes: &[u8], limits: Limits) -> Result<Heard, AllocError>
+    requires { count < 2 ^ 64 }
+    ensures value { IfOk result (λ heard. shown heard ≡ judged_of limits None count bytes.now) }
+    ensures room { IfOk result (λ heard. count + length heard.requests.items < 2 ^ 64) }
+    ensures no_pong { IfOk result (λ heard. heard.pong ≡ []) }
+{
+    let mut requests = Vec::new(alloc);
+    let mut rest = bytes;
+    'values: loop {
+        match next_of(rest, limits) {
+            Next::Unfinished => {
+                let rest = Vec::from_slice(alloc, rest)?;
+                return Ok(Heard {
+                    requests,
+                    rest,
+                    pong: Bytes::new(alloc),
+                    awaits: false,
+                    fault: None,
+                });
+            }
+            Next::Fault(fault) => return Ok(failed(alloc, requests, SourceFault::Scan(fault))),
+            Next::Value(value, behind) => {
+                if let Some(fault) = take_in(alloc, &mut requests, count, value, limits)? {
+                    return Ok(failed(alloc, requests, fault));
+                }
+                rest = behind;
+            }
+        }
+    }
+}

@@ -1,0 +1,45 @@
+//! Laws over the definitions, each the contract of a function that does nothing.
+
+ghost use Rattle.std.specs.Prelude.{◌≡◌, ◌≤◌, ℕ, List, ◌∷◌, false, length, take, drop};
+ghost use Rattle.std.specs.List.{concat};
+ghost use Rattle.fwd_msgpack.specs.declared.fault.ScanFault.{ScanFault};
+ghost use Rattle.fwd_msgpack.specs.declared.limits.Limits.{Limits as ValueLimits};
+ghost use Rattle.fwd_msgpack.specs.Scans.{Whole, Short, Bad, first_of};
+ghost use Rattle.fwd_modes.specs.Requests.{Request};
+ghost use Rattle.fwd_source.specs.declared.fault.SourceFault.TheVariants.{Scan};
+ghost use Rattle.fwd_source.specs.Judged.{Gate, judged_of, value_then, resting, failed};
+ghost use Rattle.fwd_source.specs.History.{Setup, SourceHistory, IsSane, opened, is_closed, waiting, unsent, hears, gives, appends, drains, shuts};
+ghost use Rattle.fwd_source.specs.Live.{LiveSource, live_source, opened_source, source_hears, source_gives, source_appends, source_drains, source_shuts, live_piece_next, live_pieces_next};
+
+/// What bytes say, by what stands at their front: a value, less than one, or a fault.
+pub fn judged_by_front()
+    ensures whole { (limits : ValueLimits) (gate : Gate) (n : ℕ) (bytes : List ℕ) (used : ℕ) → first_of limits.bytes limits.depth bytes ≡ Whole used →
+        judged_of limits gate n bytes ≡ value_then limits.depth gate n (take used bytes) (λ g k. judged_of limits g k (drop used bytes)) }
+    ensures short { (limits : ValueLimits) (gate : Gate) (n : ℕ) (bytes : List ℕ) → first_of limits.bytes limits.depth bytes ≡ Short → judged_of limits gate n bytes ≡ resting gate bytes }
+    ensures bad { (limits : ValueLimits) (gate : Gate) (n : ℕ) (bytes : List ℕ) (fault : ScanFault) → first_of limits.bytes limits.depth bytes ≡ Bad fault → judged_of limits gate n bytes ≡ failed (Scan fault) }
+{}
+
+/// However the bytes are cut, the same source is left.
+pub fn pieces_are_one()
+    ensures { (s : LiveSource) (bytes : List ℕ) (pieces : List (List ℕ)) → live_pieces_next s (bytes ∷ pieces) ≡ live_piece_next s (concat (bytes ∷ pieces)) }
+{}
+
+/// The live part is enough: what happens to a connection's history happens alike to its live part.
+pub fn live_source_follows()
+    ensures opened { (setup : Setup) → live_source (opened setup) ≡ opened_source setup }
+    ensures hears { (s : SourceHistory) (bytes : List ℕ) → IsSane s → is_closed s ≡ false → live_source (hears s bytes) ≡ source_hears (live_source s) bytes }
+    ensures gives { (s : SourceHistory) → live_source (gives s) ≡ source_gives (live_source s) }
+    ensures appends { (s : SourceHistory) (bytes : List ℕ) → IsSane s → s.shut ≡ false → live_source (appends s bytes) ≡ source_appends (live_source s) bytes }
+    ensures drains { (s : SourceHistory) (count : ℕ) → live_source (drains s count) ≡ source_drains (live_source s) count }
+    ensures shuts { (s : SourceHistory) → live_source (shuts s) ≡ source_shuts (live_source s) }
+{}
+
+/// What is admitted and drained came before, at the opening and after each step.
+pub fn source_stays_sane()
+    ensures opened { (setup : Setup) → IsSane (opened setup) }
+    ensures hears { (s : SourceHistory) (bytes : List ℕ) → IsSane s → is_closed s ≡ false → IsSane (hears s bytes) }
+    ensures gives { (s : SourceHistory) (r : Request) (rs : List Request) → IsSane s → waiting s ≡ r ∷ rs → IsSane (gives s) }
+    ensures appends { (s : SourceHistory) (bytes : List ℕ) → IsSane s → IsSane (appends s bytes) }
+    ensures drains { (s : SourceHistory) (count : ℕ) → IsSane s → s.shut ≡ false → count ≤ length (unsent s) → IsSane (drains s count) }
+    ensures shuts { (s : SourceHistory) → IsSane s → IsSane (shuts s) }
+{}

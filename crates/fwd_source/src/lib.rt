@@ -1,0 +1,14 @@
+//! One connection: its bytes, the requests that they ask for, and the bytes that wait to be sent to it.
+#![tactic(auto)]
+
+mod fault;
+mod greeting;
+mod hearing;
+mod laws;
+mod origin;
+mod piece;
+
+pub use fault::SourceFault;
+pub use laws::{judged_by_front, live_source_follows, pieces_are_one, source_stays_sane};
+pub use origin::Origin;
+pub use piece::Piece;
