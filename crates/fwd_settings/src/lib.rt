@@ -23,4 +23,6 @@ pub use settings::{OutputSettings, RelaySettings, ServerSettings, Settings};
 pub use text::Text;
 
 #[cfg(test)]
+mod key_tests;
+#[cfg(test)]
 mod tests;

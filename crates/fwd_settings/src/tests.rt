@@ -3,44 +3,18 @@ use std::alloc::{AllocError, Global};
 use std::net::SocketAddr;
 use std::test::Fail;
 
-const MATCH: &str = "[[output]]\nmatch = \"**\"\n";
+/// An output's first lines.
+pub(crate) const MATCH: &str = "[[output]]\nmatch = \"**\"\n";
 
-const SERVER: &str = "[[output.server]]\naddress = \"127.0.0.1:1\"\n";
+/// The lines of a server.
+pub(crate) const SERVER: &str = "[[output.server]]\naddress = \"127.0.0.1:1\"\n";
 
 /// The fault of a text as it is told, or `good`.
-fn told(alloc: Global, text: &str) -> Result<String, AllocError> {
+pub(crate) fn told(alloc: Global, text: &str) -> Result<String, AllocError> {
     match read_settings(alloc, text.as_bytes()) {
         Ok(_) => String::from_str(alloc, "good"),
         Err(fault) => format!(in alloc; "{fault}"),
     }
-}
-
-/// What is told of a line in the table `relay`.
-fn in_relay(alloc: Global, line: &str) -> Result<String, AllocError> {
-    let text = format!(in alloc; "[relay]\n{line}\n{MATCH}{SERVER}")?;
-    told(alloc, text.as_str())
-}
-
-/// What is told of a line in the first output.
-fn in_output(alloc: Global, line: &str) -> Result<String, AllocError> {
-    let text = format!(in alloc; "{MATCH}{line}\n{SERVER}")?;
-    told(alloc, text.as_str())
-}
-
-/// What is told of a line in the second server of the first output.
-fn in_server(alloc: Global, line: &str) -> Result<String, AllocError> {
-    let text = format!(in alloc; "{MATCH}{SERVER}[[output.server]]\n{line}\n")?;
-    told(alloc, text.as_str())
-}
-
-/// A key with a text of so many bytes.
-fn long(alloc: Global, key: &str, length: usize) -> Result<String, AllocError> {
-    let mut line = format!(in alloc; "{key} = \"")?;
-    for _ in 0..length {
-        line.push('a')?;
-    }
-    line.push('"')?;
-    Ok(line)
 }
 
 /// So many outputs, or so many servers of one output.
@@ -129,150 +103,6 @@ fn every_key_set(rt: HostRuntime) -> Result<(), Fail> {
 }
 
 #[test]
-fn keys_of_relay(rt: HostRuntime) -> Result<(), Fail> {
-    for (line, wanted) in [
-        ("", "good"),
-        ("listen = 1", "wrong kind relay.listen"),
-        ("listen = \"127.0.0.1:1\"", "good"),
-        ("listen = \"127.0.0.1:65535\"", "good"),
-        ("listen = \"127.0.0.1:0\"", "out of range relay.listen"),
-        ("listen = \"127.0.0.1:65536\"", "out of range relay.listen"),
-        ("listen = \"127.0.0.1\"", "out of range relay.listen"),
-        ("listen = \"localhost:1\"", "out of range relay.listen"),
-        ("listen = \"[::1]:1\"", "good"),
-        ("listen = \"::1:1\"", "out of range relay.listen"),
-        ("listen = \"[fe80::1%1]:1\"", "out of range relay.listen"),
-        ("listen = \"[fe80::1%0]:1\"", "out of range relay.listen"),
-        ("listen = \"\"", "out of range relay.listen"),
-        ("monitor = true", "wrong kind relay.monitor"),
-        ("monitor = \"127.0.0.1:0\"", "out of range relay.monitor"),
-        ("monitor = \"127.0.0.1:8080\"", "good"),
-        ("hostname = 1", "wrong kind relay.hostname"),
-        ("hostname = \"\"", "out of range relay.hostname"),
-        ("hostname = \"a\"", "good"),
-        ("run_id = 123456789012", "wrong kind relay.run_id"),
-        ("run_id = \"00000000000\"", "out of range relay.run_id"),
-        ("run_id = \"0000000000000\"", "out of range relay.run_id"),
-        ("run_id = \"00000000000000\"", "out of range relay.run_id"),
-        ("run_id = \"00000000000g\"", "out of range relay.run_id"),
-        ("run_id = \"abcdefABCDEF\"", "good"),
-        ("seed = 0", "wrong kind relay.seed"),
-        ("seed = \"00\"", "out of range relay.seed"),
-        ("connections = \"1\"", "wrong kind relay.connections"),
-        ("connections = 1.0", "wrong kind relay.connections"),
-        ("connections = true", "wrong kind relay.connections"),
-        ("connections = [1]", "wrong kind relay.connections"),
-        ("connections = 1979-05-27", "wrong kind relay.connections"),
-        ("connections = -1", "out of range relay.connections"),
-        ("connections = 0", "out of range relay.connections"),
-        ("connections = 1", "good"),
-        ("connections = 1024", "good"),
-        ("connections = 1025", "out of range relay.connections"),
-        (
-            "connections = 9223372036854775807",
-            "out of range relay.connections",
-        ),
-        ("shared_key = \"k\"", "unknown relay.shared_key"),
-        ("user = []", "unknown relay.user"),
-        ("Listen = 1", "unknown relay.Listen"),
-    ] {
-        assert_eq!(rt; in_relay(rt.alloc(), line)?.as_str(), wanted, "at {line}");
-    }
-    for (key, length, wanted) in [
-        ("hostname", 255, "good"),
-        ("hostname", 256, "out of range relay.hostname"),
-    ] {
-        let line = long(rt.alloc(), key, length)?;
-        assert_eq!(rt; in_relay(rt.alloc(), line.as_str())?.as_str(), wanted);
-    }
-    Ok(())
-}
-
-#[test]
-fn keys_of_an_output(rt: HostRuntime) -> Result<(), Fail> {
-    for (line, wanted) in [
-        ("workers = true", "wrong kind output[0].workers"),
-        ("workers = 0", "out of range output[0].workers"),
-        ("workers = 1", "good"),
-        ("workers = 16", "good"),
-        ("workers = 17", "out of range output[0].workers"),
-        ("chunk_limit = \"\"", "wrong kind output[0].chunk_limit"),
-        ("chunk_limit = 0", "out of range output[0].chunk_limit"),
-        ("chunk_limit = 1", "good"),
-        ("chunk_limit = 16000000", "good"),
-        (
-            "chunk_limit = 16000001",
-            "out of range output[0].chunk_limit",
-        ),
-        ("total_limit = []", "wrong kind output[0].total_limit"),
-        ("total_limit = 0", "out of range output[0].total_limit"),
-        ("total_limit = 1", "good"),
-        ("total_limit = 1000000000000", "good"),
-        (
-            "total_limit = 1000000000001",
-            "out of range output[0].total_limit",
-        ),
-        (
-            "flush_interval = 0.5",
-            "wrong kind output[0].flush_interval",
-        ),
-        (
-            "flush_interval = -1",
-            "out of range output[0].flush_interval",
-        ),
-        ("flush_interval = 0", "good"),
-        ("flush_interval = 86400000", "good"),
-        (
-            "flush_interval = 86400001",
-            "out of range output[0].flush_interval",
-        ),
-        ("retry_wait = \"1s\"", "wrong kind output[0].retry_wait"),
-        ("retry_wait = 0", "out of range output[0].retry_wait"),
-        ("retry_wait = 1", "good"),
-        ("retry_wait = 86400000", "good"),
-        ("retry_wait = 86400001", "out of range output[0].retry_wait"),
-        ("retry_max = false", "wrong kind output[0].retry_max"),
-        ("retry_max = 999", "out of range output[0].retry_max"),
-        ("retry_max = 1000", "good"),
-        ("retry_max = 86400000", "good"),
-        ("retry_max = 86400001", "out of range output[0].retry_max"),
-        (
-            "retry_wait = 500\nretry_max = 499",
-            "out of range output[0].retry_max",
-        ),
-        ("retry_wait = 500\nretry_max = 500", "good"),
-        ("retry_wait = 60001", "good"),
-        ("ack_wait = {}", "wrong kind output[0].ack_wait"),
-        ("ack_wait = 0", "out of range output[0].ack_wait"),
-        ("ack_wait = 1", "good"),
-        ("ack_wait = 86400000", "good"),
-        ("ack_wait = 86400001", "out of range output[0].ack_wait"),
-        ("hostname = 1", "wrong kind output[0].hostname"),
-        ("hostname = \"\"", "out of range output[0].hostname"),
-        ("username = 1", "wrong kind output[0].username"),
-        ("username = \"\"", "good"),
-        ("password = 1", "wrong kind output[0].password"),
-        ("password = \"\"", "good"),
-        ("shared_key = \"k\"", "unknown output[0].shared_key"),
-        ("tag = \"a\"", "unknown output[0].tag"),
-    ] {
-        assert_eq!(rt; in_output(rt.alloc(), line)?.as_str(), wanted, "at {line}");
-    }
-    for (key, length, wanted) in [
-        ("hostname", 255, "good"),
-        ("hostname", 256, "out of range output[0].hostname"),
-        ("username", 255, "good"),
-        ("username", 256, "out of range output[0].username"),
-        ("password", 255, "good"),
-        ("password", 256, "out of range output[0].password"),
-    ] {
-        let line = long(rt.alloc(), key, length)?;
-        assert_eq!(rt; in_output(rt.alloc(), line.as_str())?.as_str(), wanted);
-    }
-    Ok(())
-}
-
-#[test]
 fn a_long_wait_lengthens_the_longest(rt: HostRuntime) -> Result<(), Fail> {
     for (line, wanted) in [
         ("retry_wait = 59999", 60_000),
@@ -283,66 +113,6 @@ fn a_long_wait_lengthens_the_longest(rt: HostRuntime) -> Result<(), Fail> {
         for output in settings.outputs.as_slice() {
             assert_eq!(rt; output.retry_max, wanted);
         }
-    }
-    Ok(())
-}
-
-#[test]
-fn keys_of_a_server(rt: HostRuntime) -> Result<(), Fail> {
-    let good = "address = \"127.0.0.1:2\"\n";
-    for (line, wanted) in [
-        ("", "missing output[0].server[1].address"),
-        ("standby = true", "missing output[0].server[1].address"),
-        ("address = 1", "wrong kind output[0].server[1].address"),
-        (
-            "address = \"127.0.0.1:0\"",
-            "out of range output[0].server[1].address",
-        ),
-        ("address = \"[::1]:2\"", "good"),
-    ] {
-        assert_eq!(rt; in_server(rt.alloc(), line)?.as_str(), wanted, "at {line}");
-    }
-    for (line, wanted) in [
-        ("", "good"),
-        ("standby = true", "good"),
-        ("standby = false", "good"),
-        ("standby = 1", "wrong kind output[0].server[1].standby"),
-        (
-            "standby = \"true\"",
-            "wrong kind output[0].server[1].standby",
-        ),
-        ("port = 1", "unknown output[0].server[1].port"),
-    ] {
-        let line = format!(in rt.alloc(); "{good}{line}")?;
-        assert_eq!(rt;
-            in_server(rt.alloc(), line.as_str())?.as_str(),
-            wanted,
-            "at {line}"
-        );
-    }
-    Ok(())
-}
-
-#[test]
-fn patterns(rt: HostRuntime) -> Result<(), Fail> {
-    for (line, wanted) in [
-        ("", "missing output[0].match"),
-        ("match = 1", "wrong kind output[0].match"),
-        ("match = \" \"", "bad pattern output[0].match"),
-        ("match = \"a{b\"", "bad pattern output[0].match"),
-        ("match = \"a*\"", "bad pattern output[0].match"),
-        (
-            "match = \"{a,b}{a,b}{a,b}{a,b}{a,b}{a,b}{a,b}\"",
-            "bad pattern output[0].match",
-        ),
-        ("match = \"{a,b}.c x\"", "good"),
-    ] {
-        let text = format!(in rt.alloc(); "[[output]]\n{line}\n{SERVER}")?;
-        assert_eq!(rt;
-            told(rt.alloc(), text.as_str())?.as_str(),
-            wanted,
-            "at {line}"
-        );
     }
     Ok(())
 }
