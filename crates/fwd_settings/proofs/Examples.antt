@@ -12,7 +12,7 @@ use Rattle.fwd_settings.specs.Addresses.{v4_from, v6_from, socket_of, address_of
 use Rattle.fwd_settings.specs.Faults.{key_under, fault_text}
 use Rattle.fwd_settings.specs.Kinds.{number_flaw, flag_flaw, text_flaw, digits_flaw, fault_at, setting_at, number_key, required_address_key}
 use Rattle.fwd_settings.specs.Keys.{retry_max, server_fault}
-use Rattle.fwd_settings.specs.Unknown.{least_from}
+use Rattle.fwd_settings.specs.Unknown.{least}
 
 greatest_worker : number_flaw 1 16 (integer (pos 16)) ≡ None
 greatest_worker = refl
@@ -90,5 +90,6 @@ unfolding digits
 no_server = refl
 
 -- the least key by its bytes, not by its number
-least_by_bytes : least_from None (codes "output[1].b" ∷ codes "output[12].z" ∷ codes "output[2].a" ∷ []) ≡ Some (codes "output[12].z")
+least_by_bytes : least (codes "output[1].b" ∷ codes "output[12].z" ∷ codes "output[2].a" ∷ []) ≡ Some (codes "output[12].z")
+unfolding least
 least_by_bytes = refl

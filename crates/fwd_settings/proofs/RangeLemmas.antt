@@ -1,5 +1,5 @@
 -- Settings that are accepted are in their ranges.
-use Rattle.std.proofs.Common.{◌≡◌, ℕ, zero, suc, ◌+◌, ◌≤◌, Bool, true, false, cond, List, [], ◌∷◌, length, max, Option, Some, None, Result, Ok, Err, refl, sym, ap, subst, ◌∙◌, arith}
+use Rattle.std.proofs.Common.{◌≡◌, ℕ, zero, suc, ◌+◌, Bool, true, false, cond, List, [], ◌∷◌, length, max, Option, Some, None, Ok, refl, sym, ap, subst, ◌∙◌, arith}
 use Rattle.std.specs.Prelude.{map, not, ◌&&◌, nat_le, codes, ℤ, pos, negsuc, option_map, is_some, slice_get}
 use Rattle.std.specs.List.{list_all}
 use Rattle.std.proofs.lemmas.Bool.Decides.{nat_tests}
@@ -8,13 +8,11 @@ use Rattle.toml.specs.Data.{Data, string, integer, float, boolean, datetime, arr
 use Rattle.fwd_settings.specs.declared.fault.SettingsFault.{SettingsFault}
 use Rattle.fwd_settings.specs.declared.place.Place.{Place}
 use Rattle.fwd_settings.specs.declared.place.Place.TheVariants.{Root, Relay, Output}
-use Rattle.fwd_settings.specs.declared.place.Flaw.{Flaw}
-use Rattle.fwd_settings.specs.declared.place.Flaw.TheVariants.{OutOfRange}
 use Rattle.fwd_settings.specs.declared.settings.Settings.{Settings}
 use Rattle.fwd_settings.specs.declared.settings.ServerSettings.{ServerSettings}
 use Rattle.fwd_settings.specs.Faults.{fault_with, key_under}
 use Rattle.fwd_settings.specs.Kinds.{Key, optional, required, given, unless_out, is_within, number_flaw, number_of, number_key, text_flaw, text_key, list_flaw, list_of, required_list_key, each, fault_at, setting_at}
-use Rattle.fwd_settings.specs.Keys.{first, table_of, table_in, outputs, relay_table, relay_settings, connections, relay_hostname, output_table, output_fault, output_settings, workers, chunk_limit, total_limit, flush_interval, retry_wait, retry_max, ack_wait, output_hostname, username, password, servers, servers_in, server_settings, standby_fault}
+use Rattle.fwd_settings.specs.Keys.{first, table_in, outputs, relay_table, relay_settings, connections, relay_hostname, output_table, output_fault, output_settings, retry_wait, username, password, servers, servers_in, server_settings, standby_fault}
 use Rattle.fwd_settings.specs.Whole.{relay_fault, root_table, root_settings, judged, of_document, document_of, settings_of}
 use Rattle.fwd_settings.specs.Ranges.{relay_in_range, output_in_range, in_range}
 

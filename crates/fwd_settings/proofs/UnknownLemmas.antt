@@ -1,11 +1,11 @@
 -- Names in tables, and keys that are none of them.
-use Rattle.std.proofs.Common.{◌≡◌, ℕ, ◌||◌, List, [], ◌∷◌, ◌++◌, map, Option, Some, String, Global, Bor, string_bytes, refl, ap}
+use Rattle.std.proofs.Common.{◌≡◌, ℕ, ◌||◌, List, [], ◌∷◌, map, String, Global, Bor, string_bytes, refl, ap}
 use Rattle.std.specs.List.{list_any}
 use Rattle.std.specs.Str.{bytes_eq}
 use Rattle.std.specs.Map.{keys_of}
 use Rattle.toml.specs.View.{members_view}
 use Rattle.toml.specs.declared.value.Value.{Value}
-use Rattle.fwd_settings.specs.Unknown.{names_in, least_from, lesser}
+use Rattle.fwd_settings.specs.Unknown.{names_in}
 
 -- a name among references to names
 pub any_shown : (names : List (Bor (List ℕ))) (name : List ℕ)
@@ -17,7 +17,3 @@ any_shown (known ∷ more) name = ap (λ found. bytes_eq known.now name || found
 pub names_viewed : (entries : List (String Global × Value)) → names_in (members_view entries) ≡ map string_bytes (keys_of entries)
 names_viewed [] = refl
 names_viewed (entry ∷ more) = ap (λ names. string_bytes entry.0 ∷ names) (names_viewed more)
-
-pub least_append : (least : Option (List ℕ)) (keys more : List (List ℕ)) → least_from least (keys ++ more) ≡ least_from (least_from least keys) more
-least_append least [] more = refl
-least_append least (key ∷ keys) more = least_append (Some (lesser least key)) keys more

@@ -1,6 +1,6 @@
 -- Keys that no table has.
-use Rattle.std.specs.Prelude.{ℕ, Bool, not, List, [], ◌∷◌, ◌++◌, map, filter, codes, Option, Some, None, option_map, if◌then◌else◌}
-use Rattle.std.specs.List.{list_any, flat_map}
+use Rattle.std.specs.Prelude.{ℕ, Bool, not, List, [], ◌∷◌, ◌++◌, map, filter, codes, Option, option_map}
+use Rattle.std.specs.List.{find, list_any, flat_map}
 use Rattle.std.specs.Str.{bytes_eq}
 use Rattle.std.specs.Ordering.{nat_cmp, is_lt}
 use Rattle.std.specs.Cmp.Lexicographic.{slice_cmp}
@@ -28,26 +28,36 @@ unknown_under place names members = map (key_under place) (filter (is_unknown na
 abbrev pub unknown_in_server : (output server : ℕ) → Data → List (List ℕ)
 unknown_in_server output server value = unknown_under (Server output server) server_names (table_of value)
 
+-- those of the servers of an output, of which the first has this number
+abbrev pub unknown_in_servers : (output server : ℕ) → List Data → List (List ℕ)
+unknown_in_servers output server values = flat_map (λ keys. keys) (each (unknown_in_server output) server values)
+
 abbrev pub unknown_in_output : ℕ → Data → List (List ℕ)
 unknown_in_output output value =
     unknown_under (Output output) output_names (table_of value) ++
-    flat_map (λ keys. keys) (each (unknown_in_server output) 0 (list_in (codes "server") (table_of value)))
+    unknown_in_servers output 0 (list_in (codes "server") (table_of value))
+
+-- those of the outputs, of which the first has this number
+abbrev pub unknown_in_outputs : ℕ → List Data → List (List ℕ)
+unknown_in_outputs output values = flat_map (λ keys. keys) (each unknown_in_output output values)
 
 -- all unknown keys
 abbrev pub unknown_keys : Members → List (List ℕ)
 unknown_keys root =
     (unknown_under Root root_names root ++ unknown_under Relay relay_names (table_in (codes "relay") root)) ++
-    flat_map (λ keys. keys) (each unknown_in_output 0 (list_in (codes "output") root))
+    unknown_in_outputs 0 (list_in (codes "output") root)
 
--- the lesser of two keys by their bytes, of which the first may be missing
-abbrev pub lesser : Option (List ℕ) → List ℕ → List ℕ
-lesser None key = key
-lesser (Some least) key = if is_lt (slice_cmp nat_cmp key least) then key else least
+-- whether a key is less than another by their bytes
+abbrev pub is_less : List ℕ → List ℕ → Bool
+is_less key other = is_lt (slice_cmp nat_cmp key other)
 
--- the least of some keys and one before them
-abbrev pub least_from : Option (List ℕ) → List (List ℕ) → Option (List ℕ)
-least_from least [] = least
-least_from least (key ∷ more) = least_from (Some (lesser least key)) more
+-- whether none of some keys is less than this one
+abbrev pub is_least : List (List ℕ) → List ℕ → Bool
+is_least keys key = not (list_any (λ other. is_less other key) keys)
+
+-- of some keys the one that none of them is less than, where there is any
+unfoldable pub least : List (List ℕ) → Option (List ℕ)
+least keys = find (is_least keys) keys
 
 abbrev pub unknown_fault : Members → Option SettingsFault
-unknown_fault root = option_map Unknown (least_from None (unknown_keys root))
+unknown_fault root = option_map Unknown (least (unknown_keys root))

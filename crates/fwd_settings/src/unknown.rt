@@ -1,9 +1,9 @@
 //! Keys that no table has.
 
-ghost use Rattle.std.specs.Prelude.{◌≡◌, map, IfOk, codes, None};
-ghost use Rattle.std.specs.List.{flat_map};
+ghost use Rattle.std.specs.Prelude.{◌≡◌, [], ◌∷◌, map, IfOk, codes, Some};
+ghost use Rattle.std.specs.List.{cons_option};
 ghost use Rattle.toml.specs.View.{view, table_view};
-ghost use Rattle.fwd_settings.specs.Kinds.{each, list_in};
+ghost use Rattle.fwd_settings.specs.Kinds.{list_in};
 ghost use Rattle.fwd_settings.specs.Keys.{relay_names, table_in};
 ghost use Rattle.fwd_settings.specs.Unknown as spec;
 
@@ -42,9 +42,10 @@ const OUTPUT: [&str; 12] = [
 
 const SERVER: [&str; 2] = ["address", "standby"];
 
-/// The lesser of two keys by their bytes.
+/// The least of a key and of one more, if there is one.
+#[tactic(auto, using(crate::proofs::LeastLemmas::least_one, crate::proofs::LeastLemmas::lesser_first, crate::proofs::LeastLemmas::lesser_second))]
 fn lesser(least: Option<Text>, key: Text) -> Text
-    ensures { result ≡ spec.lesser least key }
+    ensures { spec.least (cons_option least (key ∷ [])) ≡ Some result }
 {
     let Some(least) = least else {
         return key;
@@ -65,7 +66,7 @@ fn is_unknown(names: &[&str], name: &str) -> bool
 }
 
 /// The least of the keys of a table that are none of these names, and of one key more.
-#[tactic(auto, using(crate::proofs::UnknownLemmas::names_viewed))]
+#[tactic(auto, using(crate::proofs::UnknownLemmas::names_viewed, crate::proofs::LeastLemmas::least_alone, crate::proofs::LeastLemmas::least_more))]
 fn least_under(
     alloc: Global,
     place: Place,
@@ -73,7 +74,8 @@ fn least_under(
     table: &Table,
     least: Option<Text>,
 ) -> Result<Option<Text>, AllocError>
-    ensures { IfOk result (λ key. key ≡ spec.least_from least (spec.unknown_under place (map (λ known. known.now) names.now) (table_view table.now))) }
+    ensures { IfOk result (λ key. let known = map (λ known. known.now) names.now in
+        key ≡ spec.least (cons_option least (spec.unknown_under place known (table_view table.now)))) }
 {
     let mut least = least;
     for name in table.keys() {
@@ -97,6 +99,7 @@ fn members_of<'a>(table: &'a Table, place: Place, name: &str) -> &'a [Value]
 }
 
 /// The least of the unknown keys of a server, and of one key more.
+#[tactic(auto, using(crate::proofs::LeastLemmas::least_alone))]
 fn least_in_server(
     alloc: Global,
     output: usize,
@@ -104,7 +107,7 @@ fn least_in_server(
     value: &Value,
     least: Option<Text>,
 ) -> Result<Option<Text>, AllocError>
-    ensures { IfOk result (λ key. key ≡ spec.least_from least (spec.unknown_in_server output server (view value.now))) }
+    ensures { IfOk result (λ key. key ≡ spec.least (cons_option least (spec.unknown_in_server output server (view value.now)))) }
 {
     match value.as_table() {
         Some(table) => least_under(alloc, Place::Server(output, server), &SERVER, table, least),
@@ -113,14 +116,14 @@ fn least_in_server(
 }
 
 /// The least of the unknown keys of some servers, and of one key more.
-#[tactic(auto, using(crate::proofs::ListLemmas::each_more, crate::proofs::UnknownLemmas::least_append))]
+#[tactic(auto, using(crate::proofs::ListLemmas::each_more, crate::proofs::LeastLemmas::least_alone, crate::proofs::LeastLemmas::least_onward))]
 fn least_in_servers(
     alloc: Global,
     output: usize,
     values: &[Value],
     least: Option<Text>,
 ) -> Result<Option<Text>, AllocError>
-    ensures { IfOk result (λ key. key ≡ spec.least_from least (flat_map (λ keys. keys) (each (spec.unknown_in_server output) 0 (map view values.now)))) }
+    ensures { IfOk result (λ key. key ≡ spec.least (cons_option least (spec.unknown_in_servers output 0 (map view values.now)))) }
 {
     let mut least = least;
     for server in 0..values.len() {
@@ -130,14 +133,14 @@ fn least_in_servers(
 }
 
 /// The least of the unknown keys of an output, and of one key more.
-#[tactic(auto, using(crate::proofs::UnknownLemmas::least_append))]
+#[tactic(auto, using(crate::proofs::LeastLemmas::least_alone, crate::proofs::LeastLemmas::least_onward))]
 fn least_in_output(
     alloc: Global,
     output: usize,
     value: &Value,
     least: Option<Text>,
 ) -> Result<Option<Text>, AllocError>
-    ensures { IfOk result (λ key. key ≡ spec.least_from least (spec.unknown_in_output output (view value.now))) }
+    ensures { IfOk result (λ key. key ≡ spec.least (cons_option least (spec.unknown_in_output output (view value.now)))) }
 {
     let Some(table) = value.as_table() else {
         return Ok(least);
@@ -148,13 +151,13 @@ fn least_in_output(
 }
 
 /// The least of the unknown keys of some outputs, and of one key more.
-#[tactic(auto, using(crate::proofs::ListLemmas::each_more, crate::proofs::UnknownLemmas::least_append))]
+#[tactic(auto, using(crate::proofs::ListLemmas::each_more, crate::proofs::LeastLemmas::least_alone, crate::proofs::LeastLemmas::least_onward))]
 fn least_in_outputs(
     alloc: Global,
     values: &[Value],
     least: Option<Text>,
 ) -> Result<Option<Text>, AllocError>
-    ensures { IfOk result (λ key. key ≡ spec.least_from least (flat_map (λ keys. keys) (each spec.unknown_in_output 0 (map view values.now)))) }
+    ensures { IfOk result (λ key. key ≡ spec.least (cons_option least (spec.unknown_in_outputs 0 (map view values.now)))) }
 {
     let mut least = least;
     for output in 0..values.len() {
@@ -164,12 +167,14 @@ fn least_in_outputs(
 }
 
 /// The least of the unknown keys of the table `relay`, and of one key more.
+#[tactic(auto, using(crate::proofs::LeastLemmas::least_alone))]
 fn least_in_relay(
     alloc: Global,
     root: &Table,
     least: Option<Text>,
 ) -> Result<Option<Text>, AllocError>
-    ensures { IfOk result (λ key. key ≡ spec.least_from least (spec.unknown_under Place.Relay relay_names (table_in (codes "relay") (table_view root.now)))) }
+    ensures { IfOk result (λ key. let relay = table_in (codes "relay") (table_view root.now) in
+        key ≡ spec.least (cons_option least (spec.unknown_under Place.Relay relay_names relay))) }
 {
     let section = Section {
         place: Place::Root,
@@ -185,9 +190,9 @@ fn least_in_relay(
 }
 
 /// The least unknown key of all.
-#[tactic(auto, using(crate::proofs::UnknownLemmas::least_append))]
+#[tactic(auto, using(crate::proofs::LeastLemmas::least_append))]
 pub fn least_unknown(alloc: Global, root: &Table) -> Result<Option<Text>, AllocError>
-    ensures { IfOk result (λ key. key ≡ spec.least_from None (spec.unknown_keys (table_view root.now))) }
+    ensures { IfOk result (λ key. key ≡ spec.least (spec.unknown_keys (table_view root.now))) }
 {
     let least = least_under(alloc, Place::Root, &ROOT, root, None)?;
     let least = least_in_relay(alloc, root, least)?;
