@@ -1,5 +1,5 @@
 -- The ranges of settings that are accepted.
-use Rattle.std.specs.Prelude.{ℕ, Bool, not, ◌&&◌, nat_le, length}
+use Rattle.std.specs.Prelude.{Bool, not, ◌&&◌, nat_le, length}
 use Rattle.std.specs.List.{list_all}
 use Rattle.fwd_settings.specs.declared.settings.RelaySettings.{RelaySettings}
 use Rattle.fwd_settings.specs.declared.settings.OutputSettings.{OutputSettings}

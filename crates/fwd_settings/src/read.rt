@@ -46,7 +46,8 @@ fn settings_in(alloc: Global, root: &Table) -> Result<Settings, SettingsFault>
 #[tactic(auto, using(crate::proofs::DocumentLemmas::document_read, crate::proofs::DocumentLemmas::no_document))]
 fn document(alloc: Global, text: &[u8]) -> Result<Table, SettingsFault>
     ensures ok { IfOk result (λ root. spec.document_of text.now ≡ Some (table_view root)) }
-    ensures fault { IfErr result (λ fault. fault ≢ SettingsFault.Memory → (fault ≡ SettingsFault.NotToml) × (spec.document_of text.now ≡ None)) }
+    ensures fault { IfErr result (λ fault. fault ≢ SettingsFault.Memory →
+        (fault ≡ SettingsFault.NotToml) × (spec.document_of text.now ≡ None)) }
 {
     match toml::table_from_slice(alloc, text) {
         Ok(root) => Ok(root),

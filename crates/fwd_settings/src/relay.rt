@@ -56,7 +56,8 @@ fn empty(alloc: Global) -> Table
 
 /// The settings of the relay: with no table, the defaults.
 pub fn relay_of(alloc: Global, root: &Table) -> Result<RelaySettings, SettingsFault>
-    ensures { Answers (relay_fault (get_member (codes "relay") (table_view root.now))) (relay_settings (table_in (codes "relay") (table_view root.now))) result }
+    ensures { let members = table_view root.now in
+        Answers (relay_fault (get_member (codes "relay") members)) (relay_settings (table_in (codes "relay") members)) result }
 {
     let section = Section {
         place: Place::Root,

@@ -210,8 +210,11 @@ impl<'a> Section<'a> {
         name: &str,
         most: usize,
     ) -> Result<&'a [Value], SettingsFault>
-        ensures ok { IfOk result (λ values. (fault_at self.now.place (table_view self.now.table.now) (required_list_key name.now most) ≡ None) × (map view values.now ≡ setting_at (table_view self.now.table.now) (required_list_key name.now most))) }
-        ensures fault { IfErr result (λ fault. fault ≢ SettingsFault.Memory → fault_at self.now.place (table_view self.now.table.now) (required_list_key name.now most) ≡ Some fault) }
+        ensures ok { let members = table_view self.now.table.now in IfOk result (λ values.
+            (fault_at self.now.place members (required_list_key name.now most) ≡ None)
+            × (map view values.now ≡ setting_at members (required_list_key name.now most))) }
+        ensures fault { let members = table_view self.now.table.now in IfErr result (λ fault. fault ≢ SettingsFault.Memory →
+            fault_at self.now.place members (required_list_key name.now most) ≡ Some fault) }
     {
         let Some(value) = self.get(name) else {
             return Err(self.place.fault(alloc, name, Flaw::Missing));
