@@ -1,19 +1,19 @@
 -- What a check of settings answers.
-use Rattle.std.specs.Prelude.{◌≡◌, ℕ, List, Result, Ok, Err}
+use Rattle.std.specs.Prelude.{Result, Ok, Err}
 use Rattle.fwd_settings.specs.declared.settings.Settings.{Settings}
 use Rattle.fwd_settings.specs.declared.fault.SettingsFault.{SettingsFault}
-use Rattle.fwd_settings.specs.declared.fault.SettingsFault.TheVariants.{Memory as NoRoom, Unreadable, NotToml, Missing, WrongKind, OutOfRange, Unknown, BadPattern}
-use Rattle.fwd_settings.specs.Whole.{settings_of}
+use Rattle.fwd_settings.specs.declared.fault.SettingsFault.TheVariants.{Unreadable}
+use Rattle.fwd_script.specs.declared.input.InputError.{InputError}
+use Rattle.fwd_script.specs.declared.input.InputError.TheVariants.{Memory as NoRoom, Failed}
 use Rattle.fwd_script.specs.declared.status.Status.{Status}
-use Rattle.fwd_script.specs.declared.status.Status.TheVariants.{Done, BadSettings, BadLine, Memory, Input, Output}
+use Rattle.fwd_script.specs.declared.status.Status.TheVariants.{BadSettings, Memory}
 
--- the settings of a text, or its first fault; a text that was not read to its end is unreadable, whatever it says
-abbrev pub Checks : List ℕ → Result Settings Status → Type 0
-Checks text (Ok settings) = settings_of text ≡ Ok settings
-Checks text (Err (BadSettings Unreadable)) = Unit {0}
-Checks text (Err (BadSettings fault)) = settings_of text ≡ Err fault
-Checks text (Err Memory) = Unit {0}
-Checks text (Err Done) = ⊥
-Checks text (Err (BadLine n)) = ⊥
-Checks text (Err Input) = ⊥
-Checks text (Err Output) = ⊥
+-- the settings, or the refusal of them
+abbrev pub verdict_on : Result Settings SettingsFault → Result Settings Status
+verdict_on (Ok settings) = Ok settings
+verdict_on (Err fault) = Err (BadSettings fault)
+
+-- what is answered where the text was not read to its end
+abbrev pub unread : InputError → Status
+unread NoRoom = Memory
+unread Failed = BadSettings Unreadable
