@@ -7,3 +7,4 @@ pub mod LeastLemmas
 pub mod ListLemmas
 pub mod UnknownLemmas
 pub mod RangeLemmas
+pub mod RefusalLemmas

@@ -1,7 +1,8 @@
 //! Laws over the definitions, each the contract of a function that does nothing.
 
-ghost use Rattle.std.specs.Prelude.{◌≡◌, ℕ, List, true, Ok};
+ghost use Rattle.std.specs.Prelude.{◌≡◌, ◌≢◌, ℕ, List, true, Ok, Err};
 ghost use Rattle.fwd_settings.specs.declared.settings.Settings.{Settings};
+ghost use Rattle.fwd_settings.specs.declared.fault.SettingsFault.TheVariants as faults;
 ghost use Rattle.fwd_settings.specs.Ranges.{in_range};
 ghost use Rattle.fwd_settings.specs.Whole.{settings_of};
 
@@ -10,4 +11,11 @@ ghost use Rattle.fwd_settings.specs.Whole.{settings_of};
 #[tactic(auto, using(crate::proofs::RangeLemmas::accepted_within))]
 pub fn accepted_is_in_range()
     ensures { (text : List ℕ) (accepted : Settings) → settings_of text ≡ Ok accepted → in_range accepted ≡ true }
+{}
+
+/// A text is refused for what it says: never for want of memory, and never as a file that was not read.
+#[tactic(auto, using(crate::proofs::RefusalLemmas::not_memory, crate::proofs::RefusalLemmas::not_unreadable))]
+pub fn refusals_are_of_the_text()
+    ensures memory { (text : List ℕ) → settings_of text ≢ Err faults.Memory }
+    ensures unreadable { (text : List ℕ) → settings_of text ≢ Err faults.Unreadable }
 {}

@@ -16,7 +16,7 @@ mod unknown;
 mod values;
 
 pub use fault::SettingsFault;
-pub use laws::accepted_is_in_range;
+pub use laws::{accepted_is_in_range, refusals_are_of_the_text};
 pub use read::read_settings;
 pub use seq::Seq;
 pub use settings::{OutputSettings, RelaySettings, ServerSettings, Settings};
