@@ -2,3 +2,4 @@ pub mod Judged
 pub mod History
 pub mod Live
 pub mod Hearing
+pub mod Numbers

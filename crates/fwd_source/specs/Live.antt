@@ -38,9 +38,13 @@ opened_source setup = record { setup = setup; awaits = is_guarded setup; rest = 
 
 -- ---- what happens to it, read on what is kept
 
+-- what bytes say behind all that was heard but the bytes of the unfinished value
+abbrev pub judged_behind : LiveSource → List ℕ → Judged
+judged_behind s bytes = judged_of s.setup.limits (gate_of s.setup s.awaits) (s.admitted + length s.waiting) bytes
+
 -- what a piece says after the bytes of the unfinished value
 abbrev pub judged_piece : LiveSource → List ℕ → Judged
-judged_piece s bytes = judged_of s.setup.limits (gate_of s.setup s.awaits) (s.admitted + length s.waiting) (s.rest ++ bytes)
+judged_piece s bytes = judged_behind s (s.rest ++ bytes)
 
 unfoldable pub source_hears : LiveSource → List ℕ → LiveSource
 source_hears s bytes = record {

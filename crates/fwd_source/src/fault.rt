@@ -1,3 +1,6 @@
+ghost use Rattle.std.specs.Prelude.{◌≡◌};
+ghost use Rattle.fwd_source.specs.Numbers.{fault_number};
+
 use fwd_modes::InputFault;
 use fwd_msgpack::ScanFault;
 
@@ -14,4 +17,19 @@ pub enum SourceFault {
     Denied,
     /// A fault came before, or the connection was shut, or no number is left for one more request.
     Closed,
+}
+
+impl SourceFault {
+    /// The fault's number. A fault of the bytes or of a request has its own.
+    pub fn number(self) -> u8
+        ensures { result ≡ fault_number self }
+    {
+        match self {
+            SourceFault::Scan(fault) => fault as u8,
+            SourceFault::Input(fault) => fault as u8,
+            SourceFault::NotPing => 9,
+            SourceFault::Denied => 10,
+            SourceFault::Closed => 11,
+        }
+    }
 }

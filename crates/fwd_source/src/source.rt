@@ -1,0 +1,277 @@
+//! A connection, from its first byte to its last answer.
+
+ghost use Rattle.std.specs.Prelude.{◌≡◌, ◌+◌, ◌≤◌, ◌<◌, ◌^◌, true, length, IfOk, IfErr, OnOk, OnErr};
+ghost use Rattle.std.specs.Option.{option_map};
+ghost use Rattle.std.specs.Arc.{arc_value};
+ghost use Rattle.fwd_source.specs.History.{Setup, opening_text};
+ghost use Rattle.fwd_source.specs.Live.{opened_source, judged_behind, judged_piece, live_piece_next, live_piece_answer, first_waiting, live_next, source_appends, source_drains, source_shuts};
+ghost use Rattle.fwd_source.specs.Hearing.{shown};
+
+use crate::greeting::hear_greeting;
+use crate::hearing::{Heard, hear};
+use crate::origin::Origin;
+use crate::piece::Piece;
+use fwd_handshake::{Nonces, Security, write_helo};
+use fwd_modes::Batch;
+use fwd_msgpack::Limits;
+use std::alloc::{AllocError, AllocFailed, Global};
+use std::collections::VecDeque;
+use std::marker::Model;
+use std::sync::Arc;
+
+/// Why an answer was not taken.
+#[derive(Clone, Copy, Debug, PartialEq, Eq)]
+pub enum AnswerError {
+    /// The connection was shut.
+    Closed,
+    /// There is no memory for it.
+    Memory,
+}
+
+/// A connection: its unfinished bytes, its requests that wait to be admitted, and the bytes that wait to be sent to it.
+#[derive(Drop)]
+pub struct Source {
+    conn: u64,
+    security: Arc<Security>,
+    nonces: Nonces,
+    limits: Limits,
+    awaits: bool,
+    rest: Vec<u8>,
+    waiting: VecDeque<Batch>,
+    admitted: u64,
+    unsent: Vec<u8>,
+    shut: bool,
+    closed: bool,
+}
+
+impl Model for Source {
+    ghost use Rattle.std.specs.Prelude.{◌+◌, ◌-◌, ◌<◌, ◌^◌, length, vec_len, vec_capacity};
+    ghost use Rattle.std.specs.Arc.{arc_value};
+    ghost use Rattle.fwd_source.specs.Live.{Shown};
+
+    ghost Value = { Shown };
+
+    ghost view = { λ s. record {
+      live = record {
+        setup = record { conn = s.conn; security = arc_value s.security; nonces = s.nonces; limits = s.limits };
+        awaits = s.awaits;
+        rest = s.rest.items;
+        waiting = s.waiting.items;
+        admitted = s.admitted;
+        unsent = s.unsent.items;
+        shut = s.shut;
+        closed = s.closed;
+      };
+      room = vec_capacity s.unsent - vec_len s.unsent;
+    } };
+
+    ghost invariant = { λ s. s.admitted + length s.waiting.items < 2 ^ 64 };
+}
+
+/// What is written first: HELO, where a shared key is set.
+fn opening(alloc: Global, security: &Security, nonces: &Nonces) -> Result<Vec<u8>, AllocError>
+    ensures { IfOk result (λ text. (setup : Setup) → setup.security ≡ security.now → setup.nonces ≡ nonces.now →
+        text.items ≡ opening_text setup) }
+{
+    if security.shared_key.is_none() {
+        return Ok(Vec::new(alloc));
+    }
+    let helo = write_helo(alloc, security, nonces)?;
+    Vec::from_slice(alloc, helo.as_slice())
+}
+
+impl Source {
+    /// A connection before its first byte. Where a shared key is set, HELO waits to be sent. The only error is want of
+    /// memory, which gives `security` back.
+    pub fn new(
+        alloc: Global,
+        conn: u64,
+        security: Arc<Security>,
+        nonces: Nonces,
+        limits: Limits,
+    ) -> Result<Source, AllocFailed<Arc<Security>>>
+        ensures ok { IfOk result (λ source. source.live ≡ opened_source (record {
+          conn = conn;
+          security = arc_value security;
+          nonces = nonces;
+          limits = limits;
+        })) }
+        ensures err { IfErr result (λ failed. failed.value ≡ security) }
+    {
+        let awaits = security.shared_key.is_some();
+        let Ok(unsent) = opening(alloc, &security, &nonces) else {
+            return Err(AllocFailed { value: security });
+        };
+        Ok(Source {
+            conn,
+            security,
+            nonces,
+            limits,
+            awaits,
+            rest: Vec::new(alloc),
+            waiting: VecDeque::new(alloc),
+            admitted: 0,
+            unsent,
+            shut: false,
+            closed: false,
+        })
+    }
+
+    /// How many requests wait to be admitted.
+    pub fn waiting(&self) -> usize
+        ensures { result ≡ length self.now.live.waiting }
+    {
+        self.waiting.len()
+    }
+
+    /// The bytes that wait to be sent.
+    pub fn out(&self) -> &[u8]
+        ensures { result.now ≡ self.now.live.unsent }
+    {
+        self.unsent.as_slice()
+    }
+
+    /// The link took so many bytes of those that wait to be sent.
+    pub fn drained(&mut self, count: usize)
+        requires { count ≤ length self.old.live.unsent }
+        ensures live { self.new.live ≡ source_drains self.old.live count }
+        ensures room { self.new.room ≡ self.old.room + count }
+    {
+        self.unsent.drain(..count);
+    }
+
+    /// No further piece is taken, and what waits is dropped.
+    pub fn shut(&mut self)
+        ensures live { self.new.live ≡ source_shuts self.old.live }
+        ensures room { self.new.room ≡ self.old.room + length self.old.live.unsent }
+    {
+        self.awaits = false;
+        self.rest.clear();
+        self.waiting.clear();
+        self.unsent.clear();
+        self.shut = true;
+        self.closed = true;
+    }
+
+    /// Whether what waits was dropped.
+    pub fn is_shut(&self) -> bool
+        ensures { result ≡ self.now.live.shut }
+    {
+        self.shut
+    }
+
+    /// Makes room for answers of so many bytes in all. The only error is want of memory, and then nothing has changed.
+    pub fn reserve(&mut self, bytes: usize) -> Result<(), AllocError>
+        ensures live { self.new.live ≡ self.old.live }
+        ensures ok { OnOk result (bytes ≤ self.new.room) }
+        ensures room { self.old.room ≤ self.new.room }
+        ensures err { OnErr result (self.new.room ≡ self.old.room) }
+        ensures memory { OnErr result (self.old.room < bytes) }
+    {
+        self.unsent.reserve(bytes)
+    }
+
+    /// Puts bytes behind those that wait to be sent. A fault does not refuse them. On an error nothing has changed.
+    pub fn answer(&mut self, bytes: &[u8]) -> Result<(), AnswerError>
+        ensures ok { OnOk result (self.new.live ≡ source_appends self.old.live bytes.now) }
+        ensures room { OnOk result (self.old.room ≤ self.new.room + length bytes.now) }
+        ensures closed { self.old.live.shut ≡ true → result ≡ Err AnswerError.Closed }
+        ensures closed_only_once_shut { result ≡ Err AnswerError.Closed → self.old.live.shut ≡ true }
+        ensures memory_only_without_room { result ≡ Err AnswerError.Memory → self.old.room < length bytes.now }
+        ensures err { OnErr result (self.new ≡ self.old) }
+    {
+        if self.shut {
+            return Err(AnswerError::Closed);
+        }
+        let Ok(()) = self.unsent.reserve(bytes.len()) else {
+            return Err(AnswerError::Memory);
+        };
+        self.unsent.extend_from_slice(bytes).unwrap();
+        Ok(())
+    }
+
+    /// The first request that waits, with its number.
+    pub fn peek(&self) -> Option<(Origin, &Batch)>
+        ensures { option_map (λ asked. (asked.0, asked.1.now)) result ≡ first_waiting self.now.live self.now.live.waiting }
+    {
+        let batch = self.waiting.front()?;
+        let request = self.admitted + 1;
+        let conn = self.conn;
+        Some((Origin { conn, request }, batch))
+    }
+
+    /// Takes the first request that waits, with its number.
+    pub fn next(&mut self) -> Option<(Origin, Batch)>
+        ensures value { result ≡ first_waiting self.old.live self.old.live.waiting }
+        ensures live { self.new.live ≡ live_next self.old.live self.old.live.waiting }
+        ensures room { self.new.room ≡ self.old.room }
+    {
+        let batch = self.waiting.pop_front()?;
+        self.admitted += 1;
+        let request = self.admitted;
+        let conn = self.conn;
+        Some((Origin { conn, request }, batch))
+    }
+
+    /// What these bytes say, of which those of the unfinished value are the first.
+    fn judged(&self, alloc: Global, bytes: &[u8]) -> Result<Heard, AllocError>
+        ensures value { IfOk result (λ heard. shown heard ≡ judged_behind self.now.live bytes.now) }
+        ensures room { IfOk result (λ heard. self.now.live.admitted + length self.now.live.waiting + length heard.requests.items < 2 ^ 64) }
+    {
+        let count = self.admitted + self.waiting.len() as u64;
+        if self.awaits {
+            hear_greeting(
+                alloc,
+                &self.security,
+                &self.nonces,
+                count,
+                bytes,
+                self.limits,
+            )
+        } else {
+            hear(alloc, count, bytes, self.limits)
+        }
+    }
+
+    /// What more bytes say.
+    fn hears(&self, alloc: Global, bytes: &[u8]) -> Result<Heard, AllocError>
+        ensures value { IfOk result (λ heard. shown heard ≡ judged_piece self.now.live bytes.now) }
+        ensures room { IfOk result (λ heard. self.now.live.admitted + length self.now.live.waiting + length heard.requests.items < 2 ^ 64) }
+    {
+        if self.rest.is_empty() {
+            return self.judged(alloc, bytes);
+        }
+        let mut all = Vec::from_slice(alloc, &self.rest)?;
+        all.extend_from_slice(bytes)?;
+        self.judged(alloc, &all)
+    }
+
+    /// More bytes come. After a fault and once shut, each further piece is refused. On an error nothing has changed.
+    #[tactic(auto, unfolding(crate::specs::Live::source_hears))]
+    pub fn piece(&mut self, alloc: Global, bytes: &[u8]) -> Result<Piece, AllocError>
+        ensures answer { IfOk result (λ piece. piece ≡ live_piece_answer self.old.live bytes.now) }
+        ensures live { OnOk result (self.new.live ≡ live_piece_next self.old.live bytes.now) }
+        ensures closed { self.old.live.closed ≡ true → (result ≡ Ok Piece.Closed) × (self.new ≡ self.old) }
+        ensures err { OnErr result (self.new.live ≡ self.old.live) }
+        // What may wait to be sent without more memory is as much as before.
+        ensures room { length self.old.live.unsent + self.old.room ≤ length self.new.live.unsent + self.new.room }
+    {
+        if self.closed {
+            return Ok(Piece::Closed);
+        }
+        let heard = self.hears(alloc, bytes)?;
+        self.unsent.reserve(heard.pong.len())?;
+        let mut requests = VecDeque::from_vec(heard.requests);
+        self.waiting.append(&mut requests)?;
+        self.unsent
+            .extend_from_slice(heard.pong.as_slice())
+            .unwrap();
+        self.rest = heard.rest;
+        self.awaits = heard.awaits;
+        self.closed = heard.fault.is_some();
+        match heard.fault {
+            None => Ok(Piece::Waiting(self.waiting.len())),
+            Some(fault) => Ok(Piece::Fault(fault)),
+        }
+    }
+}
