@@ -14,3 +14,6 @@ pub use laws::{judged_by_front, live_source_follows, pieces_are_one, source_stay
 pub use origin::Origin;
 pub use piece::Piece;
 pub use source::{AnswerError, Source};
+
+#[cfg(test)]
+mod tests;
