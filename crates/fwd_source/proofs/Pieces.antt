@@ -1,11 +1,13 @@
 -- However the bytes are cut, the same source is left.
-use Rattle.std.proofs.Common.{◌≡◌, ℕ, ◌+◌, Bool, true, false, cond, List, [], ◌∷◌, ◌++◌, length, None, refl, sym, ap, ◌∙◌, arith}
+use Rattle.std.proofs.Common.{◌≡◌, ℕ, ◌+◌, Bool, true, false, cond, List, [], ◌∷◌, ◌++◌, length, Option, Some, None, refl, sym, ap, ◌∙◌, arith}
 use Rattle.std.specs.Prelude.{is_some}
 use Rattle.std.specs.List.{concat}
 use Rattle.std.proofs.lemmas.List.{append-nil, append_assoc, length-append}
 use Rattle.fwd_source.specs.Judged.{Judged, judged_of, joined}
 use Rattle.fwd_source.specs.History.{gate_of}
-use Rattle.fwd_source.specs.Live.{LiveSource, judged_piece, source_hears, live_piece_next, live_pieces_next}
+use Rattle.fwd_source.specs.declared.fault.SourceFault.{SourceFault}
+use Rattle.fwd_source.specs.declared.piece.Piece.TheVariants as piece
+use Rattle.fwd_source.specs.Live.{LiveSource, judged_piece, source_hears, told, live_piece_answer, live_piece_next, live_pieces_next}
 use Rattle.fwd_source.proofs.Judging.{judged_of-append, judged_of-fails}
 use Rattle.fwd_source.proofs.Following.{none_from, gate_step}
 
@@ -78,3 +80,23 @@ module _ (s : LiveSource) (a b : List ℕ) where
 pub pieces_are_one : (s : LiveSource) (bytes : List ℕ) (pieces : List (List ℕ)) → live_pieces_next s (bytes ∷ pieces) ≡ live_piece_next s (concat (bytes ∷ pieces))
 pieces_are_one s bytes [] = ap (live_piece_next s) (sym (append-nil bytes))
 pieces_are_one s bytes (more ∷ pieces) = pieces_are_one (live_piece_next s bytes) more pieces ∙ piece_twice s bytes (concat (more ∷ pieces))
+
+-- ---- once it is closed
+
+told_fault : (o : Option SourceFault) (count : ℕ) (fault : SourceFault) → told o count ≡ piece.Fault fault → is_some o ≡ true
+told_fault None count fault h = absurd cc
+told_fault (Some f) count fault h = refl
+
+pub fault_closes : (s : LiveSource) (bytes : List ℕ) (fault : SourceFault) → live_piece_answer s bytes ≡ piece.Fault fault → (live_piece_next s bytes).closed ≡ true
+fault_closes s bytes fault e = by s.closed refl e
+  where
+    by : (b : Bool) → s.closed ≡ b → cond b piece.Closed (told (judged_piece s bytes).fault (length (s.waiting ++ (judged_piece s bytes).requests))) ≡ piece.Fault fault
+        → (cond b s (source_hears s bytes)).closed ≡ true
+    by true q h = q
+    by false q h = hears_closed s bytes [] ∙ told_fault (judged_piece s bytes).fault (length (s.waiting ++ (judged_piece s bytes).requests)) fault h
+
+pub closed_refuses : (s : LiveSource) (bytes : List ℕ) → s.closed ≡ true → live_piece_answer s bytes ≡ piece.Closed
+closed_refuses s bytes e = ap (λ b. cond b piece.Closed (told (judged_piece s bytes).fault (length (s.waiting ++ (judged_piece s bytes).requests)))) e
+
+pub closed_stays : (s : LiveSource) (bytes : List ℕ) → s.closed ≡ true → live_piece_next s bytes ≡ s
+closed_stays s bytes e = ap (λ b. cond b s (source_hears s bytes)) e

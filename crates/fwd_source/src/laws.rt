@@ -1,15 +1,20 @@
-//! Laws over the definitions, each the contract of a function that does nothing.
+//! Laws, each the contract of a function that does nothing, or no more than the calls of which it speaks.
 
-ghost use Rattle.std.specs.Prelude.{◌≡◌, ◌≤◌, ℕ, List, ◌∷◌, false, length, take, drop};
+ghost use Rattle.std.specs.Prelude.{◌≡◌, ◌≤◌, ℕ, List, ◌∷◌, true, false, length, take, drop};
 ghost use Rattle.std.specs.List.{concat};
 ghost use Rattle.fwd_msgpack.specs.declared.fault.ScanFault.{ScanFault};
 ghost use Rattle.fwd_msgpack.specs.declared.limits.Limits.{Limits as ValueLimits};
 ghost use Rattle.fwd_msgpack.specs.Scans.{Whole, Short, Bad, first_of};
 ghost use Rattle.fwd_modes.specs.Requests.{Request};
+ghost use Rattle.fwd_source.specs.declared.fault.SourceFault.{SourceFault};
 ghost use Rattle.fwd_source.specs.declared.fault.SourceFault.TheVariants.{Scan};
+ghost use Rattle.fwd_source.specs.declared.piece.Piece.TheVariants.{Fault, Closed};
 ghost use Rattle.fwd_source.specs.Judged.{Gate, judged_of, value_then, resting, failed};
 ghost use Rattle.fwd_source.specs.History.{Setup, SourceHistory, IsSane, opened, is_closed, waiting, unsent, hears, gives, appends, drains, shuts};
-ghost use Rattle.fwd_source.specs.Live.{LiveSource, live_source, opened_source, source_hears, source_gives, source_appends, source_drains, source_shuts, live_piece_next, live_pieces_next};
+ghost use Rattle.fwd_source.specs.Live.{LiveSource, live_source, opened_source, source_hears, source_gives, source_appends, source_drains, source_shuts, live_piece_next, live_piece_answer, live_pieces_next};
+
+use crate::source::Source;
+use fwd_msgpack::Bytes;
 
 /// What bytes say, by what stands at their front: a value, less than one, or a fault.
 pub fn judged_by_front()
@@ -43,3 +48,22 @@ pub fn source_stays_sane()
     ensures drains { (s : SourceHistory) (count : ℕ) → IsSane s → s.shut ≡ false → count ≤ length (unsent s) → IsSane (drains s count) }
     ensures shuts { (s : SourceHistory) → IsSane s → IsSane (shuts s) }
 {}
+
+/// A fault closes the connection, and once it is closed each further piece is refused and changes nothing.
+pub fn faults_close()
+    ensures closes { (s : LiveSource) (bytes : List ℕ) (fault : SourceFault) →
+        live_piece_answer s bytes ≡ Fault fault → (live_piece_next s bytes).closed ≡ true }
+    ensures refused { (s : LiveSource) (bytes : List ℕ) → s.closed ≡ true → live_piece_answer s bytes ≡ Closed }
+    ensures unchanged { (s : LiveSource) (bytes : List ℕ) → s.closed ≡ true → live_piece_next s bytes ≡ s }
+{}
+
+/// Answers that together fit the room are all taken, however many they are.
+pub fn answers_fit(source: &mut Source, answers: &[Bytes])
+    requires not_shut { source.old.live.shut ≡ false }
+    requires room { length (concat answers.now) ≤ source.old.room }
+    ensures { source.new.live ≡ source_appends source.old.live (concat answers.now) }
+{
+    for answer in answers {
+        source.answer(answer.as_slice()).unwrap();
+    }
+}

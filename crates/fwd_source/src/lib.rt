@@ -10,7 +10,10 @@ mod piece;
 mod source;
 
 pub use fault::SourceFault;
-pub use laws::{judged_by_front, live_source_follows, pieces_are_one, source_stays_sane};
+pub use laws::{
+    answers_fit, faults_close, judged_by_front, live_source_follows, pieces_are_one,
+    source_stays_sane,
+};
 pub use origin::Origin;
 pub use piece::Piece;
 pub use source::{AnswerError, Source};
