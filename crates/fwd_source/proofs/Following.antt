@@ -3,9 +3,10 @@ use Rattle.std.proofs.Common.{◌≡◌, ℕ, zero, suc, ◌+◌, ◌≤◌, Boo
 use Rattle.std.specs.Prelude.{is_some, ◌||◌}
 use Rattle.std.proofs.lemmas.List.{length-append, length-drop, drop-append-le}
 use Rattle.fwd_modes.specs.Requests.{Request}
+use Rattle.fwd_source.specs.declared.piece.Piece.TheVariants as piece
 use Rattle.fwd_source.specs.Judged.{judged_of, joined}
-use Rattle.fwd_source.specs.History.{Setup, gate_of, is_guarded, opening_text, SourceHistory, IsSane, opened, judged, is_closed, waiting, unsent, has_heard, new_pong, hears, gives, appends, drains, shuts}
-use Rattle.fwd_source.specs.Live.{opened_source, live_source, judged_piece, source_hears, tail_of, source_gives, source_appends, source_drains, source_shuts}
+use Rattle.fwd_source.specs.History.{Setup, gate_of, is_guarded, opening_text, SourceHistory, IsSane, opened, judged, is_closed, waiting, unsent, has_heard, new_pong, hears, piece_next, told, piece_answer, gives, appends, drains, shuts}
+use Rattle.fwd_source.specs.Live.{opened_source, live_source, judged_piece, source_hears, live_piece_next, live_piece_answer, tail_of, source_gives, source_appends, source_drains, source_shuts}
 use Rattle.fwd_source.proofs.Judging.{gate_behind, judged_of-append, judged_of-open, judged_of-nothing}
 
 pub none_from : {A : Type 0} (o : Option A) → is_some o ≡ false → o ≡ None
@@ -106,6 +107,34 @@ hears-sane s bytes sane e =
     let longer : length (judged (has_heard s bytes)).requests ≡ length (judged s).requests + length (judged_piece (live_source s) bytes).requests =
     ap (λ j. length j.requests) h.all ∙ length-append (judged s).requests (judged_piece (live_source s) bytes).requests in
     record { admits = omega (arith, longer, sane.admits); drains = omega (arith, length-append s.appended (new_pong s bytes), sane.drains) }
+
+-- the same of a piece that may come too late
+pub piece-live : (s : SourceHistory) (bytes : List ℕ) → IsSane s → live_source (piece_next s bytes) ≡ live_piece_next (live_source s) bytes
+unfolding live_source
+piece-live s bytes sane = by (is_closed s) refl
+  where
+    by : (b : Bool) → is_closed s ≡ b → live_source (cond b s (hears s bytes)) ≡ cond b (live_source s) (source_hears (live_source s) bytes)
+    by true e = refl
+    by false e = hears-live s bytes sane e
+
+pub answer-live : (s : SourceHistory) (bytes : List ℕ) → IsSane s → piece_answer s bytes ≡ live_piece_answer (live_source s) bytes
+unfolding live_source
+answer-live s bytes sane = by (is_closed s) refl
+  where
+    by : (b : Bool) → is_closed s ≡ b → cond b piece.Closed (told (judged (hears s bytes)).fault (length (waiting (hears s bytes))))
+        ≡ cond b piece.Closed (told (judged_piece (live_source s) bytes).fault (length ((live_source s).waiting ++ (judged_piece (live_source s) bytes).requests)))
+    by true e = refl
+    by false e = let h = heard s bytes sane e in λ i. told (h.all i).fault (length (h.waits i))
+
+pub pong-live : (s : SourceHistory) (bytes : List ℕ) → IsSane s → is_closed s ≡ false → new_pong s bytes ≡ (judged_piece (live_source s) bytes).pong
+pong-live s bytes sane e = (heard s bytes sane e).pong
+
+pub piece-sane : (s : SourceHistory) (bytes : List ℕ) → IsSane s → IsSane (piece_next s bytes)
+piece-sane s bytes sane = by (is_closed s) refl
+  where
+    by : (b : Bool) → is_closed s ≡ b → IsSane (cond b s (hears s bytes))
+    by true e = sane
+    by false e = hears-sane s bytes sane e
 
 -- ---- the other calls
 

@@ -4,10 +4,10 @@ use Rattle.std.specs.Prelude.{is_some}
 use Rattle.std.specs.List.{concat}
 use Rattle.std.proofs.lemmas.List.{append-nil, append_assoc, length-append}
 use Rattle.fwd_source.specs.Judged.{Judged, judged_of, joined}
-use Rattle.fwd_source.specs.History.{gate_of}
+use Rattle.fwd_source.specs.History.{gate_of, told}
 use Rattle.fwd_source.specs.declared.fault.SourceFault.{SourceFault}
 use Rattle.fwd_source.specs.declared.piece.Piece.TheVariants as piece
-use Rattle.fwd_source.specs.Live.{LiveSource, judged_piece, source_hears, told, live_piece_answer, live_piece_next, live_pieces_next}
+use Rattle.fwd_source.specs.Live.{LiveSource, judged_piece, source_hears, live_piece_answer, live_piece_next, live_pieces_next}
 use Rattle.fwd_source.proofs.Judging.{judged_of-append, judged_of-fails}
 use Rattle.fwd_source.proofs.Following.{none_from, gate_step}
 

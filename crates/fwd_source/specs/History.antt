@@ -1,11 +1,14 @@
 -- The history of a connection, with nothing removed.
-use Rattle.std.specs.Prelude.{ℕ, ◌+◌, ◌≤◌, Bool, true, false, ◌||◌, List, [], ◌++◌, drop, length, Some, None, is_some, if◌then◌else◌}
+use Rattle.std.specs.Prelude.{ℕ, ◌+◌, ◌≤◌, Bool, true, false, ◌||◌, List, [], ◌++◌, drop, length, Option, Some, None, is_some, if◌then◌else◌}
 use Rattle.fwd_msgpack.specs.declared.limits.Limits.{Limits}
 use Rattle.fwd_modes.specs.Requests.{Request}
 use Rattle.fwd_handshake.specs.declared.credentials.Security.{Security}
 use Rattle.fwd_handshake.specs.declared.nonces.Nonces.{Nonces}
 use Rattle.fwd_handshake.specs.Messages.{helo_text}
 use Rattle.fwd_handshake.specs.Verdicts.{ping_verdict}
+use Rattle.fwd_source.specs.declared.fault.SourceFault.{SourceFault}
+use Rattle.fwd_source.specs.declared.piece.Piece.{Piece}
+use Rattle.fwd_source.specs.declared.piece.Piece.TheVariants as piece
 use Rattle.fwd_source.specs.Judged.{Judged, Gate, judged_of}
 
 -- what a connection is accepted with: its id, what it has to prove, the random bytes of its handshake, and how long and deep a value may be
@@ -82,6 +85,16 @@ hears s bytes = appends (has_heard s bytes) (new_pong s bytes)
 -- once it is closed, no piece is heard
 abbrev pub piece_next : SourceHistory → List ℕ → SourceHistory
 piece_next s bytes = if is_closed s then s else hears s bytes
+
+-- the fault that a piece brought, or how many requests wait
+abbrev pub told : Option SourceFault → ℕ → Piece
+told None count = piece.Waiting count
+told (Some fault) count = piece.Fault fault
+
+-- what a piece is told: the fault of all bytes heard, or how many requests wait
+abbrev pub piece_answer : SourceHistory → List ℕ → Piece
+piece_answer s bytes =
+    if is_closed s then piece.Closed else told (judged (hears s bytes)).fault (length (waiting (hears s bytes)))
 
 -- the first request that waits is admitted
 abbrev pub gives : SourceHistory → SourceHistory

@@ -4,9 +4,8 @@ use Rattle.fwd_modes.specs.Requests.{Request}
 use Rattle.fwd_source.specs.declared.origin.Origin.{Origin}
 use Rattle.fwd_source.specs.declared.piece.Piece.{Piece}
 use Rattle.fwd_source.specs.declared.piece.Piece.TheVariants as piece
-use Rattle.fwd_source.specs.declared.fault.SourceFault.{SourceFault}
 use Rattle.fwd_source.specs.Judged.{Judged, judged_of}
-use Rattle.fwd_source.specs.History.{Setup, gate_of, is_guarded, opening_text, SourceHistory, judged, is_closed, waiting, unsent}
+use Rattle.fwd_source.specs.History.{Setup, gate_of, is_guarded, opening_text, SourceHistory, judged, is_closed, waiting, unsent, told}
 
 -- whether a PING is awaited, the bytes after the last whole value, the requests that wait, how many were admitted, the bytes
 -- that wait to be sent, whether what waited was dropped, whether no further piece is taken
@@ -65,11 +64,6 @@ live_piece_next s bytes = if s.closed then s else source_hears s bytes
 abbrev pub live_pieces_next : LiveSource → List (List ℕ) → LiveSource
 live_pieces_next s [] = s
 live_pieces_next s (bytes ∷ pieces) = live_pieces_next (live_piece_next s bytes) pieces
-
--- the fault that a piece brought, or how many requests wait
-abbrev pub told : Option SourceFault → ℕ → Piece
-told None count = piece.Waiting count
-told (Some fault) count = piece.Fault fault
 
 abbrev pub live_piece_answer : LiveSource → List ℕ → Piece
 live_piece_answer s bytes =

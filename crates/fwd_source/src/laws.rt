@@ -10,8 +10,8 @@ ghost use Rattle.fwd_source.specs.declared.fault.SourceFault.{SourceFault};
 ghost use Rattle.fwd_source.specs.declared.fault.SourceFault.TheVariants.{Scan};
 ghost use Rattle.fwd_source.specs.declared.piece.Piece.TheVariants.{Fault, Closed};
 ghost use Rattle.fwd_source.specs.Judged.{Gate, judged_of, value_then, resting, failed};
-ghost use Rattle.fwd_source.specs.History.{Setup, SourceHistory, IsSane, opened, is_closed, waiting, unsent, hears, gives, appends, drains, shuts};
-ghost use Rattle.fwd_source.specs.Live.{LiveSource, live_source, opened_source, source_hears, source_gives, source_appends, source_drains, source_shuts, live_piece_next, live_piece_answer, live_pieces_next};
+ghost use Rattle.fwd_source.specs.History.{Setup, SourceHistory, IsSane, opened, is_closed, waiting, unsent, new_pong, hears, piece_next, piece_answer, gives, appends, drains, shuts};
+ghost use Rattle.fwd_source.specs.Live.{LiveSource, live_source, opened_source, judged_piece, source_hears, source_gives, source_appends, source_drains, source_shuts, live_piece_next, live_piece_answer, live_pieces_next};
 
 use crate::source::Source;
 use fwd_msgpack::Bytes;
@@ -29,10 +29,15 @@ pub fn pieces_are_one()
     ensures { (s : LiveSource) (bytes : List ℕ) (pieces : List (List ℕ)) → live_pieces_next s (bytes ∷ pieces) ≡ live_piece_next s (concat (bytes ∷ pieces)) }
 {}
 
-/// The live part is enough: what happens to a connection's history happens alike to its live part.
+/// The live part is enough: what happens to a connection's history happens alike to its live part, and a piece is told the
+/// same.
 pub fn live_source_follows()
     ensures opened { (setup : Setup) → live_source (opened setup) ≡ opened_source setup }
     ensures hears { (s : SourceHistory) (bytes : List ℕ) → IsSane s → is_closed s ≡ false → live_source (hears s bytes) ≡ source_hears (live_source s) bytes }
+    ensures piece { (s : SourceHistory) (bytes : List ℕ) → IsSane s → live_source (piece_next s bytes) ≡ live_piece_next (live_source s) bytes }
+    ensures answer { (s : SourceHistory) (bytes : List ℕ) → IsSane s → piece_answer s bytes ≡ live_piece_answer (live_source s) bytes }
+    ensures pong { (s : SourceHistory) (bytes : List ℕ) → IsSane s → is_closed s ≡ false →
+        new_pong s bytes ≡ (judged_piece (live_source s) bytes).pong }
     ensures gives { (s : SourceHistory) → live_source (gives s) ≡ source_gives (live_source s) }
     ensures appends { (s : SourceHistory) (bytes : List ℕ) → IsSane s → s.shut ≡ false → live_source (appends s bytes) ≡ source_appends (live_source s) bytes }
     ensures drains { (s : SourceHistory) (count : ℕ) → live_source (drains s count) ≡ source_drains (live_source s) count }
@@ -43,6 +48,7 @@ pub fn live_source_follows()
 pub fn source_stays_sane()
     ensures opened { (setup : Setup) → IsSane (opened setup) }
     ensures hears { (s : SourceHistory) (bytes : List ℕ) → IsSane s → is_closed s ≡ false → IsSane (hears s bytes) }
+    ensures piece { (s : SourceHistory) (bytes : List ℕ) → IsSane s → IsSane (piece_next s bytes) }
     ensures gives { (s : SourceHistory) (r : Request) (rs : List Request) → IsSane s → waiting s ≡ r ∷ rs → IsSane (gives s) }
     ensures appends { (s : SourceHistory) (bytes : List ℕ) → IsSane s → IsSane (appends s bytes) }
     ensures drains { (s : SourceHistory) (count : ℕ) → IsSane s → s.shut ≡ false → count ≤ length (unsent s) → IsSane (drains s count) }
