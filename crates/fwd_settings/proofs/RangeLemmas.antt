@@ -1,20 +1,20 @@
 -- Settings that are accepted are in their ranges.
 use Rattle.std.proofs.Common.{◌≡◌, ℕ, zero, suc, ◌+◌, Bool, true, false, cond, List, [], ◌∷◌, length, max, Option, Some, None, Ok, refl, sym, ap, subst, ◌∙◌, arith}
-use Rattle.std.specs.Prelude.{map, not, ◌&&◌, nat_le, codes, ℤ, pos, negsuc, option_map, is_some, slice_get}
+use Rattle.std.specs.Prelude.{map, not, ◌&&◌, nat_le, codes, ℤ, pos, negsuc, option_map, option_and_then, is_some, slice_get}
 use Rattle.std.specs.List.{list_all}
 use Rattle.std.proofs.lemmas.Bool.Decides.{nat_tests}
 use Rattle.std.proofs.lemmas.List.{length-map}
-use Rattle.toml.specs.Data.{Data, string, integer, float, boolean, datetime, array, table, Members, no_members, get_member}
+use Rattle.toml.specs.Data.{Data, string, integer, float, boolean, datetime, array, table, Members, no_members, get_member, as_str}
 use Rattle.fwd_settings.specs.declared.fault.SettingsFault.{SettingsFault}
 use Rattle.fwd_settings.specs.declared.place.Place.{Place}
-use Rattle.fwd_settings.specs.declared.place.Place.TheVariants.{Root, Relay, Output}
+use Rattle.fwd_settings.specs.declared.place.Place.TheVariants.{Root, Relay, User, Output}
 use Rattle.fwd_settings.specs.declared.settings.Settings.{Settings}
 use Rattle.fwd_settings.specs.declared.settings.ServerSettings.{ServerSettings}
 use Rattle.fwd_settings.specs.Faults.{fault_with, key_under}
-use Rattle.fwd_settings.specs.Kinds.{Key, optional, required, given, unless_out, is_within, number_flaw, number_of, number_key, text_flaw, text_key, list_flaw, list_of, required_list_key, each, fault_at, setting_at}
-use Rattle.fwd_settings.specs.Keys.{first, table_in, outputs, relay_table, relay_settings, connections, relay_hostname, output_table, output_fault, output_settings, retry_wait, username, password, servers, servers_in, server_settings, standby_fault}
+use Rattle.fwd_settings.specs.Kinds.{Key, optional, required, given, unless_out, is_within, number_flaw, number_of, number_key, text_flaw, text_key, optional_text_key, required_text_key, data_in, list_flaw, list_of, required_list_key, allowed_list_flaw, optional_list_key, each, fault_at, setting_at}
+use Rattle.fwd_settings.specs.Keys.{first, table_in, outputs, relay_table, relay_settings, connections, relay_hostname, shared_key, users, user_name, user_password, user_table, user_fault, user_settings, output_table, output_fault, output_settings, retry_wait, username, password, servers, servers_in, server_settings, standby_fault}
 use Rattle.fwd_settings.specs.Whole.{relay_fault, root_table, root_settings, judged, of_document, document_of, settings_of}
-use Rattle.fwd_settings.specs.Ranges.{relay_in_range, output_in_range, in_range}
+use Rattle.fwd_settings.specs.Ranges.{user_in_range, key_in_range, have_key, relay_in_range, output_in_range, in_range}
 
 -- ---- no fault
 
@@ -59,7 +59,7 @@ unfolding setting_at number_key
 number_within place members name least most default d h = number_given least most default (get_member name members) d (no_flaw place members (number_key name least most default) h)
 
 text_given : (least most : ℕ) (default : List ℕ) (value : Option Data) → is_within least most (length default) ≡ true → optional (text_flaw least most) value ≡ None
-    → is_within least most (length (given Rattle.toml.specs.Data.as_str default value)) ≡ true
+    → is_within least most (length (given as_str default value)) ≡ true
 text_given least most default None d h = d
 text_given least most default (Some (string x)) d h = within (is_within least most (length x)) h
 text_given least most default (Some (integer x)) d h = absurd cc
@@ -88,16 +88,100 @@ list_within : (place : Place) (members : Members) (name : List ℕ) (most : ℕ)
 unfolding setting_at required_list_key
 list_within place members name most h = list_given most (get_member name members) (no_flaw place members (required_list_key name most) h)
 
--- ---- the tables
+key_given : (value : Option Data) → optional (text_flaw 1 1024) value ≡ None → key_in_range (option_and_then as_str value) ≡ true
+key_given None h = refl
+key_given (Some (string x)) h = within (is_within 1 1024 (length x)) h
+key_given (Some (integer x)) h = absurd cc
+key_given (Some (float x)) h = absurd cc
+key_given (Some (boolean x)) h = absurd cc
+key_given (Some (datetime x)) h = absurd cc
+key_given (Some (array x)) h = absurd cc
+key_given (Some (table x)) h = absurd cc
+
+key_within : (members : Members) → fault_at Relay members shared_key ≡ None → key_in_range (setting_at members shared_key) ≡ true
+unfolding setting_at optional_text_key
+key_within members h = key_given (get_member (codes "shared_key") members) (no_flaw Relay members shared_key h)
+
+required_given : (least most : ℕ) (value : Option Data) → required (text_flaw least most) value ≡ None → is_within least most (length (given as_str [] value)) ≡ true
+required_given least most None h = absurd cc
+required_given least most (Some (string x)) h = within (is_within least most (length x)) h
+required_given least most (Some (integer x)) h = absurd cc
+required_given least most (Some (float x)) h = absurd cc
+required_given least most (Some (boolean x)) h = absurd cc
+required_given least most (Some (datetime x)) h = absurd cc
+required_given least most (Some (array x)) h = absurd cc
+required_given least most (Some (table x)) h = absurd cc
+
+required_within : (place : Place) (members : Members) (name : List ℕ) (least most : ℕ) → fault_at place members (required_text_key name least most) ≡ None
+    → is_within least most (length (setting_at members (required_text_key name least most))) ≡ true
+unfolding setting_at required_text_key
+required_within place members name least most h = required_given least most (get_member name members) (no_flaw place members (required_text_key name least most) h)
+
+-- ---- users
 
 both : (a b : Bool) → a ≡ true → b ≡ true → (a && b) ≡ true
 both a b h g = ap (λ x. x && b) h ∙ g
 
+second_true : (a b : Bool) → (a && b) ≡ true → b ≡ true
+second_true true b h = h
+second_true false b h = absurd cc
+
+have : (key : Option (List ℕ)) (values : List Data) → is_some key ≡ true → have_key key (map user_settings values) ≡ true
+have key [] h = refl
+have key (value ∷ values) h = h
+
+allowed_given : (key : Option (List ℕ)) (value : Option Data) → optional (allowed_list_flaw (is_some key)) value ≡ None → have_key key (map user_settings (given list_of [] value)) ≡ true
+allowed_given key None h = refl
+allowed_given key (Some (array x)) h =
+    have key (data_in x) (second_true (nat_le 1 (length (data_in x))) (is_some key) (within (nat_le 1 (length (data_in x)) && is_some key) h))
+allowed_given key (Some (string x)) h = absurd cc
+allowed_given key (Some (integer x)) h = absurd cc
+allowed_given key (Some (float x)) h = absurd cc
+allowed_given key (Some (boolean x)) h = absurd cc
+allowed_given key (Some (datetime x)) h = absurd cc
+allowed_given key (Some (table x)) h = absurd cc
+
+users_by : (members : Members) (key : Option (List ℕ)) → fault_at Relay members (optional_list_key (codes "user") (is_some key)) ≡ None
+    → have_key key (map user_settings (setting_at members (optional_list_key (codes "user") (is_some key)))) ≡ true
+unfolding setting_at optional_list_key
+users_by members key h = allowed_given key (get_member (codes "user") members) (no_flaw Relay members (optional_list_key (codes "user") (is_some key)) h)
+
+users_allowed : (members : Members) → fault_at Relay members (users members) ≡ None
+    → have_key (setting_at members shared_key) (map user_settings (setting_at members (users members))) ≡ true
+users_allowed members h = users_by members (setting_at members shared_key) h
+
+user_within : (user : ℕ) (value : Data) → user_fault user value ≡ None → user_in_range (user_settings value) ≡ true
+user_within user (table members) h =
+    both (is_within 1 255 (length (setting_at members user_name))) (is_within 1 255 (length (setting_at members user_password)))
+    (required_within (User user) members (codes "name") 1 255 (none_at (user_table user members) 0 (fault_at (User user) members user_name) h refl))
+    (required_within (User user) members (codes "password") 1 255 (none_at (user_table user members) 1 (fault_at (User user) members user_password) h refl))
+user_within user (string x) h = absurd cc
+user_within user (integer x) h = absurd cc
+user_within user (float x) h = absurd cc
+user_within user (boolean x) h = absurd cc
+user_within user (datetime x) h = absurd cc
+user_within user (array x) h = absurd cc
+
+users_within : (n : ℕ) (values : List Data) → first (each user_fault n values) ≡ None → list_all user_in_range (map user_settings values) ≡ true
+users_within n [] h = refl
+users_within n (value ∷ values) h =
+    let f = first_none (user_fault n value) (each user_fault (n + 1) values) h in
+    both (user_in_range (user_settings value)) (list_all user_in_range (map user_settings values)) (user_within n value f.0) (users_within (n + 1) values f.1)
+
+-- ---- the tables
+
 relay_within : (members : Members) → first (relay_table members) ≡ None → relay_in_range (relay_settings members) ≡ true
 relay_within members h =
-    let text = text_within Relay members (codes "hostname") 1 255 (codes "relay") refl (none_at (relay_table members) 2 (fault_at Relay members relay_hostname) h refl) in
-    let count = number_within Relay members (codes "connections") 1 1024 256 refl (none_at (relay_table members) 5 (fault_at Relay members connections) h refl) in
-    both (is_within 1 255 (length (setting_at members relay_hostname))) (is_within 1 1024 (setting_at members connections)) text count
+    let name = text_within Relay members (codes "hostname") 1 255 (codes "relay") refl (none_at (relay_table members) 2 (fault_at Relay members relay_hostname) h refl) in
+    let key = key_within members (none_at (relay_table members) 3 (fault_at Relay members shared_key) h refl) in
+    let count = number_within Relay members (codes "connections") 1 1024 256 refl (none_at (relay_table members) 6 (fault_at Relay members connections) h refl) in
+    let allowed = users_allowed members (none_at (relay_table members) 7 (fault_at Relay members (users members)) h refl) in
+    let all = users_within 0 (setting_at members (users members)) (none_at (relay_table members) 8 (first (each user_fault 0 (setting_at members (users members)))) h refl) in
+    let r = relay_settings members in
+    both (is_within 1 255 (length r.hostname)) (key_in_range r.shared_key && (is_within 1 1024 r.connections && (list_all user_in_range r.users && have_key r.shared_key r.users))) name
+    (both (key_in_range r.shared_key) (is_within 1 1024 r.connections && (list_all user_in_range r.users && have_key r.shared_key r.users)) key
+    (both (is_within 1 1024 r.connections) (list_all user_in_range r.users && have_key r.shared_key r.users) count
+    (both (list_all user_in_range r.users) (have_key r.shared_key r.users) all allowed)))
 
 standby_none : (output : ℕ) (listed : List ServerSettings) → standby_fault output listed ≡ None → not (list_all (λ server. server.standby) listed) ≡ true
 standby_none output listed h = by (list_all (λ server. server.standby) listed) h

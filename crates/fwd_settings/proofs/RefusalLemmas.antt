@@ -6,14 +6,14 @@ use Rattle.toml.specs.Data.{Data, string, integer, float, boolean, datetime, arr
 use Rattle.fwd_settings.specs.declared.fault.SettingsFault.{SettingsFault}
 use Rattle.fwd_settings.specs.declared.fault.SettingsFault.TheVariants.{Memory, Unreadable, NotToml, Missing, WrongKind, OutOfRange, Unknown, BadPattern}
 use Rattle.fwd_settings.specs.declared.place.Place.{Place}
-use Rattle.fwd_settings.specs.declared.place.Place.TheVariants.{Relay, Output, Server}
+use Rattle.fwd_settings.specs.declared.place.Place.TheVariants.{Relay, User, Output, Server}
 use Rattle.fwd_settings.specs.declared.place.Flaw.{Flaw}
 use Rattle.fwd_settings.specs.declared.place.Flaw.TheVariants as flaws
 use Rattle.fwd_settings.specs.declared.settings.Settings.{Settings}
 use Rattle.fwd_settings.specs.declared.settings.ServerSettings.{ServerSettings}
 use Rattle.fwd_settings.specs.Faults.{fault_with, key_under, own_key}
 use Rattle.fwd_settings.specs.Kinds.{Key, each, fault_at}
-use Rattle.fwd_settings.specs.Keys.{first, relay_table, output_table, output_fault, server_table, server_fault, standby_fault}
+use Rattle.fwd_settings.specs.Keys.{first, relay_table, user_table, user_fault, output_table, output_fault, server_table, server_fault, standby_fault}
 use Rattle.fwd_settings.specs.Whole.{relay_fault, root_table, root_settings, judged, of_document, document_of, settings_of}
 
 -- whether a fault, if there is one, is of the text
@@ -95,8 +95,17 @@ in_output output (boolean x) = wrong_kind (own_key (Output output))
 in_output output (datetime x) = wrong_kind (own_key (Output output))
 in_output output (array x) = wrong_kind (own_key (Output output))
 
+in_user : (user : ℕ) (value : Data) → of_text (user_fault user value) ≡ true
+in_user user (table members) = first_of (user_table user members) (simp (at_key) refl)
+in_user user (string x) = wrong_kind (own_key (User user))
+in_user user (integer x) = wrong_kind (own_key (User user))
+in_user user (float x) = wrong_kind (own_key (User user))
+in_user user (boolean x) = wrong_kind (own_key (User user))
+in_user user (datetime x) = wrong_kind (own_key (User user))
+in_user user (array x) = wrong_kind (own_key (User user))
+
 in_relay : (members : Members) → of_text (first (relay_table members)) ≡ true
-in_relay members = first_of (relay_table members) (simp (at_key) refl)
+in_relay members = first_of (relay_table members) (simp (at_key, members_of user_fault in_user) refl)
 
 under_relay : (value : Option Data) → of_text (relay_fault value) ≡ true
 under_relay None = in_relay no_members

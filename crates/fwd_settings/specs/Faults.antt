@@ -4,7 +4,7 @@ use Rattle.std.specs.Fmt.{decimal}
 use Rattle.fwd_settings.specs.declared.fault.SettingsFault.{SettingsFault}
 use Rattle.fwd_settings.specs.declared.fault.SettingsFault.TheVariants.{Memory, Unreadable, NotToml, Missing, WrongKind, OutOfRange, Unknown, BadPattern}
 use Rattle.fwd_settings.specs.declared.place.Place.{Place}
-use Rattle.fwd_settings.specs.declared.place.Place.TheVariants.{Root, Relay, Output, Server}
+use Rattle.fwd_settings.specs.declared.place.Place.TheVariants.{Root, Relay, User, Output, Server}
 use Rattle.fwd_settings.specs.declared.place.Flaw.{Flaw}
 use Rattle.fwd_settings.specs.declared.place.Flaw.TheVariants as flaws
 
@@ -23,6 +23,7 @@ fault_text (BadPattern key) = codes "bad pattern " ++ key
 abbrev pub own_key : Place → List ℕ
 own_key Root = codes ""
 own_key Relay = codes "relay"
+own_key (User user) = codes "relay.user[" ++ decimal user ++ codes "]"
 own_key (Output output) = codes "output[" ++ decimal output ++ codes "]"
 own_key (Server output server) = codes "output[" ++ decimal output ++ codes "].server[" ++ decimal server ++ codes "]"
 

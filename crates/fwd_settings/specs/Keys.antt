@@ -1,17 +1,18 @@
 -- The table of keys: each with its kind, its range and its default, and the order in which they are judged.
-use Rattle.std.specs.Prelude.{ℕ, Bool, false, List, [], ◌∷◌, map, codes, max, Option, Some, None, unwrap_or, option_and_then, if◌then◌else◌}
+use Rattle.std.specs.Prelude.{ℕ, Bool, false, List, [], ◌∷◌, map, codes, max, Option, Some, None, is_some, unwrap_or, option_and_then, if◌then◌else◌}
 use Rattle.std.specs.List.{list_all}
 use Rattle.std.specs.declared.net.socket_addr.SocketAddr.{SocketAddr}
 use Rattle.toml.specs.Data.{Data, table, Members, no_members, get_member, as_table}
 use Rattle.fwd_settings.specs.declared.fault.SettingsFault.{SettingsFault}
 use Rattle.fwd_settings.specs.declared.fault.SettingsFault.TheVariants.{WrongKind, OutOfRange}
-use Rattle.fwd_settings.specs.declared.place.Place.TheVariants.{Relay, Output, Server}
+use Rattle.fwd_settings.specs.declared.place.Place.TheVariants.{Relay, User, Output, Server}
 use Rattle.fwd_settings.specs.declared.settings.RelaySettings.{RelaySettings}
+use Rattle.fwd_settings.specs.declared.settings.UserSettings.{UserSettings}
 use Rattle.fwd_settings.specs.declared.settings.OutputSettings.{OutputSettings}
 use Rattle.fwd_settings.specs.declared.settings.ServerSettings.{ServerSettings}
 use Rattle.fwd_settings.specs.Addresses.{home}
 use Rattle.fwd_settings.specs.Faults.{own_key, key_under}
-use Rattle.fwd_settings.specs.Kinds.{Key, each, fault_at, setting_at, number_key, flag_key, text_key, digits_key, address_key, address_key_or, required_address_key, required_pattern_key, required_list_key}
+use Rattle.fwd_settings.specs.Kinds.{Key, each, fault_at, setting_at, number_key, flag_key, text_key, optional_text_key, required_text_key, digits_key, address_key, address_key_or, required_address_key, required_pattern_key, required_list_key, optional_list_key}
 
 -- the first of some faults
 abbrev pub first : List (Option SettingsFault) → Option SettingsFault
@@ -47,7 +48,8 @@ monitor = address_key (codes "monitor")
 abbrev pub relay_hostname : Key (List ℕ)
 relay_hostname = text_key (codes "hostname") 1 255 (codes "relay")
 
--- here stands `shared_key`, a text of 1 to 1,024 bytes, once sources log in
+abbrev pub shared_key : Key (Option (List ℕ))
+shared_key = optional_text_key (codes "shared_key") 1 1024
 
 abbrev pub run_id : Key (Option (List ℕ))
 run_id = digits_key (codes "run_id") 6
@@ -58,29 +60,63 @@ seed = digits_key (codes "seed") 32
 abbrev pub connections : Key ℕ
 connections = number_key (codes "connections") 1 1024 256
 
--- here stands `user`, a list of tables, once sources log in
+-- only where there is a `shared_key`
+abbrev pub users : Members → Key (List Data)
+users relay = optional_list_key (codes "user") (is_some (setting_at relay shared_key))
 
 abbrev pub relay_names : List (List ℕ)
 relay_names =
-    codes "listen" ∷ codes "monitor" ∷ codes "hostname" ∷ codes "run_id" ∷ codes "seed" ∷ codes "connections" ∷ []
+    codes "listen" ∷ codes "monitor" ∷ codes "hostname" ∷ codes "shared_key" ∷ codes "run_id" ∷ codes "seed" ∷
+    codes "connections" ∷ codes "user" ∷ []
+
+-- ---- relay.user[i]
+
+abbrev pub user_name : Key (List ℕ)
+user_name = required_text_key (codes "name") 1 255
+
+abbrev pub user_password : Key (List ℕ)
+user_password = required_text_key (codes "password") 1 255
+
+abbrev pub user_names : List (List ℕ)
+user_names = codes "name" ∷ codes "password" ∷ []
+
+abbrev pub user_table : ℕ → Members → List (Option SettingsFault)
+user_table user members =
+    fault_at (User user) members user_name ∷
+    fault_at (User user) members user_password ∷ []
+
+abbrev pub user_fault : ℕ → Data → Option SettingsFault
+user_fault user (table members) = first (user_table user members)
+user_fault user _ = Some (WrongKind (own_key (User user)))
+
+abbrev pub user_settings : Data → UserSettings
+user_settings value =
+    record { name = setting_at (table_of value) user_name; password = setting_at (table_of value) user_password }
+
+-- ---- the table `relay`
 
 abbrev pub relay_table : Members → List (Option SettingsFault)
 relay_table relay =
     fault_at Relay relay listen ∷
     fault_at Relay relay monitor ∷
     fault_at Relay relay relay_hostname ∷
+    fault_at Relay relay shared_key ∷
     fault_at Relay relay run_id ∷
     fault_at Relay relay seed ∷
-    fault_at Relay relay connections ∷ []
+    fault_at Relay relay connections ∷
+    fault_at Relay relay (users relay) ∷
+    first (each user_fault 0 (setting_at relay (users relay))) ∷ []
 
 abbrev pub relay_settings : Members → RelaySettings
 relay_settings relay = record {
   listen = setting_at relay listen;
   monitor = setting_at relay monitor;
   hostname = setting_at relay relay_hostname;
+  shared_key = setting_at relay shared_key;
   run_id = setting_at relay run_id;
   seed = setting_at relay seed;
   connections = setting_at relay connections;
+  users = map user_settings (setting_at relay (users relay));
 }
 
 -- ---- output[i].server[j]

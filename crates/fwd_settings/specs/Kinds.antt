@@ -74,6 +74,14 @@ unfoldable pub text_key : List ℕ → (least most : ℕ) → (default : List �
 text_key name least most default =
     record { name = name; flaw = optional (text_flaw least most); setting = given as_str default }
 
+unfoldable pub optional_text_key : List ℕ → (least most : ℕ) → Key (Option (List ℕ))
+optional_text_key name least most =
+    record { name = name; flaw = optional (text_flaw least most); setting = option_and_then as_str }
+
+unfoldable pub required_text_key : List ℕ → (least most : ℕ) → Key (List ℕ)
+required_text_key name least most =
+    record { name = name; flaw = required (text_flaw least most); setting = given as_str [] }
+
 -- ---- so many bytes, each as two hex digits of either case
 
 abbrev pub digits_flaw : ℕ → Data → Option Flaw
@@ -151,6 +159,18 @@ list_in name members = given list_of [] (get_member name members)
 
 unfoldable pub required_list_key : List ℕ → (most : ℕ) → Key (List Data)
 required_list_key name most = record { name = name; flaw = required (list_flaw most); setting = given list_of [] }
+
+-- a list that may be absent, and else has a member; where it may not stand at all it is out of range
+abbrev pub allowed : Bool → Option (List Data) → Option Flaw
+allowed may None = Some WrongKind
+allowed may (Some members) = unless_out (nat_le 1 (length members) && may)
+
+abbrev pub allowed_list_flaw : Bool → Data → Option Flaw
+allowed_list_flaw may value = allowed may (list_of value)
+
+unfoldable pub optional_list_key : List ℕ → (may : Bool) → Key (List Data)
+optional_list_key name may =
+    record { name = name; flaw = optional (allowed_list_flaw may); setting = given list_of [] }
 
 -- something of each member of a list, which are numbered
 abbrev pub each : {A : Type 0} → (ℕ → Data → A) → ℕ → List Data → List A

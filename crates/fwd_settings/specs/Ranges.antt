@@ -1,13 +1,30 @@
 -- The ranges of settings that are accepted.
-use Rattle.std.specs.Prelude.{Bool, not, ◌&&◌, nat_le, length}
+use Rattle.std.specs.Prelude.{ℕ, Bool, true, not, ◌&&◌, nat_le, List, [], ◌∷◌, length, Option, Some, None, is_some}
 use Rattle.std.specs.List.{list_all}
 use Rattle.fwd_settings.specs.declared.settings.RelaySettings.{RelaySettings}
+use Rattle.fwd_settings.specs.declared.settings.UserSettings.{UserSettings}
 use Rattle.fwd_settings.specs.declared.settings.OutputSettings.{OutputSettings}
 use Rattle.fwd_settings.specs.declared.settings.Settings.{Settings}
 use Rattle.fwd_settings.specs.Kinds.{is_within}
 
+abbrev pub user_in_range : UserSettings → Bool
+user_in_range u = is_within 1 255 (length u.name) && is_within 1 255 (length u.password)
+
+abbrev pub key_in_range : Option (List ℕ) → Bool
+key_in_range None = true
+key_in_range (Some key) = is_within 1 1024 (length key)
+
+-- users log in by a key
+abbrev pub have_key : Option (List ℕ) → List UserSettings → Bool
+have_key key [] = true
+have_key key (user ∷ users) = is_some key
+
 abbrev pub relay_in_range : RelaySettings → Bool
-relay_in_range r = is_within 1 255 (length r.hostname) && is_within 1 1024 r.connections
+relay_in_range r =
+    is_within 1 255 (length r.hostname) &&
+    (key_in_range r.shared_key &&
+    (is_within 1 1024 r.connections &&
+    (list_all user_in_range r.users && have_key r.shared_key r.users)))
 
 abbrev pub output_in_range : OutputSettings → Bool
 output_in_range o =

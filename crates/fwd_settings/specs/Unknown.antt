@@ -8,10 +8,10 @@ use Rattle.toml.specs.Data.{Data, Members, no_members, member}
 use Rattle.fwd_settings.specs.declared.fault.SettingsFault.{SettingsFault}
 use Rattle.fwd_settings.specs.declared.fault.SettingsFault.TheVariants.{Unknown}
 use Rattle.fwd_settings.specs.declared.place.Place.{Place}
-use Rattle.fwd_settings.specs.declared.place.Place.TheVariants.{Root, Relay, Output, Server}
+use Rattle.fwd_settings.specs.declared.place.Place.TheVariants.{Root, Relay, User, Output, Server}
 use Rattle.fwd_settings.specs.Faults.{key_under}
 use Rattle.fwd_settings.specs.Kinds.{each, list_in}
-use Rattle.fwd_settings.specs.Keys.{table_in, table_of, root_names, relay_names, output_names, server_names}
+use Rattle.fwd_settings.specs.Keys.{table_in, table_of, root_names, relay_names, user_names, output_names, server_names}
 
 -- the names in a table
 abbrev pub names_in : Members → List (List ℕ)
@@ -24,6 +24,16 @@ is_unknown names name = not (list_any (λ known. bytes_eq known name) names)
 -- the keys of a table that are none of these names
 abbrev pub unknown_under : Place → List (List ℕ) → Members → List (List ℕ)
 unknown_under place names members = map (key_under place) (filter (is_unknown names) (names_in members))
+
+abbrev pub unknown_in_user : ℕ → Data → List (List ℕ)
+unknown_in_user user value = unknown_under (User user) user_names (table_of value)
+
+-- those of the users, of whom the first has this number
+abbrev pub unknown_in_users : ℕ → List Data → List (List ℕ)
+unknown_in_users user values = flat_map (λ keys. keys) (each unknown_in_user user values)
+
+abbrev pub unknown_in_relay : Members → List (List ℕ)
+unknown_in_relay relay = unknown_under Relay relay_names relay ++ unknown_in_users 0 (list_in (codes "user") relay)
 
 abbrev pub unknown_in_server : (output server : ℕ) → Data → List (List ℕ)
 unknown_in_server output server value = unknown_under (Server output server) server_names (table_of value)
@@ -44,7 +54,7 @@ unknown_in_outputs output values = flat_map (λ keys. keys) (each unknown_in_out
 -- all unknown keys
 abbrev pub unknown_keys : Members → List (List ℕ)
 unknown_keys root =
-    (unknown_under Root root_names root ++ unknown_under Relay relay_names (table_in (codes "relay") root)) ++
+    (unknown_under Root root_names root ++ unknown_in_relay (table_in (codes "relay") root)) ++
     unknown_in_outputs 0 (list_in (codes "output") root)
 
 -- whether a key is less than another by their bytes

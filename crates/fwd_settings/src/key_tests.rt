@@ -5,11 +5,23 @@ use std::alloc::{AllocError, Global};
 use std::process::Abort;
 use std::test::Fail;
 
+/// A line of a relay with a key.
+const KEY: &str = "shared_key = \"k\"\n";
+
+/// The lines of a user.
+const USER: &str = "[[relay.user]]\nname = \"n\"\npassword = \"p\"\n";
+
 /// A text of settings that lacks some lines.
 #[derive(Clone, Copy)]
 enum Frame {
     /// Lines of the table `relay`.
     Relay,
+    /// The same, of a relay that has a key.
+    Keyed,
+    /// Lines of the second user, who has a password.
+    Unnamed,
+    /// Lines of the second user, who has a name.
+    Named,
     /// Lines of an output, which has its pattern and a server.
     Output,
     /// The same, but for its pattern.
@@ -26,7 +38,8 @@ impl Frame {
     /// How the table's keys begin where they are told.
     fn front(self) -> &'static str {
         match self {
-            Frame::Relay => "relay.",
+            Frame::Relay | Frame::Keyed => "relay.",
+            Frame::Unnamed | Frame::Named => "relay.user[1].",
             Frame::Output | Frame::Unmatched | Frame::Unserved => "output[0].",
             Frame::Second | Frame::Unreached => "output[0].server[1].",
         }
@@ -36,6 +49,17 @@ impl Frame {
     fn told(self, alloc: Global, lines: &str) -> Result<String, AllocError> {
         let text = match self {
             Frame::Relay => format!(in alloc; "[relay]\n{lines}\n{MATCH}{SERVER}")?,
+            Frame::Keyed => format!(in alloc; "[relay]\n{KEY}{lines}\n{MATCH}{SERVER}")?,
+            Frame::Unnamed => {
+                format!(in alloc;
+                    "[relay]\n{KEY}{USER}[[relay.user]]\npassword = \"p\"\n{lines}\n{MATCH}{SERVER}"
+                )?
+            }
+            Frame::Named => {
+                format!(in alloc;
+                    "[relay]\n{KEY}{USER}[[relay.user]]\nname = \"n\"\n{lines}\n{MATCH}{SERVER}"
+                )?
+            }
             Frame::Output => format!(in alloc; "{MATCH}{lines}\n{SERVER}")?,
             Frame::Unmatched => format!(in alloc; "[[output]]\n{lines}\n{SERVER}")?,
             Frame::Unserved => format!(in alloc; "{MATCH}{lines}\n")?,
@@ -110,6 +134,9 @@ fn check_beside<R: Abort + AllocGlobal>(
 fn absent_keys(rt: HostRuntime) -> Result<(), Fail> {
     for (frame, wanted) in [
         (Frame::Relay, "good"),
+        (Frame::Keyed, "good"),
+        (Frame::Unnamed, "missing relay.user[1].name"),
+        (Frame::Named, "missing relay.user[1].password"),
         (Frame::Output, "good"),
         (Frame::Second, "good"),
         (Frame::Unmatched, "missing output[0].match"),
@@ -172,6 +199,8 @@ fn addresses(rt: HostRuntime) -> Result<(), Fail> {
 fn texts(rt: HostRuntime) -> Result<(), Fail> {
     for (frame, key, empty) in [
         (Frame::Relay, "hostname", "out of range"),
+        (Frame::Unnamed, "name", "out of range"),
+        (Frame::Named, "password", "out of range"),
         (Frame::Output, "hostname", "out of range"),
         (Frame::Output, "username", "good"),
         (Frame::Output, "password", "good"),
@@ -186,6 +215,54 @@ fn texts(rt: HostRuntime) -> Result<(), Fail> {
         for value in ["1", "0.5", "false", "[]", "{}"] {
             check(&rt, frame, key, value, "wrong kind")?;
         }
+    }
+    Ok(())
+}
+
+#[test]
+fn keys_of_sources(rt: HostRuntime) -> Result<(), Fail> {
+    for (part, times, flaw) in [
+        ("a", 0, "out of range"),
+        ("a", 1, "good"),
+        ("a", 1024, "good"),
+        ("a", 1025, "out of range"),
+        ("\u{e9}", 512, "good"),
+        ("\u{e9}", 513, "out of range"),
+    ] {
+        check_repeated(&rt, Frame::Relay, "shared_key", part, times, flaw)?;
+    }
+    for value in ["1", "0.5", "false", "[]", "{}"] {
+        check(&rt, Frame::Relay, "shared_key", value, "wrong kind")?;
+    }
+    Ok(())
+}
+
+#[test]
+fn lists_of_users(rt: HostRuntime) -> Result<(), Fail> {
+    for value in ["1", "true", "\"a\"", "{}"] {
+        check(&rt, Frame::Relay, "user", value, "wrong kind")?;
+        check(&rt, Frame::Keyed, "user", value, "wrong kind")?;
+    }
+    let users = "[{ name = \"n\", password = \"p\" }]";
+    for value in ["[]", users, "[1]", "[{}]"] {
+        check(&rt, Frame::Relay, "user", value, "out of range")?;
+    }
+    check(&rt, Frame::Keyed, "user", "[]", "out of range")?;
+    check(&rt, Frame::Keyed, "user", users, "good")?;
+    for (value, wanted) in [
+        ("[1]", "wrong kind relay.user[0]"),
+        ("[{}]", "missing relay.user[0].name"),
+        ("[{ name = \"n\" }, 1]", "missing relay.user[0].password"),
+        (
+            "[{ name = \"n\", password = \"p\" }, []]",
+            "wrong kind relay.user[1]",
+        ),
+    ] {
+        let line = format!(in rt.alloc(); "user = {value}")?;
+        assert_eq!(rt;
+            Frame::Keyed.told(rt.alloc(), line.as_str())?.as_str(),
+            wanted
+        );
     }
     Ok(())
 }
@@ -371,7 +448,17 @@ fn unknown_keys_of_the_relay(rt: HostRuntime) -> Result<(), Fail> {
     check_beside(&rt, Frame::Relay, "run_id", "\"000000000000\"", "1")?;
     check_beside(&rt, Frame::Relay, "seed", seed, "1")?;
     check_beside(&rt, Frame::Relay, "connections", "1", "\"\"")?;
-    for key in ["Listen", "match", "output", "shared_key", "user"] {
+    check_beside(&rt, Frame::Relay, "shared_key", "\"k\"", "1")?;
+    check_beside(
+        &rt,
+        Frame::Keyed,
+        "user",
+        "[{ name = \"n\", password = \"p\" }]",
+        "1",
+    )?;
+    check_beside(&rt, Frame::Unnamed, "name", "\"n\"", "1")?;
+    check_beside(&rt, Frame::Named, "password", "\"p\"", "1")?;
+    for key in ["Listen", "match", "output", "username", "users"] {
         check(&rt, Frame::Relay, key, "1", "unknown")?;
     }
     Ok(())

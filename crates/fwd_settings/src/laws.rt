@@ -7,7 +7,7 @@ ghost use Rattle.fwd_settings.specs.Ranges.{in_range};
 ghost use Rattle.fwd_settings.specs.Whole.{settings_of};
 
 /// Settings that are accepted are in their ranges: each number and each text's length, and the counts of outputs and servers, of
-/// which one at least is no standby.
+/// which one at least is no standby. Where there are users there is a key.
 #[tactic(auto, using(crate::proofs::RangeLemmas::accepted_within))]
 pub fn accepted_is_in_range()
     ensures { (text : List ℕ) (accepted : Settings) → settings_of text ≡ Ok accepted → in_range accepted ≡ true }

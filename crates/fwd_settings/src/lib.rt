@@ -13,13 +13,14 @@ mod server;
 mod settings;
 mod text;
 mod unknown;
+mod user;
 mod values;
 
 pub use fault::SettingsFault;
 pub use laws::{accepted_is_in_range, refusals_are_of_the_text};
 pub use read::read_settings;
 pub use seq::Seq;
-pub use settings::{OutputSettings, RelaySettings, ServerSettings, Settings};
+pub use settings::{OutputSettings, RelaySettings, ServerSettings, Settings, UserSettings};
 pub use text::Text;
 
 #[cfg(test)]

@@ -15,6 +15,8 @@ pub enum Place {
     Root,
     /// The table `relay`.
     Relay,
+    /// The user of this number, from 0.
+    User(usize),
     /// The output of this number, from 0.
     Output(usize),
     /// The server of these numbers, from 0: its output's and its own.
@@ -45,6 +47,7 @@ impl fmt::Display for Place {
         match self {
             Place::Root => Ok(()),
             Place::Relay => write!(f, "relay"),
+            Place::User(user) => write!(f, "relay.user[{user}]"),
             Place::Output(output) => write!(f, "output[{output}]"),
             Place::Server(output, server) => write!(f, "output[{output}].server[{server}]"),
         }

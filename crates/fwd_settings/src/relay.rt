@@ -12,6 +12,7 @@ use crate::fault::SettingsFault;
 use crate::place::{Flaw, Place};
 use crate::section::Section;
 use crate::settings::RelaySettings;
+use crate::user::users_of;
 use std::alloc::Global;
 use std::net::{Ipv4Addr, SocketAddr, SocketAddrV4};
 use toml::Table;
@@ -34,16 +35,21 @@ fn relay_in(alloc: Global, table: &Table) -> Result<RelaySettings, SettingsFault
     let listen = relay.address_or(alloc, "listen", home())?;
     let monitor = relay.address(alloc, "monitor")?;
     let hostname = relay.text(alloc, "hostname", 1, 255, "relay")?;
+    let shared_key = relay.optional_text(alloc, "shared_key", 1, 1024)?;
     let run_id = relay.digits(alloc, "run_id")?;
     let seed = relay.digits(alloc, "seed")?;
     let connections = relay.count(alloc, "connections", 1024, 256)?;
+    let listed = relay.optional_list(alloc, "user", shared_key.is_some())?;
+    let users = users_of(alloc, listed)?;
     Ok(RelaySettings {
         listen,
         monitor,
         hostname,
+        shared_key,
         run_id,
         seed,
         connections,
+        users,
     })
 }
 

@@ -3,13 +3,13 @@
 ghost use Rattle.std.specs.Prelude.{◌≡◌, ◌≢◌, ◌≤◌, map, IfOk, IfErr, Some, None, option_map};
 ghost use Rattle.toml.specs.Data.{get_member};
 ghost use Rattle.toml.specs.View.{view, table_view};
-ghost use Rattle.fwd_settings.specs.Kinds.{Reads, number_key, flag_key, text_key, digits_key, address_key, address_key_or, required_address_key, required_pattern_key, required_list_key, fault_at, setting_at};
+ghost use Rattle.fwd_settings.specs.Kinds.{Reads, number_key, flag_key, text_key, optional_text_key, required_text_key, digits_key, address_key, address_key_or, required_address_key, required_pattern_key, required_list_key, optional_list_key, fault_at, setting_at};
 ghost use Rattle.fwd_settings.specs.Keys as keys;
 
 use crate::fault::SettingsFault;
 use crate::place::{Flaw, Place};
 use crate::text::Text;
-use crate::values::{address_in, digits_in, flag_in, list_in, number_in, text_in};
+use crate::values::{address_in, allowed_list_in, digits_in, flag_in, list_in, number_in, text_in};
 use fwd_match::{Pattern, PatternFault};
 use std::alloc::Global;
 use std::net::SocketAddr;
@@ -119,6 +119,46 @@ impl<'a> Section<'a> {
         }
     }
 
+    /// A text of so many bytes, if there is one.
+    #[tactic(auto, unfolding(crate::specs::Kinds::fault_at, crate::specs::Kinds::setting_at, crate::specs::Kinds::optional_text_key))]
+    pub fn optional_text(
+        &self,
+        alloc: Global,
+        name: &str,
+        least: usize,
+        most: usize,
+    ) -> Result<Option<Text>, SettingsFault>
+        ensures { Reads self.now.place (table_view self.now.table.now) (optional_text_key name.now least most) result }
+    {
+        match self.get(name) {
+            None => Ok(None),
+            Some(value) => match text_in(value, least, most) {
+                Ok(text) => Ok(Some(Text::from_str(alloc, text)?)),
+                Err(flaw) => Err(self.place.fault(alloc, name, flaw)),
+            },
+        }
+    }
+
+    /// A text of so many bytes that has to be there.
+    #[tactic(auto, unfolding(crate::specs::Kinds::fault_at, crate::specs::Kinds::setting_at, crate::specs::Kinds::required_text_key))]
+    pub fn required_text(
+        &self,
+        alloc: Global,
+        name: &str,
+        least: usize,
+        most: usize,
+    ) -> Result<Text, SettingsFault>
+        ensures { Reads self.now.place (table_view self.now.table.now) (required_text_key name.now least most) result }
+    {
+        match self.get(name) {
+            None => Err(self.place.fault(alloc, name, Flaw::Missing)),
+            Some(value) => match text_in(value, least, most) {
+                Ok(text) => Ok(Text::from_str(alloc, text)?),
+                Err(flaw) => Err(self.place.fault(alloc, name, flaw)),
+            },
+        }
+    }
+
     /// So many bytes as hex digits.
     #[tactic(auto, unfolding(crate::specs::Kinds::fault_at, crate::specs::Kinds::setting_at, crate::specs::Kinds::digits_key))]
     pub fn digits<const N: usize>(
@@ -220,6 +260,29 @@ impl<'a> Section<'a> {
             return Err(self.place.fault(alloc, name, Flaw::Missing));
         };
         match list_in(value, most) {
+            Ok(values) => Ok(values),
+            Err(flaw) => Err(self.place.fault(alloc, name, flaw)),
+        }
+    }
+
+    /// The members of a list of at least one, or none where it is absent. It may only be there where that is allowed.
+    #[tactic(auto, unfolding(crate::specs::Kinds::fault_at, crate::specs::Kinds::setting_at, crate::specs::Kinds::optional_list_key))]
+    pub fn optional_list(
+        &self,
+        alloc: Global,
+        name: &str,
+        may: bool,
+    ) -> Result<&'a [Value], SettingsFault>
+        ensures ok { let members = table_view self.now.table.now in IfOk result (λ values.
+            (fault_at self.now.place members (optional_list_key name.now may) ≡ None)
+            × (map view values.now ≡ setting_at members (optional_list_key name.now may))) }
+        ensures fault { let members = table_view self.now.table.now in IfErr result (λ fault. fault ≢ SettingsFault.Memory →
+            fault_at self.now.place members (optional_list_key name.now may) ≡ Some fault) }
+    {
+        let Some(value) = self.get(name) else {
+            return Ok(&[]);
+        };
+        match allowed_list_in(value, may) {
             Ok(values) => Ok(values),
             Err(flaw) => Err(self.place.fault(alloc, name, flaw)),
         }

@@ -34,9 +34,11 @@ fn defaults(rt: HostRuntime) -> Result<(), Fail> {
     assert_eq!(rt; relay.listen, "127.0.0.1:24224".parse::<SocketAddr>()?);
     assert!(rt; relay.monitor.is_none());
     assert_eq!(rt; relay.hostname.as_str(), "relay");
+    assert!(rt; relay.shared_key.is_none());
     assert!(rt; relay.run_id.is_none());
     assert!(rt; relay.seed.is_none());
     assert_eq!(rt; relay.connections, 256);
+    assert!(rt; relay.users.is_empty());
     assert_eq!(rt; settings.outputs.len(), 1);
     for output in settings.outputs.as_slice() {
         assert!(rt; output.pattern.matches(b"a.b"));
@@ -62,8 +64,9 @@ fn defaults(rt: HostRuntime) -> Result<(), Fail> {
 #[test]
 fn every_key_set(rt: HostRuntime) -> Result<(), Fail> {
     let text =
-        "[relay]\nlisten = \"0.0.0.0:1\"\nmonitor = \"[::1]:65535\"\nhostname = \"h\"\nrun_id = \"0123456789aB\"\n\
+        "[relay]\nlisten = \"0.0.0.0:1\"\nmonitor = \"[::1]:65535\"\nhostname = \"h\"\nshared_key = \"k\"\nrun_id = \"0123456789aB\"\n\
         seed = \"00000000000000000000000000000000000000000000000000000000000000Ff\"\nconnections = 2\n\
+        [[relay.user]]\nname = \"n\"\npassword = \"p\"\n[[relay.user]]\nname = \"m\"\npassword = \"q\"\n\
         [[output]]\nmatch = \"a.b\"\nworkers = 3\nchunk_limit = 4\ntotal_limit = 5\nflush_interval = 6\nretry_wait = 7\n\
         retry_max = 8\nack_wait = 9\nhostname = \"o\"\nusername = \"u\"\npassword = \"p\"\n\
         [[output.server]]\naddress = \"10.0.0.1:2\"\nstandby = true\n[[output.server]]\naddress = \"10.0.0.2:3\"\nstandby = false\n\
@@ -73,11 +76,21 @@ fn every_key_set(rt: HostRuntime) -> Result<(), Fail> {
     assert_eq!(rt; relay.listen, "0.0.0.0:1".parse::<SocketAddr>()?);
     assert_eq!(rt; relay.monitor, Some("[::1]:65535".parse::<SocketAddr>()?));
     assert_eq!(rt; relay.hostname.as_str(), "h");
+    for key in &relay.shared_key {
+        assert_eq!(rt; key.as_str(), "k");
+    }
+    assert!(rt; relay.shared_key.is_some());
     assert_eq!(rt; relay.run_id, Some([0x01, 0x23, 0x45, 0x67, 0x89, 0xab]));
     let mut seed = [0; 32];
     seed[31] = 255;
     assert_eq!(rt; relay.seed, Some(seed));
     assert_eq!(rt; relay.connections, 2);
+    let users = relay.users.as_slice();
+    assert_eq!(rt; users.len(), 2);
+    assert_eq!(rt; users[0].name.as_str(), "n");
+    assert_eq!(rt; users[0].password.as_str(), "p");
+    assert_eq!(rt; users[1].name.as_str(), "m");
+    assert_eq!(rt; users[1].password.as_str(), "q");
     let outputs = settings.outputs.as_slice();
     assert_eq!(rt; outputs.len(), 2);
     let first = &outputs[0];
@@ -196,6 +209,27 @@ fn the_first_fault_is_told(rt: HostRuntime) -> Result<(), Fail> {
         ),
         ("[relay]\nconnections = 0", "out of range relay.connections"),
         (
+            "[relay]\nrun_id = 1\nshared_key = 1\nuser = 1",
+            "wrong kind relay.shared_key",
+        ),
+        (
+            "[relay]\nconnections = 0\nuser = 1",
+            "out of range relay.connections",
+        ),
+        (
+            "[relay]\nshared_key = \"\"\nuser = []",
+            "out of range relay.shared_key",
+        ),
+        ("[relay]\nuser = [1]\n[[output]]", "out of range relay.user"),
+        (
+            "[relay]\nshared_key = \"k\"\nuser = [{ name = \"\" }, 1]\n[[output]]",
+            "out of range relay.user[0].name",
+        ),
+        (
+            "[relay]\nshared_key = \"k\"\nuser = [{ name = \"n\", password = \"p\", zz = 1 }, 1]",
+            "wrong kind relay.user[1]",
+        ),
+        (
             "[[output]]\nmatch = 1\nworkers = 0\n[relay]\nseed = 1",
             "wrong kind relay.seed",
         ),
@@ -252,6 +286,13 @@ fn the_least_unknown_key_is_told(rt: HostRuntime) -> Result<(), Fail> {
             "unknown output[0].server[0].a",
         ),
         ("o = 1", "b = 1", "c = 1", "d = 1", "unknown o"),
+        (
+            "",
+            "shared_key = \"k\"\nuser = [{ name = \"n\", password = \"p\", b = 1 }]",
+            "",
+            "",
+            "unknown relay.user[0].b",
+        ),
         ("z = { a = 1 }", "", "", "", "unknown z"),
         ("\"\" = 1", "", "", "", "unknown "),
     ] {

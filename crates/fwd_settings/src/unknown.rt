@@ -4,7 +4,7 @@ ghost use Rattle.std.specs.Prelude.{◌≡◌, [], ◌∷◌, map, IfOk, codes, 
 ghost use Rattle.std.specs.List.{cons_option};
 ghost use Rattle.toml.specs.View.{view, table_view};
 ghost use Rattle.fwd_settings.specs.Kinds.{list_in};
-ghost use Rattle.fwd_settings.specs.Keys.{relay_names, table_in};
+ghost use Rattle.fwd_settings.specs.Keys.{table_in};
 ghost use Rattle.fwd_settings.specs.Unknown as spec;
 
 use crate::place::Place;
@@ -16,14 +16,18 @@ use toml::{Table, Value};
 
 const ROOT: [&str; 2] = ["relay", "output"];
 
-const RELAY: [&str; 6] = [
+const RELAY: [&str; 8] = [
     "listen",
     "monitor",
     "hostname",
+    "shared_key",
     "run_id",
     "seed",
     "connections",
+    "user",
 ];
+
+const USER: [&str; 2] = ["name", "password"];
 
 const OUTPUT: [&str; 12] = [
     "match",
@@ -98,6 +102,38 @@ fn members_of<'a>(table: &'a Table, place: Place, name: &str) -> &'a [Value]
     }
 }
 
+/// The least of the unknown keys of a user, and of one key more.
+#[tactic(auto, using(crate::proofs::LeastLemmas::least_alone))]
+fn least_in_user(
+    alloc: Global,
+    user: usize,
+    value: &Value,
+    least: Option<Text>,
+) -> Result<Option<Text>, AllocError>
+    ensures { IfOk result (λ key. key ≡ spec.least (cons_option least (spec.unknown_in_user user (view value.now)))) }
+{
+    match value.as_table() {
+        Some(table) => least_under(alloc, Place::User(user), &USER, table, least),
+        None => Ok(least),
+    }
+}
+
+/// The least of the unknown keys of some users, and of one key more.
+#[tactic(auto, using(crate::proofs::ListLemmas::each_more, crate::proofs::LeastLemmas::least_alone, crate::proofs::LeastLemmas::least_onward))]
+fn least_in_users(
+    alloc: Global,
+    values: &[Value],
+    least: Option<Text>,
+) -> Result<Option<Text>, AllocError>
+    ensures { IfOk result (λ key. key ≡ spec.least (cons_option least (spec.unknown_in_users 0 (map view values.now)))) }
+{
+    let mut least = least;
+    for user in 0..values.len() {
+        least = least_in_user(alloc, user, &values[user], least)?;
+    }
+    Ok(least)
+}
+
 /// The least of the unknown keys of a server, and of one key more.
 #[tactic(auto, using(crate::proofs::LeastLemmas::least_alone))]
 fn least_in_server(
@@ -167,6 +203,19 @@ fn least_in_outputs(
 }
 
 /// The least of the unknown keys of the table `relay`, and of one key more.
+#[tactic(auto, using(crate::proofs::LeastLemmas::least_onward))]
+fn least_in_relay_table(
+    alloc: Global,
+    relay: &Table,
+    least: Option<Text>,
+) -> Result<Option<Text>, AllocError>
+    ensures { IfOk result (λ key. key ≡ spec.least (cons_option least (spec.unknown_in_relay (table_view relay.now)))) }
+{
+    let least = least_under(alloc, Place::Relay, &RELAY, relay, least)?;
+    least_in_users(alloc, members_of(relay, Place::Relay, "user"), least)
+}
+
+/// The same, where there is such a table.
 #[tactic(auto, using(crate::proofs::LeastLemmas::least_alone))]
 fn least_in_relay(
     alloc: Global,
@@ -174,7 +223,7 @@ fn least_in_relay(
     least: Option<Text>,
 ) -> Result<Option<Text>, AllocError>
     ensures { IfOk result (λ key. let relay = table_in (codes "relay") (table_view root.now) in
-        key ≡ spec.least (cons_option least (spec.unknown_under Place.Relay relay_names relay))) }
+        key ≡ spec.least (cons_option least (spec.unknown_in_relay relay))) }
 {
     let section = Section {
         place: Place::Root,
@@ -184,7 +233,7 @@ fn least_in_relay(
         return Ok(least);
     };
     match value.as_table() {
-        Some(table) => least_under(alloc, Place::Relay, &RELAY, table, least),
+        Some(relay) => least_in_relay_table(alloc, relay, least),
         None => Ok(least),
     }
 }

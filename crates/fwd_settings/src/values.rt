@@ -3,7 +3,7 @@
 ghost use Rattle.std.specs.Prelude.{◌≡◌, ◌≤◌, IfOk, IfErr, Some, None, map, option_map};
 ghost use Rattle.toml.specs.Data.{as_str, as_bool};
 ghost use Rattle.toml.specs.View.{view};
-ghost use Rattle.fwd_settings.specs.Kinds.{number_flaw, number_of, flag_flaw, text_flaw, digits_flaw, bytes_of, address_flaw, list_of, list_flaw};
+ghost use Rattle.fwd_settings.specs.Kinds.{number_flaw, number_of, flag_flaw, text_flaw, digits_flaw, bytes_of, address_flaw, list_of, list_flaw, allowed_list_flaw};
 ghost use Rattle.fwd_settings.specs.Kinds as spec;
 ghost use Rattle.fwd_settings.specs.Addresses.{address_of_text, socket_of};
 
@@ -112,6 +112,22 @@ pub fn list_in(value: &Value, most: usize) -> Result<&[Value], Flaw>
         return Err(Flaw::WrongKind);
     };
     if 1 <= values.len() && values.len() <= most {
+        Ok(values)
+    } else {
+        Err(Flaw::OutOfRange)
+    }
+}
+
+/// The members of a list of at least one, where it may be there.
+#[tactic(auto, using(crate::proofs::ListLemmas::viewed_length))]
+pub fn allowed_list_in(value: &Value, may: bool) -> Result<&[Value], Flaw>
+    ensures ok { IfOk result (λ values. (list_of (view value.now) ≡ Some (map view values.now)) × (allowed_list_flaw may (view value.now) ≡ None)) }
+    ensures flaw { IfErr result (λ flaw. allowed_list_flaw may (view value.now) ≡ Some flaw) }
+{
+    let Some(values) = array_in(value) else {
+        return Err(Flaw::WrongKind);
+    };
+    if may && !values.is_empty() {
         Ok(values)
     } else {
         Err(Flaw::OutOfRange)

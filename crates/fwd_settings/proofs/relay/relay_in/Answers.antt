@@ -5,4 +5,12 @@ pub returns-in_err-connections : goal.returns-in_err-connections
 returns-in_err-connections c =
     let listen = rw c.home.ensures at c.in_ok-listen.ensures.0 in
     told _ _ _ c.in_err-connections.field-0.0 c.from_residual-in_err-connections.ensures.1 λ m.
-    rw (listen, c.in_ok-monitor.ensures.0, c.in_ok-hostname.ensures.0, c.in_ok-run_id.ensures.0, c.in_ok-seed.ensures.0, c.in_err-connections.ensures m)
+    rw (
+      listen,
+      c.in_ok-monitor.ensures.0,
+      c.in_ok-hostname.ensures.0,
+      c.in_ok-shared_key.ensures.0,
+      c.in_ok-run_id.ensures.0,
+      c.in_ok-seed.ensures.0,
+      c.in_err-connections.ensures m,
+    )
