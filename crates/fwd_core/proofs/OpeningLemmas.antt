@@ -23,6 +23,6 @@ new_lanes-live : (cs : List OutputConfig) → map live_lane (map new_lane cs) �
 new_lanes-live [] = refl
 new_lanes-live (c ∷ cs) = λ i. new_lane-live c i ∷ new_lanes-live cs i
 
-pub opening-live : (config : Config) → live (opening config) ≡ record { run = config.run; routes = config.routes; last = None; connections = []; lanes = map new_live_lane config.outputs }
+pub opening-live : (config : Config) → live (opening config) ≡ record { run = config.run; routes = config.routes; security = config.security; last = None; connections = []; lanes = map new_live_lane config.outputs }
 unfolding live opening
-opening-live config = λ i. record { run = config.run; routes = config.routes; last = None; connections = []; lanes = new_lanes-live config.outputs i }
+opening-live config = λ i. record { run = config.run; routes = config.routes; security = config.security; last = None; connections = []; lanes = new_lanes-live config.outputs i }

@@ -3,7 +3,8 @@ use Rattle.std.proofs.Common.{◌≡◌, ℕ, ◌+◌, ◌<◌, true, cond, eqb,
 use Rattle.std.proofs.lemmas.Bool.Decides.{nat_tests}
 use Rattle.std.proofs.lemmas.List.{drop_more, set_split}
 use Rattle.std.proofs.lemmas.Option.{slice_get-get_or}
-use Rattle.fwd_model.specs.Live.{LiveSource, LiveConnection}
+use Rattle.fwd_source.specs.Live.{LiveSource}
+use Rattle.fwd_model.specs.Live.{LiveConnection}
 use Rattle.fwd_model.specs.LiveStep.{live_source_at, with_live_source}
 use Rattle.fwd_core.specs.Places.{IsPlace}
 

@@ -6,14 +6,14 @@ use Rattle.fwd_modes.specs.Requests.{Request}
 use Rattle.fwd_match.specs.Patterns.{route}
 use Rattle.fwd_model.specs.declared.cell.Chunk.{Chunk}
 use Rattle.fwd_model.specs.Step.{is_loaded, frame_of}
-use Rattle.fwd_model.specs.Live.{LiveSource, LiveConnection, LiveSession, LiveWorker, LiveLane, LiveRelay}
-use Rattle.fwd_model.specs.LiveStep.{live_source_at, with_live_lane, with_live_connection, with_live_worker, worker_with, fresh_session, session_loads, live_takes, live_take_next, live_up_next, live_load_next, live_load_next_with, live_piece_next, live_admit_next, live_admit_routed_next, live_admit_waiting_next, worker_at, source_hears, source_gives, source_shuts, output_is_spent, output_enters, with_live_output}
-use Rattle.fwd_core.specs.Hearing.{source_next}
-use Rattle.fwd_model.specs.LiveStep.{session_sends, session_hears, live_replies, live_wrote_next, live_wrote_session, live_heard_next, live_heard_session, live_settle_next, live_settle_session_next, live_settle_number_next, live_acked_number, live_collect_next, live_due, source_appends, output_told}
+use Rattle.fwd_source.specs.Live.{LiveSource, source_hears, source_gives, source_appends, source_drains, source_shuts, live_piece_next as source_next}
+use Rattle.fwd_model.specs.Live.{LiveConnection, LiveSession, LiveWorker, LiveLane, LiveRelay}
+use Rattle.fwd_model.specs.LiveStep.{live_source_at, with_live_lane, with_live_connection, with_live_worker, worker_with, fresh_session, session_loads, live_takes, live_take_next, live_up_next, live_load_next, live_load_next_with, live_piece_next, live_admit_next, live_admit_routed_next, live_admit_waiting_next, worker_at, output_is_spent, output_enters, with_live_output}
+use Rattle.fwd_model.specs.LiveStep.{session_sends, session_hears, live_replies, live_wrote_next, live_wrote_session, live_heard_next, live_heard_session, live_settle_next, live_settle_session_next, live_settle_number_next, live_acked_number, live_collect_next, live_due, output_told, live_drained_next}
 use Rattle.fwd_model.specs.Books.{acks_of}
 use Rattle.fwd_core.specs.Lanes.{lane_up, lane_takes, lane_loads, worker_loads, lane_sends, worker_sends, lane_hears, worker_hears, lane_settles, settles_session, settles_number}
 use Rattle.fwd_core.specs.Places.{IsPlace}
-use Rattle.fwd_core.specs.Relays.{routed_source, routed_lane, admit_source, admit_lane, told_source, told_lane}
+use Rattle.fwd_core.specs.Relays.{routed_source, routed_lane, admit_source, admit_lane, told_source, told_lane, drained_source}
 
 pub set_same : {X : Type 0} (xs : List X) (i : ℕ) (x : X) → slice_get xs i ≡ Some x → set xs i x ≡ xs
 set_same [] i x h = refl
@@ -22,7 +22,7 @@ set_same (a ∷ xs) (suc i) x h = ap (λ ys. a ∷ ys) (set_same xs i x h)
 
 -- an output as it was, in its place
 lane_stays : (r : LiveRelay) (o : ℕ) (l : LiveLane) → slice_get r.lanes o ≡ Some l → with_live_lane o l r ≡ r
-lane_stays r o l here = λ i. record { run = r.run; routes = r.routes; last = r.last; connections = r.connections; lanes = set_same r.lanes o l here i }
+lane_stays r o l here = λ i. record { run = r.run; routes = r.routes; security = r.security; last = r.last; connections = r.connections; lanes = set_same r.lanes o l here i }
 
 worker_stays : (l : LiveLane) (w : ℕ) (x : LiveWorker) → slice_get l.workers w ≡ Some x → with_live_worker l w x ≡ l
 worker_stays l w x here = λ i. record { config = l.config; output = l.output; workers = set_same l.workers w x here i }
@@ -125,13 +125,13 @@ settles_next_at r o w l here = settles_at r o l here w (slice_get l.workers w)
 -- ---- connections
 
 abbrev pub with_source_at : ℕ → LiveConnection → LiveRelay → LiveRelay
-with_source_at place c r = record { run = r.run; routes = r.routes; last = r.last; connections = slice_set r.connections place c; lanes = r.lanes }
+with_source_at place c r = record { run = r.run; routes = r.routes; security = r.security; last = r.last; connections = slice_set r.connections place c; lanes = r.lanes }
 
 placed : (r : LiveRelay) (id place : ℕ) (at : IsPlace id r.connections place) (s : LiveSource) → with_source_at place (record { id = id; source = s }) r ≡ with_live_connection id s r
-placed r id place at s = λ i. record { run = r.run; routes = r.routes; last = r.last; connections = sym (at.put s) i; lanes = r.lanes }
+placed r id place at s = λ i. record { run = r.run; routes = r.routes; security = r.security; last = r.last; connections = sym (at.put s) i; lanes = r.lanes }
 
 source_stays : (r : LiveRelay) (id place : ℕ) (at : IsPlace id r.connections place) → with_source_at place (record { id = id; source = at.source }) r ≡ r
-source_stays r id place at = λ i. record { run = r.run; routes = r.routes; last = r.last; connections = set_same r.connections place (record { id = id; source = at.source }) at.here i; lanes = r.lanes }
+source_stays r id place at = λ i. record { run = r.run; routes = r.routes; security = r.security; last = r.last; connections = set_same r.connections place (record { id = id; source = at.source }) at.here i; lanes = r.lanes }
 
 piece_by : (r : LiveRelay) (id place : ℕ) (bytes : List ℕ) (at : IsPlace id r.connections place) (b : Bool)
     → with_source_at place (record { id = id; source = cond b at.source (source_hears at.source bytes) }) r ≡ cond b r (with_live_connection id (source_hears at.source bytes) r)
@@ -142,20 +142,29 @@ pub piece_next_at : (r : LiveRelay) (id place : ℕ) (bytes : List ℕ) (at : Is
     → with_source_at place (record { id = id; source = source_next at.source bytes }) r ≡ live_piece_next id (live_source_at id r.connections) bytes r
 piece_next_at r id place bytes at = piece_by r id place bytes at at.source.closed ∙ ap (λ s. live_piece_next id s bytes r) (sym at.found)
 
+drained_by : (r : LiveRelay) (id place count : ℕ) (at : IsPlace id r.connections place) (b : Bool)
+    → with_source_at place (record { id = id; source = cond b at.source (source_drains at.source count) }) r ≡ cond b r (with_live_connection id (source_drains at.source count) r)
+drained_by r id place count at true = source_stays r id place at
+drained_by r id place count at false = placed r id place at (source_drains at.source count)
+
+pub drained_next_at : (r : LiveRelay) (id place count : ℕ) (at : IsPlace id r.connections place)
+    → with_source_at place (record { id = id; source = drained_source at.source count }) r ≡ live_drained_next id (live_source_at id r.connections) count r
+drained_next_at r id place count at = drained_by r id place count at (nat_lt (length at.source.unsent) count) ∙ ap (λ s. live_drained_next id s count r) (sym at.found)
+
 -- ---- admit
 
 abbrev pub with_both : ℕ → LiveConnection → ℕ → LiveLane → LiveRelay → LiveRelay
-with_both place c o l r = record { run = r.run; routes = r.routes; last = r.last; connections = slice_set r.connections place c; lanes = slice_set r.lanes o l }
+with_both place c o l r = record { run = r.run; routes = r.routes; security = r.security; last = r.last; connections = slice_set r.connections place c; lanes = slice_set r.lanes o l }
 
 module _ (r : LiveRelay) (id place : ℕ) (at : IsPlace id r.connections place) (o : ℕ) (l : LiveLane) (here : slice_get r.lanes o ≡ Some l) where
   both_stay : with_both place (record { id = id; source = at.source }) o l r ≡ r
-  both_stay = λ i. record { run = r.run; routes = r.routes; last = r.last; connections = set_same r.connections place (record { id = id; source = at.source }) at.here i; lanes = set_same r.lanes o l here i }
+  both_stay = λ i. record { run = r.run; routes = r.routes; security = r.security; last = r.last; connections = set_same r.connections place (record { id = id; source = at.source }) at.here i; lanes = set_same r.lanes o l here i }
 
   one_stays : (s : LiveSource) → with_both place (record { id = id; source = s }) o l r ≡ with_live_connection id s r
-  one_stays s = λ i. record { run = r.run; routes = r.routes; last = r.last; connections = sym (at.put s) i; lanes = set_same r.lanes o l here i }
+  one_stays s = λ i. record { run = r.run; routes = r.routes; security = r.security; last = r.last; connections = sym (at.put s) i; lanes = set_same r.lanes o l here i }
 
   both_change : (s : LiveSource) (m : LiveLane) → with_both place (record { id = id; source = s }) o m r ≡ with_live_lane o m (with_live_connection id s r)
-  both_change s m = λ i. record { run = r.run; routes = r.routes; last = r.last; connections = sym (at.put s) i; lanes = slice_set r.lanes o m }
+  both_change s m = λ i. record { run = r.run; routes = r.routes; security = r.security; last = r.last; connections = sym (at.put s) i; lanes = slice_set r.lanes o m }
 
   admit_by : (q : Request) (now : ℕ) (a b : Bool)
       → with_both place (record { id = id; source = cond a at.source (cond b (source_shuts at.source) (source_gives at.source)) }) o
@@ -271,6 +280,15 @@ piece_done R S same id place bytes at s t c own named e =
     ∙ ap (λ x. with_source_at place (record { id = id; source = x }) R) (e ∙ ap (λ x. source_next x bytes) (sym own))
     ∙ piece_next_at R id place bytes at
     ∙ (λ i. live_piece_next id (live_source_at id (same i).connections) bytes (same i))
+
+pub drained_done : (R S : LiveRelay) (same : R ≡ S) (id place count : ℕ) (at : IsPlace id R.connections place) (s t : LiveSource) (c : LiveConnection) → at.source ≡ s
+    → c ≡ record { id = id; source = t } → t ≡ drained_source s count
+    → with_source_at place c R ≡ live_drained_next id (live_source_at id S.connections) count S
+drained_done R S same id place count at s t c own named e =
+    (λ i. with_source_at place (named i) R)
+    ∙ ap (λ x. with_source_at place (record { id = id; source = x }) R) (e ∙ ap (λ x. drained_source x count) (sym own))
+    ∙ drained_next_at R id place count at
+    ∙ (λ i. live_drained_next id (live_source_at id (same i).connections) count (same i))
 
 -- what stands at a place is what was read there
 pub read_place : (id : ℕ) (cs : List LiveConnection) (place : ℕ) (at : IsPlace id cs place) (c : LiveConnection) → slice_get cs place ≡ Some c → (at.source ≡ c.source) × (c.id ≡ id)

@@ -1,7 +1,6 @@
 pub mod Answering
 pub mod Due
 pub mod Fits
-pub mod Hearing
 pub mod Lanes
 pub mod Places
 pub mod Relays

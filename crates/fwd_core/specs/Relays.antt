@@ -1,19 +1,22 @@
 -- What an event does to the parts of the relay, in the words of the live step.
-use Rattle.std.specs.Prelude.{ℕ, not, List, [], ◌∷◌, ◌+◌, ◌==◌, Option, Some, None, if◌then◌else◌}
+use Rattle.std.specs.Prelude.{ℕ, not, List, [], ◌∷◌, ◌+◌, ◌==◌, length, nat_lt, Option, Some, None, if◌then◌else◌}
 use Rattle.fwd_match.specs.Patterns.{route}
 use Rattle.fwd_modes.specs.Requests.{Request}
-use Rattle.fwd_model.specs.declared.answer.Answer.{Answer}
-use Rattle.fwd_model.specs.declared.answer.Answer.TheVariants as answer
-use Rattle.fwd_model.specs.declared.fault.Refusal.TheVariants.{NotNow}
-use Rattle.fwd_model.specs.Live.{LiveSource, LiveLane, LiveRelay}
-use Rattle.fwd_model.specs.LiveStep.{is_above, live_accepted, output_is_spent, output_enters, source_gives, source_shuts, with_live_output, live_due, source_appends, output_told}
+use Rattle.fwd_source.specs.History.{Setup}
+use Rattle.fwd_source.specs.Live.{LiveSource, opened_source, source_gives, source_appends, source_drains, source_shuts}
+use Rattle.fwd_model.specs.Live.{LiveConnection, LiveLane, LiveRelay}
+use Rattle.fwd_model.specs.LiveStep.{is_above, live_accepted, output_is_spent, output_enters, with_live_output, live_due, output_told}
 use Rattle.fwd_model.specs.Books.{acks_of}
 
-abbrev pub accept_answer : ℕ → LiveRelay → Answer
-accept_answer id r = if is_above id r.last then answer.Accepted [] else answer.Refused NotNow
+abbrev pub new_live_connection : Setup → LiveConnection
+new_live_connection setup = record { id = setup.conn; source = opened_source setup }
 
-abbrev pub accept_next : ℕ → LiveRelay → LiveRelay
-accept_next id r = if is_above id r.last then live_accepted id r else r
+abbrev pub accept_next : Setup → LiveRelay → LiveRelay
+accept_next setup r = if is_above setup.conn r.last then live_accepted setup r else r
+
+-- the source once its link took so many bytes, if that many waited
+abbrev pub drained_source : LiveSource → ℕ → LiveSource
+drained_source s count = if nat_lt (length s.unsent) count then s else source_drains s count
 
 -- the source once its first waiting request, which goes to this output, was tried
 abbrev pub routed_source : Option ℕ → LiveSource → Request → ℕ → LiveLane → LiveSource

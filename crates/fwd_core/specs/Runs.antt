@@ -1,7 +1,7 @@
 -- Which events of a run counted: those not answered by want of memory.
 use Rattle.std.specs.Prelude.{Bool, true, false, not, List, [], ◌∷◌, filter, if◌then◌else◌}
 use Rattle.fwd_model.specs.declared.event.Event.{Event}
-use Rattle.fwd_model.specs.declared.event.Event.TheVariants.{Flush, Wrote, Settle}
+use Rattle.fwd_model.specs.declared.event.Event.TheVariants.{Flush, Wrote, Settle, Drained, Shut}
 use Rattle.fwd_model.specs.declared.answer.Answer.{Answer}
 use Rattle.fwd_model.specs.declared.answer.Answer.TheVariants.{Memory}
 
@@ -24,4 +24,6 @@ abbrev pub takes_none : Event → Bool
 takes_none (Flush output now kind) = true
 takes_none (Wrote output worker count) = true
 takes_none (Settle output worker) = true
+takes_none (Drained conn count) = true
+takes_none (Shut conn) = true
 takes_none _ = false

@@ -1,11 +1,26 @@
-//! The connections that stand, by their ids.
+//! The connections that stand, by their ids, and what becomes of one.
 
-ghost use Rattle.std.specs.Prelude.{◌≡◌, ◌<◌, IfNone, MatchOption, None, length, slice_get};
+ghost use Rattle.std.specs.Prelude.{◌≡◌, ◌<◌, IfNone, IfOk, OnOk, OnErr, MatchOption, None, Some, length, slice_get};
+ghost use Rattle.std.specs.Arc.{arc_value};
+ghost use Rattle.fwd_source.specs.Live.{live_next, live_piece_next};
+ghost use Rattle.fwd_model.specs.Step.{setup_of};
 ghost use Rattle.fwd_core.specs.Places.{IsPlace};
-ghost use Rattle.fwd_model.specs.LiveStep.{live_source_at};
+ghost use Rattle.fwd_core.specs.Relays.{drained_source, new_live_connection};
+ghost use Rattle.fwd_model.specs.LiveStep.{live_source_at, live_piece_answer, live_drained_answer, without};
 
-use crate::source::Source;
+use fwd_handshake::{Nonces, Security};
+use fwd_model::{Answer, Refusal};
+use fwd_msgpack::Limits;
+use fwd_source::{Piece, Source};
+use std::alloc::{AllocError, Global};
 use std::marker::Model;
+use std::sync::Arc;
+
+/// How long and how deep a value of a source may be.
+const SOURCE_LIMITS: Limits = Limits {
+    bytes: 16_777_216,
+    depth: 64,
+};
 
 /// A connection.
 #[derive(Drop)]
@@ -19,7 +34,30 @@ impl Model for Connection {
 
     ghost Value = { LiveConnection };
 
-    ghost view = { λ c. record { id = c.id; source = c.source } };
+    ghost view = { λ c. record { id = c.id; source = c.source.live } };
+}
+
+impl Connection {
+    /// A connection before its first byte.
+    pub fn new(
+        alloc: Global,
+        id: u64,
+        security: &Arc<Security>,
+        nonces: Nonces,
+    ) -> Result<Connection, AllocError>
+        ensures { IfOk result (λ c. c ≡ new_live_connection (setup_of (arc_value security.now) id nonces.nonce nonces.auth)) }
+    {
+        let security = Arc::try_clone(security)?;
+        let source = Source::new(alloc, id, security, nonces, SOURCE_LIMITS)?;
+        Ok(Connection { id, source })
+    }
+
+    /// The bytes that wait to be sent to it.
+    pub fn out(&self) -> &[u8]
+        ensures { result.now ≡ self.now.source.unsent }
+    {
+        self.source.out()
+    }
 }
 
 /// The place of the connection with this id.
@@ -33,4 +71,50 @@ pub fn place_of(id: u64, connections: &[Connection]) -> Option<usize>
         }
     }
     None
+}
+
+/// The connections but this one.
+pub fn leave(id: u64, connections: &mut Vec<Connection>)
+    ensures { connections.new.items ≡ without id connections.old.items }
+{
+    connections.retain(|c| c.id != id);
+}
+
+/// More bytes come from a connection. On an error nothing has changed.
+#[tactic(auto, unfolding(fwd_source::specs::Live::source_hears))]
+pub fn hear_piece(alloc: Global, source: &mut Source, bytes: &[u8]) -> Result<Answer, AllocError>
+    ensures answer { IfOk result (λ a. a ≡ live_piece_answer (Some source.old.live) bytes.now) }
+    ensures next { OnOk result (source.new.live ≡ live_piece_next source.old.live bytes.now) }
+    ensures err { OnErr result (source.new.live ≡ source.old.live) }
+{
+    let told = source.piece(alloc, bytes)?;
+    let out = told.out;
+    Ok(match told.piece {
+        Piece::Waiting(waiting) => Answer::Requests { waiting, out },
+        Piece::Fault(fault) => Answer::Faulted {
+            fault,
+            waiting: source.waiting(),
+            out,
+        },
+        Piece::Closed => Answer::Refused(Refusal::Closed),
+    })
+}
+
+/// The first request that waits is given away.
+pub fn give(source: &mut Source)
+    ensures { source.new.live ≡ live_next source.old.live source.old.live.waiting }
+{
+    let _given = source.next();
+}
+
+/// A connection's link took so many of the bytes that wait to be sent.
+pub fn drain(source: &mut Source, count: u64) -> Answer
+    ensures answer { result ≡ live_drained_answer (Some source.old.live) count }
+    ensures next { source.new.live ≡ drained_source source.old.live count }
+{
+    if count > source.out().len() as u64 {
+        return Answer::Refused(Refusal::NotNow);
+    }
+    source.drained(count as usize);
+    Answer::Done
 }

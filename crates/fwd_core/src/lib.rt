@@ -4,13 +4,11 @@
 mod book;
 mod chunks;
 mod connection;
-mod hearing;
 mod lane;
 mod output;
 mod relay;
 mod replies;
 mod session;
-mod source;
 
 pub use fwd_model::{
     Answer, Config, Event, FlushKind, OutputConfig, Refusal, SessionFault, SourceFault,

@@ -3,43 +3,55 @@
 ghost use Rattle.std.specs.Prelude.{◌≡◌, ◌≢◌, true, map, Some, IfOk, OnOk, OnErr, slice_get};
 ghost use Rattle.fwd_model.specs.History.{opening};
 ghost use Rattle.fwd_model.specs.Live.{live};
-ghost use Rattle.fwd_model.specs.LiveStep.{live_answer_to, live_next, live_answers, live_after, live_source_at, live_accepted, is_above, live_piece_answer, live_piece_next, live_admit_answer, live_admit_next, live_flush_answer, live_flush_next, live_up_answer, live_up_next, live_take_answer, live_take_next, live_load_answer, live_load_next, worker_at, session_in, live_wrote_answer, live_wrote_next, live_heard_answer, live_heard_next, live_settle_answer, live_settle_next, live_collect_answer, live_collect_next, live_collect_open};
+ghost use Rattle.fwd_model.specs.LiveStep.{live_answer_to, live_next, live_answers, live_after, live_source_at, is_above, live_piece_answer, live_piece_next, live_admit_answer, live_admit_next, live_flush_answer, live_flush_next, live_up_answer, live_up_next, live_take_answer, live_take_next, live_load_answer, live_load_next, worker_at, session_in, live_wrote_answer, live_wrote_next, live_heard_answer, live_heard_next, live_settle_answer, live_settle_next, live_collect_answer, live_collect_next, live_collect_open, live_drained_answer, live_drained_next, live_shut_answer, live_shut_next};
 ghost use Rattle.std.specs.Prelude.{length};
 ghost use Rattle.fwd_model.specs.declared.config.Config.{Config as Settings};
 ghost use Rattle.fwd_model.specs.History.{History};
 ghost use Rattle.fwd_model.specs.Step.{answers as history_answers, after, IsReached};
 ghost use Rattle.fwd_core.specs.Runs.{told, kept, takes_none};
 ghost use Rattle.fwd_core.specs.Lanes.{new_live_lane};
-ghost use Rattle.fwd_core.specs.Relays.{accept_answer, accept_next, admit_source, admit_lane, told_source, told_lane};
+ghost use Rattle.fwd_model.specs.Step.{accept_answer, setup_of};
+ghost use Rattle.fwd_core.specs.Relays.{accept_next, admit_source, admit_lane, told_source, told_lane};
 
-use crate::connection::{Connection, place_of};
+use crate::connection::{Connection, drain, give, hear_piece, leave, place_of};
 use crate::lane::Lane;
 use crate::output::{AdmitError, Due};
-use crate::source::Source;
+use fwd_handshake::{Nonces, Security};
 use fwd_match::Routes;
 use fwd_model::{
     Answer, Config, Event, FlushKind, Origin, OutputConfig, Refusal, live_run_follows,
 };
 use fwd_msgpack::Bytes;
+use fwd_source::{AnswerError, Source};
 use std::alloc::{AllocError, Global};
 use std::marker::Model;
+use std::sync::Arc;
 
 /// A relay that one thread owns.
 #[derive(Drop)]
 pub struct Relay {
     run: [u8; 6],
     routes: Routes,
+    security: Arc<Security>,
     last: Option<u64>,
     connections: Vec<Connection>,
     lanes: Vec<Lane>,
 }
 
 impl Model for Relay {
+    ghost use Rattle.std.specs.Arc.{arc_value};
     ghost use Rattle.fwd_model.specs.Live.{LiveRelay};
 
     ghost Value = { LiveRelay };
 
-    ghost view = { λ r. record { run = r.run; routes = r.routes; last = r.last; connections = r.connections.items; lanes = r.lanes.items } };
+    ghost view = { λ r. record {
+      run = r.run;
+      routes = r.routes;
+      security = arc_value r.security;
+      last = r.last;
+      connections = r.connections.items;
+      lanes = r.lanes.items;
+    } };
 }
 
 impl Relay {
@@ -51,6 +63,7 @@ impl Relay {
         Ok(Relay {
             run: config.run,
             routes: config.routes,
+            security: Arc::new(alloc, config.security)?,
             last: None,
             connections: Vec::new(alloc),
             lanes,
@@ -66,7 +79,7 @@ impl Relay {
         ensures none { takes_none event.now ≡ true → result ≢ Answer.Memory }
     {
         let answered = match event {
-            Event::Accept { conn, .. } => self.accept(alloc, *conn),
+            Event::Accept { conn, nonce, auth } => self.accept(alloc, *conn, *nonce, *auth),
             Event::Piece { conn, bytes } => self.piece(alloc, *conn, bytes.as_slice()),
             Event::Admit { conn, output, now } => self.admit(alloc, *conn, *output, *now),
             Event::Flush { output, now, kind } => Ok(self.flush(*output, *now, *kind)),
@@ -99,6 +112,8 @@ impl Relay {
             } => self.heard(alloc, *output, *worker, bytes.as_slice()),
             Event::Settle { output, worker } => Ok(self.settle(*output, *worker)),
             Event::Collect { conn, output } => self.collect(alloc, *conn, *output),
+            Event::Drained { conn, count } => Ok(self.drained(*conn, *count)),
+            Event::Shut { conn } => Ok(self.shut(*conn)),
         };
         answered.unwrap_or(Answer::Memory)
     }
@@ -124,9 +139,15 @@ impl Relay {
     }
 
     /// A connection comes. On an error nothing has changed.
-    fn accept(&mut self, alloc: Global, conn: u64) -> Result<Answer, AllocError>
-        ensures answer { IfOk result (λ a. a ≡ accept_answer conn self.old) }
-        ensures next { OnOk result (self.new ≡ accept_next conn self.old) }
+    fn accept(
+        &mut self,
+        alloc: Global,
+        conn: u64,
+        nonce: [u8; 16],
+        auth: [u8; 16],
+    ) -> Result<Answer, AllocError>
+        ensures answer { IfOk result (λ a. a ≡ accept_answer (is_above conn self.old.last) (setup_of self.old.security conn nonce auth)) }
+        ensures next { OnOk result (self.new ≡ accept_next (setup_of self.old.security conn nonce auth) self.old) }
         ensures err { OnErr result (self.new ≡ self.old) }
     {
         let above = match self.last {
@@ -136,12 +157,12 @@ impl Relay {
         if !above {
             return Ok(Answer::Refused(Refusal::NotNow));
         }
-        let source = Source::new(alloc);
-        self.connections.push(Connection { id: conn, source })?;
+        let nonces = Nonces { nonce, auth };
+        let connection = Connection::new(alloc, conn, &self.security, nonces)?;
+        let out = Bytes::from_slice(alloc, connection.out())?;
+        self.connections.push(connection)?;
         self.last = Some(conn);
-        Ok(Answer::Accepted {
-            out: Bytes::new(alloc),
-        })
+        Ok(Answer::Accepted { out })
     }
 
     /// Bytes are read from a connection. On an error nothing has changed.
@@ -154,7 +175,31 @@ impl Relay {
             return Ok(Answer::Refused(Refusal::NoSuch));
         };
         let connection = &mut self.connections[place];
-        connection.source.piece(alloc, bytes)
+        hear_piece(alloc, &mut connection.source, bytes)
+    }
+
+    /// A connection's link took so many of the bytes that wait to be sent.
+    fn drained(&mut self, conn: u64, count: u64) -> Answer
+        ensures answer { result ≡ live_drained_answer (live_source_at conn self.old.connections) count }
+        ensures next { self.new ≡ live_drained_next conn (live_source_at conn self.old.connections) count self.old }
+    {
+        let Some(place) = place_of(conn, &self.connections) else {
+            return Answer::Refused(Refusal::NoSuch);
+        };
+        let connection = &mut self.connections[place];
+        drain(&mut connection.source, count)
+    }
+
+    /// A connection is known no more.
+    fn shut(&mut self, conn: u64) -> Answer
+        ensures answer { result ≡ live_shut_answer (live_source_at conn self.old.connections) }
+        ensures next { self.new ≡ live_shut_next conn (live_source_at conn self.old.connections) self.old }
+    {
+        if place_of(conn, &self.connections).is_none() {
+            return Answer::Refused(Refusal::NoSuch);
+        }
+        leave(conn, &mut self.connections);
+        Answer::Done
     }
 
     /// A connection's first waiting request goes to an output. On an error nothing has changed.
@@ -343,13 +388,13 @@ fn admit_from(
     output: u16,
     now: u64,
 ) -> Result<Answer, AllocError>
-    ensures answer { IfOk result (λ a. a ≡ live_admit_answer routes.now (Some source.old) output (Some lane.old)) }
-    ensures source { OnOk result (source.new ≡ admit_source routes.now source.old source.old.waiting output lane.old) }
-    ensures lane { OnOk result (lane.new ≡ admit_lane routes.now conn source.old source.old.waiting output lane.old now) }
+    ensures answer { IfOk result (λ a. a ≡ live_admit_answer routes.now (Some source.old.live) output (Some lane.old)) }
+    ensures source { OnOk result (source.new.live ≡ admit_source routes.now source.old.live source.old.live.waiting output lane.old) }
+    ensures lane { OnOk result (lane.new ≡ admit_lane routes.now conn source.old.live source.old.live.waiting output lane.old now) }
     ensures source_err { OnErr result (source.new ≡ source.old) }
     ensures lane_err { OnErr result (lane.new ≡ lane.old) }
 {
-    let Some(batch) = source.first() else {
+    let Some((Origin { request, .. }, batch)) = source.peek() else {
         return Ok(Answer::Refused(Refusal::NotNow));
     };
     let Some(first) = routes.first(batch.tag()) else {
@@ -359,11 +404,10 @@ fn admit_from(
     if first != output {
         return Ok(Answer::Refused(Refusal::NotNow));
     }
-    let request = source.number();
     let entries = batch.len();
     match lane.admit(alloc, Origin { conn, request }, batch, now) {
         Ok(()) => {
-            source.give();
+            give(source);
             Ok(Answer::Admitted { request, entries })
         }
         Err(AdmitError::NumbersSpent) => {
@@ -381,17 +425,19 @@ fn tell_from(
     source: &mut Source,
     conn: u64,
 ) -> Result<Answer, AllocError>
-    ensures answer { IfOk result (λ a. a ≡ live_collect_open conn source.old lane.old.output) }
-    ensures source { OnOk result (source.new ≡ told_source conn source.old lane.old) }
-    ensures lane { OnOk result (lane.new ≡ told_lane conn source.old lane.old) }
-    ensures source_err { OnErr result (source.new ≡ source.old) }
+    ensures answer { IfOk result (λ a. a ≡ live_collect_open conn source.old.live lane.old.output) }
+    ensures source { OnOk result (source.new.live ≡ told_source conn source.old.live lane.old) }
+    ensures lane { OnOk result (lane.new ≡ told_lane conn source.old.live lane.old) }
+    ensures source_err { OnErr result (source.new.live ≡ source.old.live) }
     ensures lane_err { OnErr result (lane.new ≡ lane.old) }
 {
-    if source.is_shut() {
-        return Ok(Answer::Refused(Refusal::Closed));
-    }
     let Due { requests, out } = lane.due(alloc, conn)?;
-    source.answer(out.as_slice())?;
-    lane.tell(conn);
-    Ok(Answer::Told { requests, out })
+    match source.answer(out.as_slice()) {
+        Ok(()) => {
+            lane.tell(conn);
+            Ok(Answer::Told { requests, out })
+        }
+        Err(AnswerError::Closed) => Ok(Answer::Refused(Refusal::Closed)),
+        Err(AnswerError::Memory) => Err(AllocError),
+    }
 }

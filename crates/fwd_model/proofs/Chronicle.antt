@@ -14,7 +14,8 @@ use Rattle.fwd_model.specs.declared.event.Event.TheVariants as event
 use Rattle.fwd_model.specs.Chunks.{greatest, cells_at, cells_of, chunk_of, first_tag, has_number}
 use Rattle.fwd_match.specs.Patterns.{route}
 use Rattle.fwd_model.specs.Books.{entered_as, has_cell}
-use Rattle.fwd_model.specs.History.{SourceHistory, judged, Connection, source_at, with_source, Admission, SessionHistory, is_handed_on, Lane, History}
+use Rattle.fwd_source.specs.History.{SourceHistory, judged}
+use Rattle.fwd_model.specs.History.{Connection, ever_at, source_at, with_source, with_gone, Admission, SessionHistory, is_handed_on, Lane, History}
 use Rattle.fwd_model.specs.Step.{next, after, frame_of}
 use Rattle.fwd_model.specs.Delivered.{HasBegun, WasLoaded, WasSent, WasAcknowledged, cells_from}
 use Rattle.fwd_model.proofs.Reached.{slice_get-set}
@@ -132,9 +133,9 @@ module _ (config : Config) (es : List Event) (e : Event) (o : ℕ) (cells : List
 abbrev pub has_origin : ℕ → ℕ → List Cell → Bool
 has_origin id r cells = list_any (λ c. (c.origin.conn == id) && (c.origin.request == r)) cells
 
--- the connection stands, and so many of its requests were admitted
+-- the connection was accepted, and so many of its requests were admitted
 abbrev pub Admitted : List Connection → ℕ → ℕ → Type 0
-Admitted cs id r = (s : SourceHistory) × (source_at id cs ≡ Some s) × (r ≤ s.admitted)
+Admitted cs id r = (s : SourceHistory) × (ever_at id cs ≡ Some s) × (r ≤ s.admitted)
 
 pub record RequestStory (routes : List (List (List ℕ))) (cs : List Connection) (o : ℕ) (cells : List Cell) (a : Entered) : Type 0 where
   pub request : Request
@@ -143,7 +144,7 @@ pub record RequestStory (routes : List (List (List ℕ))) (cs : List Connection)
   pub place : ℕ
   pub source : SourceHistory
   pub entered : a ≡ entered_as request a.origin number
-  pub stands : source_at a.origin.conn cs ≡ Some source
+  pub stands : ever_at a.origin.conn cs ≡ Some source
   pub nth : a.origin.request ≡ place + 1
   pub admitted : a.origin.request ≤ source.admitted
   pub asked : slice_get (judged source).requests place ≡ Some request
@@ -175,38 +176,50 @@ abbrev pub Grows : SourceHistory → SourceHistory → Type 0
 Grows s t = (s.admitted ≤ t.admitted) × ((i : ℕ) (q : Request) → slice_get (judged s).requests i ≡ Some q → slice_get (judged t).requests i ≡ Some q)
 
 abbrev pub Extends : List Connection → List Connection → Type 0
-Extends cs ds = (id : ℕ) (s : SourceHistory) → source_at id cs ≡ Some s → (t : SourceHistory) × (source_at id ds ≡ Some t) × Grows s t
+Extends cs ds = (id : ℕ) (s : SourceHistory) → ever_at id cs ≡ Some s → (t : SourceHistory) × (ever_at id ds ≡ Some t) × Grows s t
 
 pub extends_same : (cs : List Connection) → Extends cs cs
 extends_same cs id s h = (s, h, (omega arith, λ i q e. e))
 
-pub source_at-push : (id : ℕ) (cs : List Connection) (c : Connection) (s : SourceHistory) → source_at id cs ≡ Some s → source_at id (cs ++ c ∷ []) ≡ Some s
-source_at-push id [] c s h = absurd cc
-source_at-push id (d ∷ cs) c s h = grind (arith, nat_tests, source_at-push id cs c s)
+pub ever_at-push : (id : ℕ) (cs : List Connection) (c : Connection) (s : SourceHistory) → ever_at id cs ≡ Some s → ever_at id (cs ++ c ∷ []) ≡ Some s
+ever_at-push id [] c s h = absurd cc
+ever_at-push id (d ∷ cs) c s h = grind (arith, nat_tests, ever_at-push id cs c s)
+
+-- what is known was accepted
+pub ever_from : (id : ℕ) (cs : List Connection) (s : SourceHistory) → source_at id cs ≡ Some s → ever_at id cs ≡ Some s
+ever_from id [] s h = absurd cc
+ever_from id (c ∷ cs) s h = grind (arith, nat_tests, ever_from id cs s)
+
+ever_at-with_gone : (id j : ℕ) (cs : List Connection) → ever_at j (with_gone id cs) ≡ ever_at j cs
+ever_at-with_gone id j [] = refl
+ever_at-with_gone id j (c ∷ cs) = grind (arith, nat_tests, ever_at-with_gone id j cs)
+
+pub extends_gone : (id : ℕ) (cs : List Connection) → Extends cs (with_gone id cs)
+extends_gone id cs j s h = (s, ever_at-with_gone id j cs ∙ h, (omega arith, λ i q e. e))
 
 pub extends_push : (cs : List Connection) (c : Connection) → Extends cs (cs ++ c ∷ [])
-extends_push cs c id s h = (s, source_at-push id cs c s h, (omega arith, λ i q e. e))
+extends_push cs c id s h = (s, ever_at-push id cs c s h, (omega arith, λ i q e. e))
 
-source_at-with_same : (id : ℕ) (s t : SourceHistory) (cs : List Connection) → source_at id cs ≡ Some s → source_at id (with_source id t cs) ≡ Some t
-source_at-with_same id s t [] h = absurd cc
-source_at-with_same id s t (c ∷ cs) h = grind (arith, nat_tests, source_at-with_same id s t cs)
+ever_at-with_same : (id : ℕ) (s t : SourceHistory) (cs : List Connection) → ever_at id cs ≡ Some s → ever_at id (with_source id t cs) ≡ Some t
+ever_at-with_same id s t [] h = absurd cc
+ever_at-with_same id s t (c ∷ cs) h = grind (arith, nat_tests, ever_at-with_same id s t cs)
 
-source_at-with_other : (id j : ℕ) (t : SourceHistory) (cs : List Connection) → eqb id j ≡ false → source_at j (with_source id t cs) ≡ source_at j cs
-source_at-with_other id j t [] d = refl
-source_at-with_other id j t (c ∷ cs) d = grind (arith, nat_tests, source_at-with_other id j t cs d)
+ever_at-with_other : (id j : ℕ) (t : SourceHistory) (cs : List Connection) → eqb id j ≡ false → ever_at j (with_source id t cs) ≡ ever_at j cs
+ever_at-with_other id j t [] d = refl
+ever_at-with_other id j t (c ∷ cs) d = grind (arith, nat_tests, ever_at-with_other id j t cs d)
 
 some_is : {X : Type 0} {x y : X} → Some x ≡ Some y → x ≡ y
 some_is h = cc
 
-pub extends_with : (id : ℕ) (s t : SourceHistory) (cs : List Connection) → source_at id cs ≡ Some s → Grows s t → Extends cs (with_source id t cs)
+pub extends_with : (id : ℕ) (s t : SourceHistory) (cs : List Connection) → ever_at id cs ≡ Some s → Grows s t → Extends cs (with_source id t cs)
 extends_with id s t cs here grows j u h = by_test (eqb id j) refl
   where
-    by_test : (b : Bool) → eqb id j ≡ b → (v : SourceHistory) × (source_at j (with_source id t cs) ≡ Some v) × Grows u v
+    by_test : (b : Bool) → eqb id j ≡ b → (v : SourceHistory) × (ever_at j (with_source id t cs) ≡ Some v) × Grows u v
     by_test true e =
         let same : id ≡ j = grind (arith, nat_tests, e) in
-        let is : s ≡ u = some_is (sym here ∙ ap (λ x. source_at x cs) same ∙ h) in
-        (t, subst (λ x. source_at x (with_source id t cs) ≡ Some t) same (source_at-with_same id s t cs here), subst (λ x. Grows x t) is grows)
-    by_test false e = (u, source_at-with_other id j t cs e ∙ h, (omega arith, λ i q f. f))
+        let is : s ≡ u = some_is (sym here ∙ ap (λ x. ever_at x cs) same ∙ h) in
+        (t, subst (λ x. ever_at x (with_source id t cs) ≡ Some t) same (ever_at-with_same id s t cs here), subst (λ x. Grows x t) is grows)
+    by_test false e = (u, ever_at-with_other id j t cs e ∙ h, (omega arith, λ i q f. f))
 
 pub admitted_still : (cs ds : List Connection) (id r : ℕ) → Extends cs ds → Admitted cs id r → Admitted ds id r
 admitted_still cs ds id r ext a =
@@ -247,7 +260,7 @@ lane_still config es e cs ds o l ext t = record {
 -- ---- an event that leaves the outputs, and one that changes one of them
 
 abbrev pub with_parts : History → List Connection → List Lane → History
-with_parts h cs ls = record { run = h.run; routes = h.routes; connections = cs; lanes = ls }
+with_parts h cs ls = record { run = h.run; routes = h.routes; security = h.security; connections = cs; lanes = ls }
 
 module _ (config : Config) (es : List Event) (e : Event) (h : History) (t : Story config es h) where
   pub lanes_stay : (ds : List Connection) → Extends h.connections ds → Story config (es ++ e ∷ []) (with_parts h ds h.lanes)

@@ -9,12 +9,13 @@ use Rattle.fwd_modes.specs.Frames.{chunk_name}
 use Rattle.fwd_match.specs.Patterns.{route}
 use Rattle.fwd_model.specs.declared.cell.Cell.{Cell}
 use Rattle.fwd_model.specs.declared.cell.Entered.{Entered}
-use Rattle.fwd_model.specs.declared.cell.Origin.{Origin}
+use Rattle.fwd_source.specs.declared.origin.Origin.{Origin}
 use Rattle.fwd_model.specs.declared.config.Config.{Config}
 use Rattle.fwd_model.specs.declared.event.Event.{Event}
 use Rattle.fwd_model.specs.Chunks.{greatest, cells_at, cells_of, first_tag}
 use Rattle.fwd_model.specs.Books.{entered_as, has_cell}
-use Rattle.fwd_model.specs.History.{SourceHistory, judged, Connection, source_at, Admission, SessionHistory, Lane}
+use Rattle.fwd_source.specs.History.{SourceHistory, judged}
+use Rattle.fwd_model.specs.History.{Connection, ever_at, Admission, SessionHistory, Lane}
 use Rattle.fwd_model.specs.Step.{with_output, entered, frame_of}
 use Rattle.fwd_model.specs.Delivered.{cells_from, WasLoaded, WasSent, WasAcknowledged}
 use Rattle.fwd_model.proofs.Places.{greatest-append, cells_at-append_past, chunk_of-append_past}
@@ -142,16 +143,16 @@ module _ (config : Config) (es : List Event) (e : Event) (cs ds : List Connectio
   }
 
   -- the connection of a request that was entered before had admitted it
-  was_before : (s : SourceHistory) → source_at id cs ≡ Some s → number ≡ s.admitted + 1 → (a : Entered) → RequestStory config.routes cs o l.output.cells a → a.origin.conn ≡ id → a.origin.request ≡ number → ⊥
+  was_before : (s : SourceHistory) → ever_at id cs ≡ Some s → number ≡ s.admitted + 1 → (a : Entered) → RequestStory config.routes cs o l.output.cells a → a.origin.conn ≡ id → a.origin.request ≡ number → ⊥
   was_before s here is a t f g =
-      let same : t.source ≡ s = some_is (sym t.stands ∙ ap (λ x. source_at x cs) f ∙ here) in
+      let same : t.source ≡ s = some_is (sym t.stands ∙ ap (λ x. ever_at x cs) f ∙ here) in
       let le : a.origin.request ≤ s.admitted = subst (λ x. a.origin.request ≤ x.admitted) same t.admitted in
       omega (arith, le, g, is)
     where
       some_is : {x y : SourceHistory} → Some x ≡ Some y → x ≡ y
       some_is h = cc
 
-  all_move : (s : SourceHistory) → source_at id cs ≡ Some s → number ≡ s.admitted + 1 → (admissions : List Admission) → AllTold config.routes cs o l.output.cells admissions → AllTold config.routes ds o l.output.cells admissions → AllTold config.routes ds o all admissions
+  all_move : (s : SourceHistory) → ever_at id cs ≡ Some s → number ≡ s.admitted + 1 → (admissions : List Admission) → AllTold config.routes cs o l.output.cells admissions → AllTold config.routes ds o l.output.cells admissions → AllTold config.routes ds o all admissions
   all_move s here is [] old still = tt
   all_move s here is (a ∷ admissions) old still = (request_moves a.request (was_before s here is a.request old.0) still.0, all_move s here is admissions old.1 still.1)
 
@@ -160,7 +161,7 @@ module _ (config : Config) (es : List Event) (e : Event) (cs ds : List Connectio
   all_push (b ∷ admissions) a told one = (told.0, all_push admissions a told.1 one)
 
   -- the request that is entered
-  enters : (s t : SourceHistory) → source_at id cs ≡ Some s → number ≡ s.admitted + 1 → source_at id ds ≡ Some t → t.admitted ≡ s.admitted + 1 → slice_get (judged t).requests s.admitted ≡ Some q → route config.routes q.tag ≡ Some o
+  enters : (s t : SourceHistory) → ever_at id cs ≡ Some s → number ≡ s.admitted + 1 → ever_at id ds ≡ Some t → t.admitted ≡ s.admitted + 1 → slice_get (judged t).requests s.admitted ≡ Some q → route config.routes q.tag ≡ Some o
       → ((i r : ℕ) → has_origin i r l.output.cells ≡ true → Admitted cs i r) → RequestStory config.routes ds o all (entered_as q origin fresh)
   enters s t here is there more asked first own = record {
     request = q;
@@ -198,7 +199,7 @@ module _ (config : Config) (es : List Event) (e : Event) (cs ds : List Connectio
       unseen : has_origin id number l.output.cells ≡ false
       unseen = seen (has_origin id number l.output.cells) refl
 
-  pub lane_enters : (s t : SourceHistory) → IsSaneLane l → Extends cs ds → LaneStory config es cs o l → source_at id cs ≡ Some s → number ≡ s.admitted + 1 → source_at id ds ≡ Some t → t.admitted ≡ s.admitted + 1
+  pub lane_enters : (s t : SourceHistory) → IsSaneLane l → Extends cs ds → LaneStory config es cs o l → ever_at id cs ≡ Some s → number ≡ s.admitted + 1 → ever_at id ds ≡ Some t → t.admitted ≡ s.admitted + 1
       → slice_get (judged t).requests s.admitted ≡ Some q → route config.routes q.tag ≡ Some o → LaneStory config (es ++ e ∷ []) ds o (with_output l (entered l.output id number q now))
   unfolding entered
   lane_enters s t sane ext story here is there more asked first =
@@ -224,4 +225,4 @@ module _ (config : Config) (es : List Event) (e : Event) (cs ds : List Connectio
       by i r (inl h) = admitted_still cs ds i r ext (story.own i r h)
       by i r (inr h) =
           let n = new_origin q.tag origin fresh moment i r q.entries h in
-          (t, subst (λ x. source_at x ds ≡ Some t) n.0 there, omega (arith, n.1, is, more))
+          (t, subst (λ x. ever_at x ds ≡ Some t) n.0 there, omega (arith, n.1, is, more))

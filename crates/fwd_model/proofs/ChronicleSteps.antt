@@ -13,14 +13,16 @@ use Rattle.fwd_model.specs.declared.answer.Answer.TheVariants as answer
 use Rattle.fwd_model.specs.declared.fault.Refusal.TheVariants.{NoSuch, NotNow, NotUp}
 use Rattle.fwd_model.specs.Chunks.{chunk_of, carry_of}
 use Rattle.fwd_model.specs.Books.{acks_of}
-use Rattle.fwd_model.specs.History.{SourceHistory, judged, is_closed, waiting, Connection, source_at, with_source, SessionHistory, to_send, Lane, History}
+use Rattle.fwd_source.specs.History.{SourceHistory, IsSane as IsSaneSource, judged, is_closed, waiting, unsent, opened, hears, gives, appends, drains, shuts}
+use Rattle.fwd_source.specs.Live.{live_source, judged_piece}
+use Rattle.fwd_source.proofs.Following.{heard}
+use Rattle.fwd_model.specs.History.{Connection, ever_at, source_at, with_source, with_gone, SessionHistory, to_send, Lane, History}
 use Rattle.fwd_model.specs.Step as step
-use Rattle.fwd_model.specs.Step.{answer_to, next, session_at, with_lane, with_output, with_session, with_connection, takes_first, shuts, hears, appends, entered, has_told, due, accepted}
+use Rattle.fwd_model.specs.Step.{answer_to, next, session_at, with_lane, with_output, with_session, with_connection, entered, has_told, due, setup_of, accepted}
 use Rattle.fwd_model.specs.Delivered.{reached, session_of, standing}
 use Rattle.fwd_model.proofs.Places.{slice_get-set_same}
-use Rattle.fwd_model.proofs.Reached.{AdmitsItsOwn, IsSaneLane, IsSane, AllAdmit-at, AllSane-at}
-use Rattle.fwd_model.proofs.FollowsSources.{heard}
-use Rattle.fwd_model.proofs.Chronicle.{frame_at, SessionStory, LaneStory, Story, Grows, extends_push, extends_with, extends_same, lanes_stay, all_stays, lane_put, lane_still, after-push}
+use Rattle.fwd_model.proofs.Reached.{IsSaneLane, IsSane, AllSources-at, AllSane-at}
+use Rattle.fwd_model.proofs.Chronicle.{frame_at, SessionStory, LaneStory, Story, Grows, ever_from, extends_push, extends_with, extends_gone, extends_same, lanes_stay, all_stays, lane_put, lane_still, after-push}
 use Rattle.fwd_model.proofs.ChronicleSessions.{put_session, begins, loads, sends, hears as hears_story}
 use Rattle.fwd_model.proofs.ChronicleSettles.{lane_settles, lane_tells}
 use Rattle.fwd_model.proofs.ChronicleAdmits.{lane_enters}
@@ -46,8 +48,8 @@ module _ (config : Config) (es : List Event) (sane : IsSane (reached config es))
   own_lane : (o : ℕ) (l : Lane) → slice_get h.lanes o ≡ Some l → IsSaneLane l
   own_lane o l e = AllSane-at h.lanes o l sane.lanes e
 
-  own_source : (id : ℕ) (s : SourceHistory) → source_at id h.connections ≡ Some s → AdmitsItsOwn s
-  own_source id s e = AllAdmit-at id h.connections s sane.sources e
+  own_source : (id : ℕ) (s : SourceHistory) → source_at id h.connections ≡ Some s → IsSaneSource s
+  own_source id s e = AllSources-at id h.connections s sane.sources e
 
   abbrev On : Event → History → Type 0
   On e k = Story config (es ++ e ∷ []) k
@@ -56,7 +58,7 @@ module _ (config : Config) (es : List Event) (sane : IsSane (reached config es))
   nothing e = all_stays config es e h t
 
   connection_put : (e : Event) (id : ℕ) (s u : SourceHistory) → source_at id h.connections ≡ Some s → Grows s u → On e (with_connection id u h)
-  connection_put e id s u here grows = lanes_stay config es e h t (with_source id u h.connections) (extends_with id s u h.connections here grows)
+  connection_put e id s u here grows = lanes_stay config es e h t (with_source id u h.connections) (extends_with id s u h.connections (ever_from id h.connections s here) grows)
 
   session_put : (e : Event) (o w : ℕ) (l : Lane) (u : SessionHistory) → slice_get h.lanes o ≡ Some l → SessionStory config (es ++ e ∷ []) o w l.output.cells u → On e (with_lane o (with_session w u l) h)
   session_put e o w l u here story =
@@ -64,14 +66,16 @@ module _ (config : Config) (es : List Event) (sane : IsSane (reached config es))
 
   -- ---- accept and piece
 
-  accept_on : (id : ℕ) (nonce auth : List ℕ) (b : Bool) → On (event.Accept id nonce auth) (cond b (accepted id h) h)
-  accept_on id nonce auth true = lanes_stay config es (event.Accept id nonce auth) h t (accepted id h).connections (extends_push h.connections (record { id = id; source = record { heard = []; admitted = 0; appended = []; shut = false } }))
+  accept_on : (id : ℕ) (nonce auth : List ℕ) (b : Bool) → On (event.Accept id nonce auth) (cond b (accepted (setup_of h.security id nonce auth) h) h)
+  accept_on id nonce auth true =
+      let setup = setup_of h.security id nonce auth in
+      lanes_stay config es (event.Accept id nonce auth) h t (accepted setup h).connections (extends_push h.connections (record { id = id; source = opened setup; gone = false }))
   accept_on id nonce auth false = nothing (event.Accept id nonce auth)
 
-  piece_grows : (s : SourceHistory) (bytes : List ℕ) → AdmitsItsOwn s → is_closed s ≡ false → Grows s (hears s bytes)
+  piece_grows : (s : SourceHistory) (bytes : List ℕ) → IsSaneSource s → is_closed s ≡ false → Grows s (hears s bytes)
   piece_grows s bytes own e =
       let more = heard s bytes own e in
-      (omega arith, λ i q f. ap (λ j. slice_get j.requests i) more.all ∙ slice_get-append (judged s).requests (Rattle.fwd_model.specs.LiveStep.judged_piece (Rattle.fwd_model.specs.Live.live_source s) bytes).requests i q f)
+      (omega arith, λ i q f. ap (λ j. slice_get j.requests i) more.all ∙ slice_get-append (judged s).requests (judged_piece (live_source s) bytes).requests i q f)
 
   piece_by : (id : ℕ) (bytes : List ℕ) (s : SourceHistory) (b : Bool) → source_at id h.connections ≡ Some s → is_closed s ≡ b → On (event.Piece id bytes) (cond b h (with_connection id (hears s bytes) h))
   piece_by id bytes s true here e = nothing (event.Piece id bytes)
@@ -93,24 +97,25 @@ module _ (config : Config) (es : List Event) (sane : IsSane (reached config es))
   same_place : (first o : ℕ) → not (first == o) ≡ false → first ≡ o
   same_place first o e = grind (arith, nat_tests, e)
 
-  source_there : (id : ℕ) (s u : SourceHistory) → source_at id h.connections ≡ Some s → Grows s u → source_at id (with_source id u h.connections) ≡ Some u
+  source_there : (id : ℕ) (s u : SourceHistory) → ever_at id h.connections ≡ Some s → Grows s u → ever_at id (with_source id u h.connections) ≡ Some u
   source_there id s u here grows = found id s u h.connections here
     where
-      found : (id : ℕ) (s u : SourceHistory) (cs : List Connection) → source_at id cs ≡ Some s → source_at id (with_source id u cs) ≡ Some u
+      found : (id : ℕ) (s u : SourceHistory) (cs : List Connection) → ever_at id cs ≡ Some s → ever_at id (with_source id u cs) ≡ Some u
       found id s u [] f = absurd cc
       found id s u (c ∷ cs) f = grind (arith, nat_tests, found id s u cs)
 
   admit_by : (id o now first : ℕ) (s : SourceHistory) (q : Request) (qs : List Request) (l : Lane) (a b : Bool) → source_at id h.connections ≡ Some s → slice_get h.lanes o ≡ Some l → waiting s ≡ q ∷ qs
       → route h.routes q.tag ≡ Some first → not (first == o) ≡ a
-      → On (event.Admit id o now) (cond a h (cond b (with_connection id (shuts s) h) (with_lane o (with_output l (entered l.output id (s.admitted + 1) q now)) (with_connection id (takes_first s) h))))
+      → On (event.Admit id o now) (cond a h (cond b (with_connection id (shuts s) h) (with_lane o (with_output l (entered l.output id (s.admitted + 1) q now)) (with_connection id (gives s) h))))
   admit_by id o now first s q qs l true b here lane wait routed e = nothing (event.Admit id o now)
   admit_by id o now first s q qs l false true here lane wait routed e = connection_put (event.Admit id o now) id s (shuts s) here (grows_more s (shuts s) refl (omega arith))
   admit_by id o now first s q qs l false false here lane wait routed e =
-      let grows = grows_more s (takes_first s) refl (omega arith) in
-      let ext = extends_with id s (takes_first s) h.connections here grows in
-      lane_put config es (event.Admit id o now) h t (with_source id (takes_first s) h.connections) o (with_output l (entered l.output id (s.admitted + 1) q now)) ext
-      (lane_enters config es (event.Admit id o now) h.connections (with_source id (takes_first s) h.connections) o l id (s.admitted + 1) now q s (takes_first s) (own_lane o l lane) ext (t.lanes o l lane) here refl
-      (source_there id s (takes_first s) here grows) refl (waiting_is s q qs wait) (ap (λ rs. route rs q.tag) (sym t.routes) ∙ routed ∙ ap Some (same_place first o e)))
+      let grows = grows_more s (gives s) refl (omega arith) in
+      let stood = ever_from id h.connections s here in
+      let ext = extends_with id s (gives s) h.connections stood grows in
+      lane_put config es (event.Admit id o now) h t (with_source id (gives s) h.connections) o (with_output l (entered l.output id (s.admitted + 1) q now)) ext
+      (lane_enters config es (event.Admit id o now) h.connections (with_source id (gives s) h.connections) o l id (s.admitted + 1) now q s (gives s) (own_lane o l lane) ext (t.lanes o l lane) stood refl
+      (source_there id s (gives s) stood grows) refl (waiting_is s q qs wait) (ap (λ rs. route rs q.tag) (sym t.routes) ∙ routed ∙ ap Some (same_place first o e)))
 
   admit_routed : (id o now : ℕ) (to : Option ℕ) (s : SourceHistory) (q : Request) (qs : List Request) (l : Lane) → source_at id h.connections ≡ Some s → slice_get h.lanes o ≡ Some l → waiting s ≡ q ∷ qs
       → route h.routes q.tag ≡ to → On (event.Admit id o now) (step.admit_routed_next to id s q o l now h)
@@ -133,7 +138,7 @@ module _ (config : Config) (es : List Event) (sane : IsSane (reached config es))
   collect_by id o s l true here lane = nothing (event.Collect id o)
   collect_by id o s l false here lane =
       let more = appends s (acks_of (due id l.output)) in
-      let ext = extends_with id s more h.connections here (grows_more s more refl (omega arith)) in
+      let ext = extends_with id s more h.connections (ever_from id h.connections s here) (grows_more s more refl (omega arith)) in
       lane_put config es (event.Collect id o) h t (with_source id more h.connections) o (with_output l (has_told id l.output)) ext
       (lane_tells config es (event.Collect id o) h.connections (with_source id more h.connections) o id l ext (t.lanes o l lane))
 
@@ -141,6 +146,20 @@ module _ (config : Config) (es : List Event) (sane : IsSane (reached config es))
   collect_on id o None l here lane = nothing (event.Collect id o)
   collect_on id o (Some s) None here lane = nothing (event.Collect id o)
   collect_on id o (Some s) (Some l) here lane = collect_by id o s l s.shut here lane
+
+  -- ---- drained and shut
+
+  drained_by : (id count : ℕ) (s : SourceHistory) (b : Bool) → source_at id h.connections ≡ Some s → On (event.Drained id count) (cond b h (with_connection id (drains s count) h))
+  drained_by id count s true here = nothing (event.Drained id count)
+  drained_by id count s false here = connection_put (event.Drained id count) id s (drains s count) here (grows_more s (drains s count) refl (omega arith))
+
+  drained_on : (id count : ℕ) (s : Option SourceHistory) → source_at id h.connections ≡ s → On (event.Drained id count) (step.drained_next id s count h)
+  drained_on id count None here = nothing (event.Drained id count)
+  drained_on id count (Some s) here = drained_by id count s (nat_lt (length (unsent s)) count) here
+
+  shut_on : (id : ℕ) (s : Option SourceHistory) → On (event.Shut id) (step.shut_next id s h)
+  shut_on id None = nothing (event.Shut id)
+  shut_on id (Some s) = lanes_stay config es (event.Shut id) h t (with_gone id h.connections) (extends_gone id h.connections)
 
   -- ---- flush and take
 
@@ -269,3 +288,5 @@ module _ (config : Config) (es : List Event) (sane : IsSane (reached config es))
   goes_on (event.Heard o w bytes) = heard_on o w bytes (session_at w (slice_get h.lanes o)) (slice_get h.lanes o) refl refl
   goes_on (event.Settle o w) = settle_on o w (session_at w (slice_get h.lanes o)) (slice_get h.lanes o) refl refl
   goes_on (event.Collect id o) = collect_on id o (source_at id h.connections) (slice_get h.lanes o) refl refl
+  goes_on (event.Drained id count) = drained_on id count (source_at id h.connections) refl
+  goes_on (event.Shut id) = shut_on id (source_at id h.connections)

@@ -9,7 +9,7 @@ use Rattle.fwd_modes.specs.Requests.{Request}
 use Rattle.fwd_modes.specs.Frames.{chunk_frame, chunk_name}
 use Rattle.fwd_model.specs.declared.cell.Cell.{Cell}
 use Rattle.fwd_model.specs.declared.cell.Entered.{Entered}
-use Rattle.fwd_model.specs.declared.cell.Origin.{Origin}
+use Rattle.fwd_source.specs.declared.origin.Origin.{Origin}
 use Rattle.fwd_model.specs.declared.cell.Span.{Span}
 use Rattle.fwd_model.specs.declared.config.Config.{Config}
 use Rattle.fwd_model.specs.declared.event.Event.{Event}
@@ -17,12 +17,13 @@ use Rattle.fwd_model.specs.declared.answer.Answer.TheVariants as answer
 use Rattle.fwd_model.specs.declared.fault.Refusal.TheVariants.{Closed}
 use Rattle.fwd_model.specs.Chunks.{cells_at, cells_of, chunk_of, first_tag, has_number}
 use Rattle.fwd_model.specs.Books.{entered_as, is_settled, is_of, numbers_of, acks_of, has_cell}
-use Rattle.fwd_model.specs.History.{SourceHistory, Connection, source_at, Admission, OutputHistory, Lane, opening, new_lane}
+use Rattle.fwd_source.specs.History.{SourceHistory}
+use Rattle.fwd_model.specs.History.{Connection, ever_at, source_at, Admission, OutputHistory, Lane, opening, new_lane}
 use Rattle.fwd_model.specs.Step as step
 use Rattle.fwd_model.specs.Step.{answer_to, is_due, due, IsReached}
 use Rattle.fwd_model.specs.Delivered.{reached, cells_from, whole_frame, WasAcknowledged, IsDelivered, IsTold}
 use Rattle.fwd_model.proofs.Follows.{reached_sane}
-use Rattle.fwd_model.proofs.Chronicle.{frame_at, RequestStory, AllTold, LaneStory, Story, by_last, after-push}
+use Rattle.fwd_model.proofs.Chronicle.{ever_from, frame_at, RequestStory, AllTold, LaneStory, Story, by_last, after-push}
 use Rattle.fwd_model.proofs.ChronicleSteps.{goes_on}
 use Rattle.fwd_model.specs.declared.config.OutputConfig.{OutputConfig}
 
@@ -123,7 +124,8 @@ frame_is : (config : Config) (o : ℕ) (tag : List ℕ) (cells : List Cell) (k :
 unfolding chunk_of
 frame_is config o tag cells k e = ap (λ x. chunk_frame x (map (λ c. c.entry) (cells_at k cells)) (chunk_name config.run o k)) e
 
-module _ (config : Config) (es : List Event) (id r o : ℕ) (l : Lane) (here : slice_get (reached config es).lanes o ≡ Some l) (story : LaneStory config es (reached config es).connections o l) (f : IsFound config.routes (reached config es).connections o id r l.output) where
+module _ (config : Config) (es : List Event) (id r o : ℕ) (l : Lane) (here : slice_get (reached config es).lanes o ≡ Some l) (story : LaneStory config es (reached config es).connections o l) (f : IsFound config.routes (reached config es).connections o id r l.output)
+    (s : SourceHistory) (known : source_at id (reached config es).connections ≡ Some s) where
   abbrev t : RequestStory config.routes (reached config es).connections o l.output.cells f.entered
   t = f.story
 
@@ -140,7 +142,7 @@ module _ (config : Config) (es : List Event) (id r o : ℕ) (l : Lane) (here : s
   pub found_delivered : IsDelivered config es id r o
   found_delivered = record {
     source = t.source;
-    stands = subst (λ x. source_at x (reached config es).connections ≡ Some t.source) f.conn t.stands;
+    stands = known ∙ sym (ever_from id (reached config es).connections s known) ∙ subst (λ x. ever_at x (reached config es).connections ≡ Some t.source) f.conn t.stands;
     place = t.place;
     number = sym f.number ∙ t.nth;
     request = t.request;
@@ -157,19 +159,19 @@ module _ (config : Config) (es : List Event) (id r o : ℕ) (l : Lane) (here : s
         (n.0, subst (λ frame. WasAcknowledged config es o n.0 frame (chunk_name config.run o k)) (frame_is config o t.request.tag l.output.cells k (t.under k g).1) n.1);
   }
 
-told_by : (config : Config) (es : List Event) (id r o : ℕ) (numbers out : List ℕ) (s : Option SourceHistory) (l : Option Lane) → slice_get (reached config es).lanes o ≡ l → Story config es (reached config es)
+told_by : (config : Config) (es : List Event) (id r o : ℕ) (numbers out : List ℕ) (s : Option SourceHistory) (l : Option Lane) → source_at id (reached config es).connections ≡ s → slice_get (reached config es).lanes o ≡ l → Story config es (reached config es)
     → step.collect_answer id s l ≡ answer.Told numbers out → has_number r numbers ≡ true → IsDelivered config es id r o
-told_by config es id r o numbers out None l here story told among = absurd cc
-told_by config es id r o numbers out (Some s) None here story told among = absurd cc
-told_by config es id r o numbers out (Some s) (Some l) here story told among = at s.shut told
+told_by config es id r o numbers out None l known here story told among = absurd cc
+told_by config es id r o numbers out (Some s) None known here story told among = absurd cc
+told_by config es id r o numbers out (Some s) (Some l) known here story told among = at s.shut told
   where
     at : (b : Bool) → cond b (answer.Refused Closed) (answer.Told (numbers_of (due id l.output)) (acks_of (due id l.output))) ≡ answer.Told numbers out → IsDelivered config es id r o
     at true e = absurd cc
     at false e =
         let same : numbers_of (due id l.output) ≡ numbers = cc in
         let lane = story.lanes o l here in
-        found_delivered config es id r o l here lane (found config.routes (reached config es).connections o id r l.output l.output.requests lane.requests (subst (λ ns. has_number r ns ≡ true) (sym same) among))
+        found_delivered config es id r o l here lane (found config.routes (reached config es).connections o id r l.output l.output.requests lane.requests (subst (λ ns. has_number r ns ≡ true) (sym same) among)) s known
 
 pub told_delivered : (config : Config) (es : List Event) (id r o : ℕ) (t : IsTold config es id r o) → IsDelivered config t.before id r o
 told_delivered config es id r o t =
-    told_by config t.before id r o t.numbers t.out (source_at id (reached config t.before).connections) (slice_get (reached config t.before).lanes o) refl (every_story config t.before) t.told t.among
+    told_by config t.before id r o t.numbers t.out (source_at id (reached config t.before).connections) (slice_get (reached config t.before).lanes o) refl refl (every_story config t.before) t.told t.among

@@ -1,5 +1,5 @@
 -- The abstract relay at work: from the five bytes of a Message to the chunk that a worker has.
-use Rattle.std.proofs.Common.{◌≡◌, ℕ, List, [], ◌∷◌, ◌++◌, refl}
+use Rattle.std.proofs.Common.{◌≡◌, ℕ, List, [], ◌∷◌, ◌++◌, None, refl, arith}
 use Rattle.std.specs.Prelude.{replicate, codes}
 use Rattle.fwd_msgpack.specs.Heads.{row_of, named_rows, reading_of, head_bytes}
 use Rattle.fwd_msgpack.specs.Scans.{first_of, fault_at, item_begun, payload_ended, split_of, row_of_values, parts_of}
@@ -15,15 +15,23 @@ use Rattle.fwd_model.specs.declared.fault.Refusal.TheVariants.{NoSuch, NotNow, N
 use Rattle.fwd_model.specs.declared.fault.SessionFault.TheVariants.{BadReply, WrongAck, EarlyAck}
 use Rattle.fwd_model.specs.declared.config.Config.{Config}
 use Rattle.fwd_model.specs.History.{opening}
-use Rattle.fwd_model.specs.Sources.{judged_of}
+use Rattle.fwd_handshake.specs.declared.credentials.Security.{Security}
+use Rattle.fwd_msgpack.specs.declared.fault.ScanFault.TheVariants.{Reserved}
+use Rattle.fwd_source.specs.declared.fault.SourceFault.TheVariants.{Scan}
+use Rattle.fwd_source.specs.Judged.{judged_of}
 use Rattle.fwd_model.specs.Chunks.{chunk_of}
 use Rattle.fwd_model.specs.Replies.{reply_stream}
 use Rattle.fwd_model.specs.Step.{answers, after, entered, flushed, taken, settled, has_told}
+
+-- no shared key is set
+abbrev nobody : Security
+nobody = record { hostname = []; shared_key = None; users = []; hostname_fits = omega arith }
 
 abbrev settings : Config
 settings = record {
   run = replicate 6 0;
   routes = ((42 ∷ 42 ∷ []) ∷ []) ∷ [];
+  security = nobody;
   outputs = record { workers = 2; servers = 2; flush_interval = 1000 } ∷ [];
 }
 
@@ -167,6 +175,7 @@ abbrev two_outputs : Config
 two_outputs = record {
   run = replicate 6 0;
   routes = ((98 ∷ []) ∷ []) ∷ ((42 ∷ []) ∷ []) ∷ [];
+  security = nobody;
   outputs = record { workers = 1; servers = 1; flush_interval = 1000 } ∷ record { workers = 1; servers = 1; flush_interval = 1000 } ∷ [];
 }
 
@@ -194,3 +203,33 @@ routed : answers (opening two_outputs) (
     answer.Refused Closed ∷ []
 unfolding opening route pattern_matches matches entered judged_of request_of parts_of row_of_values split_of first_of fault_at item_begun payload_ended reading_of row_of named_rows
 routed = refl
+
+-- ---- a connection's end
+
+-- a fault behind a good request closes the connection; once it is shut it is known no more, and its id stays used
+ended : answers (opening settings) (
+    event.Accept 1 (replicate 16 0) (replicate 16 0) ∷
+    event.Piece 1 (0x93 ∷ 0xa1 ∷ 0x61 ∷ 0x01 ∷ 0x80 ∷ 0xc1 ∷ []) ∷
+    event.Admit 1 0 0 ∷
+    event.Piece 1 (0xc0 ∷ []) ∷
+    event.Drained 1 1 ∷
+    event.Drained 1 0 ∷
+    event.Shut 1 ∷
+    event.Shut 1 ∷
+    event.Piece 1 [] ∷
+    event.Accept 1 (replicate 16 0) (replicate 16 0) ∷
+    event.Accept 2 (replicate 16 0) (replicate 16 0) ∷ []
+    ) ≡
+    answer.Accepted [] ∷
+    answer.Faulted (Scan Reserved) 1 [] ∷
+    answer.Admitted 1 1 ∷
+    answer.Refused Closed ∷
+    answer.Refused NotNow ∷
+    answer.Done ∷
+    answer.Done ∷
+    answer.Refused NoSuch ∷
+    answer.Refused NoSuch ∷
+    answer.Refused NotNow ∷
+    answer.Accepted [] ∷ []
+unfolding opening route pattern_matches matches entered judged_of request_of parts_of row_of_values split_of first_of fault_at item_begun payload_ended reading_of row_of named_rows
+ended = refl

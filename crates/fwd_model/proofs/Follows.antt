@@ -7,17 +7,17 @@ use Rattle.fwd_model.specs.declared.event.Event.{Event}
 use Rattle.fwd_model.specs.declared.event.Event.TheVariants as event
 use Rattle.fwd_model.specs.declared.event.FlushKind.{FlushKind}
 use Rattle.fwd_model.specs.declared.answer.Answer.{Answer}
-use Rattle.fwd_model.specs.declared.answer.Answer.TheVariants as answer
-use Rattle.fwd_model.specs.declared.fault.Refusal.TheVariants.{NotNow}
-use Rattle.fwd_model.specs.History.{SourceHistory, SessionHistory, Lane, History, source_at, new_lane, opening}
+use Rattle.fwd_source.specs.History.{SourceHistory, IsSane as IsSaneSource}
+use Rattle.fwd_source.specs.Live.{live_source}
+use Rattle.fwd_model.specs.History.{SessionHistory, Lane, History, source_at, new_lane, opening}
 use Rattle.fwd_model.specs.Step as step
-use Rattle.fwd_model.specs.Step.{answer_to, next, answers, after, is_fresh, accepted, session_at, IsReached}
-use Rattle.fwd_model.specs.Live.{live, live_source, live_lane, live_worker, last_id, LiveRelay, LiveLane, LiveWorker}
+use Rattle.fwd_model.specs.Step.{answer_to, next, answers, after, is_fresh, setup_of, accept_answer, accepted, session_at, IsReached}
+use Rattle.fwd_model.specs.Live.{live, live_lane, live_worker, last_id, LiveRelay, LiveLane, LiveWorker}
 use Rattle.fwd_model.specs.LiveStep as livestep
 use Rattle.fwd_model.specs.LiveStep.{live_answer_to, live_next, live_answers, live_after, live_accepted, live_source_at, is_above, worker_at}
 use Rattle.fwd_model.proofs.Places.{source_at-live}
-use Rattle.fwd_model.proofs.Reached.{AdmitsItsOwn, IsSaneSession, IsSaneLane, AllSane, IsSane, AllAdmit-at, AllSane-at}
-use Rattle.fwd_model.proofs.FollowsSources.{accepted-live, accepted-sane, piece_answer-live, piece_next-live, piece_next-sane}
+use Rattle.fwd_model.proofs.Reached.{IsSaneSession, IsSaneLane, AllSane, IsSane, AllSources-at, AllSane-at}
+use Rattle.fwd_model.proofs.FollowsSources.{accepted-live, accepted-sane, piece_answer-live, piece_next-live, piece_next-sane, drained_answer-live, drained_next-live, drained_next-sane, shut_answer-live, shut_next-live, shut_next-sane}
 use Rattle.fwd_model.proofs.FollowsOutputs.{lane_at-live, worker_at-live, flush_answer-live, flush_next-live, flush_next-sane}
 use Rattle.fwd_model.proofs.FollowsSessions.{up_answer-live, up_next-live, up_next-sane, load_answer-live, load_next-live, load_next-sane, wrote_answer-live, wrote_next-live, wrote_next-sane}
 use Rattle.fwd_model.proofs.FollowsReplies.{heard_answer-live, heard_next-live, heard_next-sane}
@@ -30,45 +30,62 @@ abbrev Followed : History → Event → Type 0
 Followed h e = (answer_to h e ≡ live_answer_to (live h) e) × (live (next h e) ≡ live_next (live h) e) × IsSane (next h e)
 
 module _ (h : History) (sane : IsSane h) where
-  own_source : (id : ℕ) (s : SourceHistory) → source_at id h.connections ≡ Some s → AdmitsItsOwn s
-  own_source id s e = AllAdmit-at id h.connections s sane.sources e
+  own_source : (id : ℕ) (s : SourceHistory) → source_at id h.connections ≡ Some s → IsSaneSource s
+  own_source id s e = AllSources-at id h.connections s sane.sources e
 
   own_lane : (o : ℕ) (l : Lane) → slice_get h.lanes o ≡ Some l → IsSaneLane l
   own_lane o l e = AllSane-at h.lanes o l sane.lanes e
 
   live_source_here : (id : ℕ) → live_source_at id (live h).connections ≡ option_map live_source (source_at id h.connections)
   unfolding live
-  live_source_here id = source_at-live id h.connections
+  live_source_here id = source_at-live id h.connections sane.once
 
-  accept_at : (id : ℕ) (b c : Bool) → is_fresh id h.connections ≡ b → b ≡ c
-      → (cond b (answer.Accepted []) (answer.Refused NotNow) ≡ cond c (answer.Accepted []) (answer.Refused NotNow)) × (live (cond b (accepted id h) h) ≡ cond c (live_accepted id (live h)) (live h)) × IsSane (cond b (accepted id h) h)
-  accept_at id true true f e = (refl, accepted-live id h, accepted-sane id h sane f)
-  accept_at id true false f e = absurd cc
-  accept_at id false true f e = absurd cc
-  accept_at id false false f e = (refl, refl, sane)
+  accept_at : (id : ℕ) (nonce auth : List ℕ) (b c : Bool) → is_fresh id h.connections ≡ b → b ≡ c
+      → (accept_answer b (setup_of h.security id nonce auth) ≡ accept_answer c (setup_of h.security id nonce auth))
+      × (live (cond b (accepted (setup_of h.security id nonce auth) h) h) ≡ cond c (live_accepted (setup_of h.security id nonce auth) (live h)) (live h))
+      × IsSane (cond b (accepted (setup_of h.security id nonce auth) h) h)
+  accept_at id nonce auth true true f e = (refl, accepted-live (setup_of h.security id nonce auth) h, accepted-sane (setup_of h.security id nonce auth) h sane f)
+  accept_at id nonce auth true false f e = absurd cc
+  accept_at id nonce auth false true f e = absurd cc
+  accept_at id nonce auth false false f e = (refl, refl, sane)
 
   accept_followed : (id : ℕ) (nonce auth : List ℕ) → Followed h (event.Accept id nonce auth)
   unfolding live
-  accept_followed id nonce auth = accept_at id (is_fresh id h.connections) (is_above id (last_id h.connections)) refl (sane.ids id)
+  accept_followed id nonce auth = accept_at id nonce auth (is_fresh id h.connections) (is_above id (last_id h.connections)) refl (sane.ids id)
 
   piece_followed : (id : ℕ) (bytes : List ℕ) → Followed h (event.Piece id bytes)
   piece_followed id bytes =
-      let own : (s : SourceHistory) → source_at id h.connections ≡ Some s → AdmitsItsOwn s = λ s e. own_source id s e in
       let here = sym (live_source_here id) in (
-        piece_answer-live (source_at id h.connections) bytes own ∙ ap (λ o. livestep.live_piece_answer o bytes) here,
-        piece_next-live id (source_at id h.connections) bytes h own ∙ ap (λ o. livestep.live_piece_next id o bytes (live h)) here,
-        piece_next-sane id (source_at id h.connections) bytes h sane own,
+        piece_answer-live h sane id (source_at id h.connections) bytes refl ∙ ap (λ o. livestep.live_piece_answer o bytes) here,
+        piece_next-live h sane id (source_at id h.connections) bytes refl ∙ ap (λ o. livestep.live_piece_next id o bytes (live h)) here,
+        piece_next-sane h sane id (source_at id h.connections) bytes refl,
+      )
+
+  drained_followed : (id count : ℕ) → Followed h (event.Drained id count)
+  drained_followed id count =
+      let here = sym (live_source_here id) in (
+        drained_answer-live h sane id (source_at id h.connections) count ∙ ap (λ o. livestep.live_drained_answer o count) here,
+        drained_next-live h sane id (source_at id h.connections) count refl ∙ ap (λ o. livestep.live_drained_next id o count (live h)) here,
+        drained_next-sane h sane id (source_at id h.connections) count refl,
+      )
+
+  shut_followed : (id : ℕ) → Followed h (event.Shut id)
+  shut_followed id =
+      let here = sym (live_source_here id) in (
+        shut_answer-live h sane id (source_at id h.connections) ∙ ap livestep.live_shut_answer here,
+        shut_next-live h sane id (source_at id h.connections) refl ∙ ap (λ o. livestep.live_shut_next id o (live h)) here,
+        shut_next-sane h sane id (source_at id h.connections),
       )
 
   admit_followed : (id o now : ℕ) → Followed h (event.Admit id o now)
   unfolding live
   admit_followed id o now =
-      let has : (s : SourceHistory) → source_at id h.connections ≡ Some s → AdmitsItsOwn s = λ s e. own_source id s e in
+      let has : (s : SourceHistory) → source_at id h.connections ≡ Some s → IsSaneSource s = λ s e. own_source id s e in
       let own : (l : Lane) → slice_get h.lanes o ≡ Some l → IsSaneLane l = λ l e. own_lane o l e in
       let here = sym (live_source_here id) in
       let lane = sym (lane_at-live o h) in (
         admit_answer-live h.routes (source_at id h.connections) o (slice_get h.lanes o) ∙ (λ i. livestep.live_admit_answer h.routes (here i) o (lane i)),
-        admit_next-live id (source_at id h.connections) o (slice_get h.lanes o) now h own ∙ (λ i. livestep.live_admit_next id (here i) o (lane i) now (live h)),
+        admit_next-live id (source_at id h.connections) o (slice_get h.lanes o) now h refl own ∙ (λ i. livestep.live_admit_next id (here i) o (lane i) now (live h)),
         admit_next-sane id (source_at id h.connections) o (slice_get h.lanes o) now h sane has own,
       )
 
@@ -83,12 +100,12 @@ module _ (h : History) (sane : IsSane h) where
 
   collect_followed : (id o : ℕ) → Followed h (event.Collect id o)
   collect_followed id o =
-      let has : (s : SourceHistory) → source_at id h.connections ≡ Some s → AdmitsItsOwn s = λ s e. own_source id s e in
+      let has : (s : SourceHistory) → source_at id h.connections ≡ Some s → IsSaneSource s = λ s e. own_source id s e in
       let own : (l : Lane) → slice_get h.lanes o ≡ Some l → IsSaneLane l = λ l e. own_lane o l e in
       let here = sym (live_source_here id) in
       let lane = sym (lane_at-live o h) in (
         collect_answer-live id (source_at id h.connections) (slice_get h.lanes o) own ∙ (λ i. livestep.live_collect_answer id (here i) (lane i)),
-        collect_next-live id (source_at id h.connections) o (slice_get h.lanes o) h own ∙ (λ i. livestep.live_collect_next id (here i) o (lane i) (live h)),
+        collect_next-live id (source_at id h.connections) o (slice_get h.lanes o) h refl has own ∙ (λ i. livestep.live_collect_next id (here i) o (lane i) (live h)),
         collect_next-sane id (source_at id h.connections) o (slice_get h.lanes o) h sane has own,
       )
 
@@ -200,6 +217,8 @@ module _ (h : History) (sane : IsSane h) where
   event_followed (event.Heard o w bytes) = heard_followed o w bytes
   event_followed (event.Settle o w) = settle_followed o w
   event_followed (event.Collect id o) = collect_followed id o
+  event_followed (event.Drained id count) = drained_followed id count
+  event_followed (event.Shut id) = shut_followed id
 
 -- ---- runs
 
@@ -230,7 +249,7 @@ opening_lanes (c ∷ cs) = (new_lane_sane c, opening_lanes cs)
 
 opening_sane : (config : Config) → IsSane (opening config)
 unfolding opening
-opening_sane config = record { ids = λ id. refl; sources = tt; lanes = opening_lanes config.outputs }
+opening_sane config = record { ids = λ id. refl; once = tt; sources = tt; lanes = opening_lanes config.outputs }
 
 pub run_followed : (es : List Event) (h : History) → IsSane h → (answers h es ≡ live_answers (live h) es) × (live (after h es) ≡ live_after (live h) es) × IsSane (after h es)
 run_followed [] h sane = (refl, refl, sane)

@@ -1,26 +1,29 @@
 -- The live part follows the history where an output enters a connection's first waiting request.
-use Rattle.std.proofs.Common.{◌≡◌, ℕ, zero, suc, ◌+◌, ◌<◌, ◌≤◌, Bool, true, false, cond, eqb, List, [], ◌∷◌, ◌++◌, length, drop, Option, Some, None, refl, sym, ap, subst, ◌∙◌, add-one, max, inl, inr, arith}
+use Rattle.std.proofs.Common.{◌≡◌, ℕ, ◌+◌, ◌<◌, ◌≤◌, Bool, true, false, cond, eqb, List, [], ◌∷◌, ◌++◌, length, Option, Some, None, refl, sym, ap, subst, ◌∙◌, max, inl, inr, arith}
 use Rattle.std.specs.Prelude.{◌⊎◌, map, filter, option_map, not, ◌||◌, ◌==◌}
 use Rattle.std.specs.List.{list_all}
 use Rattle.std.proofs.lemmas.Bool.Decides.{nat_tests}
-use Rattle.std.proofs.lemmas.List.{length-append, length-map, length-drop}
+use Rattle.std.proofs.lemmas.List.{length-append, length-map}
 use Rattle.fwd_modes.specs.Requests.{Request}
 use Rattle.fwd_match.specs.Patterns.{route}
 use Rattle.fwd_model.specs.declared.cell.Cell.{Cell}
 use Rattle.fwd_model.specs.declared.cell.Carry.{Carry}
 use Rattle.fwd_model.specs.declared.cell.Span.{Span}
-use Rattle.fwd_model.specs.declared.cell.Origin.{Origin}
+use Rattle.fwd_source.specs.declared.origin.Origin.{Origin}
 use Rattle.fwd_model.specs.Chunks.{greatest, chunk_of, cells_of, carry_of, is_carried, has_number, has_entry, open_after, unsettled}
 use Rattle.fwd_model.specs.Books.{entered_as, spans_of}
-use Rattle.fwd_model.specs.History.{SourceHistory, Admission, Lane, History, waiting, unsent, judged, is_closed}
+use Rattle.fwd_source.specs.History.{SourceHistory, IsSane as IsSaneSource, waiting, gives, shuts}
+use Rattle.fwd_source.specs.Live.{live_source, source_gives, source_shuts}
+use Rattle.fwd_source.proofs.Following.{gives-live, gives-sane, shuts-live, shuts-sane}
+use Rattle.fwd_model.specs.History.{Admission, Lane, History, source_at}
 use Rattle.fwd_model.specs.Step as step
-use Rattle.fwd_model.specs.Step.{with_lane, with_output, entered, with_connection, takes_first, shuts}
-use Rattle.fwd_model.specs.Live.{live_source, live_output, live_lane, live, untold, settled_cells}
+use Rattle.fwd_model.specs.Step.{with_lane, with_output, entered, with_connection}
+use Rattle.fwd_model.specs.Live.{live_output, live_lane, live, untold, settled_cells}
 use Rattle.fwd_model.specs.LiveStep as livestep
-use Rattle.fwd_model.specs.LiveStep.{with_live_lane, with_live_output, output_enters, with_live_connection, source_gives, source_shuts, tail_of}
+use Rattle.fwd_model.specs.LiveStep.{with_live_lane, with_live_output, output_enters, with_live_connection}
 use Rattle.fwd_model.proofs.Places.{live_workers-same, greatest-append, greatest-entered, chunk_of-append_past}
 use Rattle.fwd_model.proofs.Settling.{has_number-push, has_number-filter, filter-same, has_entry-unsettled, has_cell-append, carry_of-carried}
-use Rattle.fwd_model.proofs.Reached.{AdmitsItsOwn, IsSaneLane, IsSane, have_cells}
+use Rattle.fwd_model.proofs.Reached.{IsSaneLane, IsSane, have_cells}
 use Rattle.fwd_model.proofs.FollowsSources.{with_connection-live, with_connection-sane}
 use Rattle.fwd_model.proofs.FollowsOutputs.{with_lane-live, with_lane-sane}
 
@@ -171,45 +174,6 @@ entered-sane l id number r now own =
         by_test true e = absurd (omega (arith, lt, below k e))
         by_test false e = refl
 
--- ---- the connection
-
-tail_of-drop : (n : ℕ) (xs : List Request) → tail_of (drop n xs) ≡ drop (n + 1) xs
-tail_of-drop n xs = at n xs ∙ ap (λ k. drop k xs) (sym (add-one n))
-  where
-    at : (n : ℕ) (xs : List Request) → tail_of (drop n xs) ≡ drop (suc n) xs
-    at zero [] = refl
-    at zero (x ∷ xs) = refl
-    at (suc n) [] = refl
-    at (suc n) (x ∷ xs) = at n xs
-
-takes_first-live : (s : SourceHistory) → live_source (takes_first s) ≡ source_gives (live_source s)
-unfolding live_source
-takes_first-live s = λ i. record {
-  rest = cond s.shut [] (judged s).rest;
-  waiting = at s.shut i;
-  admitted = s.admitted + 1;
-  unsent = unsent s;
-  shut = s.shut;
-  closed = is_closed s;
-}
-  where
-    at : (b : Bool) → cond b [] (drop (s.admitted + 1) (judged s).requests) ≡ tail_of (cond b [] (drop s.admitted (judged s).requests))
-    at true = refl
-    at false = sym (tail_of-drop s.admitted (judged s).requests)
-
-shuts-live : (s : SourceHistory) → live_source (shuts s) ≡ source_shuts (live_source s)
-unfolding live_source
-shuts-live s = refl
-
-takes_first-own : (s : SourceHistory) (r : Request) (rs : List Request) → waiting s ≡ r ∷ rs → AdmitsItsOwn (takes_first s)
-takes_first-own s r rs e = at s.shut e
-  where
-    at : (b : Bool) → cond b [] (drop s.admitted (judged s).requests) ≡ r ∷ rs → s.admitted + 1 ≤ length (judged s).requests
-    at true h = absurd cc
-    at false h =
-        let n : length (drop s.admitted (judged s).requests) ≡ suc (length rs) = ap length h in
-        omega (arith, n, length-drop s.admitted (judged s).requests)
-
 -- ---- admit
 
 routed_answer : (to : Option ℕ) (s : SourceHistory) (r : Request) (o : ℕ) (l : Lane) → step.admit_routed to s r o l ≡ livestep.live_admit_routed to (live_source s) r o (live_lane l)
@@ -227,62 +191,59 @@ admit_answer-live routes None o l = refl
 admit_answer-live routes (Some s) o None = refl
 admit_answer-live routes (Some s) o (Some l) = waiting_answer routes s (waiting s) o l
 
-enters-live : (id : ℕ) (s : SourceHistory) (r : Request) (o : ℕ) (l : Lane) (now : ℕ) (h : History) → IsSaneLane l
-    → live (with_lane o (with_output l (entered l.output id (s.admitted + 1) r now)) (with_connection id (takes_first s) h))
+enters-live : (id : ℕ) (s : SourceHistory) (r : Request) (o : ℕ) (l : Lane) (now : ℕ) (h : History) → source_at id h.connections ≡ Some s → IsSaneLane l
+    → live (with_lane o (with_output l (entered l.output id (s.admitted + 1) r now)) (with_connection id (gives s) h))
     ≡ with_live_lane o (with_live_output (live_lane l) (output_enters (live_lane l).output (record { conn = id; request = s.admitted + 1 }) r now)) (with_live_connection id (source_gives (live_source s)) (live h))
-enters-live id s r o l now h own =
-    with_lane-live o (with_output l (entered l.output id (s.admitted + 1) r now)) (with_connection id (takes_first s) h)
-    ∙ (λ i. with_live_lane o (entered-live l id (s.admitted + 1) r now own i) ((with_connection-live id (takes_first s) h ∙ ap (λ x. with_live_connection id x (live h)) (takes_first-live s)) i))
+enters-live id s r o l now h here own =
+    with_lane-live o (with_output l (entered l.output id (s.admitted + 1) r now)) (with_connection id (gives s) h)
+    ∙ (λ i. with_live_lane o (entered-live l id (s.admitted + 1) r now own i) ((with_connection-live id (gives s) s h here ∙ ap (λ x. with_live_connection id x (live h)) (gives-live s)) i))
 
-shut-live : (id : ℕ) (s : SourceHistory) (h : History) → live (with_connection id (shuts s) h) ≡ with_live_connection id (source_shuts (live_source s)) (live h)
-shut-live id s h = with_connection-live id (shuts s) h ∙ ap (λ x. with_live_connection id x (live h)) (shuts-live s)
+shut-live : (id : ℕ) (s : SourceHistory) (h : History) → source_at id h.connections ≡ Some s → live (with_connection id (shuts s) h) ≡ with_live_connection id (source_shuts (live_source s)) (live h)
+shut-live id s h here = with_connection-live id (shuts s) s h here ∙ ap (λ x. with_live_connection id x (live h)) (shuts-live s)
 
-admit_at : (id : ℕ) (s : SourceHistory) (r : Request) (o : ℕ) (l : Lane) (now : ℕ) (h : History) (a b : Bool) → IsSaneLane l
-    → live (cond a h (cond b (with_connection id (shuts s) h) (with_lane o (with_output l (entered l.output id (s.admitted + 1) r now)) (with_connection id (takes_first s) h))))
+admit_at : (id : ℕ) (s : SourceHistory) (r : Request) (o : ℕ) (l : Lane) (now : ℕ) (h : History) (a b : Bool) → source_at id h.connections ≡ Some s → IsSaneLane l
+    → live (cond a h (cond b (with_connection id (shuts s) h) (with_lane o (with_output l (entered l.output id (s.admitted + 1) r now)) (with_connection id (gives s) h))))
     ≡ cond a (live h) (cond b (with_live_connection id (source_shuts (live_source s)) (live h)) (with_live_lane o (with_live_output (live_lane l) (output_enters (live_lane l).output (record { conn = id; request = s.admitted + 1 }) r now)) (with_live_connection id (source_gives (live_source s)) (live h))))
-admit_at id s r o l now h true b own = refl
-admit_at id s r o l now h false true own = shut-live id s h
-admit_at id s r o l now h false false own = enters-live id s r o l now h own
+admit_at id s r o l now h true b here own = refl
+admit_at id s r o l now h false true here own = shut-live id s h here
+admit_at id s r o l now h false false here own = enters-live id s r o l now h here own
 
-routed_next : (to : Option ℕ) (id : ℕ) (s : SourceHistory) (r : Request) (o : ℕ) (l : Lane) (now : ℕ) (h : History) → IsSaneLane l
+routed_next : (to : Option ℕ) (id : ℕ) (s : SourceHistory) (r : Request) (o : ℕ) (l : Lane) (now : ℕ) (h : History) → source_at id h.connections ≡ Some s → IsSaneLane l
     → live (step.admit_routed_next to id s r o l now h) ≡ livestep.live_admit_routed_next to id (live_source s) r o (live_lane l) now (live h)
 unfolding live_source live_lane live_output
-routed_next None id s r o l now h own = shut-live id s h
-routed_next (Some first) id s r o l now h own = admit_at id s r o l now h (not (first == o)) (step.has_no_number l.output r) own
+routed_next None id s r o l now h here own = shut-live id s h here
+routed_next (Some first) id s r o l now h here own = admit_at id s r o l now h (not (first == o)) (step.has_no_number l.output r) here own
 
-waiting_next : (id : ℕ) (s : SourceHistory) (rs : List Request) (o : ℕ) (l : Lane) (now : ℕ) (h : History) → IsSaneLane l
+waiting_next : (id : ℕ) (s : SourceHistory) (rs : List Request) (o : ℕ) (l : Lane) (now : ℕ) (h : History) → source_at id h.connections ≡ Some s → IsSaneLane l
     → live (step.admit_waiting_next id s rs o l now h) ≡ livestep.live_admit_waiting_next id (live_source s) rs o (live_lane l) now (live h)
 unfolding live
-waiting_next id s [] o l now h own = refl
-waiting_next id s (r ∷ rs) o l now h own = routed_next (route h.routes r.tag) id s r o l now h own
+waiting_next id s [] o l now h here own = refl
+waiting_next id s (r ∷ rs) o l now h here own = routed_next (route h.routes r.tag) id s r o l now h here own
 
-pub admit_next-live : (id : ℕ) (s : Option SourceHistory) (o : ℕ) (l : Option Lane) (now : ℕ) (h : History) → ((k : Lane) → l ≡ Some k → IsSaneLane k)
+pub admit_next-live : (id : ℕ) (s : Option SourceHistory) (o : ℕ) (l : Option Lane) (now : ℕ) (h : History) → source_at id h.connections ≡ s → ((k : Lane) → l ≡ Some k → IsSaneLane k)
     → live (step.admit_next id s o l now h) ≡ livestep.live_admit_next id (option_map live_source s) o (option_map live_lane l) now (live h)
 unfolding live_source
-admit_next-live id None o l now h own = refl
-admit_next-live id (Some s) o None now h own = refl
-admit_next-live id (Some s) o (Some l) now h own = waiting_next id s (waiting s) o l now h (own l refl)
+admit_next-live id None o l now h here own = refl
+admit_next-live id (Some s) o None now h here own = refl
+admit_next-live id (Some s) o (Some l) now h here own = waiting_next id s (waiting s) o l now h here (own l refl)
 
-shuts-own : (s : SourceHistory) → AdmitsItsOwn s → AdmitsItsOwn (shuts s)
-shuts-own s own = own
-
-admit_sane-at : (id : ℕ) (s : SourceHistory) (r : Request) (rs : List Request) (o : ℕ) (l : Lane) (now : ℕ) (h : History) (a b : Bool) → IsSane h → AdmitsItsOwn s → IsSaneLane l → waiting s ≡ r ∷ rs
-    → IsSane (cond a h (cond b (with_connection id (shuts s) h) (with_lane o (with_output l (entered l.output id (s.admitted + 1) r now)) (with_connection id (takes_first s) h))))
+admit_sane-at : (id : ℕ) (s : SourceHistory) (r : Request) (rs : List Request) (o : ℕ) (l : Lane) (now : ℕ) (h : History) (a b : Bool) → IsSane h → IsSaneSource s → IsSaneLane l → waiting s ≡ r ∷ rs
+    → IsSane (cond a h (cond b (with_connection id (shuts s) h) (with_lane o (with_output l (entered l.output id (s.admitted + 1) r now)) (with_connection id (gives s) h))))
 admit_sane-at id s r rs o l now h true b sane has own e = sane
-admit_sane-at id s r rs o l now h false true sane has own e = with_connection-sane id (shuts s) h sane (shuts-own s has)
+admit_sane-at id s r rs o l now h false true sane has own e = with_connection-sane id (shuts s) h sane (shuts-sane s has)
 admit_sane-at id s r rs o l now h false false sane has own e =
-    with_lane-sane o (with_output l (entered l.output id (s.admitted + 1) r now)) (with_connection id (takes_first s) h) (with_connection-sane id (takes_first s) h sane (takes_first-own s r rs e)) (entered-sane l id (s.admitted + 1) r now own)
+    with_lane-sane o (with_output l (entered l.output id (s.admitted + 1) r now)) (with_connection id (gives s) h) (with_connection-sane id (gives s) h sane (gives-sane s r rs has e)) (entered-sane l id (s.admitted + 1) r now own)
 
-routed_sane : (to : Option ℕ) (id : ℕ) (s : SourceHistory) (r : Request) (rs : List Request) (o : ℕ) (l : Lane) (now : ℕ) (h : History) → IsSane h → AdmitsItsOwn s → IsSaneLane l → waiting s ≡ r ∷ rs
+routed_sane : (to : Option ℕ) (id : ℕ) (s : SourceHistory) (r : Request) (rs : List Request) (o : ℕ) (l : Lane) (now : ℕ) (h : History) → IsSane h → IsSaneSource s → IsSaneLane l → waiting s ≡ r ∷ rs
     → IsSane (step.admit_routed_next to id s r o l now h)
-routed_sane None id s r rs o l now h sane has own e = with_connection-sane id (shuts s) h sane (shuts-own s has)
+routed_sane None id s r rs o l now h sane has own e = with_connection-sane id (shuts s) h sane (shuts-sane s has)
 routed_sane (Some first) id s r rs o l now h sane has own e = admit_sane-at id s r rs o l now h (not (first == o)) (step.has_no_number l.output r) sane has own e
 
-waiting_sane : (id : ℕ) (s : SourceHistory) (rs : List Request) (o : ℕ) (l : Lane) (now : ℕ) (h : History) → IsSane h → AdmitsItsOwn s → IsSaneLane l → waiting s ≡ rs → IsSane (step.admit_waiting_next id s rs o l now h)
+waiting_sane : (id : ℕ) (s : SourceHistory) (rs : List Request) (o : ℕ) (l : Lane) (now : ℕ) (h : History) → IsSane h → IsSaneSource s → IsSaneLane l → waiting s ≡ rs → IsSane (step.admit_waiting_next id s rs o l now h)
 waiting_sane id s [] o l now h sane has own e = sane
 waiting_sane id s (r ∷ rs) o l now h sane has own e = routed_sane (route h.routes r.tag) id s r rs o l now h sane has own e
 
-pub admit_next-sane : (id : ℕ) (s : Option SourceHistory) (o : ℕ) (l : Option Lane) (now : ℕ) (h : History) → IsSane h → ((t : SourceHistory) → s ≡ Some t → AdmitsItsOwn t) → ((k : Lane) → l ≡ Some k → IsSaneLane k) → IsSane (step.admit_next id s o l now h)
+pub admit_next-sane : (id : ℕ) (s : Option SourceHistory) (o : ℕ) (l : Option Lane) (now : ℕ) (h : History) → IsSane h → ((t : SourceHistory) → s ≡ Some t → IsSaneSource t) → ((k : Lane) → l ≡ Some k → IsSaneLane k) → IsSane (step.admit_next id s o l now h)
 admit_next-sane id None o l now h sane has own = sane
 admit_next-sane id (Some s) o None now h sane has own = sane
 admit_next-sane id (Some s) o (Some l) now h sane has own = waiting_sane id s (waiting s) o l now h sane (has s refl) (own l refl) refl

@@ -1,5 +1,5 @@
 -- The live part follows the history where a connection's requests are told.
-use Rattle.std.proofs.Common.{◌≡◌, ℕ, Bool, true, false, cond, List, [], ◌∷◌, ◌++◌, length, Option, Some, None, refl, sym, ap, ◌∙◌, arith}
+use Rattle.std.proofs.Common.{◌≡◌, ℕ, Bool, true, false, cond, List, [], ◌∷◌, length, Option, Some, None, refl, ap, ◌∙◌, arith}
 use Rattle.std.specs.Prelude.{map, filter, option_map, not, ◌&&◌}
 use Rattle.std.specs.List.{list_all}
 use Rattle.std.proofs.lemmas.Bool.Decides.{nat_tests}
@@ -9,15 +9,18 @@ use Rattle.fwd_model.specs.declared.answer.Answer.TheVariants as answer
 use Rattle.fwd_model.specs.declared.fault.Refusal.TheVariants.{Closed}
 use Rattle.fwd_model.specs.Chunks.{greatest, has_number, unsettled}
 use Rattle.fwd_model.specs.Books.{has_cell, is_settled, is_of, none_left, numbers_of, acks_of}
-use Rattle.fwd_model.specs.History.{SourceHistory, Admission, Lane, History, judged, is_closed, waiting}
+use Rattle.fwd_source.specs.History.{SourceHistory, IsSane as IsSaneSource, appends}
+use Rattle.fwd_source.specs.Live.{live_source, source_appends}
+use Rattle.fwd_source.proofs.Following.{appends-live, appends-sane}
+use Rattle.fwd_model.specs.History.{Admission, Lane, History, source_at}
 use Rattle.fwd_model.specs.Step as step
-use Rattle.fwd_model.specs.Step.{with_lane, with_output, with_connection, is_due, due, told_if, has_told, appends}
-use Rattle.fwd_model.specs.Live.{live_source, live_output, live_lane, live, untold, settled_cells}
+use Rattle.fwd_model.specs.Step.{with_lane, with_output, with_connection, is_due, due, told_if, has_told}
+use Rattle.fwd_model.specs.Live.{live_output, live_lane, live, untold, settled_cells}
 use Rattle.fwd_model.specs.LiveStep as livestep
-use Rattle.fwd_model.specs.LiveStep.{with_live_lane, with_live_output, with_live_connection, output_tells, live_due, output_told, source_appends}
+use Rattle.fwd_model.specs.LiveStep.{with_live_lane, with_live_output, with_live_connection, live_due, output_told}
 use Rattle.fwd_model.proofs.Places.{live_workers-same}
 use Rattle.fwd_model.proofs.Settling.{has_cell-unsettled}
-use Rattle.fwd_model.proofs.Reached.{AdmitsItsOwn, IsSaneLane, IsSane, have_cells}
+use Rattle.fwd_model.proofs.Reached.{IsSaneLane, IsSane, have_cells}
 use Rattle.fwd_model.proofs.FollowsSources.{with_connection-live, with_connection-sane}
 use Rattle.fwd_model.proofs.FollowsOutputs.{with_lane-live, with_lane-sane}
 
@@ -58,21 +61,6 @@ has_told-live id l own = λ i. record {
   workers = live_workers-same (has_told id l.output) l.output 0 l.sessions (λ k. refl) i;
 }
 
-appends-live : (s : SourceHistory) (bytes : List ℕ) → s.shut ≡ false → live_source (appends s bytes) ≡ source_appends (live_source s) bytes
-unfolding live_source
-appends-live s bytes e = λ i. record {
-  rest = cond s.shut [] (judged s).rest;
-  waiting = waiting s;
-  admitted = s.admitted;
-  unsent = (ap (λ b. cond b [] (s.appended ++ bytes)) e ∙ sym (ap (λ b. cond b [] s.appended ++ bytes) e)) i;
-  shut = s.shut;
-  closed = is_closed s;
-}
-
-shut-live : (s : SourceHistory) → (live_source s).shut ≡ s.shut
-unfolding live_source
-shut-live s = refl
-
 open_answer : (id : ℕ) (s : SourceHistory) (l : Lane) (b : Bool) → IsSaneLane l
     → cond b (answer.Refused Closed) (answer.Told (numbers_of (due id l.output)) (acks_of (due id l.output))) ≡ cond b (answer.Refused Closed) (answer.Told (numbers_of (live_due id (live_output l.output))) (acks_of (live_due id (live_output l.output))))
 open_answer id s l b own = ap (λ qs. cond b (answer.Refused Closed) (answer.Told (numbers_of qs) (acks_of qs))) (due-same id l own)
@@ -83,22 +71,22 @@ collect_answer-live id None l own = refl
 collect_answer-live id (Some s) None own = refl
 collect_answer-live id (Some s) (Some l) own = open_answer id s l s.shut (own l refl)
 
-collect_at : (id : ℕ) (s : SourceHistory) (o : ℕ) (l : Lane) (h : History) (b : Bool) → s.shut ≡ b → IsSaneLane l
+collect_at : (id : ℕ) (s : SourceHistory) (o : ℕ) (l : Lane) (h : History) (b : Bool) → s.shut ≡ b → source_at id h.connections ≡ Some s → IsSaneSource s → IsSaneLane l
     → live (cond b h (with_lane o (with_output l (has_told id l.output)) (with_connection id (appends s (acks_of (due id l.output))) h)))
     ≡ cond b (live h) (with_live_lane o (with_live_output (live_lane l) (output_told (live_lane l).output id)) (with_live_connection id (source_appends (live_source s) (acks_of (live_due id (live_output l.output)))) (live h)))
-collect_at id s o l h true e own = refl
-collect_at id s o l h false e own =
+collect_at id s o l h true e here has own = refl
+collect_at id s o l h false e here has own =
     with_lane-live o (with_output l (has_told id l.output)) (with_connection id (appends s (acks_of (due id l.output))) h)
     ∙ (λ i. with_live_lane o (has_told-live id l own i)
-    ((with_connection-live id (appends s (acks_of (due id l.output))) h ∙ ap (λ x. with_live_connection id x (live h)) (appends-live s (acks_of (due id l.output)) e
+    ((with_connection-live id (appends s (acks_of (due id l.output))) s h here ∙ ap (λ x. with_live_connection id x (live h)) (appends-live s (acks_of (due id l.output)) has e
     ∙ ap (λ qs. source_appends (live_source s) (acks_of qs)) (due-same id l own))) i))
 
-pub collect_next-live : (id : ℕ) (s : Option SourceHistory) (o : ℕ) (l : Option Lane) (h : History) → ((k : Lane) → l ≡ Some k → IsSaneLane k)
+pub collect_next-live : (id : ℕ) (s : Option SourceHistory) (o : ℕ) (l : Option Lane) (h : History) → source_at id h.connections ≡ s → ((t : SourceHistory) → s ≡ Some t → IsSaneSource t) → ((k : Lane) → l ≡ Some k → IsSaneLane k)
     → live (step.collect_next id s o l h) ≡ livestep.live_collect_next id (option_map live_source s) o (option_map live_lane l) (live h)
 unfolding live_source live_lane
-collect_next-live id None o l h own = refl
-collect_next-live id (Some s) o None h own = refl
-collect_next-live id (Some s) o (Some l) h own = collect_at id s o l h s.shut refl (own l refl)
+collect_next-live id None o l h here has own = refl
+collect_next-live id (Some s) o None h here has own = refl
+collect_next-live id (Some s) o (Some l) h here has own = collect_at id s o l h s.shut refl here (has s refl) (own l refl)
 
 -- ---- all stays sane
 
@@ -120,13 +108,13 @@ has_told-sane id l own = record {
   sessions = own.sessions;
 }
 
-collect_sane : (id : ℕ) (s : SourceHistory) (o : ℕ) (l : Lane) (h : History) (b : Bool) → IsSane h → AdmitsItsOwn s → IsSaneLane l
+collect_sane : (id : ℕ) (s : SourceHistory) (o : ℕ) (l : Lane) (h : History) (b : Bool) → IsSane h → IsSaneSource s → IsSaneLane l
     → IsSane (cond b h (with_lane o (with_output l (has_told id l.output)) (with_connection id (appends s (acks_of (due id l.output))) h)))
 collect_sane id s o l h true sane has own = sane
 collect_sane id s o l h false sane has own =
-    with_lane-sane o (with_output l (has_told id l.output)) (with_connection id (appends s (acks_of (due id l.output))) h) (with_connection-sane id (appends s (acks_of (due id l.output))) h sane has) (has_told-sane id l own)
+    with_lane-sane o (with_output l (has_told id l.output)) (with_connection id (appends s (acks_of (due id l.output))) h) (with_connection-sane id (appends s (acks_of (due id l.output))) h sane (appends-sane s (acks_of (due id l.output)) has)) (has_told-sane id l own)
 
-pub collect_next-sane : (id : ℕ) (s : Option SourceHistory) (o : ℕ) (l : Option Lane) (h : History) → IsSane h → ((t : SourceHistory) → s ≡ Some t → AdmitsItsOwn t) → ((k : Lane) → l ≡ Some k → IsSaneLane k) → IsSane (step.collect_next id s o l h)
+pub collect_next-sane : (id : ℕ) (s : Option SourceHistory) (o : ℕ) (l : Option Lane) (h : History) → IsSane h → ((t : SourceHistory) → s ≡ Some t → IsSaneSource t) → ((k : Lane) → l ≡ Some k → IsSaneLane k) → IsSane (step.collect_next id s o l h)
 collect_next-sane id None o l h sane has own = sane
 collect_next-sane id (Some s) o None h sane has own = sane
 collect_next-sane id (Some s) o (Some l) h sane has own = collect_sane id s o l h s.shut sane (has s refl) (own l refl)

@@ -11,7 +11,7 @@ use Rattle.fwd_model.specs.Chunks.{greatest, has_number, unsettled, closes, is_o
 use Rattle.fwd_model.specs.History.{Lane, History}
 use Rattle.fwd_model.specs.Step as step
 use Rattle.fwd_model.specs.Step.{with_lane, with_output, flushed}
-use Rattle.fwd_model.specs.Live.{live_output, live_worker, live_lane, live, live_connection, settled_cells, untold}
+use Rattle.fwd_model.specs.Live.{live_output, live_worker, live_lane, live, live_connection, known, settled_cells, untold}
 use Rattle.fwd_model.specs.LiveStep as livestep
 use Rattle.fwd_model.specs.LiveStep.{with_live_lane, with_live_output, output_closes, output_flushes}
 use Rattle.fwd_model.proofs.Places.{live_workers-same, live_workers-at}
@@ -25,8 +25,9 @@ unfolding live
 with_lane-live o l h = λ i. record {
   run = h.run;
   routes = h.routes;
+  security = h.security;
   last = (live h).last;
-  connections = map live_connection h.connections;
+  connections = map live_connection (known h.connections);
   lanes = map-set live_lane h.lanes o l i;
 }
 
@@ -39,7 +40,7 @@ unfolding live_lane
 worker_at-live w l = live_workers-at l.output 0 w l.sessions ∙ ap (λ k. option_map (λ s. live_worker l.output k s) (slice_get l.sessions w)) (zero-add w)
 
 pub with_lane-sane : (o : ℕ) (l : Lane) (h : History) → IsSane h → IsSaneLane l → IsSane (with_lane o l h)
-with_lane-sane o l h sane own = record { ids = sane.ids; sources = sane.sources; lanes = AllSane-set h.lanes o l sane.lanes own }
+with_lane-sane o l h sane own = record { ids = sane.ids; once = sane.once; sources = sane.sources; lanes = AllSane-set h.lanes o l sane.lanes own }
 
 -- ---- flush
 

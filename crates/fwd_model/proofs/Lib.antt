@@ -2,7 +2,6 @@ mod Examples
 pub mod Places
 pub mod Settling
 pub mod Reached
-pub mod Judging
 pub mod FollowsSources
 pub mod FollowsOutputs
 pub mod FollowsSessions

@@ -16,7 +16,9 @@ use Rattle.fwd_model.specs.declared.fault.Refusal.TheVariants.{Closed}
 use Rattle.fwd_model.specs.Chunks.{carry_of}
 use Rattle.fwd_model.specs.Books.{is_of, is_settled, numbers_of, acks_of}
 use Rattle.fwd_match.specs.Patterns.{route}
-use Rattle.fwd_model.specs.History.{SourceHistory, source_at, is_closed, waiting, SessionHistory, to_send, Admission, OutputHistory, Lane, History, opening, new_lane}
+use Rattle.fwd_source.specs.History as source
+use Rattle.fwd_source.specs.History.{SourceHistory, is_closed, waiting, unsent}
+use Rattle.fwd_model.specs.History.{source_at, SessionHistory, to_send, Admission, OutputHistory, Lane, History, opening, new_lane}
 use Rattle.fwd_model.specs.Step as step
 use Rattle.fwd_model.specs.Step.{answer_to, next, session_at, with_lane, with_output, with_session, is_due, due, told_if, has_told}
 use Rattle.fwd_model.specs.Delivered.{reached, IsTold}
@@ -94,7 +96,7 @@ module _ (config : Config) (es : List Event) (m : Marked config es (reached conf
 
   piece_on : (id : ℕ) (bytes : List ℕ) (s : Option SourceHistory) → On (event.Piece id bytes) (step.piece_next id s bytes h)
   piece_on id bytes None = nothing (event.Piece id bytes) h refl
-  piece_on id bytes (Some s) = unless (event.Piece id bytes) (is_closed s) h (step.with_connection id (step.hears s bytes) h) (nothing (event.Piece id bytes) h refl) (nothing (event.Piece id bytes) (step.with_connection id (step.hears s bytes) h) refl)
+  piece_on id bytes (Some s) = unless (event.Piece id bytes) (is_closed s) h (step.with_connection id (source.hears s bytes) h) (nothing (event.Piece id bytes) h refl) (nothing (event.Piece id bytes) (step.with_connection id (source.hears s bytes) h) refl)
 
   entered_marks : (e : Event) (id o number now : ℕ) (q : Request) (l : Lane) → slice_get h.lanes o ≡ Some l → AllMarked config (es ++ e ∷ []) o (step.entered l.output id number q now).requests
   unfolding step.entered
@@ -105,14 +107,14 @@ module _ (config : Config) (es : List Event) (m : Marked config es (reached conf
       by (inr new) = let f : false ≡ true = ap (λ (x : Admission). x.told) new ∙ told in absurd cc
 
   admit_routed : (id o now : ℕ) (to : Option ℕ) (s : SourceHistory) (q : Request) (l : Lane) → slice_get h.lanes o ≡ Some l → On (event.Admit id o now) (step.admit_routed_next to id s q o l now h)
-  admit_routed id o now None s q l here = nothing (event.Admit id o now) (step.with_connection id (step.shuts s) h) refl
+  admit_routed id o now None s q l here = nothing (event.Admit id o now) (step.with_connection id (source.shuts s) h) refl
   admit_routed id o now (Some first) s q l here =
       unless (event.Admit id o now) (not (first == o)) h
-      (cond (step.has_no_number l.output q) (step.with_connection id (step.shuts s) h) (with_lane o (with_output l (step.entered l.output id (s.admitted + 1) q now)) (step.with_connection id (step.takes_first s) h)))
+      (cond (step.has_no_number l.output q) (step.with_connection id (source.shuts s) h) (with_lane o (with_output l (step.entered l.output id (s.admitted + 1) q now)) (step.with_connection id (source.gives s) h)))
       (nothing (event.Admit id o now) h refl)
-      (unless (event.Admit id o now) (step.has_no_number l.output q) (step.with_connection id (step.shuts s) h) (with_lane o (with_output l (step.entered l.output id (s.admitted + 1) q now)) (step.with_connection id (step.takes_first s) h))
-      (nothing (event.Admit id o now) (step.with_connection id (step.shuts s) h) refl)
-      (put (event.Admit id o now) o (with_output l (step.entered l.output id (s.admitted + 1) q now)) (step.with_connection id (step.takes_first s) h) refl (entered_marks (event.Admit id o now) id o (s.admitted + 1) now q l here)))
+      (unless (event.Admit id o now) (step.has_no_number l.output q) (step.with_connection id (source.shuts s) h) (with_lane o (with_output l (step.entered l.output id (s.admitted + 1) q now)) (step.with_connection id (source.gives s) h))
+      (nothing (event.Admit id o now) (step.with_connection id (source.shuts s) h) refl)
+      (put (event.Admit id o now) o (with_output l (step.entered l.output id (s.admitted + 1) q now)) (step.with_connection id (source.gives s) h) refl (entered_marks (event.Admit id o now) id o (s.admitted + 1) now q l here)))
 
   admit_waiting : (id o now : ℕ) (s : SourceHistory) (qs : List Request) (l : Lane) → slice_get h.lanes o ≡ Some l → On (event.Admit id o now) (step.admit_waiting_next id s qs o l now h)
   admit_waiting id o now s [] l here = nothing (event.Admit id o now) h refl
@@ -221,18 +223,27 @@ module _ (config : Config) (es : List Event) (m : Marked config es (reached conf
           (by_mark x.0 x.1 (either x.0.told (is_due id l.output x.0) marked))
 
   collect_by : (id o : ℕ) (s : SourceHistory) (l : Lane) (b : Bool) → s.shut ≡ b → source_at id h.connections ≡ Some s → slice_get h.lanes o ≡ Some l
-      → On (event.Collect id o) (cond b h (with_lane o (with_output l (has_told id l.output)) (step.with_connection id (step.appends s (acks_of (due id l.output))) h)))
+      → On (event.Collect id o) (cond b h (with_lane o (with_output l (has_told id l.output)) (step.with_connection id (source.appends s (acks_of (due id l.output))) h)))
   collect_by id o s l true e stands here = nothing (event.Collect id o) h refl
   collect_by id o s l false e stands here =
-      put (event.Collect id o) o (with_output l (has_told id l.output)) (step.with_connection id (step.appends s (acks_of (due id l.output))) h) refl (told_marks id o s l stands e here)
+      put (event.Collect id o) o (with_output l (has_told id l.output)) (step.with_connection id (source.appends s (acks_of (due id l.output))) h) refl (told_marks id o s l stands e here)
 
   collect_on : (id o : ℕ) (s : Option SourceHistory) (l : Option Lane) → source_at id h.connections ≡ s → slice_get h.lanes o ≡ l → On (event.Collect id o) (step.collect_next id s o l h)
   collect_on id o None l stands here = nothing (event.Collect id o) h refl
   collect_on id o (Some s) None stands here = nothing (event.Collect id o) h refl
   collect_on id o (Some s) (Some l) stands here = collect_by id o s l s.shut refl stands here
 
+  drained_on : (id count : ℕ) (s : Option SourceHistory) → On (event.Drained id count) (step.drained_next id s count h)
+  drained_on id count None = nothing (event.Drained id count) h refl
+  drained_on id count (Some s) =
+      unless (event.Drained id count) (nat_lt (length (unsent s)) count) h (step.with_connection id (source.drains s count) h) (nothing (event.Drained id count) h refl) (nothing (event.Drained id count) (step.with_connection id (source.drains s count) h) refl)
+
+  shut_on : (id : ℕ) (s : Option SourceHistory) → On (event.Shut id) (step.shut_next id s h)
+  shut_on id None = nothing (event.Shut id) h refl
+  shut_on id (Some s) = nothing (event.Shut id) (step.leaves id h) refl
+
   marks_on : (e : Event) → On e (next h e)
-  marks_on (event.Accept id nonce auth) = unless (event.Accept id nonce auth) (step.is_fresh id h.connections) (step.accepted id h) h (nothing (event.Accept id nonce auth) (step.accepted id h) refl) (nothing (event.Accept id nonce auth) h refl)
+  marks_on (event.Accept id nonce auth) = unless (event.Accept id nonce auth) (step.is_fresh id h.connections) (step.accepted (step.setup_of h.security id nonce auth) h) h (nothing (event.Accept id nonce auth) (step.accepted (step.setup_of h.security id nonce auth) h) refl) (nothing (event.Accept id nonce auth) h refl)
   marks_on (event.Piece id bytes) = piece_on id bytes (source_at id h.connections)
   marks_on (event.Admit id o now) = admit_on id o now (source_at id h.connections) (slice_get h.lanes o) refl
   marks_on (event.Flush o now kind) = flush_on o now kind (slice_get h.lanes o) refl
@@ -243,6 +254,8 @@ module _ (config : Config) (es : List Event) (m : Marked config es (reached conf
   marks_on (event.Heard o w bytes) = heard_on o w bytes (session_at w (slice_get h.lanes o)) (slice_get h.lanes o) refl
   marks_on (event.Settle o w) = settle_on o w (session_at w (slice_get h.lanes o)) (slice_get h.lanes o) refl
   marks_on (event.Collect id o) = collect_on id o (source_at id h.connections) (slice_get h.lanes o) refl refl
+  marks_on (event.Drained id count) = drained_on id count (source_at id h.connections)
+  marks_on (event.Shut id) = shut_on id (source_at id h.connections)
 
 new_lanes_unmarked : (config : Config) (configs : List OutputConfig) (o : ℕ) (l : Lane) → slice_get (map new_lane configs) o ≡ Some l → l.output.requests ≡ []
 new_lanes_unmarked config [] o l h = absurd cc

@@ -1,25 +1,92 @@
 -- Places in the lists of a history and of its live part.
-use Rattle.std.proofs.Common.{◌≡◌, ℕ, zero, suc, ◌+◌, ◌<◌, ◌≤◌, Bool, true, false, cond, eqb, List, [], ◌∷◌, ◌++◌, length, Option, Some, None, refl, sym, ap, ◌∙◌, add-zero, min, max, arith}
+use Rattle.std.proofs.Common.{◌≡◌, ℕ, zero, suc, ◌+◌, ◌<◌, ◌≤◌, Bool, true, false, cond, eqb, List, [], ◌∷◌, ◌++◌, length, Option, Some, None, refl, sym, ap, subst, ◌∙◌, add-zero, min, max, arith}
 use Rattle.std.proofs.Math.ListN.{set}
-use Rattle.std.specs.Prelude.{map, option_map, slice_get, ◌&&◌, nat_lt, ◌==◌, if◌then◌else◌}
+use Rattle.std.specs.Prelude.{map, option_map, slice_get, ◌&&◌, not, nat_lt, ◌==◌, if◌then◌else◌}
+use Rattle.std.specs.List.{list_all}
 use Rattle.std.proofs.lemmas.Bool.Decides.{nat_tests}
 use Rattle.std.proofs.lemmas.List.{append-nil}
 use Rattle.fwd_model.specs.declared.cell.Cell.{Cell}
 use Rattle.fwd_model.specs.declared.cell.Carry.{Carry}
-use Rattle.fwd_model.specs.declared.cell.Origin.{Origin}
+use Rattle.fwd_source.specs.declared.origin.Origin.{Origin}
 use Rattle.fwd_model.specs.Chunks.{greatest, cells_at, chunk_of, first_tag, carry_of, least_free, is_free, lesser}
-use Rattle.fwd_model.specs.History.{SourceHistory, Connection, source_at, with_source, SessionHistory, OutputHistory}
-use Rattle.fwd_model.specs.Live.{live_source, live_connection, last_id, live_worker, live_workers, live_session}
+use Rattle.fwd_source.specs.History.{SourceHistory}
+use Rattle.fwd_source.specs.Live.{live_source}
+use Rattle.fwd_model.specs.History.{Connection, source_at, with_source, with_gone, SessionHistory, OutputHistory}
+use Rattle.fwd_model.specs.Live.{live_connection, known, last_id, live_worker, live_workers, live_session}
 use Rattle.fwd_model.specs.Step.{is_fresh}
-use Rattle.fwd_model.specs.LiveStep.{live_source_at, with_live_source}
+use Rattle.fwd_model.specs.LiveStep.{live_source_at, with_live_source, without}
 
-pub source_at-live : (id : ℕ) (cs : List Connection) → live_source_at id (map live_connection cs) ≡ option_map live_source (source_at id cs)
-source_at-live id [] = refl
-source_at-live id (c ∷ cs) = grind (arith, nat_tests, source_at-live id cs)
+-- ---- an id stands once
 
-pub with_source-live : (id : ℕ) (s : SourceHistory) (cs : List Connection) → map live_connection (with_source id s cs) ≡ with_live_source id (live_source s) (map live_connection cs)
-with_source-live id s [] = refl
-with_source-live id s (c ∷ cs) = grind (arith, nat_tests, with_source-live id s cs)
+abbrev pub is_absent : ℕ → List Connection → Bool
+is_absent id cs = list_all (λ c. not (c.id == id)) cs
+
+abbrev pub Once : List Connection → Type 0
+Once [] = Unit {0}
+Once (c ∷ cs) = (is_absent c.id cs ≡ true) × Once cs
+
+is_absent-with_source : (x id : ℕ) (s : SourceHistory) (cs : List Connection) → is_absent x (with_source id s cs) ≡ is_absent x cs
+is_absent-with_source x id s [] = refl
+is_absent-with_source x id s (c ∷ cs) = grind (arith, nat_tests, is_absent-with_source x id s cs)
+
+is_absent-with_gone : (x id : ℕ) (cs : List Connection) → is_absent x (with_gone id cs) ≡ is_absent x cs
+is_absent-with_gone x id [] = refl
+is_absent-with_gone x id (c ∷ cs) = grind (arith, nat_tests, is_absent-with_gone x id cs)
+
+once_put : (b : Bool) (c d : Connection) (cs ds : List Connection) → c.id ≡ d.id → is_absent c.id cs ≡ true → is_absent c.id ds ≡ true → Once cs → Once ds → Once (cond b (d ∷ cs) (c ∷ ds))
+once_put true c d cs ds same h g all rest = (subst (λ k. is_absent k cs ≡ true) same h, all)
+once_put false c d cs ds same h g all rest = (g, rest)
+
+pub Once-with_source : (id : ℕ) (s : SourceHistory) (cs : List Connection) → Once cs → Once (with_source id s cs)
+Once-with_source id s [] all = tt
+Once-with_source id s (c ∷ cs) all =
+    once_put (eqb c.id id) c (record { id = c.id; source = s; gone = c.gone }) cs (with_source id s cs) refl all.0 (is_absent-with_source c.id id s cs ∙ all.0) all.1 (Once-with_source id s cs all.1)
+
+pub Once-with_gone : (id : ℕ) (cs : List Connection) → Once cs → Once (with_gone id cs)
+Once-with_gone id [] all = tt
+Once-with_gone id (c ∷ cs) all =
+    once_put (eqb c.id id) c (record { id = c.id; source = c.source; gone = true }) cs (with_gone id cs) refl all.0 (is_absent-with_gone c.id id cs ∙ all.0) all.1 (Once-with_gone id cs all.1)
+
+is_absent-push : (x : ℕ) (cs : List Connection) (c : Connection) → is_absent x cs ≡ true → eqb c.id x ≡ false → is_absent x (cs ++ c ∷ []) ≡ true
+is_absent-push x [] c h e = grind (arith, nat_tests)
+is_absent-push x (d ∷ cs) c h e = grind (arith, nat_tests, is_absent-push x cs c)
+
+-- an id above all stands behind them once
+pub Once-push : (cs : List Connection) (c : Connection) → Once cs → is_fresh c.id cs ≡ true → Once (cs ++ c ∷ [])
+Once-push [] c all fresh = (refl, tt)
+Once-push (d ∷ cs) c all fresh =
+    let apart : eqb c.id d.id ≡ false = grind (arith, nat_tests) in
+    let more : is_fresh c.id cs ≡ true = grind (arith, nat_tests) in
+    (is_absent-push d.id cs c all.0 apart, Once-push cs c all.1 more)
+
+-- ---- what is known of the connections
+
+known_absent : (id : ℕ) (cs : List Connection) → is_absent id cs ≡ true → live_source_at id (map live_connection (known cs)) ≡ None
+known_absent id [] h = refl
+known_absent id (c ∷ cs) h = grind (arith, nat_tests, known_absent id cs)
+
+without_absent : (id : ℕ) (cs : List Connection) → is_absent id cs ≡ true → without id (map live_connection (known cs)) ≡ map live_connection (known cs)
+without_absent id [] h = refl
+without_absent id (c ∷ cs) h = grind (arith, nat_tests, without_absent id cs)
+
+absent_as : (a b : ℕ) (cs : List Connection) → is_absent a cs ≡ true → eqb a b ≡ true → is_absent b cs ≡ true
+absent_as a b cs h e = let same : a ≡ b = grind (arith, nat_tests) in subst (λ k. is_absent k cs ≡ true) same h
+
+pub source_at-live : (id : ℕ) (cs : List Connection) → Once cs → live_source_at id (map live_connection (known cs)) ≡ option_map live_source (source_at id cs)
+source_at-live id [] all = refl
+source_at-live id (c ∷ cs) all = grind (arith, nat_tests, source_at-live id cs all.1, known_absent id cs, absent_as c.id id cs all.0)
+
+pub with_source-live : (id : ℕ) (s t : SourceHistory) (cs : List Connection) → source_at id cs ≡ Some t → map live_connection (known (with_source id s cs)) ≡ with_live_source id (live_source s) (map live_connection (known cs))
+with_source-live id s t [] h = absurd cc
+with_source-live id s t (c ∷ cs) h = grind (arith, nat_tests, with_source-live id s t cs)
+
+pub with_gone-live : (id : ℕ) (t : SourceHistory) (cs : List Connection) → Once cs → source_at id cs ≡ Some t → map live_connection (known (with_gone id cs)) ≡ without id (map live_connection (known cs))
+with_gone-live id t [] all h = absurd cc
+with_gone-live id t (c ∷ cs) all h = grind (arith, nat_tests, with_gone-live id t cs all.1, without_absent id cs, absent_as c.id id cs all.0)
+
+pub known-push : (cs : List Connection) (c : Connection) → c.gone ≡ false → map live_connection (known (cs ++ c ∷ [])) ≡ map live_connection (known cs) ++ live_connection c ∷ []
+known-push [] c here = grind (arith, nat_tests)
+known-push (d ∷ cs) c here = grind (arith, nat_tests, known-push cs c here)
 
 pub last_id-with_source : (id : ℕ) (s : SourceHistory) (cs : List Connection) → last_id (with_source id s cs) ≡ last_id cs
 last_id-with_source id s [] = refl
@@ -29,6 +96,15 @@ last_id-with_source id s (c ∷ d ∷ cs) = grind (arith, nat_tests, last_id-wit
 pub is_fresh-with_source : (x id : ℕ) (s : SourceHistory) (cs : List Connection) → is_fresh x (with_source id s cs) ≡ is_fresh x cs
 is_fresh-with_source x id s [] = refl
 is_fresh-with_source x id s (c ∷ cs) = grind (arith, nat_tests, is_fresh-with_source x id s cs)
+
+pub last_id-with_gone : (id : ℕ) (cs : List Connection) → last_id (with_gone id cs) ≡ last_id cs
+last_id-with_gone id [] = refl
+last_id-with_gone id (c ∷ []) = grind (arith, nat_tests)
+last_id-with_gone id (c ∷ d ∷ cs) = grind (arith, nat_tests, last_id-with_gone id (d ∷ cs))
+
+pub is_fresh-with_gone : (x id : ℕ) (cs : List Connection) → is_fresh x (with_gone id cs) ≡ is_fresh x cs
+is_fresh-with_gone x id [] = refl
+is_fresh-with_gone x id (c ∷ cs) = grind (arith, nat_tests, is_fresh-with_gone x id cs)
 
 pub last_id-push : (cs : List Connection) (c : Connection) → last_id (cs ++ c ∷ []) ≡ Some c.id
 last_id-push [] c = refl

@@ -1,5 +1,5 @@
 -- What holds of each history that a run reaches.
-use Rattle.std.proofs.Common.{◌≡◌, ◌≢◌, ℕ, zero, suc, ◌≤◌, Bool, true, false, cond, eqb, List, [], ◌∷◌, ◌++◌, length, Option, Some, refl, sym, ap, ◌∙◌, subst, inl, inr, arith}
+use Rattle.std.proofs.Common.{◌≡◌, ◌≢◌, ℕ, zero, suc, ◌≤◌, Bool, true, false, cond, eqb, List, [], ◌∷◌, ◌++◌, length, Option, Some, None, refl, sym, ap, ◌∙◌, subst, inl, inr, arith}
 use Rattle.std.proofs.Math.ListN.{set}
 use Rattle.std.specs.Prelude.{◌⊎◌, slice_get}
 use Rattle.std.specs.List.{list_all}
@@ -7,7 +7,9 @@ use Rattle.fwd_msgpack.specs.Scans.{Split}
 use Rattle.fwd_msgpack.specs.Scans.Split.{Open, Broken}
 use Rattle.fwd_model.specs.declared.cell.Span.{Span}
 use Rattle.fwd_model.specs.declared.cell.Carry.{Carry}
-use Rattle.fwd_model.specs.History.{SourceHistory, SessionHistory, Connection, source_at, with_source, Lane, History, judged}
+use Rattle.fwd_source.specs.History.{SourceHistory, IsSane as IsSaneSource}
+use Rattle.fwd_model.specs.History.{SessionHistory, Connection, source_at, with_source, with_gone, Lane, History}
+use Rattle.fwd_model.proofs.Places.{Once}
 use Rattle.fwd_model.specs.declared.cell.Cell.{Cell}
 use Rattle.fwd_model.specs.Chunks.{greatest, carry_of, is_carried, has_number, put_down}
 use Rattle.fwd_model.specs.Books.{has_cell}
@@ -16,13 +18,9 @@ use Rattle.fwd_model.specs.Live.{last_id}
 use Rattle.fwd_model.specs.Step.{is_fresh}
 use Rattle.fwd_model.specs.LiveStep.{is_above}
 
--- a connection's admitted requests are requests of its
-abbrev pub AdmitsItsOwn : SourceHistory → Type 0
-AdmitsItsOwn s = s.admitted ≤ length (judged s).requests
-
-abbrev pub AllAdmit : List Connection → Type 0
-AllAdmit [] = Unit {0}
-AllAdmit (c ∷ cs) = AdmitsItsOwn c.source × AllAdmit cs
+abbrev pub AllSources : List Connection → Type 0
+AllSources [] = Unit {0}
+AllSources (c ∷ cs) = IsSaneSource c.source × AllSources cs
 
 abbrev pub is_open : Split → Bool
 is_open (Open values rest) = true
@@ -55,30 +53,37 @@ AllSane (l ∷ ls) = IsSaneLane l × AllSane ls
 
 pub record IsSane (h : History) : Type 0 where
   pub ids : (id : ℕ) → is_fresh id h.connections ≡ is_above id (last_id h.connections)
-  pub sources : AllAdmit h.connections
+  pub once : Once h.connections
+  pub sources : AllSources h.connections
   pub lanes : AllSane h.lanes
 
-found_or : (b : Bool) (t s : SourceHistory) (o : Option SourceHistory) → cond b (Some t) o ≡ Some s → (t ≡ s) ⊎ (o ≡ Some s)
-found_or true t s o h = inl cc
-found_or false t s o h = inr h
+found_or : (b g : Bool) (t s : SourceHistory) (o : Option SourceHistory) → cond b (cond g None (Some t)) o ≡ Some s → (t ≡ s) ⊎ (o ≡ Some s)
+found_or true true t s o h = absurd cc
+found_or true false t s o h = inl cc
+found_or false g t s o h = inr h
 
-pub AllAdmit-at : (id : ℕ) (cs : List Connection) (s : SourceHistory) → AllAdmit cs → source_at id cs ≡ Some s → AdmitsItsOwn s
-AllAdmit-at id [] s all h = absurd cc
-AllAdmit-at id (c ∷ cs) s all h =
-    elim (found_or (eqb c.id id) c.source s (source_at id cs) h) [ inl e ↦ subst AdmitsItsOwn e all.0 | inr e ↦ AllAdmit-at id cs s all.1 e ]
+pub AllSources-at : (id : ℕ) (cs : List Connection) (s : SourceHistory) → AllSources cs → source_at id cs ≡ Some s → IsSaneSource s
+AllSources-at id [] s all h = absurd cc
+AllSources-at id (c ∷ cs) s all h =
+    elim (found_or (eqb c.id id) c.gone c.source s (source_at id cs) h) [ inl e ↦ subst IsSaneSource e all.0 | inr e ↦ AllSources-at id cs s all.1 e ]
 
-put_or : (b : Bool) (id : ℕ) (c : Connection) (s : SourceHistory) (cs ds : List Connection) → AdmitsItsOwn s → AllAdmit (c ∷ cs) → AllAdmit ds → AllAdmit (cond b (record { id = c.id; source = s } ∷ cs) (c ∷ ds))
-put_or true id c s cs ds own all rest = (own, all.1)
-put_or false id c s cs ds own all rest = (all.0, rest)
+put_or : (b : Bool) (d c : Connection) (cs ds : List Connection) → IsSaneSource d.source → AllSources (c ∷ cs) → AllSources ds → AllSources (cond b (d ∷ cs) (c ∷ ds))
+put_or true d c cs ds own all rest = (own, all.1)
+put_or false d c cs ds own all rest = (all.0, rest)
 
-pub AllAdmit-with_source : (id : ℕ) (s : SourceHistory) (cs : List Connection) → AdmitsItsOwn s → AllAdmit cs → AllAdmit (with_source id s cs)
-AllAdmit-with_source id s [] own all = tt
-AllAdmit-with_source id s (c ∷ cs) own all =
-    put_or (eqb c.id id) id c s cs (with_source id s cs) own all (AllAdmit-with_source id s cs own all.1)
+pub AllSources-with_source : (id : ℕ) (s : SourceHistory) (cs : List Connection) → IsSaneSource s → AllSources cs → AllSources (with_source id s cs)
+AllSources-with_source id s [] own all = tt
+AllSources-with_source id s (c ∷ cs) own all =
+    put_or (eqb c.id id) (record { id = c.id; source = s; gone = c.gone }) c cs (with_source id s cs) own all (AllSources-with_source id s cs own all.1)
 
-pub AllAdmit-push : (cs : List Connection) (c : Connection) → AllAdmit cs → AdmitsItsOwn c.source → AllAdmit (cs ++ c ∷ [])
-AllAdmit-push [] c all own = (own, tt)
-AllAdmit-push (d ∷ cs) c all own = (all.0, AllAdmit-push cs c all.1 own)
+pub AllSources-with_gone : (id : ℕ) (cs : List Connection) → AllSources cs → AllSources (with_gone id cs)
+AllSources-with_gone id [] all = tt
+AllSources-with_gone id (c ∷ cs) all =
+    put_or (eqb c.id id) (record { id = c.id; source = c.source; gone = true }) c cs (with_gone id cs) all.0 all (AllSources-with_gone id cs all.1)
+
+pub AllSources-push : (cs : List Connection) (c : Connection) → AllSources cs → IsSaneSource c.source → AllSources (cs ++ c ∷ [])
+AllSources-push [] c all own = (own, tt)
+AllSources-push (d ∷ cs) c all own = (all.0, AllSources-push cs c all.1 own)
 
 pub AllSane-at : (ls : List Lane) (o : ℕ) (l : Lane) → AllSane ls → slice_get ls o ≡ Some l → IsSaneLane l
 AllSane-at [] o l all h = absurd cc

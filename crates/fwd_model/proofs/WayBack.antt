@@ -18,7 +18,8 @@ use Rattle.fwd_model.specs.Replies.{Replies, Reply, reply_of, reply_named, reply
 use Rattle.fwd_model.specs.Replies.Reply.{Skipped, Accepted, Failed}
 use Rattle.fwd_modes.specs.Acks.{ack_name}
 use Rattle.fwd_modes.specs.Kinds.{is_nil}
-use Rattle.fwd_model.specs.History.{SourceHistory, SessionHistory, Admission, OutputHistory, Lane, History, source_at, is_handed_on}
+use Rattle.fwd_source.specs.History.{SourceHistory}
+use Rattle.fwd_model.specs.History.{SessionHistory, Admission, OutputHistory, Lane, History, source_at, is_handed_on}
 use Rattle.fwd_model.specs.Step as step
 use Rattle.fwd_model.specs.Step.{answer_to, next, is_due, due, with_lane, with_session, session_at, awaited, replies_to, newly_heard, has_heard}
 use Rattle.fwd_model.proofs.Places.{slice_get-set_same}

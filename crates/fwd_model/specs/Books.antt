@@ -5,7 +5,7 @@ use Rattle.fwd_modes.specs.Requests.{Request}
 use Rattle.fwd_modes.specs.Acks.{ack_text}
 use Rattle.fwd_model.specs.declared.cell.Cell.{Cell}
 use Rattle.fwd_model.specs.declared.cell.Entered.{Entered}
-use Rattle.fwd_model.specs.declared.cell.Origin.{Origin}
+use Rattle.fwd_source.specs.declared.origin.Origin.{Origin}
 use Rattle.fwd_model.specs.declared.cell.Span.{Span}
 use Rattle.fwd_model.specs.Chunks.{has_number}
 

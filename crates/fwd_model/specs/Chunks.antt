@@ -4,7 +4,7 @@ use Rattle.std.specs.List.{list_any}
 use Rattle.std.specs.Str.{bytes_eq}
 use Rattle.fwd_modes.specs.Requests.{Request}
 use Rattle.fwd_model.specs.declared.cell.Cell.{Cell}
-use Rattle.fwd_model.specs.declared.cell.Origin.{Origin}
+use Rattle.fwd_source.specs.declared.origin.Origin.{Origin}
 use Rattle.fwd_model.specs.declared.cell.Carry.{Carry}
 use Rattle.fwd_model.specs.declared.cell.Chunk.{Chunk}
 use Rattle.fwd_model.specs.declared.event.FlushKind.{FlushKind}

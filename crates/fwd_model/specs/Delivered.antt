@@ -14,7 +14,8 @@ use Rattle.fwd_model.specs.declared.answer.Answer.TheVariants as answer
 use Rattle.fwd_model.specs.Chunks.{cells_at, has_number}
 use Rattle.fwd_match.specs.Patterns.{route}
 use Rattle.fwd_model.specs.Books.{has_cell}
-use Rattle.fwd_model.specs.History.{SourceHistory, judged, source_at, SessionHistory, Lane, History, opening}
+use Rattle.fwd_source.specs.History.{SourceHistory, judged}
+use Rattle.fwd_model.specs.History.{source_at, SessionHistory, Lane, History, opening}
 use Rattle.fwd_model.specs.Step.{answer_to, after, session_at, newly_heard}
 
 -- where events lead from the opening state of the settings

@@ -1,46 +1,37 @@
 -- The history of a relay: all that ever came, with nothing removed.
-use Rattle.std.specs.Prelude.{ℕ, Bool, ◌||◌, List, [], ◌∷◌, length, map, drop, replicate, Option, Some, None, is_some, nat_le, ◌==◌, if◌then◌else◌}
-use Rattle.fwd_modes.specs.Requests.{Request}
+use Rattle.std.specs.Prelude.{ℕ, Bool, true, List, [], ◌∷◌, length, map, drop, replicate, Option, Some, None, nat_le, ◌==◌, if◌then◌else◌}
+use Rattle.fwd_handshake.specs.declared.credentials.Security.{Security}
+use Rattle.fwd_source.specs.History.{SourceHistory}
 use Rattle.fwd_model.specs.declared.cell.Cell.{Cell}
 use Rattle.fwd_model.specs.declared.cell.Carry.{Carry}
 use Rattle.fwd_model.specs.declared.cell.Entered.{Entered}
 use Rattle.fwd_model.specs.declared.config.Config.{Config}
 use Rattle.fwd_model.specs.declared.config.OutputConfig.{OutputConfig}
-use Rattle.fwd_model.specs.Sources.{Judged, judged_of}
 
--- a connection: all bytes heard, how many of its requests were admitted, all bytes appended for sending, and whether it was closed with what waited dropped
-pub record SourceHistory : Type 0 where
-  pub heard : List ℕ
-  pub admitted : ℕ
-  pub appended : List ℕ
-  pub shut : Bool
-
-abbrev pub judged : SourceHistory → Judged
-judged s = judged_of 0 s.heard
-
--- no further piece is taken
-abbrev pub is_closed : SourceHistory → Bool
-is_closed s = s.shut || is_some (judged s).fault
-
--- the requests that wait to be admitted
-abbrev pub waiting : SourceHistory → List Request
-waiting s = if s.shut then [] else drop s.admitted (judged s).requests
-
+-- a connection: its id, its history, and whether it was shut, and is known no more
 pub record Connection : Type 0 where
   pub id : ℕ
   pub source : SourceHistory
+  pub gone : Bool
 
+-- the connection that was accepted under an id, known or not
+abbrev pub ever_at : ℕ → List Connection → Option SourceHistory
+ever_at id [] = None
+ever_at id (c ∷ cs) = if c.id == id then Some c.source else ever_at id cs
+
+-- the connection that is known under an id
 abbrev pub source_at : ℕ → List Connection → Option SourceHistory
 source_at id [] = None
-source_at id (c ∷ cs) = if c.id == id then Some c.source else source_at id cs
+source_at id (c ∷ cs) = if c.id == id then (if c.gone then None else Some c.source) else source_at id cs
 
 abbrev pub with_source : ℕ → SourceHistory → List Connection → List Connection
 with_source id s [] = []
-with_source id s (c ∷ cs) = if c.id == id then record { id = c.id; source = s } ∷ cs else c ∷ with_source id s cs
+with_source id s (c ∷ cs) = if c.id == id then record { id = c.id; source = s; gone = c.gone } ∷ cs else c ∷ with_source id s cs
 
--- the bytes that wait to be sent to a source
-abbrev pub unsent : SourceHistory → List ℕ
-unsent s = if s.shut then [] else s.appended
+-- the connection of an id is known no more
+abbrev pub with_gone : ℕ → List Connection → List Connection
+with_gone id [] = []
+with_gone id (c ∷ cs) = if c.id == id then record { id = c.id; source = c.source; gone = true } ∷ cs else c ∷ with_gone id cs
 
 -- a request that was entered at an output, and whether its connection was told that all its entries were acknowledged
 pub record Admission : Type 0 where
@@ -81,10 +72,11 @@ pub record Lane : Type 0 where
   pub output : OutputHistory
   pub sessions : List (Option SessionHistory)
 
--- the relay: what tells its run from others, the pattern of each output as its expanded words, the connections, and the outputs
+-- the relay: what tells its run from others, the pattern of each output as its expanded words, what a source has to prove, the connections ever accepted, and the outputs
 pub record History : Type 0 where
   pub run : List ℕ
   pub routes : List (List (List ℕ))
+  pub security : Security
   pub connections : List Connection
   pub lanes : List Lane
 
@@ -97,4 +89,4 @@ new_lane c = record {
 
 -- before any event
 unfoldable pub opening : Config → History
-opening config = record { run = config.run; routes = config.routes; connections = []; lanes = map new_lane config.outputs }
+opening config = record { run = config.run; routes = config.routes; security = config.security; connections = []; lanes = map new_lane config.outputs }

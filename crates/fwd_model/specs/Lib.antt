@@ -1,6 +1,5 @@
 pub mod Chunks
 pub mod Books
-pub mod Sources
 pub mod Replies
 pub mod History
 pub mod Step

@@ -1,6 +1,7 @@
 -- What of a history still matters: the bytes of unfinished values, the requests that wait, the counts, and what is not yet settled.
 use Rattle.std.specs.Prelude.{ℕ, suc, Bool, not, List, [], ◌∷◌, length, map, filter, Option, Some, None, option_map, if◌then◌else◌}
-use Rattle.fwd_modes.specs.Requests.{Request}
+use Rattle.fwd_handshake.specs.declared.credentials.Security.{Security}
+use Rattle.fwd_source.specs.Live.{LiveSource, live_source}
 use Rattle.fwd_model.specs.declared.cell.Cell.{Cell}
 use Rattle.fwd_model.specs.declared.cell.Carry.{Carry}
 use Rattle.fwd_model.specs.declared.cell.Chunk.{Chunk}
@@ -8,26 +9,7 @@ use Rattle.fwd_model.specs.declared.cell.Entered.{Entered}
 use Rattle.fwd_model.specs.declared.config.OutputConfig.{OutputConfig}
 use Rattle.fwd_model.specs.Chunks.{greatest, chunk_of, carry_of, unsettled, has_number}
 use Rattle.fwd_model.specs.Replies.{reply_stream, rest_of}
-use Rattle.fwd_model.specs.History.{SourceHistory, judged, is_closed, waiting, unsent, Connection, Admission, OutputHistory, SessionHistory, to_send, Lane, History}
-
--- a connection: the bytes after its last whole value, the requests that wait, how many were admitted, the bytes that wait to be sent, whether what waited was dropped, whether it takes no further piece
-pub record LiveSource : Type 0 where
-  pub rest : List ℕ
-  pub waiting : List Request
-  pub admitted : ℕ
-  pub unsent : List ℕ
-  pub shut : Bool
-  pub closed : Bool
-
-unfoldable pub live_source : SourceHistory → LiveSource
-live_source s = record {
-  rest = if s.shut then [] else (judged s).rest;
-  waiting = waiting s;
-  admitted = s.admitted;
-  unsent = unsent s;
-  shut = s.shut;
-  closed = is_closed s;
-}
+use Rattle.fwd_model.specs.History.{Connection, Admission, OutputHistory, SessionHistory, to_send, Lane, History}
 
 pub record LiveConnection : Type 0 where
   pub id : ℕ
@@ -35,6 +17,10 @@ pub record LiveConnection : Type 0 where
 
 abbrev pub live_connection : Connection → LiveConnection
 live_connection c = record { id = c.id; source = live_source c.source }
+
+-- the connections that were not shut
+abbrev pub known : List Connection → List Connection
+known cs = filter (λ c. not c.gone) cs
 
 -- the requests that were not told
 abbrev pub untold : List Admission → List Entered
@@ -112,10 +98,11 @@ pub record LiveLane : Type 0 where
 unfoldable pub live_lane : Lane → LiveLane
 live_lane l = record { config = l.config; output = live_output l.output; workers = live_workers l.output 0 l.sessions }
 
--- the greatest id accepted is kept, since connections may go
+-- the last id accepted is kept, since connections go
 pub record LiveRelay : Type 0 where
   pub run : List ℕ
   pub routes : List (List (List ℕ))
+  pub security : Security
   pub last : Option ℕ
   pub connections : List LiveConnection
   pub lanes : List LiveLane
@@ -129,7 +116,8 @@ unfoldable pub live : History → LiveRelay
 live h = record {
   run = h.run;
   routes = h.routes;
+  security = h.security;
   last = last_id h.connections;
-  connections = map live_connection h.connections;
+  connections = map live_connection (known h.connections);
   lanes = map live_lane h.lanes;
 }

@@ -3,7 +3,9 @@ use Rattle.std.specs.Prelude.{ℕ, ◌+◌, Bool, true, false, not, ◌&&◌, �
 use Rattle.fwd_modes.specs.Requests.{Request}
 use Rattle.fwd_model.specs.declared.cell.Cell.{Cell}
 use Rattle.fwd_model.specs.declared.cell.Chunk.{Chunk}
-use Rattle.fwd_model.specs.declared.cell.Origin.{Origin}
+use Rattle.fwd_source.specs.declared.origin.Origin.{Origin}
+use Rattle.fwd_source.specs.History.{Setup}
+use Rattle.fwd_source.specs.Live.{LiveSource, opened_source, judged_piece, source_hears, source_gives, source_appends, source_drains, source_shuts}
 use Rattle.fwd_model.specs.declared.event.Event.{Event}
 use Rattle.fwd_model.specs.declared.event.Event.TheVariants as event
 use Rattle.fwd_model.specs.declared.event.FlushKind.{FlushKind}
@@ -14,11 +16,10 @@ use Rattle.fwd_model.specs.declared.cell.Entered.{Entered}
 use Rattle.fwd_modes.specs.Frames.{chunk_name}
 use Rattle.fwd_match.specs.Patterns.{route}
 use Rattle.fwd_model.specs.Chunks.{cells_of, open_after, is_spent, closes, least_free, chunk_of, cells_at, put_down}
-use Rattle.fwd_model.specs.Sources.{Judged, judged_of}
 use Rattle.fwd_model.specs.Books.{entered_as, is_of, none_left, numbers_of, acks_of}
 use Rattle.fwd_model.specs.Replies.{Replies, replies_in, reply_stream, rest_of}
-use Rattle.fwd_model.specs.Step.{told, carry_more, is_loaded, frame_of, reply_answer}
-use Rattle.fwd_model.specs.Live.{LiveSource, LiveConnection, LiveOutput, LiveSession, LiveWorker, LiveLane, LiveRelay}
+use Rattle.fwd_model.specs.Step.{setup_of, accept_answer, told, carry_more, is_loaded, frame_of, reply_answer}
+use Rattle.fwd_model.specs.Live.{LiveConnection, LiveOutput, LiveSession, LiveWorker, LiveLane, LiveRelay}
 
 -- ---- connections
 
@@ -34,36 +35,30 @@ abbrev pub is_above : ℕ → Option ℕ → Bool
 is_above id None = true
 is_above id (Some k) = nat_lt k id
 
-abbrev pub live_accepted : ℕ → LiveRelay → LiveRelay
-live_accepted id r = record {
+abbrev pub live_accepted : Setup → LiveRelay → LiveRelay
+live_accepted setup r = record {
   run = r.run;
   routes = r.routes;
-  last = Some id;
-  connections = r.connections ++ record { id = id; source = record { rest = []; waiting = []; admitted = 0; unsent = []; shut = false; closed = false } } ∷ [];
+  security = r.security;
+  last = Some setup.conn;
+  connections = r.connections ++ record { id = setup.conn; source = opened_source setup } ∷ [];
   lanes = r.lanes;
-}
-
--- what a piece says after the bytes of the unfinished value
-abbrev pub judged_piece : LiveSource → List ℕ → Judged
-judged_piece s bytes = judged_of (s.admitted + length s.waiting) (s.rest ++ bytes)
-
-unfoldable pub source_hears : LiveSource → List ℕ → LiveSource
-source_hears s bytes = record {
-  rest = (judged_piece s bytes).rest;
-  waiting = s.waiting ++ (judged_piece s bytes).requests;
-  admitted = s.admitted;
-  unsent = s.unsent;
-  shut = s.shut;
-  closed = is_some (judged_piece s bytes).fault;
 }
 
 abbrev pub live_piece_answer : Option LiveSource → List ℕ → Answer
 live_piece_answer None bytes = answer.Refused NoSuch
 live_piece_answer (Some s) bytes =
-    if s.closed then answer.Refused Closed else told (judged_piece s bytes).fault (length (s.waiting ++ (judged_piece s bytes).requests))
+    if s.closed then answer.Refused Closed else told (judged_piece s bytes).fault (length (s.waiting ++ (judged_piece s bytes).requests)) (judged_piece s bytes).pong
 
 abbrev pub with_live_connection : ℕ → LiveSource → LiveRelay → LiveRelay
-with_live_connection id s r = record { run = r.run; routes = r.routes; last = r.last; connections = with_live_source id s r.connections; lanes = r.lanes }
+with_live_connection id s r = record {
+  run = r.run;
+  routes = r.routes;
+  security = r.security;
+  last = r.last;
+  connections = with_live_source id s r.connections;
+  lanes = r.lanes;
+}
 
 abbrev pub live_piece_next : ℕ → Option LiveSource → List ℕ → LiveRelay → LiveRelay
 live_piece_next id None bytes r = r
@@ -90,21 +85,18 @@ output_enters o origin r now = record {
 abbrev pub output_is_spent : LiveOutput → Request → Bool
 output_is_spent o r = is_spent r (o.greatest + 1) o.accepted
 
-abbrev pub tail_of : List Request → List Request
-tail_of [] = []
-tail_of (r ∷ rs) = rs
-
-abbrev pub source_gives : LiveSource → LiveSource
-source_gives s = record { rest = s.rest; waiting = tail_of s.waiting; admitted = s.admitted + 1; unsent = s.unsent; shut = s.shut; closed = s.closed }
-
-abbrev pub source_shuts : LiveSource → LiveSource
-source_shuts s = record { rest = []; waiting = []; admitted = s.admitted; unsent = []; shut = true; closed = true }
-
 abbrev pub with_live_output : LiveLane → LiveOutput → LiveLane
 with_live_output l o = record { config = l.config; output = o; workers = l.workers }
 
 abbrev pub with_live_lane : ℕ → LiveLane → LiveRelay → LiveRelay
-with_live_lane o l r = record { run = r.run; routes = r.routes; last = r.last; connections = r.connections; lanes = slice_set r.lanes o l }
+with_live_lane o l r = record {
+  run = r.run;
+  routes = r.routes;
+  security = r.security;
+  last = r.last;
+  connections = r.connections;
+  lanes = slice_set r.lanes o l;
+}
 
 abbrev pub live_admit_routed : Option ℕ → LiveSource → Request → ℕ → LiveLane → Answer
 live_admit_routed None s r o l = answer.NoRoute
@@ -419,16 +411,6 @@ live_collect_answer id None l = answer.Refused NoSuch
 live_collect_answer id (Some s) None = answer.Refused NoSuch
 live_collect_answer id (Some s) (Some l) = live_collect_open id s l.output
 
-abbrev pub source_appends : LiveSource → List ℕ → LiveSource
-source_appends s bytes = record {
-  rest = s.rest;
-  waiting = s.waiting;
-  admitted = s.admitted;
-  unsent = s.unsent ++ bytes;
-  shut = s.shut;
-  closed = s.closed;
-}
-
 -- what is told leaves
 unfoldable pub output_told : LiveOutput → ℕ → LiveOutput
 output_told o id = record {
@@ -449,10 +431,44 @@ live_collect_next id (Some s) o (Some l) r =
     if s.shut then r
     else with_live_lane o (with_live_output l (output_told l.output id)) (with_live_connection id (source_appends s (acks_of (live_due id l.output))) r)
 
+-- ---- drained
+
+abbrev pub live_drained_answer : Option LiveSource → ℕ → Answer
+live_drained_answer None count = answer.Refused NoSuch
+live_drained_answer (Some s) count = if nat_lt (length s.unsent) count then answer.Refused NotNow else answer.Done
+
+abbrev pub live_drained_next : ℕ → Option LiveSource → ℕ → LiveRelay → LiveRelay
+live_drained_next id None count r = r
+live_drained_next id (Some s) count r = if nat_lt (length s.unsent) count then r else with_live_connection id (source_drains s count) r
+
+-- ---- shut
+
+abbrev pub live_shut_answer : Option LiveSource → Answer
+live_shut_answer None = answer.Refused NoSuch
+live_shut_answer (Some s) = answer.Done
+
+-- the connections but this one
+abbrev pub without : ℕ → List LiveConnection → List LiveConnection
+without id cs = filter (λ c. not (c.id == id)) cs
+
+abbrev pub live_leaves : ℕ → LiveRelay → LiveRelay
+live_leaves id r = record {
+  run = r.run;
+  routes = r.routes;
+  security = r.security;
+  last = r.last;
+  connections = without id r.connections;
+  lanes = r.lanes;
+}
+
+abbrev pub live_shut_next : ℕ → Option LiveSource → LiveRelay → LiveRelay
+live_shut_next id None r = r
+live_shut_next id (Some s) r = live_leaves id r
+
 -- ---- step and run
 
 abbrev pub live_answer_to : LiveRelay → Event → Answer
-live_answer_to r (event.Accept id nonce auth) = if is_above id r.last then answer.Accepted [] else answer.Refused NotNow
+live_answer_to r (event.Accept id nonce auth) = accept_answer (is_above id r.last) (setup_of r.security id nonce auth)
 live_answer_to r (event.Piece id bytes) = live_piece_answer (live_source_at id r.connections) bytes
 live_answer_to r (event.Admit id o now) = live_admit_answer r.routes (live_source_at id r.connections) o (slice_get r.lanes o)
 live_answer_to r (event.Flush o now kind) = live_flush_answer (slice_get r.lanes o) now kind
@@ -464,9 +480,11 @@ live_answer_to r (event.Wrote o w count) = live_wrote_answer (session_in (worker
 live_answer_to r (event.Heard o w bytes) = live_heard_answer (session_in (worker_at w (slice_get r.lanes o))) r.run o bytes
 live_answer_to r (event.Settle o w) = live_settle_answer (worker_at w (slice_get r.lanes o)) (slice_get r.lanes o)
 live_answer_to r (event.Collect id o) = live_collect_answer id (live_source_at id r.connections) (slice_get r.lanes o)
+live_answer_to r (event.Drained id count) = live_drained_answer (live_source_at id r.connections) count
+live_answer_to r (event.Shut id) = live_shut_answer (live_source_at id r.connections)
 
 abbrev pub live_next : LiveRelay → Event → LiveRelay
-live_next r (event.Accept id nonce auth) = if is_above id r.last then live_accepted id r else r
+live_next r (event.Accept id nonce auth) = if is_above id r.last then live_accepted (setup_of r.security id nonce auth) r else r
 live_next r (event.Piece id bytes) = live_piece_next id (live_source_at id r.connections) bytes r
 live_next r (event.Admit id o now) = live_admit_next id (live_source_at id r.connections) o (slice_get r.lanes o) now r
 live_next r (event.Flush o now kind) = live_flush_next o (slice_get r.lanes o) now kind r
@@ -478,6 +496,8 @@ live_next r (event.Wrote o w count) = live_wrote_next o w (worker_at w (slice_ge
 live_next r (event.Heard o w bytes) = live_heard_next o w (worker_at w (slice_get r.lanes o)) (slice_get r.lanes o) bytes r
 live_next r (event.Settle o w) = live_settle_next o w (worker_at w (slice_get r.lanes o)) (slice_get r.lanes o) r
 live_next r (event.Collect id o) = live_collect_next id (live_source_at id r.connections) o (slice_get r.lanes o) r
+live_next r (event.Drained id count) = live_drained_next id (live_source_at id r.connections) count r
+live_next r (event.Shut id) = live_shut_next id (live_source_at id r.connections) r
 
 abbrev pub live_answers : LiveRelay → List Event → List Answer
 live_answers r [] = []

@@ -1,6 +1,8 @@
 -- What one event does to a history: the answer, and the next history. The cases stand in the order of the checks.
 use Rattle.std.specs.Prelude.{◌≡◌, ℕ, ◌+◌, Bool, true, false, not, ◌&&◌, ◌||◌, List, [], ◌∷◌, ◌++◌, length, map, filter, Option, Some, None, option_map, nat_lt, ◌==◌, max, is_some, if◌then◌else◌, slice_get, slice_set}
 use Rattle.std.specs.List.{list_all}
+use Rattle.std.proofs.Math.Nat.{le_refl}
+use Rattle.fwd_msgpack.specs.declared.limits.Limits.{Limits}
 use Rattle.fwd_modes.specs.Requests.{Request}
 use Rattle.fwd_modes.specs.Frames.{chunk_frame, chunk_name}
 use Rattle.fwd_match.specs.Patterns.{route}
@@ -13,7 +15,9 @@ use Rattle.fwd_model.specs.declared.event.Event.TheVariants as event
 use Rattle.fwd_model.specs.declared.event.FlushKind.{FlushKind}
 use Rattle.fwd_model.specs.declared.answer.Answer.{Answer}
 use Rattle.fwd_model.specs.declared.answer.Answer.TheVariants as answer
-use Rattle.fwd_model.specs.declared.fault.SourceFault.{SourceFault}
+use Rattle.fwd_handshake.specs.declared.credentials.Security.{Security}
+use Rattle.fwd_source.specs.declared.fault.SourceFault.{SourceFault}
+use Rattle.fwd_source.specs.History.{Setup, SourceHistory, opening_text, opened, judged, is_closed, waiting, unsent, new_pong, hears, gives, appends, drains, shuts}
 use Rattle.fwd_model.specs.declared.fault.Refusal.TheVariants.{Closed, NoSuch, NotNow, NotUp}
 use Rattle.fwd_model.specs.declared.cell.Entered.{Entered}
 use Rattle.fwd_model.specs.declared.fault.SessionFault.{SessionFault}
@@ -21,7 +25,7 @@ use Rattle.fwd_msgpack.specs.Scans.{Split}
 use Rattle.fwd_model.specs.Chunks.{greatest, cells_of, open_after, is_spent, closes, least_free, chunk_of, cells_at, carry_of, unsettled, put_down}
 use Rattle.fwd_model.specs.Books.{entered_as, is_settled, is_of, numbers_of, acks_of}
 use Rattle.fwd_model.specs.Replies.{Replies, replies_in, reply_stream, ended_by}
-use Rattle.fwd_model.specs.History.{SourceHistory, judged, is_closed, waiting, Connection, source_at, with_source, Admission, OutputHistory, SessionHistory, to_send, is_handed_on, Lane, History, opening}
+use Rattle.fwd_model.specs.History.{Connection, source_at, with_source, with_gone, Admission, OutputHistory, SessionHistory, to_send, is_handed_on, Lane, History, opening}
 
 -- ---- accept
 
@@ -29,25 +33,46 @@ use Rattle.fwd_model.specs.History.{SourceHistory, judged, is_closed, waiting, C
 abbrev pub is_fresh : ℕ → List Connection → Bool
 is_fresh id cs = list_all (λ c. nat_lt c.id id) cs
 
-abbrev pub accepted : ℕ → History → History
-accepted id h = record { run = h.run; routes = h.routes; connections = h.connections ++ record { id = id; source = record { heard = []; admitted = 0; appended = []; shut = false } } ∷ []; lanes = h.lanes }
+-- how long and how deep a value of a source may be: 16,777,216 bytes, and 64 arrays and maps one in another
+abbrev pub source_limits : Limits
+source_limits = record { bytes = 16777216; depth = 64; shallow = le_refl 64 }
+
+-- what a connection is accepted with
+abbrev pub setup_of : Security → ℕ → (nonce auth : List ℕ) → Setup
+setup_of security id nonce auth = record {
+  conn = id;
+  security = security;
+  nonces = record { nonce = nonce; auth = auth };
+  limits = source_limits;
+}
+
+abbrev pub accepted : Setup → History → History
+accepted setup h = record {
+  run = h.run;
+  routes = h.routes;
+  security = h.security;
+  connections = h.connections ++ record { id = setup.conn; source = opened setup; gone = false } ∷ [];
+  lanes = h.lanes;
+}
+
+-- HELO is written at once, where a shared key is set
+abbrev pub accept_answer : Bool → Setup → Answer
+accept_answer fresh setup = if fresh then answer.Accepted (opening_text setup) else answer.Refused NotNow
 
 -- ---- piece
 
-abbrev pub hears : SourceHistory → List ℕ → SourceHistory
-hears s bytes = record { heard = s.heard ++ bytes; admitted = s.admitted; appended = s.appended; shut = s.shut }
-
-abbrev pub told : Option SourceFault → ℕ → Answer
-told None count = answer.Requests count []
-told (Some f) count = answer.Faulted f count []
+abbrev pub told : Option SourceFault → ℕ → List ℕ → Answer
+told None count out = answer.Requests count out
+told (Some f) count out = answer.Faulted f count out
 
 abbrev pub piece_answer : Option SourceHistory → List ℕ → Answer
 piece_answer None bytes = answer.Refused NoSuch
 piece_answer (Some s) bytes =
-    if is_closed s then answer.Refused Closed else told (judged (hears s bytes)).fault (length (waiting (hears s bytes)))
+    if is_closed s then answer.Refused Closed else told (judged (hears s bytes)).fault (length (waiting (hears s bytes))) (new_pong s bytes)
 
 abbrev pub with_connection : ℕ → SourceHistory → History → History
-with_connection id s h = record { run = h.run; routes = h.routes; connections = with_source id s h.connections; lanes = h.lanes }
+with_connection id s h =
+    record { run = h.run; routes = h.routes; security = h.security; connections = with_source id s h.connections; lanes = h.lanes }
 
 abbrev pub piece_next : ℕ → Option SourceHistory → List ℕ → History → History
 piece_next id None bytes h = h
@@ -69,17 +94,12 @@ entered o id number r now = record {
 abbrev pub has_no_number : OutputHistory → Request → Bool
 has_no_number o r = is_spent r (greatest o.cells + 1) (length o.cells)
 
-abbrev pub takes_first : SourceHistory → SourceHistory
-takes_first s = record { heard = s.heard; admitted = s.admitted + 1; appended = s.appended; shut = s.shut }
-
-abbrev pub shuts : SourceHistory → SourceHistory
-shuts s = record { heard = s.heard; admitted = s.admitted; appended = s.appended; shut = true }
-
 abbrev pub with_output : Lane → OutputHistory → Lane
 with_output l o = record { config = l.config; output = o; sessions = l.sessions }
 
 abbrev pub with_lane : ℕ → Lane → History → History
-with_lane o l h = record { run = h.run; routes = h.routes; connections = h.connections; lanes = slice_set h.lanes o l }
+with_lane o l h =
+    record { run = h.run; routes = h.routes; security = h.security; connections = h.connections; lanes = slice_set h.lanes o l }
 
 -- the request goes to the first output whose pattern matches its tag, and to no other
 abbrev pub admit_routed : Option ℕ → SourceHistory → Request → ℕ → Lane → Answer
@@ -103,7 +123,7 @@ admit_routed_next None id s r o l now h = with_connection id (shuts s) h
 admit_routed_next (Some first) id s r o l now h =
     if not (first == o) then h
     else (if has_no_number l.output r then with_connection id (shuts s) h
-    else with_lane o (with_output l (entered l.output id (s.admitted + 1) r now)) (with_connection id (takes_first s) h))
+    else with_lane o (with_output l (entered l.output id (s.admitted + 1) r now)) (with_connection id (gives s) h))
 
 abbrev pub admit_waiting_next : ℕ → SourceHistory → List Request → ℕ → Lane → ℕ → History → History
 admit_waiting_next id s [] o l now h = h
@@ -388,9 +408,6 @@ collect_answer id None l = answer.Refused NoSuch
 collect_answer id (Some s) None = answer.Refused NoSuch
 collect_answer id (Some s) (Some l) = collect_open id s l.output
 
-abbrev pub appends : SourceHistory → List ℕ → SourceHistory
-appends s bytes = record { heard = s.heard; admitted = s.admitted; appended = s.appended ++ bytes; shut = s.shut }
-
 abbrev pub told_if : Bool → Admission → Admission
 told_if b a = record { request = a.request; told = a.told || b }
 
@@ -411,10 +428,35 @@ collect_next id (Some s) o (Some l) h =
     if s.shut then h
     else with_lane o (with_output l (has_told id l.output)) (with_connection id (appends s (acks_of (due id l.output))) h)
 
+-- ---- drained
+
+abbrev pub drained_answer : Option SourceHistory → ℕ → Answer
+drained_answer None count = answer.Refused NoSuch
+drained_answer (Some s) count = if nat_lt (length (unsent s)) count then answer.Refused NotNow else answer.Done
+
+abbrev pub drained_next : ℕ → Option SourceHistory → ℕ → History → History
+drained_next id None count h = h
+drained_next id (Some s) count h = if nat_lt (length (unsent s)) count then h else with_connection id (drains s count) h
+
+-- ---- shut
+
+abbrev pub shut_answer : Option SourceHistory → Answer
+shut_answer None = answer.Refused NoSuch
+shut_answer (Some s) = answer.Done
+
+-- the connection is known no more. Its id stays used, and what it asked for stands
+abbrev pub leaves : ℕ → History → History
+leaves id h =
+    record { run = h.run; routes = h.routes; security = h.security; connections = with_gone id h.connections; lanes = h.lanes }
+
+abbrev pub shut_next : ℕ → Option SourceHistory → History → History
+shut_next id None h = h
+shut_next id (Some s) h = leaves id h
+
 -- ---- step
 
 abbrev pub answer_to : History → Event → Answer
-answer_to h (event.Accept id nonce auth) = if is_fresh id h.connections then answer.Accepted [] else answer.Refused NotNow
+answer_to h (event.Accept id nonce auth) = accept_answer (is_fresh id h.connections) (setup_of h.security id nonce auth)
 answer_to h (event.Piece id bytes) = piece_answer (source_at id h.connections) bytes
 answer_to h (event.Admit id o now) = admit_answer h.routes (source_at id h.connections) o (slice_get h.lanes o)
 answer_to h (event.Flush o now kind) = flush_answer (slice_get h.lanes o) now kind
@@ -425,9 +467,11 @@ answer_to h (event.Wrote o w count) = wrote_answer (session_at w (slice_get h.la
 answer_to h (event.Heard o w bytes) = heard_answer (session_at w (slice_get h.lanes o)) h.run o bytes
 answer_to h (event.Settle o w) = settle_answer (session_at w (slice_get h.lanes o)) (slice_get h.lanes o)
 answer_to h (event.Collect id o) = collect_answer id (source_at id h.connections) (slice_get h.lanes o)
+answer_to h (event.Drained id count) = drained_answer (source_at id h.connections) count
+answer_to h (event.Shut id) = shut_answer (source_at id h.connections)
 
 abbrev pub next : History → Event → History
-next h (event.Accept id nonce auth) = if is_fresh id h.connections then accepted id h else h
+next h (event.Accept id nonce auth) = if is_fresh id h.connections then accepted (setup_of h.security id nonce auth) h else h
 next h (event.Piece id bytes) = piece_next id (source_at id h.connections) bytes h
 next h (event.Admit id o now) = admit_next id (source_at id h.connections) o (slice_get h.lanes o) now h
 next h (event.Flush o now kind) = flush_next o (slice_get h.lanes o) now kind h
@@ -439,6 +483,8 @@ next h (event.Wrote o w count) = wrote_next o w (session_at w (slice_get h.lanes
 next h (event.Heard o w bytes) = heard_next o w (session_at w (slice_get h.lanes o)) (slice_get h.lanes o) bytes h
 next h (event.Settle o w) = settle_next o w (session_at w (slice_get h.lanes o)) (slice_get h.lanes o) h
 next h (event.Collect id o) = collect_next id (source_at id h.connections) o (slice_get h.lanes o) h
+next h (event.Drained id count) = drained_next id (source_at id h.connections) count h
+next h (event.Shut id) = shut_next id (source_at id h.connections) h
 
 -- ---- run
 

@@ -1,10 +1,11 @@
-use crate::fault::{Refusal, SessionFault, SourceFault};
+use crate::fault::{Refusal, SessionFault};
 use fwd_msgpack::{Bytes, Seq};
+use fwd_source::SourceFault;
 
 /// What the relay answers to an event. `out` is what the event appended to the bytes that wait to be sent.
 #[derive(Debug, Drop)]
 pub enum Answer {
-    /// The connection stands.
+    /// The connection stands. Where a shared key is set, its HELO waits to be sent.
     Accepted {
         out: Bytes,
     },

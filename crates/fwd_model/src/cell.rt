@@ -1,11 +1,5 @@
 use fwd_msgpack::{Bytes, Seq};
-
-/// The request of a connection. A connection's requests are numbered from 1.
-#[derive(Clone, Copy, Debug, PartialEq, Eq)]
-pub struct Origin {
-    pub conn: u64,
-    pub request: u64,
-}
+use fwd_source::Origin;
 
 /// An entry that an output admitted, at a moment in milliseconds.
 #[derive(Debug, Drop)]

@@ -1,3 +1,4 @@
+use fwd_handshake::Security;
 use fwd_match::Routes;
 use fwd_msgpack::Seq;
 
@@ -13,12 +14,14 @@ pub struct OutputConfig {
 }
 
 /// What a relay is set to.
-#[derive(Debug, Drop)]
+#[derive(Drop)]
 pub struct Config {
     /// Six bytes that tell this run of the program from others, in the names of its chunks.
     pub run: [u8; 6],
     /// The pattern of each output, in file order. An event goes to the first output whose pattern matches its tag.
     pub routes: Routes,
+    /// What a source has to prove, and the name under which the relay answers it.
+    pub security: Security,
     /// The outputs, in file order.
     pub outputs: Seq<OutputConfig>,
 }

@@ -77,4 +77,13 @@ pub enum Event {
         conn: u64,
         output: u16,
     },
+    /// A connection's link took so many of the bytes that wait to be sent.
+    Drained {
+        conn: u64,
+        count: u64,
+    },
+    /// A connection is known no more. Its id stays used, and what it asked for stands.
+    Shut {
+        conn: u64,
+    },
 }

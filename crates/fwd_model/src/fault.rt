@@ -1,17 +1,3 @@
-use fwd_modes::InputFault;
-use fwd_msgpack::ScanFault;
-
-/// Why a connection is closed for further pieces.
-#[derive(Clone, Copy, Debug, PartialEq, Eq)]
-pub enum SourceFault {
-    /// Its bytes begin no value within the limits.
-    Scan(ScanFault),
-    /// A whole value of it is no request.
-    Input(InputFault),
-    /// No number is left for one more request.
-    Closed,
-}
-
 /// Why a session is down. Session faults are numbered by themselves.
 #[derive(Clone, Copy, Debug, PartialEq, Eq)]
 pub enum SessionFault {

@@ -4,9 +4,6 @@ ghost use Rattle.std.specs.Prelude.{◌≡◌};
 ghost use Rattle.std.specs.Prelude.{List, [], ℕ, length, take, drop};
 ghost use Rattle.fwd_msgpack.specs.declared.fault.ScanFault.{ScanFault};
 ghost use Rattle.fwd_msgpack.specs.Scans.{Whole, Short, Bad, first_of};
-ghost use Rattle.fwd_modes.specs.Requests.{request_of};
-ghost use Rattle.fwd_model.specs.declared.fault.SourceFault.TheVariants.{Scan};
-ghost use Rattle.fwd_model.specs.Sources.{judged_of, value_then, resting, failed};
 ghost use Rattle.std.specs.Prelude.{Option, None};
 ghost use Rattle.fwd_model.specs.declared.fault.SessionFault.TheVariants.{BadReply};
 ghost use Rattle.fwd_model.specs.Replies.{reply_of, reply_then, replies_in, reply_stream, rest_of, silence, failing};
@@ -17,7 +14,8 @@ ghost use Rattle.fwd_model.specs.declared.event.Event.TheVariants as event;
 ghost use Rattle.fwd_model.specs.declared.fault.SessionFault.{SessionFault};
 ghost use Rattle.fwd_model.specs.declared.fault.Refusal.TheVariants.{NotNow};
 ghost use Rattle.fwd_model.specs.Chunks.{cells_at, has_number};
-ghost use Rattle.fwd_model.specs.History.{SourceHistory, SessionHistory, Admission, Lane, source_at, is_handed_on};
+ghost use Rattle.fwd_source.specs.History.{SourceHistory};
+ghost use Rattle.fwd_model.specs.History.{SessionHistory, Admission, Lane, source_at, is_handed_on};
 ghost use Rattle.fwd_model.specs.Delivered.{IsTold, IsDelivered, reached};
 ghost use Rattle.fwd_model.specs.Step.{replies_to};
 ghost use Rattle.fwd_model.specs.declared.config.Config.{Config};
@@ -38,13 +36,6 @@ pub fn live_follows()
 pub fn live_run_follows()
     ensures answers { (config : Config) (h : History) (es : List Event) → IsReached config h → answers h es ≡ live_answers (live h) es }
     ensures after { (config : Config) (h : History) (es : List Event) → IsReached config h → live (after h es) ≡ live_after (live h) es }
-{}
-
-/// What bytes say, by what stands at their front: a value, less than one, or a fault.
-pub fn judged_by_front()
-    ensures whole { (n : ℕ) (bytes : List ℕ) (used : ℕ) → first_of 16777216 64 bytes ≡ Whole used → judged_of n bytes ≡ value_then n (request_of 64 (take used bytes)) (λ k. judged_of k (drop used bytes)) }
-    ensures short { (n : ℕ) (bytes : List ℕ) → first_of 16777216 64 bytes ≡ Short → judged_of n bytes ≡ resting bytes }
-    ensures bad { (n : ℕ) (bytes : List ℕ) (fault : ScanFault) → first_of 16777216 64 bytes ≡ Bad fault → judged_of n bytes ≡ failed (Scan fault) }
 {}
 
 /// What a server's bytes say where a name is awaited, and what is left of them, by what stands at their front.

@@ -10,12 +10,12 @@ mod fault;
 mod laws;
 
 pub use answer::Answer;
-pub use cell::{Carry, Cell, Chunk, Entered, Origin, Span};
+pub use cell::{Carry, Cell, Chunk, Entered, Span};
 pub use config::{Config, OutputConfig};
 pub use event::{Event, FlushKind};
-pub use fault::{Refusal, SessionFault, SourceFault};
+pub use fault::{Refusal, SessionFault};
+pub use fwd_source::{Origin, SourceFault};
 pub use laws::{
-    acknowledgement_before_fault_stands, early_reply_settles_nothing, judged_by_front,
-    live_follows, live_run_follows, marked_is_told, replies_by_front, told_is_delivered,
-    told_without_entries,
+    acknowledgement_before_fault_stands, early_reply_settles_nothing, live_follows,
+    live_run_follows, marked_is_told, replies_by_front, told_is_delivered, told_without_entries,
 };

@@ -11,7 +11,7 @@ use Rattle.std.proofs.lemmas.Fmt.{IsAscii-decimal}
 use Rattle.hex.specs.Hex.{encode_lower, lower_digits}
 use Rattle.hex.proofs.HexLemmas.{IsAscii-encode_with}
 use Rattle.fwd_model.specs.declared.event.Event.{Event}
-use Rattle.fwd_model.specs.declared.event.Event.TheVariants.{Accept, Piece, Admit, Flush, Up, Take, Load, Wrote, Heard, Settle, Collect}
+use Rattle.fwd_model.specs.declared.event.Event.TheVariants.{Accept, Piece, Admit, Flush, Up, Take, Load, Wrote, Heard, Settle, Collect, Drained, Shut}
 use Rattle.fwd_model.specs.declared.event.FlushKind.{FlushKind}
 use Rattle.fwd_model.specs.declared.event.FlushKind.TheVariants.{Due, All}
 use Rattle.fwd_script.specs.Words.{hex_text}
@@ -65,6 +65,8 @@ AllAscii-words_of (Wrote output worker count) r = (IsAscii-tested (codes "wrote"
 AllAscii-words_of (Heard output worker bytes) r = (IsAscii-tested (codes "heard") refl, (small output r.0, (small worker r.1, (IsAscii-hex_text bytes, tt))))
 AllAscii-words_of (Settle output worker) r = (IsAscii-tested (codes "settle") refl, (small output r.0, (small worker r.1, tt)))
 AllAscii-words_of (Collect conn output) r = (IsAscii-tested (codes "collect") refl, (IsAscii-decimal conn r.0, (small output r.1, tt)))
+AllAscii-words_of (Drained conn count) r = (IsAscii-tested (codes "drained") refl, (IsAscii-decimal conn r.0, (IsAscii-decimal count r.1, tt)))
+AllAscii-words_of (Shut conn) r = (IsAscii-tested (codes "shut") refl, (IsAscii-decimal conn r, tt))
 
 pub IsUtf8-event : (line : List ℕ) (e : Event) → event_of line ≡ Some e → IsUtf8 line
 IsUtf8-event line e h =

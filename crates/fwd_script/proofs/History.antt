@@ -8,7 +8,7 @@ use Rattle.fwd_model.specs.declared.config.Config.{Config}
 use Rattle.fwd_model.specs.History.{History, opening}
 use Rattle.fwd_model.specs.Step as model
 use Rattle.fwd_model.specs.Step.{answer_to, next, IsReached}
-use Rattle.fwd_script.specs.Configs.{config_in}
+use Rattle.fwd_script.specs.Configs.{Configures}
 use Rattle.fwd_script.specs.Script.{lines_of, settings_of, event_lines, head_len}
 use Rattle.fwd_model.specs.Live.{LiveRelay, live}
 use Rattle.fwd_model.specs.LiveStep.{live_answer_to, live_next, live_answers}
@@ -52,8 +52,8 @@ opened_replays script text relay status count lines old new law opened same befo
     config : Config
     config = opened.0
 
-    good : config_in (settings_of script) ≡ Ok config
-    good = ap config_in (sym same) ∙ opened.1
+    good : Configures (settings_of script) (Ok config)
+    good = subst (λ t. Configures t (Ok config)) same opened.1
 
     by : (status : Status) → Ends status answer_to next (opening config) (head_len (lines_of script)) (event_lines (lines_of script)) old new → Replays status script old new
     by Done e = (config, good, e)

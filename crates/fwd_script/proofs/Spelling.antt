@@ -11,11 +11,11 @@ use Rattle.std.proofs.lemmas.Str.Parse.{digit_from_value}
 use Rattle.std.proofs.lemmas.List.Splits.{join_with_byte-slice_split}
 use Rattle.hex.specs.Hex.{IsBytes, encode_lower, encode_with}
 use Rattle.fwd_model.specs.declared.event.Event.{Event}
-use Rattle.fwd_model.specs.declared.event.Event.TheVariants.{Accept, Piece, Admit, Flush, Up, Take, Load, Wrote, Heard, Settle, Collect}
+use Rattle.fwd_model.specs.declared.event.Event.TheVariants.{Accept, Piece, Admit, Flush, Up, Take, Load, Wrote, Heard, Settle, Collect, Drained, Shut}
 use Rattle.fwd_model.specs.declared.event.FlushKind.{FlushKind}
 use Rattle.fwd_model.specs.declared.event.FlushKind.TheVariants.{Due, All}
 use Rattle.fwd_script.specs.Words.{words, hex_text, number_of, bytes_of, sixteen_of}
-use Rattle.fwd_script.specs.Lines.{kind_text, words_of, line_of, InRange, accept_of, piece_of, admit_of, kind_of, flush_of, session_of, up_of, take_of, load_of, wrote_of, heard_of, settle_of, collect_of, named, of_words, event_of}
+use Rattle.fwd_script.specs.Lines.{kind_text, words_of, line_of, InRange, accept_of, piece_of, admit_of, kind_of, flush_of, session_of, up_of, take_of, load_of, wrote_of, heard_of, settle_of, collect_of, drained_of, shut_of, named, of_words, event_of}
 use Rattle.fwd_script.proofs.WordLemmas.{bytes_eq-true, number_of-some, number_of-decimal}
 use Rattle.fwd_script.proofs.HexText.{chosen, then_some, or_false, no_space, bytes_of-some, bytes_of-hex_text, sixteen_of-some, sixteen_of-encode_lower}
 
@@ -72,6 +72,9 @@ Lacks-hex_text (b ∷ bytes) fits = Lacks-encode_lower (b ∷ bytes) fits
 -- ---- a line that is read is the event's line
 
 -- words one by one
+same_words-1 : (n : List ℕ) {a c : List ℕ} → a ≡ c → n ∷ a ∷ [] ≡ n ∷ c ∷ []
+same_words-1 n p = cc
+
 same_words-2 : (n : List ℕ) {a b c d : List ℕ} → a ≡ c → b ≡ d → n ∷ a ∷ b ∷ [] ≡ n ∷ c ∷ d ∷ []
 same_words-2 n p q = cc
 
@@ -235,6 +238,24 @@ collect_of-some (conn ∷ output ∷ []) e h =
     rw (← some_is (Collect c.0 o.0) e o.2) ((cs.0, os.0), same_words-2 _ cs.1 os.1)
 collect_of-some _ e h = absurd cc
 
+drained_of-some : (ws : List (List ℕ)) (e : Event) → drained_of ws ≡ Some e → InRange e × (codes "drained" ∷ ws ≡ words_of e)
+unfolding drained_of
+drained_of-some (conn ∷ count ∷ []) e h =
+    let c = then_some (number_of (2 ^ 64) conn) _ e h in
+    let n = then_some (number_of (2 ^ 64) count) _ e c.2 in
+    let cs = number_of-some (2 ^ 64) conn c.0 c.1 in
+    let ns = number_of-some (2 ^ 64) count n.0 n.1 in
+    rw (← some_is (Drained c.0 n.0) e n.2) ((cs.0, ns.0), same_words-2 _ cs.1 ns.1)
+drained_of-some _ e h = absurd cc
+
+shut_of-some : (ws : List (List ℕ)) (e : Event) → shut_of ws ≡ Some e → InRange e × (codes "shut" ∷ ws ≡ words_of e)
+unfolding shut_of
+shut_of-some (conn ∷ []) e h =
+    let c = then_some (number_of (2 ^ 64) conn) _ e h in
+    let cs = number_of-some (2 ^ 64) conn c.0 c.1 in
+    rw (← some_is (Shut c.0) e c.2) (cs.0, same_words-1 _ cs.1)
+shut_of-some _ e h = absurd cc
+
 -- a test of the name that passed, or failed: what is read is the event's words
 if_named : (name text : List ℕ) (read other : Option Event) (ws : List (List ℕ)) (e : Event)
     → (read ≡ Some e → InRange e × (text ∷ ws ≡ words_of e))
@@ -259,7 +280,9 @@ named-some name ws e =
     if_named name (codes "wrote") (wrote_of ws) _ ws e (wrote_of-some ws e) (
     if_named name (codes "heard") (heard_of ws) _ ws e (heard_of-some ws e) (
     if_named name (codes "settle") (settle_of ws) _ ws e (settle_of-some ws e) (
-    if_named name (codes "collect") (collect_of ws) None ws e (collect_of-some ws e) (λ none. absurd cc)))))))))))
+    if_named name (codes "collect") (collect_of ws) _ ws e (collect_of-some ws e) (
+    if_named name (codes "drained") (drained_of ws) _ ws e (drained_of-some ws e) (
+    if_named name (codes "shut") (shut_of ws) None ws e (shut_of-some ws e) (λ none. absurd cc)))))))))))))
 
 of_words-some : (ws : List (List ℕ)) (e : Event) → of_words ws ≡ Some e → InRange e × (ws ≡ words_of e)
 unfolding of_words
@@ -274,7 +297,7 @@ kind_of-kind_text Due = refl
 kind_of-kind_text All = refl
 
 of_words-words_of : (e : Event) → InRange e → of_words (words_of e) ≡ Some e
-unfolding of_words named accept_of piece_of admit_of flush_of session_of up_of take_of load_of wrote_of heard_of settle_of collect_of
+unfolding of_words named accept_of piece_of admit_of flush_of session_of up_of take_of load_of wrote_of heard_of settle_of collect_of drained_of shut_of
 of_words-words_of (Accept conn nonce auth) r = rw (number_of-decimal (2 ^ 64) conn r.0 r.0, sixteen_of-encode_lower nonce r.1 r.2, sixteen_of-encode_lower auth r.3 r.4) refl
 of_words-words_of (Piece conn bytes) r = rw (number_of-decimal (2 ^ 64) conn r.0 r.0, bytes_of-hex_text bytes r.1) refl
 of_words-words_of (Admit conn output now) r = rw (number_of-decimal (2 ^ 64) conn r.0 r.0, number_of-decimal (2 ^ 16) output r.1 (omega arith), number_of-decimal (2 ^ 64) now r.2 r.2) refl
@@ -286,6 +309,8 @@ of_words-words_of (Wrote output worker count) r = rw (number_of-decimal (2 ^ 16)
 of_words-words_of (Heard output worker bytes) r = rw (number_of-decimal (2 ^ 16) output r.0 (omega arith), number_of-decimal (2 ^ 16) worker r.1 (omega arith), bytes_of-hex_text bytes r.2) refl
 of_words-words_of (Settle output worker) r = rw (number_of-decimal (2 ^ 16) output r.0 (omega arith), number_of-decimal (2 ^ 16) worker r.1 (omega arith)) refl
 of_words-words_of (Collect conn output) r = rw (number_of-decimal (2 ^ 64) conn r.0 r.0, number_of-decimal (2 ^ 16) output r.1 (omega arith)) refl
+of_words-words_of (Drained conn count) r = rw (number_of-decimal (2 ^ 64) conn r.0 r.0, number_of-decimal (2 ^ 64) count r.1 r.1) refl
+of_words-words_of (Shut conn) r = rw (number_of-decimal (2 ^ 64) conn r r) refl
 
 Lacks-small : (n : ℕ) → n < 2 ^ 16 → Lacks (decimal n)
 Lacks-small n lt = Lacks-decimal n (omega arith)
@@ -306,6 +331,8 @@ words-line_of (Wrote output worker count) r = words-join _ _ (refl, (Lacks-small
 words-line_of (Heard output worker bytes) r = words-join _ _ (refl, (Lacks-small output r.0, (Lacks-small worker r.1, (Lacks-hex_text bytes r.2, tt))))
 words-line_of (Settle output worker) r = words-join _ _ (refl, (Lacks-small output r.0, (Lacks-small worker r.1, tt)))
 words-line_of (Collect conn output) r = words-join _ _ (refl, (Lacks-decimal conn r.0, (Lacks-small output r.1, tt)))
+words-line_of (Drained conn count) r = words-join _ _ (refl, (Lacks-decimal conn r.0, (Lacks-decimal count r.1, tt)))
+words-line_of (Shut conn) r = words-join _ _ (refl, (Lacks-decimal conn r, tt))
 
 pub event_of-some : (line : List ℕ) (e : Event) → (event_of line ≡ Some e) ↔ (InRange e × (line ≡ line_of e))
 event_of-some line e = (

@@ -1,10 +1,12 @@
 -- What a text of settings sets the relay to.
-use Rattle.std.specs.Prelude.{ℕ, List, [], ◌∷◌, ◌++◌, map, length, replicate, codes, unwrap_or, Result, Ok, Err}
+use Rattle.std.specs.Prelude.{◌≡◌, ℕ, List, [], ◌∷◌, ◌++◌, map, length, replicate, codes, unwrap_or, Result, Ok, Err}
 use Rattle.std.specs.List.{flat_map}
 use Rattle.fwd_settings.specs.declared.settings.Settings.{Settings}
 use Rattle.fwd_settings.specs.declared.settings.OutputSettings.{OutputSettings}
+use Rattle.fwd_settings.specs.declared.settings.UserSettings.{UserSettings}
 use Rattle.fwd_settings.specs.declared.fault.SettingsFault.{SettingsFault}
 use Rattle.fwd_settings.specs.Whole.{settings_of}
+use Rattle.fwd_handshake.specs.declared.credentials.User.{User}
 use Rattle.fwd_model.specs.declared.config.Config.{Config}
 use Rattle.fwd_model.specs.declared.config.OutputConfig.{OutputConfig}
 
@@ -39,18 +41,19 @@ settings_text (byte ∷ more) = byte ∷ more
 abbrev pub output_config : OutputSettings → OutputConfig
 output_config o = record { workers = o.workers; servers = length o.servers; flush_interval = o.flush_interval }
 
--- what settings set the relay to: without a run id, zeros
-abbrev pub config_of : Settings → Config
-config_of s = record {
-  run = unwrap_or s.relay.run_id (replicate 6 0);
-  routes = map (λ o. o.pattern) s.outputs;
-  outputs = map output_config s.outputs;
-}
+abbrev pub user_of : UserSettings → User
+user_of u = record { name = u.name; password = u.password }
 
-abbrev pub configured : Result Settings SettingsFault → Result Config SettingsFault
-configured (Ok settings) = Ok (config_of settings)
-configured (Err fault) = Err fault
+-- the settings set the relay to this: without a run id, zeros
+pub record IsConfig (s : Settings) (config : Config) : Type 0 where
+  pub run : config.run ≡ unwrap_or s.relay.run_id (replicate 6 0)
+  pub routes : config.routes ≡ map (λ o. o.pattern) s.outputs
+  pub hostname : config.security.hostname ≡ s.relay.hostname
+  pub shared_key : config.security.shared_key ≡ s.relay.shared_key
+  pub users : config.security.users ≡ map user_of s.relay.users
+  pub outputs : config.outputs ≡ map output_config s.outputs
 
 -- what a script's text of settings sets the relay to, or its first fault
-abbrev pub config_in : List ℕ → Result Config SettingsFault
-config_in text = configured (settings_of (settings_text text))
+abbrev pub Configures : List ℕ → Result Config SettingsFault → Type 0
+Configures text (Ok config) = (s : Settings) × (settings_of (settings_text text) ≡ Ok s) × IsConfig s config
+Configures text (Err fault) = settings_of (settings_text text) ≡ Err fault

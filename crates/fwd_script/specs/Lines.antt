@@ -5,7 +5,7 @@ use Rattle.std.specs.Str.{bytes_eq}
 use Rattle.std.specs.Fmt.{decimal}
 use Rattle.hex.specs.Hex.{encode_lower, IsBytes}
 use Rattle.fwd_model.specs.declared.event.Event.{Event}
-use Rattle.fwd_model.specs.declared.event.Event.TheVariants.{Accept, Piece, Admit, Flush, Up, Take, Load, Wrote, Heard, Settle, Collect}
+use Rattle.fwd_model.specs.declared.event.Event.TheVariants.{Accept, Piece, Admit, Flush, Up, Take, Load, Wrote, Heard, Settle, Collect, Drained, Shut}
 use Rattle.fwd_model.specs.declared.event.FlushKind.{FlushKind}
 use Rattle.fwd_model.specs.declared.event.FlushKind.TheVariants.{Due, All}
 use Rattle.fwd_script.specs.Words.{◌>>=◌, words, hex_text, number_of, bytes_of, sixteen_of}
@@ -28,6 +28,8 @@ words_of (Wrote output worker count) = codes "wrote" ∷ decimal output ∷ deci
 words_of (Heard output worker bytes) = codes "heard" ∷ decimal output ∷ decimal worker ∷ hex_text bytes ∷ []
 words_of (Settle output worker) = codes "settle" ∷ decimal output ∷ decimal worker ∷ []
 words_of (Collect conn output) = codes "collect" ∷ decimal conn ∷ decimal output ∷ []
+words_of (Drained conn count) = codes "drained" ∷ decimal conn ∷ decimal count ∷ []
+words_of (Shut conn) = codes "shut" ∷ decimal conn ∷ []
 
 -- the line of an event: its words, with one space between each two
 abbrev pub line_of : Event → List ℕ
@@ -46,6 +48,8 @@ InRange (Wrote output worker count) = (output < 2 ^ 16) × (worker < 2 ^ 16) × 
 InRange (Heard output worker bytes) = (output < 2 ^ 16) × (worker < 2 ^ 16) × IsBytes bytes
 InRange (Settle output worker) = (output < 2 ^ 16) × (worker < 2 ^ 16)
 InRange (Collect conn output) = (conn < 2 ^ 64) × (output < 2 ^ 16)
+InRange (Drained conn count) = (conn < 2 ^ 64) × (count < 2 ^ 64)
+InRange (Shut conn) = conn < 2 ^ 64
 
 -- ---- the event that a line spells, by its words
 
@@ -147,6 +151,19 @@ collect_of (conn ∷ output ∷ []) = do
   Some (Collect c o)
 collect_of _ = None
 
+unfoldable pub drained_of : List (List ℕ) → Option Event
+drained_of (conn ∷ count ∷ []) = do
+  c ← number_of (2 ^ 64) conn
+  n ← number_of (2 ^ 64) count
+  Some (Drained c n)
+drained_of _ = None
+
+unfoldable pub shut_of : List (List ℕ) → Option Event
+shut_of (conn ∷ []) = do
+  c ← number_of (2 ^ 64) conn
+  Some (Shut c)
+shut_of _ = None
+
 -- the event of a name and the words after it
 unfoldable pub named : List ℕ → List (List ℕ) → Option Event
 named name rest =
@@ -161,6 +178,8 @@ named name rest =
     else if bytes_eq name (codes "heard") then heard_of rest
     else if bytes_eq name (codes "settle") then settle_of rest
     else if bytes_eq name (codes "collect") then collect_of rest
+    else if bytes_eq name (codes "drained") then drained_of rest
+    else if bytes_eq name (codes "shut") then shut_of rest
     else None
 
 unfoldable pub of_words : List (List ℕ) → Option Event

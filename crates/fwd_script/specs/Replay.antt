@@ -9,7 +9,7 @@ use Rattle.fwd_model.specs.declared.config.Config.{Config}
 use Rattle.fwd_model.specs.History.{opening}
 use Rattle.fwd_model.specs.Live.{LiveRelay, live}
 use Rattle.fwd_model.specs.Step.{answer_to, next}
-use Rattle.fwd_script.specs.Configs.{config_in}
+use Rattle.fwd_script.specs.Configs.{Configures}
 use Rattle.fwd_script.specs.Lines.{event_of}
 use Rattle.fwd_script.specs.Texts.{text_of}
 use Rattle.fwd_script.specs.Script.{lines_of, settings_of, event_lines, head_len}
@@ -56,19 +56,19 @@ Ends Input answer_to next s count lines old new = ⊥
 -- How the replay of a script ended, and what it wrote: by its settings, the answers of the abstract relay from its opening state.
 abbrev pub Replays : Status → List ℕ → Option (List ℕ) → Option (List ℕ) → Type 0
 Replays Done script old new =
-    (config : Config) × (config_in (settings_of script) ≡ Ok config) × Ends Done answer_to next (opening config) (head_len (lines_of script)) (event_lines (lines_of script)) old new
+    (config : Config) × Configures (settings_of script) (Ok config) × Ends Done answer_to next (opening config) (head_len (lines_of script)) (event_lines (lines_of script)) old new
 Replays (BadLine n) script old new =
-    (config : Config) × (config_in (settings_of script) ≡ Ok config) × Ends (BadLine n) answer_to next (opening config) (head_len (lines_of script)) (event_lines (lines_of script)) old new
-Replays (BadSettings fault) script old new = (config_in (settings_of script) ≡ Err fault) × Keeps old new
+    (config : Config) × Configures (settings_of script) (Ok config) × Ends (BadLine n) answer_to next (opening config) (head_len (lines_of script)) (event_lines (lines_of script)) old new
+Replays (BadSettings fault) script old new = Configures (settings_of script) (Err fault) × Keeps old new
 Replays Memory script old new =
-    Keeps old new ⊎ ((config : Config) × (config_in (settings_of script) ≡ Ok config) × WritesFront answer_to next (opening config) (event_lines (lines_of script)) old new)
+    Keeps old new ⊎ ((config : Config) × Configures (settings_of script) (Ok config) × WritesFront answer_to next (opening config) (event_lines (lines_of script)) old new)
 Replays Input script old new = Keeps old new
 Replays Output script old new = Unit {0}
 
 -- how a relay was opened by a script's text of settings, or why it was not
 abbrev pub Opens : List ℕ → Result LiveRelay Status → Type 0
-Opens text (Ok relay) = (config : Config) × (config_in text ≡ Ok config) × (relay ≡ live (opening config))
-Opens text (Err (BadSettings fault)) = config_in text ≡ Err fault
+Opens text (Ok relay) = (config : Config) × Configures text (Ok config) × (relay ≡ live (opening config))
+Opens text (Err (BadSettings fault)) = Configures text (Err fault)
 Opens text (Err Memory) = Unit {0}
 Opens text (Err Done) = ⊥
 Opens text (Err (BadLine n)) = ⊥

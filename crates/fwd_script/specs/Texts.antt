@@ -6,8 +6,8 @@ use Rattle.fwd_msgpack.specs.declared.fault.ScanFault.{ScanFault}
 use Rattle.fwd_msgpack.specs.declared.fault.ScanFault.TheVariants.{Reserved, TooDeep, TooLong}
 use Rattle.fwd_modes.specs.declared.fault.InputFault.{InputFault}
 use Rattle.fwd_modes.specs.declared.fault.InputFault.TheVariants.{BadShape, BadTag, BadEntry, BadOption, Compressed}
-use Rattle.fwd_model.specs.declared.fault.SourceFault.{SourceFault}
-use Rattle.fwd_model.specs.declared.fault.SourceFault.TheVariants.{Scan, Input, Closed as SourceClosed}
+use Rattle.fwd_source.specs.declared.fault.SourceFault.{SourceFault}
+use Rattle.fwd_source.specs.declared.fault.SourceFault.TheVariants.{Scan, Input, NotPing, Denied, Closed as SourceClosed}
 use Rattle.fwd_model.specs.declared.fault.SessionFault.{SessionFault}
 use Rattle.fwd_model.specs.declared.fault.SessionFault.TheVariants.{BadReply, WrongAck, EarlyAck}
 use Rattle.fwd_model.specs.declared.fault.Refusal.{Refusal}
@@ -31,6 +31,8 @@ input_name Compressed = codes "Compressed"
 abbrev pub source_name : SourceFault → List ℕ
 source_name (Scan fault) = scan_name fault
 source_name (Input fault) = input_name fault
+source_name NotPing = codes "NotPing"
+source_name Denied = codes "Denied"
 source_name SourceClosed = codes "Closed"
 
 abbrev pub session_name : SessionFault → List ℕ

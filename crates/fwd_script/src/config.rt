@@ -2,13 +2,17 @@
 
 ghost use Rattle.std.specs.Prelude.{◌≡◌, ◌≢◌, ◌≤◌, ◌^◌, ◌<◌, true, map, length, vec_len, IfOk, Err};
 ghost use Rattle.std.specs.List.{list_all};
-ghost use Rattle.fwd_settings.specs.Ranges.{in_range, output_in_range};
-ghost use Rattle.fwd_script.specs.Configs.{settings_text, output_config, config_of, config_in};
+ghost use Rattle.fwd_settings.specs.Ranges.{in_range, output_in_range, relay_in_range};
+ghost use Rattle.fwd_script.specs.Configs.{settings_text, output_config, user_of, IsConfig, Configures};
 
+use fwd_handshake::{Security, User};
 use fwd_match::{Pattern, Routes};
 use fwd_model::{Config, OutputConfig};
-use fwd_msgpack::Seq;
-use fwd_settings::{OutputSettings, Settings, SettingsFault, accepted_is_in_range, read_settings};
+use fwd_msgpack::{Bytes, Seq};
+use fwd_settings::{
+    OutputSettings, RelaySettings, Settings, SettingsFault, Text, UserSettings,
+    accepted_is_in_range, read_settings,
+};
 use std::alloc::{AllocError, Global};
 
 /// What an empty text of settings stands for.
@@ -75,17 +79,74 @@ fn patterns_of(alloc: Global, mut outputs: Vec<OutputSettings>) -> Result<Vec<Pa
     Ok(patterns)
 }
 
+/// A text as bytes.
+fn bytes_of(alloc: Global, text: &Text) -> Result<Bytes, AllocError>
+    ensures { IfOk result (λ bytes. bytes ≡ text.now) }
+{
+    Bytes::from_slice(alloc, text.as_str().as_bytes())
+}
+
+/// A user that a source may log in as.
+fn user_for(alloc: Global, user: &UserSettings) -> Result<User, AllocError>
+    ensures { IfOk result (λ u. u ≡ user_of user.now) }
+{
+    Ok(User {
+        name: bytes_of(alloc, &user.name)?,
+        password: bytes_of(alloc, &user.password)?,
+    })
+}
+
+/// The users that sources log in as.
+fn users_of(alloc: Global, users: &[UserSettings]) -> Result<Vec<User>, AllocError>
+    ensures { IfOk result (λ list. list.items ≡ map user_of users.now) }
+{
+    let mut list = Vec::new(alloc);
+    for user in users {
+        list.push(user_for(alloc, user)?)?;
+    }
+    Ok(list)
+}
+
+/// The key that sources have to know, if there is one.
+fn key_of(alloc: Global, key: &Option<Text>) -> Result<Option<Bytes>, AllocError>
+    ensures { IfOk result (λ copy. copy ≡ key.now) }
+{
+    match key {
+        Some(key) => Ok(Some(bytes_of(alloc, key)?)),
+        None => Ok(None),
+    }
+}
+
+/// What a source has to prove.
+fn security_of(alloc: Global, relay: &RelaySettings) -> Result<Security, AllocError>
+    requires { relay_in_range relay.now ≡ true }
+    ensures hostname { IfOk result (λ s. s.hostname ≡ relay.now.hostname) }
+    ensures key { IfOk result (λ s. s.shared_key ≡ relay.now.shared_key) }
+    ensures users { IfOk result (λ s. s.users ≡ map user_of relay.now.users) }
+{
+    let hostname = bytes_of(alloc, &relay.hostname)?;
+    let shared_key = key_of(alloc, &relay.shared_key)?;
+    let users = users_of(alloc, relay.users.as_slice())?;
+    Ok(Security {
+        hostname,
+        shared_key,
+        users: Seq::from_vec(users),
+    })
+}
+
 /// What settings set the relay to. Without a run id it is zeros.
 fn config_of(alloc: Global, settings: Settings) -> Result<Config, AllocError>
     requires { in_range settings ≡ true }
-    ensures { IfOk result (λ config. config ≡ config_of settings) }
+    ensures { IfOk result (λ config. IsConfig settings config) }
 {
     let run = settings.relay.run_id.unwrap_or([0; 6]);
+    let security = security_of(alloc, &settings.relay)?;
     let outputs = configs_of(alloc, settings.outputs.as_slice())?;
     let patterns = patterns_of(alloc, settings.outputs.into_vec())?;
     Ok(Config {
         run,
         routes: Routes::new(patterns),
+        security,
         outputs: Seq::from_vec(outputs),
     })
 }
@@ -93,7 +154,7 @@ fn config_of(alloc: Global, settings: Settings) -> Result<Config, AllocError>
 /// What a script's text of settings sets the relay to: an empty text stands for one output of two workers and two servers, which
 /// takes each tag. It answers the text's first fault.
 pub fn read_config(alloc: Global, text: &[u8]) -> Result<Config, SettingsFault>
-    ensures { result ≢ Err SettingsFault.Memory → result ≡ config_in text.now }
+    ensures { result ≢ Err SettingsFault.Memory → Configures text.now result }
 {
     accepted_is_in_range();
     let settings = read_settings(alloc, settings_text(text))?;

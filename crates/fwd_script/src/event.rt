@@ -1,6 +1,6 @@
 ghost use Rattle.std.specs.Prelude.{◌≡◌, ◌↔◌, ℕ, List, map, IfOk, Some};
 ghost use Rattle.std.specs.Str.{IsUtf8};
-ghost use Rattle.fwd_script.specs.Lines.{accept_of, piece_of, admit_of, kind_of, flush_of, session_of, up_of, take_of, load_of, wrote_of, heard_of, settle_of, collect_of, named, event_of, InRange, line_of};
+ghost use Rattle.fwd_script.specs.Lines.{accept_of, piece_of, admit_of, kind_of, flush_of, session_of, up_of, take_of, load_of, wrote_of, heard_of, settle_of, collect_of, drained_of, shut_of, named, event_of, InRange, line_of};
 ghost use Rattle.fwd_model.specs.declared.event.Event.{Event};
 
 use crate::word::{bytes, number, sixteen, small_number, split_words};
@@ -57,6 +57,10 @@ fn event_named(alloc: Global, name: &[u8], rest: &[&[u8]]) -> Result<Option<Even
         Ok(settle(rest))
     } else if name == b"collect".as_slice() {
         Ok(collect(rest))
+    } else if name == b"drained".as_slice() {
+        Ok(drained(rest))
+    } else if name == b"shut".as_slice() {
+        Ok(shut(rest))
     } else {
         Ok(None)
     }
@@ -250,5 +254,29 @@ fn collect(words: &[&[u8]]) -> Option<Event>
     Some(Event::Collect {
         conn: number(conn)?,
         output: small_number(output)?,
+    })
+}
+
+#[tactic(auto, unfolding(crate::specs::Lines::drained_of))]
+fn drained(words: &[&[u8]]) -> Option<Event>
+    ensures { result ≡ drained_of (map (λ w. w.now) words.now) }
+{
+    let [conn, count] = words else {
+        return None;
+    };
+    let conn = number(conn)?;
+    let count = number(count)?;
+    Some(Event::Drained { conn, count })
+}
+
+#[tactic(auto, unfolding(crate::specs::Lines::shut_of))]
+fn shut(words: &[&[u8]]) -> Option<Event>
+    ensures { result ≡ shut_of (map (λ w. w.now) words.now) }
+{
+    let [conn] = words else {
+        return None;
+    };
+    Some(Event::Shut {
+        conn: number(conn)?,
     })
 }

@@ -129,6 +129,8 @@ pub fn source_fault_name(fault: SourceFault) -> &'static str
     match fault {
         SourceFault::Scan(fault) => scan_fault_name(fault),
         SourceFault::Input(fault) => input_fault_name(fault),
+        SourceFault::NotPing => "NotPing",
+        SourceFault::Denied => "Denied",
         SourceFault::Closed => "Closed",
     }
 }

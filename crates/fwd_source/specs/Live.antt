@@ -69,6 +69,10 @@ abbrev pub live_piece_answer : LiveSource → List ℕ → Piece
 live_piece_answer s bytes =
     if s.closed then piece.Closed else told (judged_piece s bytes).fault (length (s.waiting ++ (judged_piece s bytes).requests))
 
+-- what a piece puts behind the bytes that wait to be sent
+abbrev pub live_piece_out : LiveSource → List ℕ → List ℕ
+live_piece_out s bytes = if s.closed then [] else (judged_piece s bytes).pong
+
 abbrev pub tail_of : List Request → List Request
 tail_of [] = []
 tail_of (r ∷ rs) = rs

@@ -15,7 +15,7 @@ pub use laws::{
     source_stays_sane,
 };
 pub use origin::Origin;
-pub use piece::Piece;
+pub use piece::{Piece, Told};
 pub use source::{AnswerError, Source};
 
 #[cfg(test)]

@@ -1,4 +1,5 @@
 use crate::fault::SourceFault;
+use fwd_msgpack::Bytes;
 
 /// What a piece of a connection's bytes did.
 #[derive(Clone, Copy, Debug, PartialEq, Eq)]
@@ -9,4 +10,11 @@ pub enum Piece {
     Fault(SourceFault),
     /// A fault came before, or the connection was shut: nothing has changed.
     Closed,
+}
+
+/// What a piece did, and what it put behind the bytes that wait to be sent: the PONG of a PING, or nothing.
+#[derive(Debug, Drop)]
+pub struct Told {
+    pub piece: Piece,
+    pub out: Bytes,
 }

@@ -1,19 +1,19 @@
 //! A connection, from its first byte to its last answer.
 
-ghost use Rattle.std.specs.Prelude.{◌≡◌, ◌+◌, ◌≤◌, ◌<◌, ◌^◌, true, length, IfOk, IfErr, OnOk, OnErr};
+ghost use Rattle.std.specs.Prelude.{◌≡◌, ◌+◌, ◌≤◌, ◌<◌, ◌^◌, true, length, IfOk, IfErr, OnOk, OnErr, IsOk};
 ghost use Rattle.std.specs.Option.{option_map};
 ghost use Rattle.std.specs.Arc.{arc_value};
 ghost use Rattle.fwd_source.specs.History.{Setup, opening_text};
-ghost use Rattle.fwd_source.specs.Live.{opened_source, judged_behind, judged_piece, live_piece_next, live_piece_answer, first_waiting, live_next, source_appends, source_drains, source_shuts};
+ghost use Rattle.fwd_source.specs.Live.{opened_source, judged_behind, judged_piece, live_piece_next, live_piece_answer, live_piece_out, first_waiting, live_next, source_appends, source_drains, source_shuts};
 ghost use Rattle.fwd_source.specs.Hearing.{shown};
 
 use crate::greeting::hear_greeting;
 use crate::hearing::{Heard, hear};
 use crate::origin::Origin;
-use crate::piece::Piece;
+use crate::piece::{Piece, Told};
 use fwd_handshake::{Nonces, Security, write_helo};
 use fwd_modes::Batch;
-use fwd_msgpack::Limits;
+use fwd_msgpack::{Bytes, Limits};
 use std::alloc::{AllocError, AllocFailed, Global};
 use std::collections::VecDeque;
 use std::marker::Model;
@@ -248,30 +248,34 @@ impl Source {
 
     /// More bytes come. After a fault and once shut, each further piece is refused. On an error nothing has changed.
     #[tactic(auto, unfolding(crate::specs::Live::source_hears))]
-    pub fn piece(&mut self, alloc: Global, bytes: &[u8]) -> Result<Piece, AllocError>
-        ensures answer { IfOk result (λ piece. piece ≡ live_piece_answer self.old.live bytes.now) }
+    pub fn piece(&mut self, alloc: Global, bytes: &[u8]) -> Result<Told, AllocError>
+        ensures answer { IfOk result (λ told. told.piece ≡ live_piece_answer self.old.live bytes.now) }
+        ensures out { IfOk result (λ told. told.out ≡ live_piece_out self.old.live bytes.now) }
         ensures live { OnOk result (self.new.live ≡ live_piece_next self.old.live bytes.now) }
-        ensures closed { self.old.live.closed ≡ true → (result ≡ Ok Piece.Closed) × (self.new ≡ self.old) }
+        ensures closed { self.old.live.closed ≡ true → IsOk result × (self.new ≡ self.old) }
         ensures err { OnErr result (self.new.live ≡ self.old.live) }
         // What may wait to be sent without more memory is as much as before.
         ensures room { length self.old.live.unsent + self.old.room ≤ length self.new.live.unsent + self.new.room }
     {
         if self.closed {
-            return Ok(Piece::Closed);
+            return Ok(Told {
+                piece: Piece::Closed,
+                out: Bytes::new(alloc),
+            });
         }
         let heard = self.hears(alloc, bytes)?;
         self.unsent.reserve(heard.pong.len())?;
         let mut requests = VecDeque::from_vec(heard.requests);
         self.waiting.append(&mut requests)?;
-        self.unsent
-            .extend_from_slice(heard.pong.as_slice())
-            .unwrap();
+        let out = heard.pong;
+        self.unsent.extend_from_slice(out.as_slice()).unwrap();
         self.rest = heard.rest;
         self.awaits = heard.awaits;
         self.closed = heard.fault.is_some();
-        match heard.fault {
-            None => Ok(Piece::Waiting(self.waiting.len())),
-            Some(fault) => Ok(Piece::Fault(fault)),
-        }
+        let piece = match heard.fault {
+            None => Piece::Waiting(self.waiting.len()),
+            Some(fault) => Piece::Fault(fault),
+        };
+        Ok(Told { piece, out })
     }
 }

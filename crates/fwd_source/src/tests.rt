@@ -96,11 +96,11 @@ fn a_ping_in_one_byte_pieces(rt: HostRuntime) -> Result<(), Fail> {
     let mut source = greeted(rt.alloc())?;
     for i in 0..PING.len() {
         assert_eq!(rt; source.out(), b"".as_slice(), "before byte {i}");
-        let piece = source.piece(rt.alloc(), &PING[i..i + 1])?;
+        let piece = source.piece(rt.alloc(), &PING[i..i + 1])?.piece;
         assert_eq!(rt; piece, Piece::Waiting(0), "at byte {i}");
     }
     assert_eq!(rt; source.out(), PONG);
-    assert_eq!(rt; source.piece(rt.alloc(), A)?, Piece::Waiting(1));
+    assert_eq!(rt; source.piece(rt.alloc(), A)?.piece, Piece::Waiting(1));
     assert_eq!(rt; taken(&mut source), (1, 1, b'a'));
     Ok(())
 }
@@ -109,9 +109,9 @@ fn a_ping_in_one_byte_pieces(rt: HostRuntime) -> Result<(), Fail> {
 fn a_thousand_nils_before_a_ping(rt: HostRuntime) -> Result<(), Fail> {
     let mut source = greeted(rt.alloc())?;
     let nils = [0xc0; 1000];
-    assert_eq!(rt; source.piece(rt.alloc(), &nils)?, Piece::Waiting(0));
+    assert_eq!(rt; source.piece(rt.alloc(), &nils)?.piece, Piece::Waiting(0));
     assert_eq!(rt; source.out(), b"".as_slice());
-    assert_eq!(rt; source.piece(rt.alloc(), PING)?, Piece::Waiting(0));
+    assert_eq!(rt; source.piece(rt.alloc(), PING)?.piece, Piece::Waiting(0));
     assert_eq!(rt; source.out(), PONG);
     Ok(())
 }
@@ -120,11 +120,11 @@ fn a_thousand_nils_before_a_ping(rt: HostRuntime) -> Result<(), Fail> {
 fn a_ping_of_another_key_is_denied(rt: HostRuntime) -> Result<(), Fail> {
     let mut source = greeted(rt.alloc())?;
     assert_eq!(rt;
-        source.piece(rt.alloc(), PING_OF_ANOTHER_KEY)?,
+        source.piece(rt.alloc(), PING_OF_ANOTHER_KEY)?.piece,
         Piece::Fault(SourceFault::Denied)
     );
     assert_eq!(rt; source.out(), PONG_OF_ANOTHER_KEY);
-    assert_eq!(rt; source.piece(rt.alloc(), PING)?, Piece::Closed);
+    assert_eq!(rt; source.piece(rt.alloc(), PING)?.piece, Piece::Closed);
     assert_eq!(rt; source.out(), PONG_OF_ANOTHER_KEY);
     Ok(())
 }
@@ -133,7 +133,7 @@ fn a_ping_of_another_key_is_denied(rt: HostRuntime) -> Result<(), Fail> {
 fn a_request_is_no_ping(rt: HostRuntime) -> Result<(), Fail> {
     let mut source = greeted(rt.alloc())?;
     assert_eq!(rt;
-        source.piece(rt.alloc(), A)?,
+        source.piece(rt.alloc(), A)?.piece,
         Piece::Fault(SourceFault::NotPing)
     );
     assert_eq!(rt; source.out(), b"".as_slice());
@@ -146,10 +146,10 @@ fn a_request_is_no_ping(rt: HostRuntime) -> Result<(), Fail> {
 fn good_requests_outlive_a_fault(rt: HostRuntime) -> Result<(), Fail> {
     let mut source = source(rt.alloc(), None)?;
     assert_eq!(rt;
-        source.piece(rt.alloc(), b"\x93\xa1a\x01\x80\xc1")?,
+        source.piece(rt.alloc(), b"\x93\xa1a\x01\x80\xc1")?.piece,
         Piece::Fault(SourceFault::Scan(ScanFault::Reserved))
     );
-    assert_eq!(rt; source.piece(rt.alloc(), B)?, Piece::Closed);
+    assert_eq!(rt; source.piece(rt.alloc(), B)?.piece, Piece::Closed);
     assert_eq!(rt; source.waiting(), 1);
     assert_eq!(rt; source.answer(b"told"), Ok(()));
     assert_eq!(rt; source.out(), b"told".as_slice());
@@ -164,9 +164,9 @@ fn requests_cut_at_each_byte(rt: HostRuntime) -> Result<(), Fail> {
     let bytes = b"\x93\xa1a\x01\x80\xc0\x93\xa1b\x02\x80\x01";
     for cut in 0..bytes.len() {
         let mut source = source(rt.alloc(), None)?;
-        source.piece(rt.alloc(), &bytes[..cut])?;
+        source.piece(rt.alloc(), &bytes[..cut])?.piece;
         assert_eq!(rt;
-            source.piece(rt.alloc(), &bytes[cut..])?,
+            source.piece(rt.alloc(), &bytes[cut..])?.piece,
             Piece::Fault(SourceFault::Input(InputFault::BadShape)),
             "cut at {cut}"
         );
@@ -184,9 +184,9 @@ fn a_ping_cut_at_each_byte(rt: HostRuntime) -> Result<(), Fail> {
     bytes.extend_from_slice(A)?;
     for cut in 0..bytes.len() {
         let mut source = greeted(rt.alloc())?;
-        source.piece(rt.alloc(), &bytes[..cut])?;
+        source.piece(rt.alloc(), &bytes[..cut])?.piece;
         assert_eq!(rt;
-            source.piece(rt.alloc(), &bytes[cut..])?,
+            source.piece(rt.alloc(), &bytes[cut..])?.piece,
             Piece::Waiting(1),
             "cut at {cut}"
         );
@@ -199,8 +199,8 @@ fn a_ping_cut_at_each_byte(rt: HostRuntime) -> Result<(), Fail> {
 fn the_first_request_is_shown_before_it_is_taken(rt: HostRuntime) -> Result<(), Fail> {
     let mut source = source(rt.alloc(), None)?;
     assert!(rt; source.peek().is_none());
-    assert_eq!(rt; source.piece(rt.alloc(), A)?, Piece::Waiting(1));
-    assert_eq!(rt; source.piece(rt.alloc(), B)?, Piece::Waiting(2));
+    assert_eq!(rt; source.piece(rt.alloc(), A)?.piece, Piece::Waiting(1));
+    assert_eq!(rt; source.piece(rt.alloc(), B)?.piece, Piece::Waiting(2));
     let (origin, batch) = source.peek().ok_or("none")?;
     assert_eq!(rt;
         origin,
@@ -228,7 +228,7 @@ fn answers_fit_the_room_that_is_reserved(rt: HostRuntime) -> Result<(), Fail> {
 #[test]
 fn what_waits_is_dropped_once_shut(rt: HostRuntime) -> Result<(), Fail> {
     let mut source = source(rt.alloc(), None)?;
-    assert_eq!(rt; source.piece(rt.alloc(), A)?, Piece::Waiting(1));
+    assert_eq!(rt; source.piece(rt.alloc(), A)?.piece, Piece::Waiting(1));
     assert_eq!(rt; source.answer(b"told"), Ok(()));
     for _ in 0..2 {
         source.shut();
@@ -236,7 +236,7 @@ fn what_waits_is_dropped_once_shut(rt: HostRuntime) -> Result<(), Fail> {
         assert_eq!(rt; source.waiting(), 0);
         assert_eq!(rt; source.out(), b"".as_slice());
         assert_eq!(rt; source.answer(b"told"), Err(AnswerError::Closed));
-        assert_eq!(rt; source.piece(rt.alloc(), B)?, Piece::Closed);
+        assert_eq!(rt; source.piece(rt.alloc(), B)?.piece, Piece::Closed);
         assert_eq!(rt; taken(&mut source), (0, 0, 0));
     }
     Ok(())

@@ -14,6 +14,8 @@ mod routing;
 #[cfg(test)]
 mod scripts;
 #[cfg(test)]
+mod sources;
+#[cfg(test)]
 mod spellings;
 #[cfg(test)]
 mod way_back;

@@ -1,6 +1,6 @@
 //! The relay, called as a library.
 
-use crate::scripts::routes_of;
+use crate::scripts::{open_to_all, routes_of};
 use fwd_core::Relay;
 use fwd_model::{Answer, Config, Event, FlushKind, OutputConfig, Refusal};
 use fwd_msgpack::{Bytes, Seq};
@@ -26,6 +26,7 @@ fn two_outputs(alloc: Global) -> Result<Config, Fail> {
     Ok(Config {
         run: [0xff; 6],
         routes: routes_of(alloc, &["a", "**"])?,
+        security: open_to_all(alloc)?,
         outputs,
     })
 }

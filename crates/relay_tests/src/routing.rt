@@ -1,6 +1,6 @@
 //! Which output a request goes to, and what becomes of a connection whose request goes to none.
 
-use crate::scripts::{replays, routes_of};
+use crate::scripts::{open_to_all, replays, routes_of};
 use fwd_core::Relay;
 use fwd_model::{Config, OutputConfig};
 use fwd_msgpack::Seq;
@@ -24,6 +24,7 @@ fn relay_of(alloc: Global, texts: &[&str]) -> Result<Relay, Fail> {
     let config = Config {
         run: [0; 6],
         routes: routes_of(alloc, texts)?,
+        security: open_to_all(alloc)?,
         outputs,
     };
     Ok(Relay::new(alloc, config)?)

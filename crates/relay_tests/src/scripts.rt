@@ -1,8 +1,10 @@
 //! A script through the whole relay.
 
+use fwd_handshake::Security;
 use fwd_match::{Pattern, Routes};
+use fwd_msgpack::{Bytes, Seq};
 use fwd_script::{Status, replay};
-use std::alloc::Global;
+use std::alloc::{AllocError, Global};
 use std::process::Abort;
 use std::test::Fail;
 
@@ -16,6 +18,15 @@ pub fn routes_of(alloc: Global, texts: &[&str]) -> Result<Routes, Fail> {
         return Err(Fail::from("more than 64 patterns"));
     }
     Ok(Routes::new(patterns))
+}
+
+/// A relay that asks its sources for no key.
+pub fn open_to_all(alloc: Global) -> Result<Security, AllocError> {
+    Ok(Security {
+        hostname: Bytes::from_slice(alloc, b"relay")?,
+        shared_key: None,
+        users: Seq::new(alloc),
+    })
 }
 
 /// Replays a script, and compares what it wrote and how it ended.

@@ -23,8 +23,8 @@ returns-clause-next c =
     let read : slice_get connections.items c.in-Some.place ≡ Some x = slice_get_read connections.items (length connections.items) c.in-Some.place x refl at.within c.index_mut-connection.ensures.value in
     let own = read_place c.args.conn connections.items c.in-Some.place at x read in
     let shown = c.connection.view_is in
-    let s = c.connection.inside.source in
-    let t = c.admit_from.new.source in
+    let s = c.connection.inside.source.live in
+    let t = c.admit_from.new.source.live in
     on_ok_weaker c.admit_from.result
     (λ d. admit_done _ c.args.self.now c.self.view_is c.args.output c.from-lane_place.result c.from-lane_place.ensures l c.admit_from.new.lane here c.args.conn c.in-Some.place c.args.now at s t _
     (own.0 ∙ sym (ap (λ y. y.source) shown)) (ap (λ n. record { id = n; source = t }) (ap (λ y. y.id) shown ∙ own.1)) d.0 d.1)

@@ -14,4 +14,4 @@ returns-clause-next c =
     let here : slice_get connections.items c.in-Some.place ≡ Some x = slice_get_read connections.items (length connections.items) c.in-Some.place x refl at.within c.index_mut-connection.ensures.value in
     let own = read_place c.args.conn connections.items c.in-Some.place at x here in
     let shown = c.connection.view_is in
-    on_ok_weaker c.piece.result (λ d. piece_done _ c.args.self.now c.self.view_is c.args.conn c.in-Some.place c.args.bytes.now at c.connection.inside.source c.piece.new.self _ (own.0 ∙ sym (ap (λ y. y.source) shown)) (ap (λ n. record { id = n; source = c.piece.new.self }) (ap (λ y. y.id) shown ∙ own.1)) d) c.piece.ensures.next
+    on_ok_weaker c.hear_piece.result (λ d. piece_done _ c.args.self.now c.self.view_is c.args.conn c.in-Some.place c.args.bytes.now at c.connection.inside.source.live c.hear_piece.new.source.live _ (own.0 ∙ sym (ap (λ y. y.source) shown)) (ap (λ n. record { id = n; source = c.hear_piece.new.source.live }) (ap (λ y. y.id) shown ∙ own.1)) d) c.hear_piece.ensures.next
