@@ -4,6 +4,10 @@
 #[cfg(test)]
 mod all_modes;
 #[cfg(test)]
+mod cut_scripts;
+#[cfg(test)]
+mod cuts;
+#[cfg(test)]
 mod first_path;
 #[cfg(test)]
 mod msgpack_values;
