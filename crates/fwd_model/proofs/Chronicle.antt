@@ -1,6 +1,6 @@
 -- What the events so far did to each session, each number and each request that an output has.
 use Rattle.std.proofs.Common.{◌≡◌, ℕ, ◌+◌, ◌≤◌, Bool, true, false, eqb, List, [], ◌∷◌, ◌++◌, Some, refl, sym, ap, subst, ◌∙◌, inl, inr, arith}
-use Rattle.std.specs.Prelude.{◌⊎◌, is_some, ◌&&◌, ◌==◌, slice_get, slice_set}
+use Rattle.std.specs.Prelude.{◌⊎◌, is_some, not, nat_lt, option_map, ◌&&◌, ◌==◌, slice_get, slice_set}
 use Rattle.std.specs.List.{list_any}
 use Rattle.std.proofs.lemmas.Bool.Decides.{nat_tests}
 use Rattle.std.proofs.lemmas.List.{append_assoc, append-nil}
@@ -13,18 +13,22 @@ use Rattle.fwd_model.specs.declared.event.Event.{Event}
 use Rattle.fwd_model.specs.declared.event.Event.TheVariants as event
 use Rattle.fwd_model.specs.Chunks.{greatest, cells_at, cells_of, chunk_of, first_tag, has_number}
 use Rattle.fwd_match.specs.Patterns.{route}
-use Rattle.fwd_model.specs.Books.{entered_as, has_cell}
 use Rattle.fwd_source.specs.History.{SourceHistory, judged}
-use Rattle.fwd_model.specs.History.{Connection, ever_at, source_at, with_source, with_gone, Admission, SessionHistory, is_handed_on, Lane, History}
-use Rattle.fwd_model.specs.Step.{next, after, frame_of}
-use Rattle.fwd_model.specs.Delivered.{HasBegun, WasLoaded, WasSent, WasAcknowledged, cells_from}
+use Rattle.fwd_model.specs.declared.answer.Answer.TheVariants as answer
+use Rattle.fwd_model.specs.declared.fault.Refusal.TheVariants.{NoSuch, NotNow}
+use Rattle.fwd_model.specs.Outcome.{Goes, answer_of, state_of, within, found, refuse_if, ◌>>=◌, ◌>>◌}
+use Rattle.fwd_model.specs.Step.{step, after, frame_of, at_worker, up, with_session}
+use Rattle.fwd_model.specs.Books.{Admission, entered_as, has_cell}
+use Rattle.fwd_model.specs.Sessions.{SessionHistory, is_handed_on}
+use Rattle.fwd_model.specs.History.{Connection, ever_at, source_at, with_source, with_gone, Lane, History, with_lane, history_worker, histories}
+use Rattle.fwd_model.specs.Delivered.{reached, answered, NoneBegan, HasBegun, WasLoaded, WasSent, WasAcknowledged, cells_from}
 use Rattle.fwd_model.proofs.Reached.{slice_get-set}
 
 -- ---- events are added at the end
 
-pub after-push : (h : History) (es : List Event) (e : Event) → after h (es ++ e ∷ []) ≡ next (after h es) e
+pub after-push : (h : History) (es : List Event) (e : Event) → after histories h (es ++ e ∷ []) ≡ state_of (after histories h es) (step histories (after histories h es) e)
 after-push h [] e = refl
-after-push h (d ∷ es) e = after-push (next h d) es e
+after-push h (d ∷ es) e = after-push (state_of h (step histories h d)) es e
 
 pub by_last : (P : List Event → Type 0) → P [] → ((es : List Event) (e : Event) → P es → P (es ++ e ∷ [])) → (es : List Event) → P es
 by_last P none more es = go [] es none
@@ -36,9 +40,45 @@ by_last P none more es = go [] es none
 later_split : (es before : List Event) (x : Event) (later : List Event) (e : Event) → es ≡ before ++ x ∷ later → es ++ e ∷ [] ≡ before ++ x ∷ (later ++ e ∷ [])
 later_split es before x later e h = ap (λ es. es ++ e ∷ []) h ∙ append_assoc before (x ∷ later) (e ∷ [])
 
+-- a list with one more at its end, split somewhere: at that end, or before it
+pub data LastSplit (later between : List Event) (x : Event) (rest : List Event) (e : Event) : Type 0 where
+  AtEnd : later ≡ between → e ≡ x → LastSplit later between x rest e
+  Before : (front : List Event) → later ≡ between ++ x ∷ front → LastSplit later between x rest e
+
+cons_tails : {X : Type 0} {x y : X} {xs ys : List X} → x ∷ xs ≡ y ∷ ys → (x ≡ y) × (xs ≡ ys)
+cons_tails h = (cc, cc)
+
+last_split : (later between : List Event) (x : Event) (rest : List Event) (e : Event) → later ++ e ∷ [] ≡ between ++ x ∷ rest → LastSplit later between x rest e
+last_split [] [] x rest e h = AtEnd refl (cons_tails h).0
+last_split [] (b ∷ []) x rest e h = let no : [] ≡ x ∷ rest = (cons_tails h).1 in absurd cc
+last_split [] (b ∷ c ∷ between) x rest e h = let no : [] ≡ c ∷ (between ++ x ∷ rest) = (cons_tails h).1 in absurd cc
+last_split (d ∷ later) [] x rest e h = let head = (cons_tails h).0 in Before later (ap (λ y. y ∷ later) head)
+last_split (d ∷ later) (b ∷ between) x rest e h = by (last_split later between x rest e (cons_tails h).1) (cons_tails h).0
+  where
+    by : LastSplit later between x rest e → d ≡ b → LastSplit (d ∷ later) (b ∷ between) x rest e
+    by (AtEnd same is) head = AtEnd (λ i. head i ∷ same i) is
+    by (Before front same) head = Before front (λ i. head i ∷ same i)
+
+-- the event begins no session of the worker
+abbrev pub Begins : Config → List Event → Event → ℕ → ℕ → Type 0
+Begins config es e o w = (server : ℕ) (salt : List ℕ) (moment : ℕ) → e ≡ event.Up o w server salt moment → answered config es e ≡ answer.Done → ⊥
+
+-- the event begins no session of a worker that has one
+abbrev pub Quiet : Config → List Event → Event → ℕ → Lane → Type 0
+Quiet config es e o l = (w : ℕ) (s : SessionHistory) → slice_get l.sessions w ≡ Some (Some s) → Begins config es e o w
+
 module _ (config : Config) (es : List Event) (e : Event) where
-  pub begun_still : (o w : ℕ) → HasBegun config es o w → HasBegun config (es ++ e ∷ []) o w
-  begun_still o w b = record {
+  none_began : (before later : List Event) (o w : ℕ) → es ≡ before ++ later → Begins config es e o w → NoneBegan config before later o w → NoneBegan config before (later ++ e ∷ []) o w
+  none_began before later o w split quiet none between rest server salt moment at done = by (last_split later between (event.Up o w server salt moment) rest e at)
+    where
+      by : LastSplit later between (event.Up o w server salt moment) rest e → ⊥
+      by (AtEnd same is) =
+          let here : es ≡ before ++ between = split ∙ ap (λ xs. before ++ xs) same in
+          quiet server salt moment is ((λ i. answered config (here i) (is i)) ∙ done)
+      by (Before front same) = none between front server salt moment same done
+
+  pub begun_still : (o w : ℕ) → Begins config es e o w → HasBegun config es o w → HasBegun config (es ++ e ∷ []) o w
+  begun_still o w quiet b = record {
     before = b.before;
     server = b.server;
     salt = b.salt;
@@ -46,6 +86,7 @@ module _ (config : Config) (es : List Event) (e : Event) where
     later = b.later ++ e ∷ [];
     split = later_split es b.before (event.Up o w b.server b.salt b.moment) b.later e b.split;
     done = b.done;
+    alone = none_began (b.before ++ event.Up o w b.server b.salt b.moment ∷ []) b.later o w (b.split ∙ sym (append_assoc b.before (event.Up o w b.server b.salt b.moment ∷ []) b.later)) quiet b.alone;
   }
 
   pub loaded_still : (o w : ℕ) (frame : List ℕ) → WasLoaded config es o w frame → WasLoaded config (es ++ e ∷ []) o w frame
@@ -111,9 +152,9 @@ abbrev pub NumberStory : Config → List Event → ℕ → List Cell → ℕ →
 NumberStory config es o cells k = (w : ℕ) × WasAcknowledged config es o w (frame_at config o cells k) (chunk_name config.run o k)
 
 module _ (config : Config) (es : List Event) (e : Event) (o : ℕ) (cells : List Cell) where
-  pub session_still : (w : ℕ) (s : SessionHistory) → SessionStory config es o w cells s → SessionStory config (es ++ e ∷ []) o w cells s
-  session_still w s t = record {
-    begun = begun_still config es e o w t.begun;
+  pub session_still : (w : ℕ) (s : SessionHistory) → Begins config es e o w → SessionStory config es o w cells s → SessionStory config (es ++ e ∷ []) o w cells s
+  session_still w s quiet t = record {
+    begun = begun_still config es e o w quiet t.begun;
     has_one = t.has_one;
     chunk = λ k h. let c = t.chunk k h in record {
       was_loaded = loaded_still config es e o w (frame_at config o cells k) c.was_loaded;
@@ -159,10 +200,10 @@ AllTold routes cs o cells (a ∷ admissions) = RequestStory routes cs o cells a.
 -- ---- outputs
 
 pub record LaneStory (config : Config) (es : List Event) (cs : List Connection) (o : ℕ) (l : Lane) : Type 0 where
-  pub sessions : (w : ℕ) (s : SessionHistory) → slice_get l.sessions w ≡ Some (Some s) → SessionStory config es o w l.output.cells s
-  pub numbers : (k : ℕ) → has_number k l.output.acknowledged ≡ true → NumberStory config es o l.output.cells k
-  pub own : (id r : ℕ) → has_origin id r l.output.cells ≡ true → Admitted cs id r
-  pub requests : AllTold config.routes cs o l.output.cells l.output.requests
+  pub sessions : (w : ℕ) (s : SessionHistory) → slice_get l.sessions w ≡ Some (Some s) → SessionStory config es o w l.output.buffer.cells s
+  pub numbers : (k : ℕ) → has_number k l.output.buffer.acknowledged ≡ true → NumberStory config es o l.output.buffer.cells k
+  pub own : (id r : ℕ) → has_origin id r l.output.buffer.cells ≡ true → Admitted cs id r
+  pub requests : AllTold config.routes cs o l.output.buffer.cells l.output.book
 
 pub record Story (config : Config) (es : List Event) (h : History) : Type 0 where
   pub run : h.run ≡ config.run
@@ -249,12 +290,12 @@ pub all_still : (routes : List (List (List ℕ))) (cs ds : List Connection) (o :
 all_still routes cs ds o cells [] ext all = tt
 all_still routes cs ds o cells (a ∷ admissions) ext all = (request_still routes cs ds o cells a.request ext all.0, all_still routes cs ds o cells admissions ext all.1)
 
-pub lane_still : (config : Config) (es : List Event) (e : Event) (cs ds : List Connection) (o : ℕ) (l : Lane) → Extends cs ds → LaneStory config es cs o l → LaneStory config (es ++ e ∷ []) ds o l
-lane_still config es e cs ds o l ext t = record {
-  sessions = λ w s h. session_still config es e o l.output.cells w s (t.sessions w s h);
-  numbers = λ k h. number_still config es e o l.output.cells k (t.numbers k h);
+pub lane_still : (config : Config) (es : List Event) (e : Event) (cs ds : List Connection) (o : ℕ) (l : Lane) → Extends cs ds → Quiet config es e o l → LaneStory config es cs o l → LaneStory config (es ++ e ∷ []) ds o l
+lane_still config es e cs ds o l ext quiet t = record {
+  sessions = λ w s h. session_still config es e o l.output.buffer.cells w s (quiet w s h) (t.sessions w s h);
+  numbers = λ k h. number_still config es e o l.output.buffer.cells k (t.numbers k h);
   own = λ id r h. admitted_still cs ds id r ext (t.own id r h);
-  requests = all_still config.routes cs ds o l.output.cells l.output.requests ext t.requests;
+  requests = all_still config.routes cs ds o l.output.buffer.cells l.output.book ext t.requests;
 }
 
 -- ---- an event that leaves the outputs, and one that changes one of them
@@ -262,9 +303,30 @@ lane_still config es e cs ds o l ext t = record {
 abbrev pub with_parts : History → List Connection → List Lane → History
 with_parts h cs ls = record { run = h.run; routes = h.routes; security = h.security; connections = cs; lanes = ls }
 
-module _ (config : Config) (es : List Event) (e : Event) (h : History) (t : Story config es h) where
+-- a worker that has a session begins no other
+pub up_refused : (h : History) (o w server : ℕ) (salt : List ℕ) (now : ℕ) (l : Lane) (s : SessionHistory) → slice_get h.lanes o ≡ Some l → slice_get l.sessions w ≡ Some (Some s)
+    → answer_of (step histories h (event.Up o w server salt now)) ≡ answer.Done → ⊥
+up_refused h o w server salt now l s here at done =
+    by_test (not (nat_lt server l.config.servers))
+    (sym (ap (λ x. answer_of (found x NoSuch >>= (λ k. within (λ m. with_lane o m h) (at_worker histories k w (up histories k.config.servers server now))))) here
+    ∙ ap (λ x. answer_of (within (λ m. with_lane o m h) (found (option_map (history_worker l w) x) NoSuch >>= (λ y. within (histories.puts_worker l w) (up histories l.config.servers server now y))))) at) ∙ done)
+  where
+    by_test : (b : Bool) → answer_of (within (λ m. with_lane o m h) (within (histories.puts_worker l w) (refuse_if b NoSuch >> (refuse_if true NotNow >> Goes answer.Done (with_session (history_worker l w (Some s)) (histories.begins server now)))))) ≡ answer.Done → ⊥
+    by_test true e = cc
+    by_test false e = cc
+
+module _ (config : Config) (es : List Event) (e : Event) (t : Story config es (reached config es)) where
+  abbrev h : History
+  h = reached config es
+
+  pub quiet : (o : ℕ) (l : Lane) → slice_get h.lanes o ≡ Some l → Quiet config es e o l
+  quiet o l here w s at server salt moment is done = up_refused h o w server salt moment l s here at (ap (λ x. answered config es x) (sym is) ∙ done)
+
+  pub still : (ds : List Connection) (o : ℕ) (l : Lane) → Extends h.connections ds → slice_get h.lanes o ≡ Some l → LaneStory config (es ++ e ∷ []) ds o l
+  still ds o l ext here = lane_still config es e h.connections ds o l ext (quiet o l here) (t.lanes o l here)
+
   pub lanes_stay : (ds : List Connection) → Extends h.connections ds → Story config (es ++ e ∷ []) (with_parts h ds h.lanes)
-  lanes_stay ds ext = record { run = t.run; routes = t.routes; lanes = λ o l here. lane_still config es e h.connections ds o l ext (t.lanes o l here) }
+  lanes_stay ds ext = record { run = t.run; routes = t.routes; lanes = λ o l here. still ds o l ext here }
 
   pub all_stays : Story config (es ++ e ∷ []) h
   all_stays = lanes_stay h.connections (extends_same h.connections)
@@ -274,4 +336,4 @@ module _ (config : Config) (es : List Event) (e : Event) (h : History) (t : Stor
     where
       at : (j : ℕ) (l : Lane) → ((o ≡ j) × (m ≡ l)) ⊎ ((o ≡ j → ⊥) × (slice_get h.lanes j ≡ Some l)) → LaneStory config (es ++ e ∷ []) ds j l
       at j l (inl x) = subst (λ k. LaneStory config (es ++ e ∷ []) ds k l) x.0 (subst (λ y. LaneStory config (es ++ e ∷ []) ds o y) x.1 story)
-      at j l (inr x) = lane_still config es e h.connections ds j l ext (t.lanes j l x.1)
+      at j l (inr x) = still ds j l ext x.1

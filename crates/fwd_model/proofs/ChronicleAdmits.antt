@@ -13,15 +13,18 @@ use Rattle.fwd_source.specs.declared.origin.Origin.{Origin}
 use Rattle.fwd_model.specs.declared.config.Config.{Config}
 use Rattle.fwd_model.specs.declared.event.Event.{Event}
 use Rattle.fwd_model.specs.Chunks.{greatest, cells_at, cells_of, first_tag}
-use Rattle.fwd_model.specs.Books.{entered_as, has_cell}
 use Rattle.fwd_source.specs.History.{SourceHistory, judged}
-use Rattle.fwd_model.specs.History.{Connection, ever_at, Admission, SessionHistory, Lane}
-use Rattle.fwd_model.specs.Step.{with_output, entered, frame_of}
+use Rattle.fwd_model.specs.Step.{frame_of}
+use Rattle.fwd_model.specs.Buffers.{enters as buffer_history_enters}
+use Rattle.fwd_model.specs.Books.{Admission, entered_as, has_cell}
+use Rattle.fwd_model.specs.Outputs.{output_history_enters}
+use Rattle.fwd_model.specs.Sessions.{SessionHistory}
+use Rattle.fwd_model.specs.History.{Connection, ever_at, Lane, with_output}
 use Rattle.fwd_model.specs.Delivered.{cells_from, WasLoaded, WasSent, WasAcknowledged}
 use Rattle.fwd_model.proofs.Places.{greatest-append, cells_at-append_past, chunk_of-append_past}
 use Rattle.fwd_model.proofs.Settling.{carry_of-carried}
 use Rattle.fwd_model.proofs.Reached.{IsSaneLane}
-use Rattle.fwd_model.proofs.Chronicle.{frame_at, ChunkStory, has_origin, Admitted, RequestStory, AllTold, LaneStory, Extends, admitted_still, lane_still}
+use Rattle.fwd_model.proofs.Chronicle.{Quiet, frame_at, ChunkStory, has_origin, Admitted, RequestStory, AllTold, LaneStory, Extends, admitted_still, lane_still}
 
 -- ---- whose the new cells are
 
@@ -106,21 +109,21 @@ chunk_moves config es o w xs ys s k same c = record {
 
 module _ (config : Config) (es : List Event) (e : Event) (cs ds : List Connection) (o : ℕ) (l : Lane) (id number now : ℕ) (q : Request) where
   abbrev moment : ℕ
-  moment = max l.output.moment now
+  moment = max l.output.buffer.moment now
 
   abbrev origin : Origin
   origin = record { conn = id; request = number }
 
   abbrev fresh : ℕ
-  fresh = greatest l.output.cells + 1
+  fresh = greatest l.output.buffer.cells + 1
 
   abbrev news : List Cell
   news = cells_of q origin fresh moment
 
   abbrev all : List Cell
-  all = l.output.cells ++ news
+  all = l.output.buffer.cells ++ news
 
-  request_moves : (a : Entered) → (a.origin.conn ≡ id → a.origin.request ≡ number → ⊥) → RequestStory config.routes ds o l.output.cells a → RequestStory config.routes ds o all a
+  request_moves : (a : Entered) → (a.origin.conn ≡ id → a.origin.request ≡ number → ⊥) → RequestStory config.routes ds o l.output.buffer.cells a → RequestStory config.routes ds o all a
   request_moves a other t = record {
     request = t.request;
     number = t.number;
@@ -133,17 +136,17 @@ module _ (config : Config) (es : List Event) (e : Event) (cs ds : List Connectio
     admitted = t.admitted;
     asked = t.asked;
     first_match = t.first_match;
-    own = filter-append (λ c. (c.origin.conn == a.origin.conn) && (c.origin.request == a.origin.request)) l.output.cells news
-        ∙ ap (λ xs. cells_from a.origin.conn a.origin.request l.output.cells ++ xs) (none_of_another q.tag origin fresh moment a.origin.conn a.origin.request q.entries (λ f g. other (sym f) (sym g)))
-        ∙ append-nil (cells_from a.origin.conn a.origin.request l.output.cells) ∙ t.own;
+    own = filter-append (λ c. (c.origin.conn == a.origin.conn) && (c.origin.request == a.origin.request)) l.output.buffer.cells news
+        ∙ ap (λ xs. cells_from a.origin.conn a.origin.request l.output.buffer.cells ++ xs) (none_of_another q.tag origin fresh moment a.origin.conn a.origin.request q.entries (λ f g. other (sym f) (sym g)))
+        ∙ append-nil (cells_from a.origin.conn a.origin.request l.output.buffer.cells) ∙ t.own;
     under = λ k h. let u = t.under k h in (
-      omega (arith, u.0, greatest-append l.output.cells news),
-      ap first_tag (cells_at-append_past k l.output.cells q.entries q.tag origin fresh moment (omega (arith, u.0))) ∙ u.1,
+      omega (arith, u.0, greatest-append l.output.buffer.cells news),
+      ap first_tag (cells_at-append_past k l.output.buffer.cells q.entries q.tag origin fresh moment (omega (arith, u.0))) ∙ u.1,
     );
   }
 
   -- the connection of a request that was entered before had admitted it
-  was_before : (s : SourceHistory) → ever_at id cs ≡ Some s → number ≡ s.admitted + 1 → (a : Entered) → RequestStory config.routes cs o l.output.cells a → a.origin.conn ≡ id → a.origin.request ≡ number → ⊥
+  was_before : (s : SourceHistory) → ever_at id cs ≡ Some s → number ≡ s.admitted + 1 → (a : Entered) → RequestStory config.routes cs o l.output.buffer.cells a → a.origin.conn ≡ id → a.origin.request ≡ number → ⊥
   was_before s here is a t f g =
       let same : t.source ≡ s = some_is (sym t.stands ∙ ap (λ x. ever_at x cs) f ∙ here) in
       let le : a.origin.request ≤ s.admitted = subst (λ x. a.origin.request ≤ x.admitted) same t.admitted in
@@ -152,7 +155,7 @@ module _ (config : Config) (es : List Event) (e : Event) (cs ds : List Connectio
       some_is : {x y : SourceHistory} → Some x ≡ Some y → x ≡ y
       some_is h = cc
 
-  all_move : (s : SourceHistory) → ever_at id cs ≡ Some s → number ≡ s.admitted + 1 → (admissions : List Admission) → AllTold config.routes cs o l.output.cells admissions → AllTold config.routes ds o l.output.cells admissions → AllTold config.routes ds o all admissions
+  all_move : (s : SourceHistory) → ever_at id cs ≡ Some s → number ≡ s.admitted + 1 → (admissions : List Admission) → AllTold config.routes cs o l.output.buffer.cells admissions → AllTold config.routes ds o l.output.buffer.cells admissions → AllTold config.routes ds o all admissions
   all_move s here is [] old still = tt
   all_move s here is (a ∷ admissions) old still = (request_moves a.request (was_before s here is a.request old.0) still.0, all_move s here is admissions old.1 still.1)
 
@@ -162,7 +165,7 @@ module _ (config : Config) (es : List Event) (e : Event) (cs ds : List Connectio
 
   -- the request that is entered
   enters : (s t : SourceHistory) → ever_at id cs ≡ Some s → number ≡ s.admitted + 1 → ever_at id ds ≡ Some t → t.admitted ≡ s.admitted + 1 → slice_get (judged t).requests s.admitted ≡ Some q → route config.routes q.tag ≡ Some o
-      → ((i r : ℕ) → has_origin i r l.output.cells ≡ true → Admitted cs i r) → RequestStory config.routes ds o all (entered_as q origin fresh)
+      → ((i r : ℕ) → has_origin i r l.output.buffer.cells ≡ true → Admitted cs i r) → RequestStory config.routes ds o all (entered_as q origin fresh)
   enters s t here is there more asked first own = record {
     request = q;
     number = fresh;
@@ -175,20 +178,20 @@ module _ (config : Config) (es : List Event) (e : Event) (cs ds : List Connectio
     admitted = omega (arith, is, more);
     asked = asked;
     first_match = first;
-    own = filter-append (λ c. (c.origin.conn == id) && (c.origin.request == number)) l.output.cells news
-        ∙ (λ i. none_yet id number l.output.cells unseen i ++ all_own q.tag origin fresh moment q.entries i);
+    own = filter-append (λ c. (c.origin.conn == id) && (c.origin.request == number)) l.output.buffer.cells news
+        ∙ (λ i. none_yet id number l.output.buffer.cells unseen i ++ all_own q.tag origin fresh moment q.entries i);
     under = λ k h.
         let same : fresh ≡ k = new_number q.tag origin fresh moment k q.entries h in (
-          omega (arith, same, number_reached q.tag origin fresh moment k q.entries h, greatest-append l.output.cells news),
+          omega (arith, same, number_reached q.tag origin fresh moment k q.entries h, greatest-append l.output.buffer.cells news),
           subst (λ n. first_tag (cells_at n all) ≡ q.tag) same
-              (ap first_tag (cells_at-append fresh l.output.cells news ∙ (λ i. cells_at_past fresh l.output.cells (omega arith) i ++ at_own q.tag origin fresh moment q.entries i)) ∙ tag_own q.tag origin fresh moment k q.entries h),
+              (ap first_tag (cells_at-append fresh l.output.buffer.cells news ∙ (λ i. cells_at_past fresh l.output.buffer.cells (omega arith) i ++ at_own q.tag origin fresh moment q.entries i)) ∙ tag_own q.tag origin fresh moment k q.entries h),
         );
   }
     where
       some_is : {x y : SourceHistory} → Some x ≡ Some y → x ≡ y
       some_is h = cc
 
-      seen : (b : Bool) → has_origin id number l.output.cells ≡ b → b ≡ false
+      seen : (b : Bool) → has_origin id number l.output.buffer.cells ≡ b → b ≡ false
       seen true e =
           let a = own id number e in
           let same : a.0 ≡ s = some_is (sym a.1 ∙ here) in
@@ -196,32 +199,32 @@ module _ (config : Config) (es : List Event) (e : Event) (cs ds : List Connectio
           absurd (omega (arith, le, is))
       seen false e = refl
 
-      unseen : has_origin id number l.output.cells ≡ false
-      unseen = seen (has_origin id number l.output.cells) refl
+      unseen : has_origin id number l.output.buffer.cells ≡ false
+      unseen = seen (has_origin id number l.output.buffer.cells) refl
 
-  pub lane_enters : (s t : SourceHistory) → IsSaneLane l → Extends cs ds → LaneStory config es cs o l → ever_at id cs ≡ Some s → number ≡ s.admitted + 1 → ever_at id ds ≡ Some t → t.admitted ≡ s.admitted + 1
-      → slice_get (judged t).requests s.admitted ≡ Some q → route config.routes q.tag ≡ Some o → LaneStory config (es ++ e ∷ []) ds o (with_output l (entered l.output id number q now))
-  unfolding entered
-  lane_enters s t sane ext story here is there more asked first =
-      let still = lane_still config es e cs ds o l ext story in record {
+  pub lane_enters : (s t : SourceHistory) → IsSaneLane l → Extends cs ds → Quiet config es e o l → LaneStory config es cs o l → ever_at id cs ≡ Some s → number ≡ s.admitted + 1 → ever_at id ds ≡ Some t → t.admitted ≡ s.admitted + 1
+      → slice_get (judged t).requests s.admitted ≡ Some q → route config.routes q.tag ≡ Some o → LaneStory config (es ++ e ∷ []) ds o (with_output l (output_history_enters l.output (record { conn = id; request = number }) q now))
+  unfolding buffer_history_enters
+  lane_enters s t sane ext quiet story here is there more asked first =
+      let still = lane_still config es e cs ds o l ext quiet story in record {
         sessions = λ w u h. let v = still.sessions w u h in record {
           begun = v.begun;
           has_one = v.has_one;
-          chunk = λ k f. chunk_moves config (es ++ e ∷ []) o w l.output.cells all u k (frame_stays config o l.output.cells q origin moment k (carried w u h k f)) (v.chunk k f);
+          chunk = λ k f. chunk_moves config (es ++ e ∷ []) o w l.output.buffer.cells all u k (frame_stays config o l.output.buffer.cells q origin moment k (carried w u h k f)) (v.chunk k f);
         };
-        numbers = λ k h. let n = still.numbers k h in (n.0, subst (λ f. WasAcknowledged config (es ++ e ∷ []) o n.0 f (chunk_name config.run o k)) (frame_stays config o l.output.cells q origin moment k (sane.acked_below k h)) n.1);
-        own = λ i r h. by i r (either (has_origin i r l.output.cells) (has_origin i r news) (sym (has_origin-append i r l.output.cells news) ∙ h));
-        requests = all_push l.output.requests (record { request = entered_as q origin fresh; told = false }) (all_move s here is l.output.requests story.requests still.requests) (enters s t here is there more asked first story.own);
+        numbers = λ k h. let n = still.numbers k h in (n.0, subst (λ f. WasAcknowledged config (es ++ e ∷ []) o n.0 f (chunk_name config.run o k)) (frame_stays config o l.output.buffer.cells q origin moment k (sane.acked_below k h)) n.1);
+        own = λ i r h. by i r (either (has_origin i r l.output.buffer.cells) (has_origin i r news) (sym (has_origin-append i r l.output.buffer.cells news) ∙ h));
+        requests = all_push l.output.book (record { request = entered_as q origin fresh; told = false }) (all_move s here is l.output.book story.requests still.requests) (enters s t here is there more asked first story.own);
       }
     where
-      carried : (w : ℕ) (u : SessionHistory) → slice_get l.sessions w ≡ Some (Some u) → (k : ℕ) → u.loaded ≡ Some k → k ≤ greatest l.output.cells
-      carried w u h k f = sane.carried_below k (carry_of-carried w l.output.carried (record { worker = w; number = k }) ((sane.sessions w u h).carries k f))
+      carried : (w : ℕ) (u : SessionHistory) → slice_get l.sessions w ≡ Some (Some u) → (k : ℕ) → u.loaded ≡ Some k → k ≤ greatest l.output.buffer.cells
+      carried w u h k f = sane.carried_below k (carry_of-carried w l.output.buffer.carried (record { worker = w; number = k }) ((sane.sessions w u h).carries k f))
 
       either : (a b : Bool) → (a || b) ≡ true → (a ≡ true) ⊎ (b ≡ true)
       either true b h = inl refl
       either false b h = inr h
 
-      by : (i r : ℕ) → (has_origin i r l.output.cells ≡ true) ⊎ (has_origin i r news ≡ true) → Admitted ds i r
+      by : (i r : ℕ) → (has_origin i r l.output.buffer.cells ≡ true) ⊎ (has_origin i r news ≡ true) → Admitted ds i r
       by i r (inl h) = admitted_still cs ds i r ext (story.own i r h)
       by i r (inr h) =
           let n = new_origin q.tag origin fresh moment i r q.entries h in

@@ -21,12 +21,13 @@ use Rattle.fwd_model.specs.declared.fault.SessionFault.TheVariants.{BadReply, Wr
 use Rattle.fwd_model.specs.Chunks.{carry_of}
 use Rattle.fwd_model.specs.Replies.{Replies, Reply, reply_of, reply_named, reply_then, replies, replies_in, silence, failing}
 use Rattle.fwd_model.specs.Replies.Reply.{Skipped, Accepted, Failed}
-use Rattle.fwd_model.specs.History.{SessionHistory, is_handed_on, Connection, Lane}
-use Rattle.fwd_model.specs.Step as step
-use Rattle.fwd_model.specs.Step.{answer_to, next, session_at, with_session, awaited}
-use Rattle.fwd_model.specs.Delivered.{reached, session_of, WasAcknowledged}
+use Rattle.fwd_model.specs.Step.{is_loaded}
+use Rattle.fwd_model.specs.Sessions as session
+use Rattle.fwd_model.specs.Sessions.{SessionHistory, is_handed_on}
+use Rattle.fwd_model.specs.History.{Connection, Lane, with_session}
+use Rattle.fwd_model.specs.Delivered.{reached, answered, session_of, WasAcknowledged}
 use Rattle.fwd_model.proofs.Reached.{IsSaneSession, slice_get-set}
-use Rattle.fwd_model.proofs.Chronicle.{frame_at, ChunkStory, SessionStory, LaneStory, session_still, begun_still, loaded_still, sent_still, acked_still, lane_still, extends_same}
+use Rattle.fwd_model.proofs.Chronicle.{Begins, Quiet, frame_at, ChunkStory, SessionStory, LaneStory, session_still, begun_still, loaded_still, sent_still, acked_still, lane_still, extends_same}
 
 -- ---- replies that accept name the chunk
 
@@ -80,25 +81,29 @@ some_is h = cc
 true_false : (b : Bool) → b ≡ true → b ≡ false → ⊥
 true_false b e f = cc
 
-pub put_session : (config : Config) (es : List Event) (e : Event) (o : ℕ) (cs : List Connection) (l : Lane) (w : ℕ) (s : SessionHistory) → LaneStory config es cs o l → SessionStory config (es ++ e ∷ []) o w l.output.cells s
+pub put_session : (config : Config) (es : List Event) (e : Event) (o : ℕ) (cs : List Connection) (l : Lane) (w : ℕ) (s : SessionHistory) → Quiet config es e o l → LaneStory config es cs o l → SessionStory config (es ++ e ∷ []) o w l.output.buffer.cells s
     → LaneStory config (es ++ e ∷ []) cs o (with_session w s l)
-put_session config es e o cs l w s t story =
-    let still = lane_still config es e cs cs o l (extends_same cs) t in record {
+put_session config es e o cs l w s quiet t story =
+    let still = lane_still config es e cs cs o l (extends_same cs) quiet t in record {
       sessions = λ j u h. at j u (slice_get-set l.sessions w j (Some s) (Some u) h);
       numbers = still.numbers;
       own = still.own;
       requests = still.requests;
     }
   where
-    at : (j : ℕ) (u : SessionHistory) → ((w ≡ j) × (Some s ≡ Some u)) ⊎ ((w ≡ j → ⊥) × (slice_get l.sessions j ≡ Some (Some u))) → SessionStory config (es ++ e ∷ []) o j l.output.cells u
-    at j u (inl x) = subst (λ k. SessionStory config (es ++ e ∷ []) o k l.output.cells u) x.0 (subst (λ v. SessionStory config (es ++ e ∷ []) o w l.output.cells v) (some_is x.1) story)
-    at j u (inr x) = session_still config es e o l.output.cells j u (t.sessions j u x.1)
+    at : (j : ℕ) (u : SessionHistory) → ((w ≡ j) × (Some s ≡ Some u)) ⊎ ((w ≡ j → ⊥) × (slice_get l.sessions j ≡ Some (Some u))) → SessionStory config (es ++ e ∷ []) o j l.output.buffer.cells u
+    at j u (inl x) = subst (λ k. SessionStory config (es ++ e ∷ []) o k l.output.buffer.cells u) x.0 (subst (λ v. SessionStory config (es ++ e ∷ []) o w l.output.buffer.cells v) (some_is x.1) story)
+    at j u (inr x) = session_still config es e o l.output.buffer.cells j u (quiet j u x.1) (t.sessions j u x.1)
+
+no_split : (between : List Event) (x : Event) (rest : List Event) → [] ≡ between ++ x ∷ rest → ⊥
+no_split [] x rest e = cc
+no_split (b ∷ between) x rest e = cc
 
 module _ (config : Config) (es : List Event) (o w : ℕ) (cells : List Cell) where
-  pub begins : (server : ℕ) (salt : List ℕ) (now : ℕ) → answer_to (reached config es) (event.Up o w server salt now) ≡ answer.Done
-      → SessionStory config (es ++ event.Up o w server salt now ∷ []) o w cells (step.new_session server now)
+  pub begins : (server : ℕ) (salt : List ℕ) (now : ℕ) → answered config es (event.Up o w server salt now) ≡ answer.Done
+      → SessionStory config (es ++ event.Up o w server salt now ∷ []) o w cells (session.begins server now)
   begins server salt now done = record {
-    begun = record { before = es; server = server; salt = salt; moment = now; later = []; split = refl; done = done };
+    begun = record { before = es; server = server; salt = salt; moment = now; later = []; split = refl; done = done; alone = λ between rest j salt' m at e. no_split between (event.Up o w j salt' m) rest at };
     has_one = λ e. absurd cc;
     chunk = λ k e. absurd cc;
   }
@@ -107,42 +112,42 @@ module _ (config : Config) (es : List Event) (o w : ℕ) (cells : List Cell) whe
   unfolding chunk_frame head_bytes
   frame_some k = omega arith
 
-  not_yet : (s : SessionHistory) (k now : ℕ) → s.sent ≤ length s.appended → is_handed_on (step.loaded s k (frame_at config o cells k) now) ≡ false
+  not_yet : (s : SessionHistory) (k now : ℕ) → s.sent ≤ length s.appended → is_handed_on (session.loads s k (frame_at config o cells k) now) ≡ false
   not_yet s k now le = grind (arith, nat_tests, length-append s.appended (frame_at config o cells k), frame_some k)
 
   -- the chunk that a session has is its worker's
-  is_its : (s : SessionHistory) (cs : List Carry) (c : Carry) → IsSaneSession w cs s → carry_of w cs ≡ Some c → is_some s.loaded ≡ true → step.is_loaded s.loaded c.number ≡ true
+  is_its : (s : SessionHistory) (cs : List Carry) (c : Carry) → IsSaneSession w cs s → carry_of w cs ≡ Some c → is_some s.loaded ≡ true → is_loaded s.loaded c.number ≡ true
   is_its s cs c fits here some = at s.loaded refl some
     where
-      at : (loaded : Option ℕ) → s.loaded ≡ loaded → is_some loaded ≡ true → step.is_loaded loaded c.number ≡ true
+      at : (loaded : Option ℕ) → s.loaded ≡ loaded → is_some loaded ≡ true → is_loaded loaded c.number ≡ true
       at None e some = absurd cc
       at (Some k) e some =
           let same : record { worker = w; number = k } ≡ c = some_is (sym (fits.carries k e) ∙ here) in
           let number : k ≡ c.number = ap (λ x. x.number) same in
           grind (arith, nat_tests, number)
 
-  pub loads : (s : SessionHistory) (cs : List Carry) (c : Carry) (now : ℕ) → SessionStory config es o w cells s → IsSaneSession w cs s → carry_of w cs ≡ Some c → step.is_loaded s.loaded c.number ≡ false
-      → answer_to (reached config es) (event.Load o w now) ≡ answer.Frame (frame_at config o cells c.number)
-      → SessionStory config (es ++ event.Load o w now ∷ []) o w cells (step.loaded s c.number (frame_at config o cells c.number) now)
+  pub loads : (s : SessionHistory) (cs : List Carry) (c : Carry) (now : ℕ) → SessionStory config es o w cells s → IsSaneSession w cs s → carry_of w cs ≡ Some c → is_loaded s.loaded c.number ≡ false
+      → answered config es (event.Load o w now) ≡ answer.Frame (frame_at config o cells c.number)
+      → SessionStory config (es ++ event.Load o w now ∷ []) o w cells (session.loads s c.number (frame_at config o cells c.number) now)
   loads s cs c now t fits here fresh answered =
-      let none : s.accepted ≡ true → ⊥ = λ e. true_false (step.is_loaded s.loaded c.number) (is_its s cs c fits here (t.has_one e)) fresh in
+      let none : s.accepted ≡ true → ⊥ = λ e. true_false (is_loaded s.loaded c.number) (is_its s cs c fits here (t.has_one e)) fresh in
       record {
-        begun = begun_still config es (event.Load o w now) o w t.begun;
+        begun = begun_still config es (event.Load o w now) o w (λ server salt moment is done. absurd cc) t.begun;
         has_one = λ e. refl;
-        chunk = λ k e. subst (λ n. ChunkStory config (es ++ event.Load o w now ∷ []) o w cells (step.loaded s c.number (frame_at config o cells c.number) now) n) (some_is e) (record {
+        chunk = λ k e. subst (λ n. ChunkStory config (es ++ event.Load o w now ∷ []) o w cells (session.loads s c.number (frame_at config o cells c.number) now) n) (some_is e) (record {
           was_loaded = record { before = es; moment = now; later = []; split = refl; loads = answered; begun = t.begun };
           front = s.appended;
           ends = refl;
-          was_sent = λ b. absurd (true_false (is_handed_on (step.loaded s c.number (frame_at config o cells c.number) now)) b (not_yet s c.number now fits.sent));
+          was_sent = λ b. absurd (true_false (is_handed_on (session.loads s c.number (frame_at config o cells c.number) now)) b (not_yet s c.number now fits.sent));
           was_acked = λ b. absurd (none b);
         });
       }
 
-  pub sends : (s : SessionHistory) (count : ℕ) → SessionStory config es o w cells s → answer_to (reached config es) (event.Wrote o w count) ≡ answer.Done
-      → session_of (reached config (es ++ event.Wrote o w count ∷ [])) o w ≡ Some (step.has_sent s count)
-      → SessionStory config (es ++ event.Wrote o w count ∷ []) o w cells (step.has_sent s count)
+  pub sends : (s : SessionHistory) (count : ℕ) → SessionStory config es o w cells s → answered config es (event.Wrote o w count) ≡ answer.Done
+      → session_of (reached config (es ++ event.Wrote o w count ∷ [])) o w ≡ Some (session.sends s count)
+      → SessionStory config (es ++ event.Wrote o w count ∷ []) o w cells (session.sends s count)
   sends s count t done stands = record {
-    begun = begun_still config es (event.Wrote o w count) o w t.begun;
+    begun = begun_still config es (event.Wrote o w count) o w (λ server salt moment is done. absurd cc) t.begun;
     has_one = t.has_one;
     chunk = λ k e. let c = t.chunk k e in record {
       was_loaded = loaded_still config es (event.Wrote o w count) o w (frame_at config o cells k) c.was_loaded;
@@ -154,7 +159,7 @@ module _ (config : Config) (es : List Event) (o w : ℕ) (cells : List Cell) whe
         later = [];
         split = refl;
         done = done;
-        session = step.has_sent s count;
+        session = session.sends s count;
         stands = stands;
         taken = record { front = c.front; ends = c.ends; through = grind (arith, nat_tests, b) };
         loaded = c.was_loaded;
@@ -164,7 +169,7 @@ module _ (config : Config) (es : List Event) (o w : ℕ) (cells : List Cell) whe
   }
 
   -- what is awaited is the name of the session's chunk, which was handed on whole
-  awaits : (run : List ℕ) (s : SessionHistory) (name : List ℕ) → awaited run o s ≡ Some name → (k : ℕ) × (s.loaded ≡ Some k) × (name ≡ chunk_name run o k) × (is_handed_on s ≡ true)
+  awaits : (run : List ℕ) (s : SessionHistory) (name : List ℕ) → session.awaited run o s ≡ Some name → (k : ℕ) × (s.loaded ≡ Some k) × (name ≡ chunk_name run o k) × (is_handed_on s ≡ true)
   awaits run s name h = at s.accepted (is_handed_on s) s.loaded refl refl h
     where
       at : (a b : Bool) (loaded : Option ℕ) → s.loaded ≡ loaded → is_handed_on s ≡ b → cond (a || not b) None (option_map (chunk_name run o) loaded) ≡ Some name → (k : ℕ) × (s.loaded ≡ Some k) × (name ≡ chunk_name run o k) × (is_handed_on s ≡ true)
@@ -174,9 +179,9 @@ module _ (config : Config) (es : List Event) (o w : ℕ) (cells : List Cell) whe
       at false true (Some k) e f g = (k, e, sym (some_is g), f)
 
   pub hears : (run bytes : List ℕ) (s : SessionHistory) → run ≡ config.run → SessionStory config es o w cells s → s.down ≡ false → session_of (reached config es) o w ≡ Some s
-      → SessionStory config (es ++ event.Heard o w bytes ∷ []) o w cells (step.has_heard s bytes (step.replies_to run o s bytes))
+      → SessionStory config (es ++ event.Heard o w bytes ∷ []) o w cells (session.listens s bytes (session.replies_to s run o bytes))
   hears run bytes s same t up stands = record {
-    begun = begun_still config es e o w t.begun;
+    begun = begun_still config es e o w (λ server salt moment is done. absurd cc) t.begun;
     has_one = λ b. elim (either s.accepted r.accepted b) [ inl x ↦ t.has_one x | inr x ↦ let n = names x in let a = awaits run s n.name n.was in ap is_some a.1 ];
     chunk = λ k f. let c = t.chunk k f in record {
       was_loaded = loaded_still config es e o w (frame_at config o cells k) c.was_loaded;
@@ -194,16 +199,16 @@ module _ (config : Config) (es : List Event) (o w : ℕ) (cells : List Cell) whe
       e = event.Heard o w bytes
 
       r : Replies
-      r = step.replies_to run o s bytes
+      r = session.replies_to s run o bytes
 
       either : (a b : Bool) → (a || b) ≡ true → (a ≡ true) ⊎ (b ≡ true)
       either true b h = inl refl
       either false b h = inr h
 
-      names : r.accepted ≡ true → Names (awaited run o s) (values_of (step.newly_heard s bytes))
-      names x = accepted_names (awaited run o s) (step.newly_heard s bytes) x
+      names : r.accepted ≡ true → Names (session.awaited run o s) (values_of (session.newly_heard s bytes))
+      names x = accepted_names (session.awaited run o s) (session.newly_heard s bytes) x
 
-      acknowledged : (k : ℕ) → s.loaded ≡ Some k → ChunkStory config es o w cells s k → Names (awaited run o s) (values_of (step.newly_heard s bytes)) → WasAcknowledged config (es ++ event.Heard o w bytes ∷ []) o w (frame_at config o cells k) (chunk_name config.run o k)
+      acknowledged : (k : ℕ) → s.loaded ≡ Some k → ChunkStory config es o w cells s k → Names (session.awaited run o s) (values_of (session.newly_heard s bytes)) → WasAcknowledged config (es ++ event.Heard o w bytes ∷ []) o w (frame_at config o cells k) (chunk_name config.run o k)
       acknowledged k f c n =
           let a = awaits run s n.name n.was in
           let number : a.0 ≡ k = some_is (sym a.1 ∙ f) in
@@ -222,5 +227,5 @@ module _ (config : Config) (es : List Event) (o w : ℕ) (cells : List Cell) whe
             sent = c.was_sent a.3;
           }
 
-  pub unloads : (e : Event) (s : SessionHistory) → SessionStory config es o w cells s → SessionStory config (es ++ e ∷ []) o w cells (step.unloaded s)
-  unloads e s t = record { begun = begun_still config es e o w t.begun; has_one = λ b. absurd cc; chunk = λ k f. absurd cc }
+  pub unloads : (e : Event) (s : SessionHistory) → Begins config es e o w → SessionStory config es o w cells s → SessionStory config (es ++ e ∷ []) o w cells (session.unloads s)
+  unloads e s quiet t = record { begun = begun_still config es e o w quiet t.begun; has_one = λ b. absurd cc; chunk = λ k f. absurd cc }

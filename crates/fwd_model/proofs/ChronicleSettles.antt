@@ -6,10 +6,15 @@ use Rattle.fwd_model.specs.declared.cell.Cell.{Cell}
 use Rattle.fwd_model.specs.declared.config.Config.{Config}
 use Rattle.fwd_model.specs.declared.event.Event.{Event}
 use Rattle.fwd_model.specs.Chunks.{has_number}
-use Rattle.fwd_model.specs.History.{SessionHistory, Connection, Admission, Lane}
-use Rattle.fwd_model.specs.Step.{with_session, with_output, settled, unloaded, acked_number, is_due, told_if, has_told}
+use Rattle.fwd_model.specs.Step.{acked}
+use Rattle.fwd_model.specs.Buffers.{settles}
+use Rattle.fwd_model.specs.Books.{Admission, is_due, told_if, tells}
+use Rattle.fwd_model.specs.Outputs.{output_history_tells}
+use Rattle.fwd_model.specs.Sessions as session
+use Rattle.fwd_model.specs.Sessions.{SessionHistory}
+use Rattle.fwd_model.specs.History.{Connection, Lane, with_session, with_output, with_buffer, histories}
 use Rattle.fwd_model.proofs.Settling.{has_number-push}
-use Rattle.fwd_model.proofs.Chronicle.{LaneStory, NumberStory, AllTold, Extends, lane_still, number_still}
+use Rattle.fwd_model.proofs.Chronicle.{Quiet, LaneStory, NumberStory, AllTold, Extends, lane_still, number_still}
 use Rattle.fwd_model.proofs.ChronicleSessions.{put_session, unloads}
 use Rattle.fwd_model.proofs.Chronicle.{SessionStory}
 
@@ -18,7 +23,7 @@ loaded_of true loaded k e = (refl, e)
 loaded_of false loaded k e = absurd cc
 
 -- the number of an accepted acknowledgement was acknowledged
-pub acked_number_is : (config : Config) (es : List Event) (o w : ℕ) (cells : List Cell) (s : SessionHistory) (k : ℕ) → SessionStory config es o w cells s → acked_number s ≡ Some k → NumberStory config es o cells k
+pub acked_number_is : (config : Config) (es : List Event) (o w : ℕ) (cells : List Cell) (s : SessionHistory) (k : ℕ) → SessionStory config es o w cells s → acked histories s ≡ Some k → NumberStory config es o cells k
 acked_number_is config es o w cells s k t e =
     let is = loaded_of s.accepted s.loaded k e in
     (w, (t.chunk k is.1).was_acked is.0)
@@ -30,16 +35,16 @@ either false b h = inr h
 eq_from : (a b : ℕ) → eqb a b ≡ true → a ≡ b
 eq_from a b e = grind (arith, nat_tests, e)
 
-pub lane_settles : (config : Config) (es : List Event) (e : Event) (cs : List Connection) (o w : ℕ) (l : Lane) (s : SessionHistory) (k : ℕ) → slice_get l.sessions w ≡ Some (Some s) → acked_number s ≡ Some k → LaneStory config es cs o l
-    → LaneStory config (es ++ e ∷ []) cs o (with_session w (unloaded s) (with_output l (settled l.output w k)))
-unfolding settled
-lane_settles config es e cs o w l s k here acked t =
+pub lane_settles : (config : Config) (es : List Event) (e : Event) (cs : List Connection) (o w : ℕ) (l : Lane) (s : SessionHistory) (k : ℕ) → slice_get l.sessions w ≡ Some (Some s) → acked histories s ≡ Some k → Quiet config es e o l → LaneStory config es cs o l
+    → LaneStory config (es ++ e ∷ []) cs o (with_session w (session.unloads s) (with_buffer l (settles l.output.buffer w k)))
+unfolding settles
+lane_settles config es e cs o w l s k here is quiet t =
     let own = t.sessions w s here in
-    let put = put_session config es e o cs l w (unloaded s) t (unloads config es o w l.output.cells e s own) in record {
+    let put = put_session config es e o cs l w (session.unloads s) quiet t (unloads config es o w l.output.buffer.cells e s (quiet w s here) own) in record {
       sessions = put.sessions;
-      numbers = λ j h. elim (either (has_number j l.output.acknowledged) (eqb k j) (sym (has_number-push j k l.output.acknowledged) ∙ h)) [
+      numbers = λ j h. elim (either (has_number j l.output.buffer.acknowledged) (eqb k j) (sym (has_number-push j k l.output.buffer.acknowledged) ∙ h)) [
         | inl x ↦ put.numbers j x
-        | inr x ↦ subst (λ n. NumberStory config (es ++ e ∷ []) o l.output.cells n) (eq_from k j x) (number_still config es e o l.output.cells k (acked_number_is config es o w l.output.cells s k own acked))
+        | inr x ↦ subst (λ n. NumberStory config (es ++ e ∷ []) o l.output.buffer.cells n) (eq_from k j x) (number_still config es e o l.output.buffer.cells k (acked_number_is config es o w l.output.buffer.cells s k own is))
       ];
       own = put.own;
       requests = put.requests;
@@ -49,12 +54,12 @@ all_told : (routes : List (List (List ℕ))) (cs : List Connection) (o : ℕ) (c
 all_told routes cs o cells p [] all = tt
 all_told routes cs o cells p (a ∷ admissions) all = (all.0, all_told routes cs o cells p admissions all.1)
 
-pub lane_tells : (config : Config) (es : List Event) (e : Event) (cs ds : List Connection) (o id : ℕ) (l : Lane) → Extends cs ds → LaneStory config es cs o l → LaneStory config (es ++ e ∷ []) ds o (with_output l (has_told id l.output))
-unfolding has_told
-lane_tells config es e cs ds o id l ext t =
-    let still = lane_still config es e cs ds o l ext t in record {
+pub lane_tells : (config : Config) (es : List Event) (e : Event) (cs ds : List Connection) (o id : ℕ) (l : Lane) → Extends cs ds → Quiet config es e o l → LaneStory config es cs o l → LaneStory config (es ++ e ∷ []) ds o (with_output l (output_history_tells l.output id))
+unfolding tells
+lane_tells config es e cs ds o id l ext quiet t =
+    let still = lane_still config es e cs ds o l ext quiet t in record {
       sessions = still.sessions;
       numbers = still.numbers;
       own = still.own;
-      requests = all_told config.routes ds o l.output.cells (is_due id l.output) l.output.requests still.requests;
+      requests = all_told config.routes ds o l.output.buffer.cells (is_due id l.output.buffer.acknowledged) l.output.book still.requests;
     }

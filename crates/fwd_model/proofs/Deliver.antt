@@ -14,13 +14,14 @@ use Rattle.fwd_model.specs.declared.cell.Span.{Span}
 use Rattle.fwd_model.specs.declared.config.Config.{Config}
 use Rattle.fwd_model.specs.declared.event.Event.{Event}
 use Rattle.fwd_model.specs.declared.answer.Answer.TheVariants as answer
-use Rattle.fwd_model.specs.declared.fault.Refusal.TheVariants.{Closed}
 use Rattle.fwd_model.specs.Chunks.{cells_at, cells_of, chunk_of, first_tag, has_number}
-use Rattle.fwd_model.specs.Books.{entered_as, is_settled, is_of, numbers_of, acks_of, has_cell}
 use Rattle.fwd_source.specs.History.{SourceHistory}
-use Rattle.fwd_model.specs.History.{Connection, ever_at, source_at, Admission, OutputHistory, Lane, opening, new_lane}
-use Rattle.fwd_model.specs.Step as step
-use Rattle.fwd_model.specs.Step.{answer_to, is_due, due, IsReached}
+use Rattle.fwd_model.specs.declared.fault.Refusal.TheVariants.{Closed, NoSuch}
+use Rattle.fwd_model.specs.Outcome.{answer_of, within, found as sought, refuse_if, Goes, ◌>>=◌, ◌>>◌}
+use Rattle.fwd_model.specs.Step as steps
+use Rattle.fwd_model.specs.Books.{Admission, entered_as, is_settled, is_of, is_due, due, numbers_of, acks_of, has_cell}
+use Rattle.fwd_model.specs.Outputs.{OutputHistory, output_history_due}
+use Rattle.fwd_model.specs.History.{Connection, ever_at, source_at, Lane, opening, new_lane, with_connection, with_lane, histories}
 use Rattle.fwd_model.specs.Delivered.{reached, cells_from, whole_frame, WasAcknowledged, IsDelivered, IsTold}
 use Rattle.fwd_model.proofs.Follows.{reached_sane}
 use Rattle.fwd_model.proofs.Chronicle.{ever_from, frame_at, RequestStory, AllTold, LaneStory, Story, by_last, after-push}
@@ -61,10 +62,10 @@ every_story config es =
 -- a request that is told: entered for the connection, with this number, and settled
 pub record IsFound (routes : List (List (List ℕ))) (cs : List Connection) (o id r : ℕ) (output : OutputHistory) : Type 0 where
   pub entered : Entered
-  pub story : RequestStory routes cs o output.cells entered
+  pub story : RequestStory routes cs o output.buffer.cells entered
   pub conn : entered.origin.conn ≡ id
   pub number : entered.origin.request ≡ r
-  pub settled : is_settled output.acknowledged entered ≡ true
+  pub settled : is_settled output.buffer.acknowledged entered ≡ true
 
 and_parts : (a b : Bool) → (a && b) ≡ true → (a ≡ true) × (b ≡ true)
 and_parts true b h = (refl, h)
@@ -73,25 +74,25 @@ and_parts false b h = absurd cc
 eq_from : (a b : ℕ) → eqb a b ≡ true → a ≡ b
 eq_from a b e = grind (arith, nat_tests, e)
 
-found_by : (routes : List (List (List ℕ))) (cs : List Connection) (o id r : ℕ) (output : OutputHistory) (a : Admission) (rest : List Entered) (b c : Bool) → is_due id output a ≡ b → eqb a.request.origin.request r ≡ c → RequestStory routes cs o output.cells a.request
+found_by : (routes : List (List (List ℕ))) (cs : List Connection) (o id r : ℕ) (output : OutputHistory) (a : Admission) (rest : List Entered) (b c : Bool) → is_due id output.buffer.acknowledged a ≡ b → eqb a.request.origin.request r ≡ c → RequestStory routes cs o output.buffer.cells a.request
     → (has_number r (numbers_of rest) ≡ true → IsFound routes cs o id r output) → has_number r (numbers_of (cond b (a.request ∷ rest) rest)) ≡ true → IsFound routes cs o id r output
 found_by routes cs o id r output a rest true true due_is same one later h =
-    let parts = and_parts (not a.told) (is_of id a.request && is_settled output.acknowledged a.request) due_is in
-    let both = and_parts (is_of id a.request) (is_settled output.acknowledged a.request) parts.1 in
+    let parts = and_parts (not a.told) (is_of id a.request && is_settled output.buffer.acknowledged a.request) due_is in
+    let both = and_parts (is_of id a.request) (is_settled output.buffer.acknowledged a.request) parts.1 in
     record { entered = a.request; story = one; conn = eq_from a.request.origin.conn id both.0; number = eq_from a.request.origin.request r same; settled = both.1 }
 found_by routes cs o id r output a rest true false due_is same one later h = later (grind (arith, nat_tests, h, same))
 found_by routes cs o id r output a rest false c due_is same one later h = later h
 
 due_map : (id : ℕ) (output : OutputHistory) (a : Admission) (admissions : List Admission) (b : Bool)
-    → map (λ (x : Admission). x.request) (cond b (a ∷ filter (is_due id output) admissions) (filter (is_due id output) admissions)) ≡ cond b (a.request ∷ map (λ x. x.request) (filter (is_due id output) admissions)) (map (λ x. x.request) (filter (is_due id output) admissions))
+    → map (λ (x : Admission). x.request) (cond b (a ∷ filter (is_due id output.buffer.acknowledged) admissions) (filter (is_due id output.buffer.acknowledged) admissions)) ≡ cond b (a.request ∷ map (λ x. x.request) (filter (is_due id output.buffer.acknowledged) admissions)) (map (λ x. x.request) (filter (is_due id output.buffer.acknowledged) admissions))
 due_map id output a admissions true = refl
 due_map id output a admissions false = refl
 
-found : (routes : List (List (List ℕ))) (cs : List Connection) (o id r : ℕ) (output : OutputHistory) (admissions : List Admission) → AllTold routes cs o output.cells admissions → has_number r (numbers_of (map (λ a. a.request) (filter (is_due id output) admissions))) ≡ true → IsFound routes cs o id r output
+found : (routes : List (List (List ℕ))) (cs : List Connection) (o id r : ℕ) (output : OutputHistory) (admissions : List Admission) → AllTold routes cs o output.buffer.cells admissions → has_number r (numbers_of (map (λ a. a.request) (filter (is_due id output.buffer.acknowledged) admissions))) ≡ true → IsFound routes cs o id r output
 found routes cs o id r output [] all h = absurd cc
 found routes cs o id r output (a ∷ admissions) all h =
-    found_by routes cs o id r output a (map (λ x. x.request) (filter (is_due id output) admissions)) (is_due id output a) (eqb a.request.origin.request r) refl refl all.0 (λ g. found routes cs o id r output admissions all.1 g)
-    (subst (λ xs. has_number r (numbers_of xs) ≡ true) (due_map id output a admissions (is_due id output a)) h)
+    found_by routes cs o id r output a (map (λ x. x.request) (filter (is_due id output.buffer.acknowledged) admissions)) (is_due id output.buffer.acknowledged a) (eqb a.request.origin.request r) refl refl all.0 (λ g. found routes cs o id r output admissions all.1 g)
+    (subst (λ xs. has_number r (numbers_of xs) ≡ true) (due_map id output a admissions (is_due id output.buffer.acknowledged a)) h)
 
 -- ---- what is found was delivered
 
@@ -126,18 +127,18 @@ frame_is config o tag cells k e = ap (λ x. chunk_frame x (map (λ c. c.entry) (
 
 module _ (config : Config) (es : List Event) (id r o : ℕ) (l : Lane) (here : slice_get (reached config es).lanes o ≡ Some l) (story : LaneStory config es (reached config es).connections o l) (f : IsFound config.routes (reached config es).connections o id r l.output)
     (s : SourceHistory) (known : source_at id (reached config es).connections ≡ Some s) where
-  abbrev t : RequestStory config.routes (reached config es).connections o l.output.cells f.entered
+  abbrev t : RequestStory config.routes (reached config es).connections o l.output.buffer.cells f.entered
   t = f.story
 
-  own : cells_from id r l.output.cells ≡ cells_of t.request f.entered.origin t.number t.moment
-  own = (λ i. cells_from (sym f.conn i) (sym f.number i) l.output.cells) ∙ t.own
+  own : cells_from id r l.output.buffer.cells ≡ cells_of t.request f.entered.origin t.number t.moment
+  own = (λ i. cells_from (sym f.conn i) (sym f.number i) l.output.buffer.cells) ∙ t.own
 
-  acked : (k : ℕ) → has_cell k (cells_from id r l.output.cells) ≡ true → has_number k l.output.acknowledged ≡ true
+  acked : (k : ℕ) → has_cell k (cells_from id r l.output.buffer.cells) ≡ true → has_number k l.output.buffer.acknowledged ≡ true
   acked k h =
       let g : has_cell k (cells_of t.request f.entered.origin t.number t.moment) ≡ true = subst (λ cs. has_cell k cs ≡ true) own h in
       let same = number_is t.request f.entered.origin t.number t.moment k t.request.entries g in
-      let settled : is_settled l.output.acknowledged (entered_as t.request f.entered.origin t.number) ≡ true = subst (λ e. is_settled l.output.acknowledged e ≡ true) t.entered f.settled in
-      subst (λ n. has_number n l.output.acknowledged ≡ true) same (settled_is t.request f.entered.origin t.number t.moment l.output.acknowledged k t.request.entries g settled)
+      let settled : is_settled l.output.buffer.acknowledged (entered_as t.request f.entered.origin t.number) ≡ true = subst (λ e. is_settled l.output.buffer.acknowledged e ≡ true) t.entered f.settled in
+      subst (λ n. has_number n l.output.buffer.acknowledged ≡ true) same (settled_is t.request f.entered.origin t.number t.moment l.output.buffer.acknowledged k t.request.entries g settled)
 
   pub found_delivered : IsDelivered config es id r o
   found_delivered = record {
@@ -156,21 +157,23 @@ module _ (config : Config) (es : List Event) (id r o : ℕ) (l : Lane) (here : s
     sent = λ k h.
         let g : has_cell k (cells_of t.request f.entered.origin t.number t.moment) ≡ true = subst (λ cs. has_cell k cs ≡ true) own h in
         let n = story.numbers k (acked k h) in
-        (n.0, subst (λ frame. WasAcknowledged config es o n.0 frame (chunk_name config.run o k)) (frame_is config o t.request.tag l.output.cells k (t.under k g).1) n.1);
+        (n.0, subst (λ frame. WasAcknowledged config es o n.0 frame (chunk_name config.run o k)) (frame_is config o t.request.tag l.output.buffer.cells k (t.under k g).1) n.1);
   }
 
 told_by : (config : Config) (es : List Event) (id r o : ℕ) (numbers out : List ℕ) (s : Option SourceHistory) (l : Option Lane) → source_at id (reached config es).connections ≡ s → slice_get (reached config es).lanes o ≡ l → Story config es (reached config es)
-    → step.collect_answer id s l ≡ answer.Told numbers out → has_number r numbers ≡ true → IsDelivered config es id r o
+    → answer_of (sought s NoSuch >>= (λ x. sought l NoSuch >>= (λ y. within (λ two. with_lane o two.1 (with_connection id two.0 (reached config es))) (steps.collect histories id x y)))) ≡ answer.Told numbers out
+    → has_number r numbers ≡ true → IsDelivered config es id r o
 told_by config es id r o numbers out None l known here story told among = absurd cc
 told_by config es id r o numbers out (Some s) None known here story told among = absurd cc
 told_by config es id r o numbers out (Some s) (Some l) known here story told among = at s.shut told
   where
-    at : (b : Bool) → cond b (answer.Refused Closed) (answer.Told (numbers_of (due id l.output)) (acks_of (due id l.output))) ≡ answer.Told numbers out → IsDelivered config es id r o
+    at : (b : Bool) → answer_of (within (λ (two : SourceHistory × Lane). with_lane o two.1 (with_connection id two.0 (reached config es))) (refuse_if b Closed
+        >> Goes (answer.Told (numbers_of (output_history_due l.output id)) (acks_of (output_history_due l.output id))) (histories.appends s (acks_of (output_history_due l.output id)), histories.tells l id))) ≡ answer.Told numbers out → IsDelivered config es id r o
     at true e = absurd cc
     at false e =
-        let same : numbers_of (due id l.output) ≡ numbers = cc in
+        let same : numbers_of (output_history_due l.output id) ≡ numbers = cc in
         let lane = story.lanes o l here in
-        found_delivered config es id r o l here lane (found config.routes (reached config es).connections o id r l.output l.output.requests lane.requests (subst (λ ns. has_number r ns ≡ true) (sym same) among)) s known
+        found_delivered config es id r o l here lane (found config.routes (reached config es).connections o id r l.output l.output.book lane.requests (subst (λ ns. has_number r ns ≡ true) (sym same) among)) s known
 
 pub told_delivered : (config : Config) (es : List Event) (id r o : ℕ) (t : IsTold config es id r o) → IsDelivered config t.before id r o
 told_delivered config es id r o t =

@@ -14,14 +14,16 @@ use Rattle.fwd_model.specs.declared.event.FlushKind.TheVariants.{All, Due}
 use Rattle.fwd_model.specs.declared.fault.Refusal.TheVariants.{NoSuch, NotNow, NotUp, Closed}
 use Rattle.fwd_model.specs.declared.fault.SessionFault.TheVariants.{BadReply, WrongAck, EarlyAck}
 use Rattle.fwd_model.specs.declared.config.Config.{Config}
-use Rattle.fwd_model.specs.History.{opening}
 use Rattle.fwd_handshake.specs.declared.credentials.Security.{Security}
 use Rattle.fwd_msgpack.specs.declared.fault.ScanFault.TheVariants.{Reserved}
 use Rattle.fwd_source.specs.declared.fault.SourceFault.TheVariants.{Scan}
 use Rattle.fwd_source.specs.Judged.{judged_of}
 use Rattle.fwd_model.specs.Chunks.{chunk_of}
 use Rattle.fwd_model.specs.Replies.{reply_stream}
-use Rattle.fwd_model.specs.Step.{answers, after, entered, flushed, taken, settled, has_told}
+use Rattle.fwd_model.specs.Step.{answers, after}
+use Rattle.fwd_model.specs.Buffers.{enters, flushes, takes, settles}
+use Rattle.fwd_model.specs.Books.{tells}
+use Rattle.fwd_model.specs.History.{opening, histories}
 
 -- no shared key is set
 abbrev nobody : Security
@@ -52,7 +54,7 @@ events =
     event.Accept 1 (replicate 16 0) (replicate 16 0) ∷
     event.Admit 1 0 0 ∷ []
 
-answered : answers (opening settings) events ≡
+answered : answers histories (opening settings) events ≡
     answer.Accepted [] ∷
     answer.Requests 0 [] ∷
     answer.Requests 1 [] ∷
@@ -67,7 +69,7 @@ answered : answers (opening settings) events ≡
     answer.Refused NoSuch ∷
     answer.Refused NotNow ∷
     answer.Refused NotNow ∷ []
-unfolding opening route pattern_matches matches entered flushed taken chunk_of judged_of request_of parts_of row_of_values split_of first_of fault_at item_begun payload_ended reading_of row_of named_rows
+unfolding opening route pattern_matches matches enters flushes takes chunk_of judged_of request_of parts_of row_of_values split_of first_of fault_at item_begun payload_ended reading_of row_of named_rows
 answered = refl
 
 -- ---- the way back: the source is told once the server acknowledged its chunk
@@ -124,7 +126,7 @@ until_sent =
 abbrev frame : List ℕ
 frame = 0x93 ∷ 0xa1 ∷ 0x61 ∷ 0xc4 ∷ 0x03 ∷ 0x92 ∷ 0x01 ∷ 0x80 ∷ 0x82 ∷ 0xa4 ∷ 0x73 ∷ 0x69 ∷ 0x7a ∷ 0x65 ∷ 0x01 ∷ 0xa5 ∷ 0x63 ∷ 0x68 ∷ 0x75 ∷ 0x6e ∷ 0x6b ∷ 0xb8 ∷ name
 
-brought_back : answers (opening settings) whole_way ≡
+brought_back : answers histories (opening settings) whole_way ≡
     answer.Accepted [] ∷
     answer.Requests 1 [] ∷
     answer.Admitted 1 1 ∷
@@ -144,11 +146,11 @@ brought_back : answers (opening settings) whole_way ≡
     answer.SessionFaulted EarlyAck ∷
     answer.Refused NotNow ∷
     answer.Refused NotUp ∷ []
-unfolding opening route pattern_matches matches entered flushed taken settled has_told chunk_of chunk_frame chunk_name encode_symbols ack_text ack_name head_bytes reply_stream judged_of request_of parts_of row_of_values split_of first_of fault_at item_begun payload_ended reading_of row_of named_rows
+unfolding opening route pattern_matches matches enters flushes takes settles tells chunk_of chunk_frame chunk_name encode_symbols ack_text ack_name head_bytes reply_stream judged_of request_of parts_of row_of_values split_of first_of fault_at item_begun payload_ended reading_of row_of named_rows
 brought_back = refl
 
 -- a second acknowledgement is early, and the first one stands
-acknowledged_twice : answers (after (opening settings) until_sent) (
+acknowledged_twice : answers histories (after histories (opening settings) until_sent) (
     event.Heard 0 0 (reply_front ++ reply_rest ++ reply_front ++ reply_rest) ∷
     event.Settle 0 0 ∷
     event.Collect 1 0 ∷ []
@@ -156,16 +158,16 @@ acknowledged_twice : answers (after (opening settings) until_sent) (
     answer.SessionFaulted EarlyAck ∷
     answer.Settled 1 ∷
     answer.Told (1 ∷ []) (0x81 ∷ 0xa3 ∷ 0x61 ∷ 0x63 ∷ 0x6b ∷ 0xa1 ∷ 0x78 ∷ []) ∷ []
-unfolding opening route pattern_matches matches entered flushed taken settled has_told chunk_of chunk_frame chunk_name encode_symbols ack_text ack_name head_bytes reply_stream judged_of request_of parts_of row_of_values split_of first_of fault_at item_begun payload_ended reading_of row_of named_rows
+unfolding opening route pattern_matches matches enters flushes takes settles tells chunk_of chunk_frame chunk_name encode_symbols ack_text ack_name head_bytes reply_stream judged_of request_of parts_of row_of_values split_of first_of fault_at item_begun payload_ended reading_of row_of named_rows
 acknowledged_twice = refl
 
 -- another name, and a value that is no acknowledgement
-wrong_name : answers (after (opening settings) until_sent) (event.Heard 0 0 (0x81 ∷ 0xa3 ∷ 0x61 ∷ 0x63 ∷ 0x6b ∷ 0xa1 ∷ 0x41 ∷ []) ∷ event.Settle 0 0 ∷ []) ≡ answer.SessionFaulted WrongAck ∷ answer.Refused NotNow ∷ []
-unfolding opening route pattern_matches matches entered flushed taken settled has_told chunk_of chunk_frame chunk_name encode_symbols ack_text ack_name head_bytes reply_stream judged_of request_of parts_of row_of_values split_of first_of fault_at item_begun payload_ended reading_of row_of named_rows
+wrong_name : answers histories (after histories (opening settings) until_sent) (event.Heard 0 0 (0x81 ∷ 0xa3 ∷ 0x61 ∷ 0x63 ∷ 0x6b ∷ 0xa1 ∷ 0x41 ∷ []) ∷ event.Settle 0 0 ∷ []) ≡ answer.SessionFaulted WrongAck ∷ answer.Refused NotNow ∷ []
+unfolding opening route pattern_matches matches enters flushes takes settles tells chunk_of chunk_frame chunk_name encode_symbols ack_text ack_name head_bytes reply_stream judged_of request_of parts_of row_of_values split_of first_of fault_at item_begun payload_ended reading_of row_of named_rows
 wrong_name = refl
 
-no_acknowledgement : answers (after (opening settings) until_sent) (event.Heard 0 0 (0xc0 ∷ []) ∷ event.Heard 0 0 (0xc3 ∷ []) ∷ event.Settle 0 0 ∷ []) ≡ answer.Quiet [] ∷ answer.SessionFaulted BadReply ∷ answer.Refused NotNow ∷ []
-unfolding opening route pattern_matches matches entered flushed taken settled has_told chunk_of chunk_frame chunk_name encode_symbols ack_text ack_name head_bytes reply_stream judged_of request_of parts_of row_of_values split_of first_of fault_at item_begun payload_ended reading_of row_of named_rows
+no_acknowledgement : answers histories (after histories (opening settings) until_sent) (event.Heard 0 0 (0xc0 ∷ []) ∷ event.Heard 0 0 (0xc3 ∷ []) ∷ event.Settle 0 0 ∷ []) ≡ answer.Quiet [] ∷ answer.SessionFaulted BadReply ∷ answer.Refused NotNow ∷ []
+unfolding opening route pattern_matches matches enters flushes takes settles tells chunk_of chunk_frame chunk_name encode_symbols ack_text ack_name head_bytes reply_stream judged_of request_of parts_of row_of_values split_of first_of fault_at item_begun payload_ended reading_of row_of named_rows
 no_acknowledgement = refl
 
 -- ---- which output an event goes to
@@ -179,7 +181,7 @@ two_outputs = record {
   outputs = record { workers = 1; servers = 1; flush_interval = 1000 } ∷ record { workers = 1; servers = 1; flush_interval = 1000 } ∷ [];
 }
 
-routed : answers (opening two_outputs) (
+routed : answers histories (opening two_outputs) (
     event.Accept 1 (replicate 16 0) (replicate 16 0) ∷
     event.Piece 1 (0x93 ∷ 0xa1 ∷ 0x61 ∷ 0x01 ∷ 0x80 ∷ 0x93 ∷ 0xa1 ∷ 0x62 ∷ 0x01 ∷ 0x80 ∷ 0x93 ∷ 0xa3 ∷ 0x61 ∷ 0x2e ∷ 0x62 ∷ 0x01 ∷ 0x80 ∷ 0x93 ∷ 0xa1 ∷ 0x61 ∷ 0x01 ∷ 0x80 ∷ []) ∷
     event.Admit 1 0 0 ∷
@@ -201,13 +203,13 @@ routed : answers (opening two_outputs) (
     answer.NoRoute ∷
     answer.Refused NotNow ∷
     answer.Refused Closed ∷ []
-unfolding opening route pattern_matches matches entered judged_of request_of parts_of row_of_values split_of first_of fault_at item_begun payload_ended reading_of row_of named_rows
+unfolding opening route pattern_matches matches enters judged_of request_of parts_of row_of_values split_of first_of fault_at item_begun payload_ended reading_of row_of named_rows
 routed = refl
 
 -- ---- a connection's end
 
 -- a fault behind a good request closes the connection; once it is shut it is known no more, and its id stays used
-ended : answers (opening settings) (
+ended : answers histories (opening settings) (
     event.Accept 1 (replicate 16 0) (replicate 16 0) ∷
     event.Piece 1 (0x93 ∷ 0xa1 ∷ 0x61 ∷ 0x01 ∷ 0x80 ∷ 0xc1 ∷ []) ∷
     event.Admit 1 0 0 ∷
@@ -231,5 +233,5 @@ ended : answers (opening settings) (
     answer.Refused NoSuch ∷
     answer.Refused NotNow ∷
     answer.Accepted [] ∷ []
-unfolding opening route pattern_matches matches entered judged_of request_of parts_of row_of_values split_of first_of fault_at item_begun payload_ended reading_of row_of named_rows
+unfolding opening route pattern_matches matches enters judged_of request_of parts_of row_of_values split_of first_of fault_at item_begun payload_ended reading_of row_of named_rows
 ended = refl

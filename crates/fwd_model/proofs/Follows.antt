@@ -1,33 +1,52 @@
--- The live part follows the history at each event of a run, and over runs.
-use Rattle.std.proofs.Common.{◌≡◌, ℕ, zero, suc, Bool, true, false, cond, List, [], ◌∷◌, Option, Some, None, refl, sym, ap, subst, ◌∙◌}
-use Rattle.std.specs.Prelude.{map, option_map, slice_get, replicate}
+-- The live part follows the history at each event of a run, and over runs: each proof has the shape of its event.
+use Rattle.std.proofs.Common.{◌≡◌, ℕ, zero, suc, ◌+◌, Bool, true, false, cond, List, [], ◌∷◌, ◌++◌, length, Option, Some, None, refl, sym, ap, subst, ◌∙◌}
+use Rattle.std.specs.Prelude.{map, option_map, is_some, not, nat_lt, ◌==◌, slice_get, replicate, filter}
+use Rattle.fwd_modes.specs.Requests.{Request}
+use Rattle.fwd_match.specs.Patterns.{route}
+use Rattle.fwd_source.specs.declared.origin.Origin.{Origin}
+use Rattle.fwd_source.specs.declared.fault.SourceFault.{SourceFault}
+use Rattle.fwd_source.specs.declared.piece.Piece.TheVariants as verdict
+use Rattle.fwd_source.specs.History.{Setup, SourceHistory, IsSane as IsSaneSource, judged, is_closed, waiting, hears, told, new_pong}
+use Rattle.fwd_source.specs.Live.{LiveSource, live_source, judged_piece, source_hears, source_appends}
+use Rattle.fwd_source.proofs.Following.{heard, hears-live, hears-sane, gives-live, gives-sane, appends-live, appends-sane, drains-live, shuts-live, shuts-sane}
+use Rattle.fwd_model.specs.declared.cell.Carry.{Carry}
+use Rattle.fwd_model.specs.declared.cell.Chunk.{Chunk}
 use Rattle.fwd_model.specs.declared.config.Config.{Config}
 use Rattle.fwd_model.specs.declared.config.OutputConfig.{OutputConfig}
 use Rattle.fwd_model.specs.declared.event.Event.{Event}
 use Rattle.fwd_model.specs.declared.event.Event.TheVariants as event
 use Rattle.fwd_model.specs.declared.event.FlushKind.{FlushKind}
-use Rattle.fwd_model.specs.declared.answer.Answer.{Answer}
-use Rattle.fwd_source.specs.History.{SourceHistory, IsSane as IsSaneSource}
-use Rattle.fwd_source.specs.Live.{live_source}
-use Rattle.fwd_model.specs.History.{SessionHistory, Lane, History, source_at, new_lane, opening}
-use Rattle.fwd_model.specs.Step as step
-use Rattle.fwd_model.specs.Step.{answer_to, next, answers, after, is_fresh, setup_of, accept_answer, accepted, session_at, IsReached}
-use Rattle.fwd_model.specs.Live.{live, live_lane, live_worker, last_id, LiveRelay, LiveLane, LiveWorker}
-use Rattle.fwd_model.specs.LiveStep as livestep
-use Rattle.fwd_model.specs.LiveStep.{live_answer_to, live_next, live_answers, live_after, live_accepted, live_source_at, is_above, worker_at}
+use Rattle.fwd_model.specs.declared.answer.Answer.TheVariants as answer
+use Rattle.fwd_model.specs.Chunks.{cells_at, chunk_of, has_number}
+use Rattle.fwd_model.specs.Outcome.{Outcome, Stays, Goes, answer_of, state_of, within}
+use Rattle.fwd_model.specs.Layers.{Worker}
+use Rattle.fwd_model.specs.Books.{numbers_of, acks_of}
+use Rattle.fwd_model.specs.Step as steps
+use Rattle.fwd_model.specs.Step.{step, answers, after, setup_of, frame_of, is_loaded, of_piece, first_of, chunk_answer, reply_answer, with_session}
+use Rattle.fwd_model.specs.Buffers.{is_closed_by, has_no_number, live_buffer, buffer_closes}
+use Rattle.fwd_model.specs.Outputs.{live_output, output_history_due}
+use Rattle.fwd_model.specs.Sessions.{SessionHistory, LiveSession, live_session, loads}
+use Rattle.fwd_model.specs.History.{Lane, History, histories, source_at, new_lane, opening, is_fresh, with_connection, with_lane, IsReached}
+use Rattle.fwd_model.specs.Live.{LiveLane, live, live_lane, lives, last_id, is_above, live_source_at, with_live_lane, with_live_worker}
+use Rattle.fwd_model.proofs.Agree.{Agrees, Leads, stays, goes, checked, either, sought, inside}
 use Rattle.fwd_model.proofs.Places.{source_at-live}
+use Rattle.fwd_model.proofs.Settling.{filter-same, cells_at-unsettled}
 use Rattle.fwd_model.proofs.Reached.{IsSaneSession, IsSaneLane, AllSane, IsSane, AllSources-at, AllSane-at}
-use Rattle.fwd_model.proofs.FollowsSources.{accepted-live, accepted-sane, piece_answer-live, piece_next-live, piece_next-sane, drained_answer-live, drained_next-live, drained_next-sane, shut_answer-live, shut_next-live, shut_next-sane}
-use Rattle.fwd_model.proofs.FollowsOutputs.{lane_at-live, worker_at-live, flush_answer-live, flush_next-live, flush_next-sane}
-use Rattle.fwd_model.proofs.FollowsSessions.{up_answer-live, up_next-live, up_next-sane, load_answer-live, load_next-live, load_next-sane, wrote_answer-live, wrote_next-live, wrote_next-sane}
-use Rattle.fwd_model.proofs.FollowsReplies.{heard_answer-live, heard_next-live, heard_next-sane}
-use Rattle.fwd_model.proofs.FollowsSettles.{settle_answer-live, settle_next-live, settle_next-sane}
-use Rattle.fwd_model.proofs.FollowsCollects.{collect_answer-live, collect_next-live, collect_next-sane}
-use Rattle.fwd_model.proofs.FollowsTakes.{take_answer-live, take_next-live, take_next-sane}
-use Rattle.fwd_model.proofs.FollowsAdmits.{admit_answer-live, admit_next-live, admit_next-sane}
+use Rattle.fwd_model.proofs.FollowsSources.{accepts-live, accepts-sane, with_connection-live, with_connection-sane, drained-sane, leaves-live, leaves-sane}
+use Rattle.fwd_model.proofs.FollowsOutputs.{lane_at-live, with_lane-live, with_lane-sane, worker_at-live, closing-live, flushes-live, flushes-sane}
+use Rattle.fwd_model.proofs.FollowsSessions.{with_session-live, with_session-sane, is_some-option_map, begins-live, begins-sane, loads-live, loads-sane, sends-live, sends-sane}
+use Rattle.fwd_model.proofs.FollowsReplies.{down-live, replies-live, listens-live, listens-sane}
+use Rattle.fwd_model.proofs.FollowsTakes.{free-same, takes-live, takes-sane}
+use Rattle.fwd_model.proofs.FollowsAdmits.{enters-live, enters-sane}
+use Rattle.fwd_model.proofs.FollowsSettles.{acked_is, settles-live, settles-sane}
+use Rattle.fwd_model.proofs.FollowsCollects.{due-same, tells-live, tells-sane}
+use Rattle.fwd_model.proofs.Workers.{worker_map, worker_seen, IsWorker, worker_is, session_here, none_carried, carried_is}
 
-abbrev Followed : History → Event → Type 0
-Followed h e = (answer_to h e ≡ live_answer_to (live h) e) × (live (next h e) ≡ live_next (live h) e) × IsSane (next h e)
+option_id : {X : Type 0} (o : Option X) → o ≡ option_map (λ x. x) o
+option_id None = refl
+option_id (Some x) = refl
+
+-- ---- where it happens
 
 module _ (h : History) (sane : IsSane h) where
   own_source : (id : ℕ) (s : SourceHistory) → source_at id h.connections ≡ Some s → IsSaneSource s
@@ -40,185 +59,254 @@ module _ (h : History) (sane : IsSane h) where
   unfolding live
   live_source_here id = source_at-live id h.connections sane.once
 
-  accept_at : (id : ℕ) (nonce auth : List ℕ) (b c : Bool) → is_fresh id h.connections ≡ b → b ≡ c
-      → (accept_answer b (setup_of h.security id nonce auth) ≡ accept_answer c (setup_of h.security id nonce auth))
-      × (live (cond b (accepted (setup_of h.security id nonce auth) h) h) ≡ cond c (live_accepted (setup_of h.security id nonce auth) (live h)) (live h))
-      × IsSane (cond b (accepted (setup_of h.security id nonce auth) h) h)
-  accept_at id nonce auth true true f e = (refl, accepted-live (setup_of h.security id nonce auth) h, accepted-sane (setup_of h.security id nonce auth) h sane f)
-  accept_at id nonce auth true false f e = absurd cc
-  accept_at id nonce auth false true f e = absurd cc
-  accept_at id nonce auth false false f e = (refl, refl, sane)
+  at_source : (id : ℕ) (p : SourceHistory → Outcome SourceHistory) (q : LiveSource → Outcome LiveSource) → ((s : SourceHistory) → IsSaneSource s → Agrees live_source IsSaneSource (p s) (q (live_source s)))
+      → Agrees live IsSane (steps.at_source histories h id p) (steps.at_source lives (live h) id q)
+  at_source id p q agrees =
+      sought _ _ (live_source_here id) (λ s e.
+      inside _ _ (agrees s (own_source id s e)) (λ t own. (with_connection-live id t s h e, with_connection-sane id t h sane own)))
 
-  accept_followed : (id : ℕ) (nonce auth : List ℕ) → Followed h (event.Accept id nonce auth)
-  unfolding live
-  accept_followed id nonce auth = accept_at id nonce auth (is_fresh id h.connections) (is_above id (last_id h.connections)) refl (sane.ids id)
+  at_lane : (o : ℕ) (p : Lane → Outcome Lane) (q : LiveLane → Outcome LiveLane) → ((l : Lane) → IsSaneLane l → Agrees live_lane IsSaneLane (p l) (q (live_lane l)))
+      → Agrees live IsSane (steps.at_lane histories h o p) (steps.at_lane lives (live h) o q)
+  at_lane o p q agrees =
+      sought _ _ (lane_at-live o h) (λ l e.
+      inside _ _ (agrees l (own_lane o l e)) (λ m own. (with_lane-live o m h, with_lane-sane o m h sane own)))
 
-  piece_followed : (id : ℕ) (bytes : List ℕ) → Followed h (event.Piece id bytes)
-  piece_followed id bytes =
-      let here = sym (live_source_here id) in (
-        piece_answer-live h sane id (source_at id h.connections) bytes refl ∙ ap (λ o. livestep.live_piece_answer o bytes) here,
-        piece_next-live h sane id (source_at id h.connections) bytes refl ∙ ap (λ o. livestep.live_piece_next id o bytes (live h)) here,
-        piece_next-sane h sane id (source_at id h.connections) bytes refl,
-      )
+abbrev both : SourceHistory × Lane → LiveSource × LiveLane
+both two = (live_source two.0, live_lane two.1)
 
-  drained_followed : (id count : ℕ) → Followed h (event.Drained id count)
-  drained_followed id count =
-      let here = sym (live_source_here id) in (
-        drained_answer-live h sane id (source_at id h.connections) count ∙ ap (λ o. livestep.live_drained_answer o count) here,
-        drained_next-live h sane id (source_at id h.connections) count refl ∙ ap (λ o. livestep.live_drained_next id o count (live h)) here,
-        drained_next-sane h sane id (source_at id h.connections) count refl,
-      )
+abbrev SaneBoth : SourceHistory × Lane → Type 0
+SaneBoth two = IsSaneSource two.0 × IsSaneLane two.1
 
-  shut_followed : (id : ℕ) → Followed h (event.Shut id)
-  shut_followed id =
-      let here = sym (live_source_here id) in (
-        shut_answer-live h sane id (source_at id h.connections) ∙ ap livestep.live_shut_answer here,
-        shut_next-live h sane id (source_at id h.connections) refl ∙ ap (λ o. livestep.live_shut_next id o (live h)) here,
-        shut_next-sane h sane id (source_at id h.connections),
-      )
+both_lead : {s : SourceHistory} {t : LiveSource} {l : Lane} {m : LiveLane} → Leads live_source IsSaneSource s t → Leads live_lane IsSaneLane l m → Leads both SaneBoth (s, l) (t, m)
+both_lead a b = (λ i. (a.0 i, b.0 i), (a.1, b.1))
 
-  admit_followed : (id o now : ℕ) → Followed h (event.Admit id o now)
-  unfolding live
-  admit_followed id o now =
-      let has : (s : SourceHistory) → source_at id h.connections ≡ Some s → IsSaneSource s = λ s e. own_source id s e in
-      let own : (l : Lane) → slice_get h.lanes o ≡ Some l → IsSaneLane l = λ l e. own_lane o l e in
-      let here = sym (live_source_here id) in
-      let lane = sym (lane_at-live o h) in (
-        admit_answer-live h.routes (source_at id h.connections) o (slice_get h.lanes o) ∙ (λ i. livestep.live_admit_answer h.routes (here i) o (lane i)),
-        admit_next-live id (source_at id h.connections) o (slice_get h.lanes o) now h refl own ∙ (λ i. livestep.live_admit_next id (here i) o (lane i) now (live h)),
-        admit_next-sane id (source_at id h.connections) o (slice_get h.lanes o) now h sane has own,
-      )
+at_both : (h : History) (sane : IsSane h) (id o : ℕ) (p : SourceHistory → Lane → Outcome (SourceHistory × Lane)) (q : LiveSource → LiveLane → Outcome (LiveSource × LiveLane))
+    → ((s : SourceHistory) (l : Lane) → IsSaneSource s → IsSaneLane l → Agrees both SaneBoth (p s l) (q (live_source s) (live_lane l)))
+    → Agrees live IsSane (steps.at_both histories h id o p) (steps.at_both lives (live h) id o q)
+at_both h sane id o p q agrees =
+    sought _ _ (live_source_here h sane id) (λ s e.
+    sought _ _ (lane_at-live o h) (λ l f.
+    inside _ _ (agrees s l (own_source h sane id s e) (own_lane h sane o l f)) (λ two own.
+    let k = with_connection id two.0 h in (
+      with_lane-live o two.1 k ∙ ap (with_live_lane o (live_lane two.1)) (with_connection-live id two.0 s h e),
+      with_lane-sane o two.1 k (with_connection-sane id two.0 h sane own.0) own.1,
+    ))))
 
-  flush_followed : (o now : ℕ) (kind : FlushKind) → Followed h (event.Flush o now kind)
-  flush_followed o now kind =
-      let own : (l : Lane) → slice_get h.lanes o ≡ Some l → IsSaneLane l = λ l e. own_lane o l e in
-      let lane = sym (lane_at-live o h) in (
-        flush_answer-live (slice_get h.lanes o) now kind own ∙ ap (λ l. livestep.live_flush_answer l now kind) lane,
-        flush_next-live o (slice_get h.lanes o) now kind h own ∙ ap (λ l. livestep.live_flush_next o l now kind (live h)) lane,
-        flush_next-sane o (slice_get h.lanes o) now kind h sane own,
-      )
+-- a worker whose chunk is that of the worker at the place, and whose session is sane
+abbrev SaneWorker : Lane → ℕ → Worker SessionHistory → Worker SessionHistory → Type 0
+SaneWorker l w x y = (s : SessionHistory) × (y ≡ with_session x s) × IsSaneSession w l.output.buffer.carried s
 
-  collect_followed : (id o : ℕ) → Followed h (event.Collect id o)
-  collect_followed id o =
-      let has : (s : SourceHistory) → source_at id h.connections ≡ Some s → IsSaneSource s = λ s e. own_source id s e in
-      let own : (l : Lane) → slice_get h.lanes o ≡ Some l → IsSaneLane l = λ l e. own_lane o l e in
-      let here = sym (live_source_here id) in
-      let lane = sym (lane_at-live o h) in (
-        collect_answer-live id (source_at id h.connections) (slice_get h.lanes o) own ∙ (λ i. livestep.live_collect_answer id (here i) (lane i)),
-        collect_next-live id (source_at id h.connections) o (slice_get h.lanes o) h refl has own ∙ (λ i. livestep.live_collect_next id (here i) o (lane i) (live h)),
-        collect_next-sane id (source_at id h.connections) o (slice_get h.lanes o) h sane has own,
-      )
+worker_here : (w : ℕ) (l : Lane) → slice_get (live_lane l).workers w ≡ option_map (worker_map live_session) (histories.worker_at l w)
+worker_here w l = worker_at-live w l ∙ worker_seen l w (slice_get l.sessions w)
 
-  -- what happens at a worker's place, by whether there is such an output
-  module _ (o w : ℕ) (event_answer : Option (Option SessionHistory) → Option Lane → Answer) (event_next : Option (Option SessionHistory) → Option Lane → History)
-      (its_answer : Option LiveWorker → Option LiveLane → Answer) (its_next : Option LiveWorker → Option LiveLane → LiveRelay) where
-    at_worker :
-        ((event_answer None None ≡ its_answer None None) × (live (event_next None None) ≡ its_next None None) × IsSane (event_next None None))
-        → ((l : Lane) → slice_get h.lanes o ≡ Some l
-        → (event_answer (slice_get l.sessions w) (Some l) ≡ its_answer (option_map (λ s. live_worker l.output w s) (slice_get l.sessions w)) (Some (live_lane l)))
-        × (live (event_next (slice_get l.sessions w) (Some l)) ≡ its_next (option_map (λ s. live_worker l.output w s) (slice_get l.sessions w)) (Some (live_lane l)))
-        × IsSane (event_next (slice_get l.sessions w) (Some l)))
-        → (event_answer (session_at w (slice_get h.lanes o)) (slice_get h.lanes o) ≡ its_answer (worker_at w (slice_get (live h).lanes o)) (slice_get (live h).lanes o))
-        × (live (event_next (session_at w (slice_get h.lanes o)) (slice_get h.lanes o)) ≡ its_next (worker_at w (slice_get (live h).lanes o)) (slice_get (live h).lanes o))
-        × IsSane (event_next (session_at w (slice_get h.lanes o)) (slice_get h.lanes o))
-    at_worker none some = subst (λ x. (event_answer (session_at w (slice_get h.lanes o)) (slice_get h.lanes o) ≡ its_answer (worker_at w x) x)
-        × (live (event_next (session_at w (slice_get h.lanes o)) (slice_get h.lanes o)) ≡ its_next (worker_at w x) x)
-        × IsSane (event_next (session_at w (slice_get h.lanes o)) (slice_get h.lanes o))) (sym (lane_at-live o h)) (by_lane (slice_get h.lanes o) refl)
-      where
-        by_lane : (l : Option Lane) → slice_get h.lanes o ≡ l → (event_answer (session_at w l) l ≡ its_answer (worker_at w (option_map live_lane l)) (option_map live_lane l))
-            × (live (event_next (session_at w l) l) ≡ its_next (worker_at w (option_map live_lane l)) (option_map live_lane l)) × IsSane (event_next (session_at w l) l)
-        by_lane None e = none
-        by_lane (Some l) e =
-            let f = some l e in
-            let here = sym (worker_at-live w l) in
-            (f.0 ∙ ap (λ x. its_answer x (Some (live_lane l))) here, f.1 ∙ ap (λ x. its_next x (Some (live_lane l))) here, f.2)
+puts_leads : (l : Lane) (w : ℕ) (x : Worker SessionHistory) (s : SessionHistory) → IsSaneLane l → histories.worker_at l w ≡ Some x → IsSaneSession w l.output.buffer.carried s
+    → Leads live_lane IsSaneLane (histories.puts_worker l w (with_session x s)) (with_live_worker (live_lane l) w (worker_map live_session (with_session x s)))
+puts_leads l w x s own e fits =
+    let at = worker_is l w x e in (
+      with_session-live w s l x.session ∙ ap (λ (y : Worker SessionHistory). with_live_worker (live_lane l) w (worker_map live_session (with_session y s))) at.is,
+      with_session-sane w s l own fits,
+    )
 
-  up_followed : (o w server : ℕ) (salt : List ℕ) (now : ℕ) → Followed h (event.Up o w server salt now)
-  up_followed o w server salt now =
-      at_worker o w (λ s l. step.up_answer server s l) (λ s l. step.up_next o w server now s l h) (λ x l. livestep.live_up_answer server x l) (λ x l. livestep.live_up_next o w server now x l (live h))
-      (refl, refl, sane)
-      (λ l e. (
-        up_answer-live server w (slice_get l.sessions w) (Some l) l.output,
-        up_next-live o w server now (slice_get l.sessions w) l h,
-        up_next-sane o w server now (slice_get l.sessions w) (Some l) h sane (λ k f. subst IsSaneLane (some_is l k f) (own_lane o l e)),
-      ))
-    where
-      some_is : (l k : Lane) → Some l ≡ Some k → l ≡ k
-      some_is l k f = cc
+at_worker : (l : Lane) (w : ℕ) (p : Worker SessionHistory → Outcome (Worker SessionHistory)) (q : Worker LiveSession → Outcome (Worker LiveSession)) → IsSaneLane l
+    → ((x : Worker SessionHistory) → histories.worker_at l w ≡ Some x → Agrees (worker_map live_session) (SaneWorker l w x) (p x) (q (worker_map live_session x)))
+    → Agrees live_lane IsSaneLane (steps.at_worker histories l w p) (steps.at_worker lives (live_lane l) w q)
+at_worker l w p q own agrees =
+    sought _ _ (worker_here w l) (λ x e.
+    inside _ _ (agrees x e) (λ y fits.
+    subst (λ z. Leads live_lane IsSaneLane (histories.puts_worker l w z) (with_live_worker (live_lane l) w (worker_map live_session z))) (sym fits.1) (puts_leads l w x fits.0 own e fits.2)))
 
-  take_followed : (o w now : ℕ) → Followed h (event.Take o w now)
-  take_followed o w now =
-      at_worker o w (λ s l. step.take_answer w s l) (λ s l. step.take_next o w s l now h) (λ x l. livestep.live_take_answer x l) (λ x l. livestep.live_take_next o w x l now (live h))
-      (refl, refl, sane)
-      (λ l e. (
-        take_answer-live w (slice_get l.sessions w) l,
-        take_next-live o w (slice_get l.sessions w) l now h refl,
-        take_next-sane o w (slice_get l.sessions w) (Some l) now h sane (λ k f. subst IsSaneLane (some_is l k f) (own_lane o l e)),
-      ))
-    where
-      some_is : (l k : Lane) → Some l ≡ Some k → l ≡ k
-      some_is l k f = cc
+with_session-leads : (l : Lane) (w : ℕ) (x : Worker SessionHistory) (s : SessionHistory) (t : LiveSession) → Leads live_session (IsSaneSession w l.output.buffer.carried) s t
+    → Leads (worker_map live_session) (SaneWorker l w x) (with_session x s) (with_session (worker_map live_session x) t)
+with_session-leads l w x s t leads = (λ i. record { chunk = x.chunk; session = Some (leads.0 i) }, (s, refl, leads.1))
 
-  -- a worker's session is sane
-  own_session : (l : Lane) (o w : ℕ) → slice_get h.lanes o ≡ Some l → (t : SessionHistory) → slice_get l.sessions w ≡ Some (Some t) → IsSaneSession w l.output.carried t
-  own_session l o w e t f = (own_lane o l e).sessions w t f
+at_session : (l : Lane) (w : ℕ) (x : Worker SessionHistory) (p : SessionHistory → Outcome SessionHistory) (q : LiveSession → Outcome LiveSession) → IsSaneLane l → histories.worker_at l w ≡ Some x
+    → ((s : SessionHistory) → IsSaneSession w l.output.buffer.carried s → Agrees live_session (IsSaneSession w l.output.buffer.carried) (p s) (q (live_session s)))
+    → Agrees (worker_map live_session) (SaneWorker l w x) (steps.at_session histories x p) (steps.at_session lives (worker_map live_session x) q)
+at_session l w x p q own e agrees =
+    sought {g = live_session} _ _ refl (λ s f.
+    inside _ _ (agrees s (own.sessions w s (session_here l w x s e f))) (λ t fits. with_session-leads l w x t (live_session t) (refl, fits)))
 
-  load_followed : (o w now : ℕ) → Followed h (event.Load o w now)
-  unfolding live
-  load_followed o w now =
-      at_worker o w (λ s l. step.load_answer w s l h.run o) (λ s l. step.load_next o w s l now h) (λ x l. livestep.live_load_answer x l h.run o) (λ x l. livestep.live_load_next o w x l now (live h))
-      (refl, refl, sane)
-      (λ l e. (
-        load_answer-live w (slice_get l.sessions w) l h.run o,
-        load_next-live o w (slice_get l.sessions w) l now h (own_session l o w e),
-        load_next-sane o w (slice_get l.sessions w) l now h sane (own_lane o l e) (own_session l o w e),
-      ))
+-- ---- connections
 
-  wrote_followed : (o w count : ℕ) → Followed h (event.Wrote o w count)
-  wrote_followed o w count =
-      at_worker o w (λ s l. step.wrote_answer s count) (λ s l. step.wrote_next o w s l count h) (λ x l. livestep.live_wrote_answer (livestep.session_in x) count) (λ x l. livestep.live_wrote_next o w x l count (live h))
-      (refl, refl, sane)
-      (λ l e. (
-        wrote_answer-live l.output w (slice_get l.sessions w) count,
-        wrote_next-live o w (slice_get l.sessions w) l count h,
-        wrote_next-sane o w (slice_get l.sessions w) l count h sane (own_lane o l e) (own_session l o w e),
-      ))
+piece : (s : SourceHistory) (bytes : List ℕ) → IsSaneSource s → Agrees live_source IsSaneSource (steps.piece histories s bytes) (steps.piece lives (live_source s) bytes)
+unfolding live_source
+piece s bytes sane = by (is_closed s) refl
+  where
+    at : (f : Option SourceFault) → is_closed s ≡ false → Agrees live_source IsSaneSource
+        (of_piece (told f (length (waiting (hears s bytes)))) (length (waiting (hears s bytes))) (new_pong s bytes) (hears s bytes))
+        (of_piece (told f (length (waiting (hears s bytes)))) (length (waiting (hears s bytes))) (new_pong s bytes) (source_hears (live_source s) bytes))
+    at None up = goes refl (hears-live s bytes sane up, hears-sane s bytes sane up)
+    at (Some f) up = goes refl (hears-live s bytes sane up, hears-sane s bytes sane up)
 
-  heard_followed : (o w : ℕ) (bytes : List ℕ) → Followed h (event.Heard o w bytes)
-  unfolding live
-  heard_followed o w bytes =
-      at_worker o w (λ s l. step.heard_answer s h.run o bytes) (λ s l. step.heard_next o w s l bytes h) (λ x l. livestep.live_heard_answer (livestep.session_in x) h.run o bytes) (λ x l. livestep.live_heard_next o w x l bytes (live h))
-      (refl, refl, sane)
-      (λ l e. (
-        heard_answer-live l.output w (slice_get l.sessions w) h.run o bytes (λ t f. (own_session l o w e t f).opened),
-        heard_next-live o w (slice_get l.sessions w) l bytes h (λ t f. (own_session l o w e t f).opened),
-        heard_next-sane o w (slice_get l.sessions w) l bytes h sane (own_lane o l e) (own_session l o w e),
-      ))
+    by : (b : Bool) → is_closed s ≡ b → Agrees live_source IsSaneSource
+        (of_piece (cond b verdict.Closed (told (judged (hears s bytes)).fault (length (waiting (hears s bytes))))) (length (waiting (hears s bytes))) (new_pong s bytes) (hears s bytes))
+        (of_piece (cond b verdict.Closed (told (judged_piece (live_source s) bytes).fault (length ((live_source s).waiting ++ (judged_piece (live_source s) bytes).requests))))
+        (length (source_hears (live_source s) bytes).waiting) (cond b [] (judged_piece (live_source s) bytes).pong) (source_hears (live_source s) bytes))
+    by true up = stays
+    by false up =
+        let g = heard s bytes sane up in
+        let same = hears-live s bytes sane up in
+        subst (λ y. Agrees live_source IsSaneSource (of_piece (told (judged (hears s bytes)).fault (length (waiting (hears s bytes)))) (length (waiting (hears s bytes))) (new_pong s bytes) (hears s bytes)) y)
+        (λ i. of_piece (told (g.all i).fault (length (g.waits i))) (length (same i).waiting) (g.pong i) (source_hears (live_source s) bytes)) (at (judged (hears s bytes)).fault up)
 
-  settle_followed : (o w : ℕ) → Followed h (event.Settle o w)
-  settle_followed o w =
-      at_worker o w (λ s l. step.settle_answer s l) (λ s l. step.settle_next o w s l h) (λ x l. livestep.live_settle_answer x l) (λ x l. livestep.live_settle_next o w x l (live h))
-      (refl, refl, sane)
-      (λ l e. (
-        settle_answer-live w (slice_get l.sessions w) l (own_lane o l e) (own_session l o w e),
-        settle_next-live o w (slice_get l.sessions w) l h refl,
-        settle_next-sane o w (slice_get l.sessions w) l h refl sane (own_lane o l e),
-      ))
+drained : (s : SourceHistory) (count : ℕ) → IsSaneSource s → Agrees live_source IsSaneSource (steps.drained histories s count) (steps.drained lives (live_source s) count)
+unfolding live_source
+drained s count sane = checked _ refl (λ few. goes refl (drains-live s count, drained-sane s count sane few))
 
-  pub event_followed : (e : Event) → (answer_to h e ≡ live_answer_to (live h) e) × (live (next h e) ≡ live_next (live h) e) × IsSane (next h e)
-  event_followed (event.Accept id nonce auth) = accept_followed id nonce auth
-  event_followed (event.Piece id bytes) = piece_followed id bytes
-  event_followed (event.Admit id o now) = admit_followed id o now
-  event_followed (event.Flush o now kind) = flush_followed o now kind
-  event_followed (event.Up o w server salt now) = up_followed o w server salt now
-  event_followed (event.Take o w now) = take_followed o w now
-  event_followed (event.Load o w now) = load_followed o w now
-  event_followed (event.Wrote o w count) = wrote_followed o w count
-  event_followed (event.Heard o w bytes) = heard_followed o w bytes
-  event_followed (event.Settle o w) = settle_followed o w
-  event_followed (event.Collect id o) = collect_followed id o
-  event_followed (event.Drained id count) = drained_followed id count
-  event_followed (event.Shut id) = shut_followed id
+-- ---- a connection and an output
+
+-- the first request that waits is one that is given away
+gives_leads : (s : SourceHistory) (q : Request) (rs : List Request) → waiting s ≡ rs → first_of rs ≡ Some q → IsSaneSource s → Leads live_source IsSaneSource (histories.gives s) (lives.gives (live_source s))
+gives_leads s q [] e first sane = absurd cc
+gives_leads s q (r ∷ rs) e first sane = (gives-live s, gives-sane s r rs sane e)
+
+spent_here : (l : Lane) (q : Request) → lives.is_spent (live_lane l) q ≡ histories.is_spent l q
+unfolding live_lane live_output live_buffer
+spent_here l q = refl
+
+enter : (s : SourceHistory) (q : Request) (id : ℕ) (l : Lane) (now : ℕ) → IsSaneSource s → IsSaneLane l → first_of (waiting s) ≡ Some q
+    → Agrees both SaneBoth (steps.enter histories s q id l now) (steps.enter lives (live_source s) q id (live_lane l) now)
+unfolding live_source
+enter s q id l now sane own first =
+    let origin : Origin = record { conn = id; request = s.admitted + 1 } in
+    either (spent_here l q) (goes refl (both_lead (shuts-live s, shuts-sane s sane) (refl, own)))
+    (goes refl (both_lead (gives_leads s q (waiting s) refl first sane) (enters-live l origin q now own, enters-sane l origin q now own)))
+
+routed : (to : Option ℕ) (s : SourceHistory) (q : Request) (id o : ℕ) (l : Lane) (now : ℕ) → IsSaneSource s → IsSaneLane l → first_of (waiting s) ≡ Some q
+    → Agrees both SaneBoth (steps.routed histories to s q id o l now) (steps.routed lives to (live_source s) q id o (live_lane l) now)
+routed None s q id o l now sane own first = goes refl (both_lead (shuts-live s, shuts-sane s sane) (refl, own))
+routed (Some to) s q id o l now sane own first = checked _ refl (λ here. enter s q id l now sane own first)
+
+admit : (patterns : List (List (List ℕ))) (id o now : ℕ) (s : SourceHistory) (l : Lane) → IsSaneSource s → IsSaneLane l
+    → Agrees both SaneBoth (steps.admit histories patterns id o now s l) (steps.admit lives patterns id o now (live_source s) (live_lane l))
+unfolding live_source
+admit patterns id o now s l sane own =
+    sought {g = λ (q : Request). q} _ _ (option_id (first_of (waiting s))) (λ q e.
+    routed (route patterns q.tag) s q id o l now sane own e)
+
+collect : (id : ℕ) (s : SourceHistory) (l : Lane) → IsSaneSource s → IsSaneLane l → Agrees both SaneBoth (steps.collect histories id s l) (steps.collect lives id (live_source s) (live_lane l))
+unfolding live_source live_lane
+collect id s l sane own =
+    let same = due-same id l own in
+    checked _ refl (λ up.
+    goes (ap (λ qs. answer.Told (numbers_of qs) (acks_of qs)) same) (both_lead
+    (appends-live s (acks_of (output_history_due l.output id)) sane up ∙ ap (λ qs. source_appends (live_source s) (acks_of qs)) same, appends-sane s (acks_of (output_history_due l.output id)) sane)
+    (tells-live id l own, tells-sane id l own)))
+
+-- ---- an output and its workers
+
+flush : (l : Lane) (now : ℕ) (kind : FlushKind) → IsSaneLane l → Agrees live_lane IsSaneLane (steps.flush histories l now kind) (steps.flush lives (live_lane l) now kind)
+unfolding live_lane live_output live_buffer
+flush l now kind own =
+    goes (ap (λ ns. answer.Closed (length ns)) (filter-same (is_closed_by l.output.buffer l.config.flush_interval now kind) (buffer_closes (live_buffer l.output.buffer) l.config.flush_interval now kind) l.output.buffer.opened (closing-live l now kind own)))
+    (flushes-live l now kind own, flushes-sane l now kind own)
+
+up : (l : Lane) (w servers server now : ℕ) (x : Worker SessionHistory)
+    → Agrees (worker_map live_session) (SaneWorker l w x) (steps.up histories servers server now x) (steps.up lives servers server now (worker_map live_session x))
+up l w servers server now x =
+    let same : not (nat_lt server servers) ≡ not (nat_lt server servers) = refl in
+    checked _ same (λ known.
+    checked _ (is_some-option_map live_session x.session) (λ none.
+    goes refl (with_session-leads l w x _ _ (begins-live server now, begins-sane w server now l.output.buffer.carried))))
+
+config_here : (l : Lane) → (live_lane l).config ≡ l.config
+unfolding live_lane
+config_here l = refl
+
+free_here : (l : Lane) → histories.free l ≡ lives.free (live_lane l)
+unfolding live_lane live_output
+free_here l = free-same l.output
+
+take : (l : Lane) (w now : ℕ) → IsSaneLane l → Agrees live_lane IsSaneLane (steps.take histories l w now) (steps.take lives (live_lane l) w now)
+take l w now own =
+    sought _ _ (worker_here w l) (λ x e.
+    checked _ refl (λ none.
+    let at = worker_is l w x e in
+    let free = none_carried l w x at none in
+    goes (ap chunk_answer (free_here l)) (
+      takes-live l w now x.session at.here free ∙ ap (λ y. lives.takes (live_lane l) w (worker_map live_session y) now) at.is,
+      takes-sane l w now free own,
+    )))
+
+loaded_here : (s : SessionHistory) → (live_session s).loaded ≡ s.loaded
+unfolding live_session
+loaded_here s = refl
+
+load : (run : List ℕ) (o now : ℕ) (l : Lane) (w : ℕ) (x : Worker SessionHistory) → IsSaneLane l → histories.worker_at l w ≡ Some x
+    → Agrees (worker_map live_session) (SaneWorker l w x) (steps.load histories run o now x) (steps.load lives run o now (worker_map live_session x))
+load run o now l w x own e =
+    sought {g = live_session} _ _ refl (λ s f.
+    sought {g = λ (c : Chunk). c} _ _ (option_id x.chunk) (λ c g.
+    checked _ (ap (λ k. is_loaded k c.number) (loaded_here s)) (λ fresh.
+    checked _ (down-live s) (λ up.
+    goes refl (with_session-leads l w x _ _ (leads s c (frame_of run o c) (own.sessions w s (session_here l w x s e f)) (carried_is l w x c (worker_is l w x e) g) up))))))
+  where
+    leads : (s : SessionHistory) (c : Chunk) (frame : List ℕ) → IsSaneSession w l.output.buffer.carried s → Rattle.fwd_model.proofs.Workers.IsCarriedBy l w c → s.down ≡ false
+        → Leads live_session (IsSaneSession w l.output.buffer.carried) (loads s c.number frame now) (lives.loads (live_session s) c.number frame now)
+    leads s c frame fits by up = (
+      loads-live s c.number frame now fits.sent up,
+      subst (λ n. IsSaneSession w l.output.buffer.carried (loads s n frame now)) by.number (loads-sane w l.output.buffer.carried s by.carry frame now by.here fits),
+    )
+
+wrote : (cs : List Carry) (w count : ℕ) (s : SessionHistory) → IsSaneSession w cs s → Agrees live_session (IsSaneSession w cs) (steps.wrote histories count s) (steps.wrote lives count (live_session s))
+unfolding live_session
+wrote cs w count s fits = checked _ refl (λ few. goes refl (sends-live s count, sends-sane w cs s count fits few))
+
+hear : (run : List ℕ) (o : ℕ) (bytes : List ℕ) (cs : List Carry) (w : ℕ) (s : SessionHistory) → IsSaneSession w cs s
+    → Agrees live_session (IsSaneSession w cs) (steps.heard histories run o bytes s) (steps.heard lives run o bytes (live_session s))
+hear run o bytes cs w s fits =
+    checked _ (down-live s) (λ up.
+    goes (ap (λ r. reply_answer r.accepted r.fault) (replies-live run o s bytes up (fits.opened up))) (listens-live run o s bytes up (fits.opened up), listens-sane cs w run o s bytes fits up))
+
+settle : (l : Lane) (w : ℕ) → IsSaneLane l → Agrees live_lane IsSaneLane (steps.settle histories l w) (steps.settle lives (live_lane l) w)
+unfolding live_lane live_output live_buffer live_session
+settle l w own =
+    sought {g = worker_map live_session} _ _ (worker_here w l) (λ x e.
+    sought {g = live_session} _ _ refl (λ s f.
+    sought {g = λ (k : ℕ). k} _ _ (option_id (steps.acked histories s)) (λ k g.
+    let here = session_here l w x s e f in
+    let is = acked_is l w s k own (own.sessions w s here) g in
+    goes (ap (λ cs. answer.Settled (length cs)) (sym (cells_at-unsettled k l.output.buffer.acknowledged l.output.buffer.cells is.unacked)))
+    (settles-live l w s k here, settles-sane l w s k here own is))))
+
+-- ---- the step
+
+fresh_here : (h : History) (id : ℕ) → IsSane h → is_fresh id h.connections ≡ lives.is_fresh (live h) id
+unfolding live
+fresh_here h id sane = sane.ids id
+
+accept : (h : History) (setup : Setup) → IsSane h → Agrees live IsSane (steps.accept histories h setup) (steps.accept lives (live h) setup)
+accept h setup sane = checked _ (ap not (sym (fresh_here h setup.conn sane))) (λ e. goes refl (accepts-live setup h, accepts-sane setup h sane (is_true (is_fresh setup.conn h.connections) e)))
+  where
+    is_true : (b : Bool) → not b ≡ false → b ≡ true
+    is_true true e = refl
+    is_true false e = absurd cc
+
+shut : (h : History) (id : ℕ) → IsSane h → Agrees live IsSane (steps.shut histories h id) (steps.shut lives (live h) id)
+shut h id sane = sought _ _ (live_source_here h sane id) (λ s e. goes refl (leaves-live h id s sane e, leaves-sane h id sane))
+
+-- at each event the outcome of the history, seen in its live part, is the outcome there
+pub event_agrees : (h : History) (e : Event) → IsSane h → Agrees live IsSane (step histories h e) (step lives (live h) e)
+unfolding live
+event_agrees h (event.Accept id nonce auth) sane = accept h (setup_of h.security id nonce auth) sane
+event_agrees h (event.Piece id bytes) sane = at_source h sane id _ (λ s. steps.piece lives s bytes) (λ s own. piece s bytes own)
+event_agrees h (event.Admit id o now) sane = at_both h sane id o _ (steps.admit lives h.routes id o now) (λ s l own its. admit h.routes id o now s l own its)
+event_agrees h (event.Flush o now kind) sane = at_lane h sane o _ (λ l. steps.flush lives l now kind) (λ l own. flush l now kind own)
+event_agrees h (event.Up o w server salt now) sane = at_lane h sane o _ (λ l. steps.at_worker lives l w (steps.up lives l.config.servers server now))
+    (λ l own. subst (λ c. Agrees live_lane IsSaneLane (steps.at_worker histories l w (steps.up histories l.config.servers server now)) (steps.at_worker lives (live_lane l) w (steps.up lives c.servers server now))) (sym (config_here l))
+    (at_worker l w _ (steps.up lives l.config.servers server now) own (λ x e. up l w l.config.servers server now x)))
+event_agrees h (event.Take o w now) sane = at_lane h sane o _ (λ l. steps.take lives l w now) (λ l own. take l w now own)
+event_agrees h (event.Load o w now) sane = at_lane h sane o _ (λ l. steps.at_worker lives l w (steps.load lives h.run o now)) (λ l own. at_worker l w _ (steps.load lives h.run o now) own (λ x e. load h.run o now l w x own e))
+event_agrees h (event.Wrote o w count) sane =
+    at_lane h sane o _ (λ l. steps.at_worker lives l w (λ x. steps.at_session lives x (steps.wrote lives count)))
+    (λ l own. at_worker l w _ (λ x. steps.at_session lives x (steps.wrote lives count)) own (λ x e. at_session l w x _ (steps.wrote lives count) own e (λ s fits. wrote l.output.buffer.carried w count s fits)))
+event_agrees h (event.Heard o w bytes) sane =
+    at_lane h sane o _ (λ l. steps.at_worker lives l w (λ x. steps.at_session lives x (steps.heard lives h.run o bytes)))
+    (λ l own. at_worker l w _ (λ x. steps.at_session lives x (steps.heard lives h.run o bytes)) own (λ x e. at_session l w x _ (steps.heard lives h.run o bytes) own e (λ s fits. hear h.run o bytes l.output.buffer.carried w s fits)))
+event_agrees h (event.Settle o w) sane = at_lane h sane o _ (λ l. steps.settle lives l w) (λ l own. settle l w own)
+event_agrees h (event.Collect id o) sane = at_both h sane id o _ (steps.collect lives id) (λ s l own its. collect id s l own its)
+event_agrees h (event.Drained id count) sane = at_source h sane id _ (λ s. steps.drained lives s count) (λ s own. drained s count own)
+event_agrees h (event.Shut id) sane = shut h id sane
 
 -- ---- runs
 
@@ -251,15 +339,27 @@ opening_sane : (config : Config) → IsSane (opening config)
 unfolding opening
 opening_sane config = record { ids = λ id. refl; once = tt; sources = tt; lanes = opening_lanes config.outputs }
 
-pub run_followed : (es : List Event) (h : History) → IsSane h → (answers h es ≡ live_answers (live h) es) × (live (after h es) ≡ live_after (live h) es) × IsSane (after h es)
-run_followed [] h sane = (refl, refl, sane)
-run_followed (e ∷ es) h sane =
-    let one = event_followed h sane e in
-    let more = run_followed es (next h e) one.2 in (
-      (λ i. one.0 i ∷ (more.0 ∙ ap (λ r. live_answers r es) one.1) i),
-      more.1 ∙ ap (λ r. live_after r es) one.1,
-      more.2,
-    )
+-- what holds of a run: its answers, what it leads to, and that this is sane
+pub record RunsAgree (h : History) (es : List Event) : Type 0 where
+  pub answers : steps.answers histories h es ≡ steps.answers lives (live h) es
+  pub after : live (steps.after histories h es) ≡ steps.after lives (live h) es
+  pub sane : IsSane (steps.after histories h es)
+
+state_kept : (h : History) (x : Outcome History) → IsSane h → (y : Outcome (Rattle.fwd_model.specs.Live.LiveRelay)) → Agrees live IsSane x y
+    → (answer_of x ≡ answer_of y) × (live (state_of h x) ≡ state_of (live h) y) × IsSane (state_of h x)
+state_kept h (Stays a) sane y agrees = (ap answer_of agrees.same, ap (state_of (live h)) agrees.same, sane)
+state_kept h (Goes a s) sane y agrees = (ap answer_of agrees.same, ap (state_of (live h)) agrees.same, agrees.kept)
+
+pub run_agrees : (es : List Event) (h : History) → IsSane h → RunsAgree h es
+run_agrees [] h sane = record { answers = refl; after = refl; sane = sane }
+run_agrees (e ∷ es) h sane =
+    let one = state_kept h (step histories h e) sane (step lives (live h) e) (event_agrees h e sane) in
+    let rest = run_agrees es (state_of h (step histories h e)) one.2 in
+    record {
+      answers = λ i. one.0 i ∷ (rest.answers ∙ ap (λ r. steps.answers lives r es) one.1) i;
+      after = rest.after ∙ ap (λ r. steps.after lives r es) one.1;
+      sane = rest.sane;
+    }
 
 pub reached_sane : (config : Config) (h : History) → IsReached config h → IsSane h
-reached_sane config h r = subst IsSane r.1 (run_followed r.0 (opening config) (opening_sane config)).2
+reached_sane config h r = subst IsSane r.1 (run_agrees r.0 (opening config) (opening_sane config)).sane

@@ -1,25 +1,21 @@
 -- The live part follows the history where a worker takes a chunk.
 use Rattle.std.proofs.Common.{◌≡◌, ◌≢◌, ℕ, zero, suc, ◌+◌, ◌<◌, ◌≤◌, Bool, true, false, cond, eqb, List, [], ◌∷◌, ◌++◌, Option, Some, None, refl, sym, ap, subst, ◌∙◌, zero-add, max, inl, inr, arith}
 use Rattle.std.proofs.Math.ListN.{set}
-use Rattle.std.specs.Prelude.{◌⊎◌, map, option_map, is_some, not, ◌&&◌, ◌||◌, ◌==◌, slice_get}
+use Rattle.std.specs.Prelude.{◌⊎◌, map, option_map, not, ◌&&◌, ◌||◌, ◌==◌, slice_get}
 use Rattle.std.proofs.lemmas.Bool.Decides.{nat_tests}
-use Rattle.std.proofs.lemmas.List.{length-map}
 use Rattle.fwd_model.specs.declared.cell.Cell.{Cell}
 use Rattle.fwd_model.specs.declared.cell.Carry.{Carry}
-use Rattle.fwd_model.specs.declared.answer.Answer.TheVariants as answer
-use Rattle.fwd_model.specs.declared.fault.Refusal.TheVariants.{NotNow}
 use Rattle.fwd_model.specs.Chunks.{greatest, chunk_of, cells_at, first_tag, carry_of, is_free, is_carried, has_number, put_down, unsettled}
+use Rattle.fwd_model.specs.Layers.{Worker}
+use Rattle.fwd_model.specs.Buffers.{free_number, chunk_at, carry_more, takes, live_buffer, buffer_free, buffer_takes}
 use Rattle.fwd_model.specs.Books.{has_cell}
-use Rattle.fwd_model.specs.History.{OutputHistory, SessionHistory, Lane, History}
-use Rattle.fwd_model.specs.Step as step
-use Rattle.fwd_model.specs.Step.{with_lane, with_output, taken, free_number, carry_more}
-use Rattle.fwd_model.specs.Live.{live_output, live_session, live_worker, live_workers, live_lane, live, LiveWorker}
-use Rattle.fwd_model.specs.LiveStep as livestep
-use Rattle.fwd_model.specs.LiveStep.{with_live_lane, output_takes, output_found, chunk_at}
+use Rattle.fwd_model.specs.Outputs.{OutputHistory, live_output}
+use Rattle.fwd_model.specs.Sessions.{SessionHistory, LiveSession, live_session}
+use Rattle.fwd_model.specs.History.{Lane, with_output, with_buffer}
+use Rattle.fwd_model.specs.Live.{live_worker, live_workers, live_lane, live_takes}
 use Rattle.fwd_model.proofs.Places.{live_workers-same, live_workers-at}
 use Rattle.fwd_model.proofs.Settling.{cells_at-unsettled, has_cell-unsettled, has_cell-below, least_free-free, carry_of-carried}
-use Rattle.fwd_model.proofs.Reached.{IsSaneLane, IsSaneSession, IsSane}
-use Rattle.fwd_model.proofs.FollowsOutputs.{with_lane-live, with_lane-sane}
+use Rattle.fwd_model.proofs.Reached.{IsSaneLane, IsSaneSession}
 
 -- ---- one more carry
 
@@ -38,35 +34,37 @@ carry_of-push_same w k (c ∷ cs) none = at (eqb c.worker w) none (λ h. carry_o
 -- an output that differs in one more carry, of worker w
 abbrev more_carried : OutputHistory → ℕ → ℕ → ℕ → OutputHistory
 more_carried o w k moment = record {
-  cells = o.cells;
-  opened = o.opened;
-  acknowledged = o.acknowledged;
-  carried = o.carried ++ record { worker = w; number = k } ∷ [];
-  requests = o.requests;
-  moment = moment;
+  buffer = record {
+    cells = o.buffer.cells;
+    opened = o.buffer.opened;
+    acknowledged = o.buffer.acknowledged;
+    carried = o.buffer.carried ++ record { worker = w; number = k } ∷ [];
+    moment = moment;
+  };
+  book = o.book;
 }
 
-abbrev gets_chunk : OutputHistory → ℕ → Option SessionHistory → LiveWorker
-gets_chunk o k s = record { chunk = Some (chunk_of k o.cells); session = option_map live_session s }
+abbrev gets_chunk : OutputHistory → ℕ → Option SessionHistory → Worker LiveSession
+gets_chunk o k s = record { chunk = Some (chunk_of k o.buffer.cells); session = option_map live_session s }
 
 others_stay : (o : OutputHistory) (w k moment b : ℕ) (ss : List (Option SessionHistory)) → w < b → live_workers (more_carried o w k moment) b ss ≡ live_workers o b ss
 others_stay o w k moment b [] lt = refl
 others_stay o w k moment b (s ∷ ss) lt = λ i.
-    record { chunk = option_map (λ c. chunk_of c.number o.cells) (carry_of-push_other w b k o.carried (omega arith) i); session = option_map live_session s }
+    record { chunk = option_map (λ c. chunk_of c.number o.buffer.cells) (carry_of-push_other w b k o.buffer.carried (omega arith) i); session = option_map live_session s }
     ∷ others_stay o w k moment (suc b) ss (omega arith) i
 
-one_gets : (o : OutputHistory) (w k moment b j : ℕ) (ss : List (Option SessionHistory)) (s : Option SessionHistory) → w ≡ b + j → carry_of w o.carried ≡ None → slice_get ss j ≡ Some s
+one_gets : (o : OutputHistory) (w k moment b j : ℕ) (ss : List (Option SessionHistory)) (s : Option SessionHistory) → w ≡ b + j → carry_of w o.buffer.carried ≡ None → slice_get ss j ≡ Some s
     → live_workers (more_carried o w k moment) b ss ≡ set (live_workers o b ss) j (gets_chunk o k s)
 one_gets o w k moment b j [] s at none here = absurd cc
 one_gets o w k moment b zero (t ∷ ss) s at none here =
     let same : w ≡ b = omega (arith, at) in
-    let own : carry_of b (o.carried ++ record { worker = w; number = k } ∷ []) ≡ Some (record { worker = w; number = k }) =
-    ap (λ x. carry_of x (o.carried ++ record { worker = w; number = k } ∷ [])) (sym same) ∙ carry_of-push_same w k o.carried none in
+    let own : carry_of b (o.buffer.carried ++ record { worker = w; number = k } ∷ []) ≡ Some (record { worker = w; number = k }) =
+    ap (λ x. carry_of x (o.buffer.carried ++ record { worker = w; number = k } ∷ [])) (sym same) ∙ carry_of-push_same w k o.buffer.carried none in
     let session : t ≡ s = cc in λ i.
-    record { chunk = option_map (λ c. chunk_of c.number o.cells) (own i); session = option_map live_session (session i) }
+    record { chunk = option_map (λ c. chunk_of c.number o.buffer.cells) (own i); session = option_map live_session (session i) }
     ∷ others_stay o w k moment (suc b) ss (omega (arith, at)) i
 one_gets o w k moment b (suc j) (t ∷ ss) s at none here = λ i.
-    record { chunk = option_map (λ c. chunk_of c.number o.cells) (carry_of-push_other w b k o.carried (omega (arith, at)) i); session = option_map live_session t }
+    record { chunk = option_map (λ c. chunk_of c.number o.buffer.cells) (carry_of-push_other w b k o.buffer.carried (omega (arith, at)) i); session = option_map live_session t }
     ∷ one_gets o w k moment (suc b) j ss s (omega (arith, at)) none here i
 
 set_same : {X : Type 0} (xs : List X) (i : ℕ) (x : X) → slice_get xs i ≡ Some x → set xs i x ≡ xs
@@ -77,20 +75,21 @@ set_same (a ∷ xs) (suc i) x h = ap (λ ys. a ∷ ys) (set_same xs i x h)
 -- ---- take
 
 abbrev with_carried : OutputHistory → List Carry → ℕ → OutputHistory
-with_carried o carried moment = record { cells = o.cells; opened = o.opened; acknowledged = o.acknowledged; carried = carried; requests = o.requests; moment = moment }
+with_carried o carried moment =
+    record { buffer = record { cells = o.buffer.cells; opened = o.buffer.opened; acknowledged = o.buffer.acknowledged; carried = carried; moment = moment }; book = o.book }
 
-workers_taken : (l : Lane) (w now : ℕ) (s : Option SessionHistory) (found : Option ℕ) → slice_get l.sessions w ≡ Some s → carry_of w l.output.carried ≡ None
-    → live_workers (with_carried l.output (carry_more w found l.output.carried) (max l.output.moment now)) 0 l.sessions
-    ≡ set (live_workers l.output 0 l.sessions) w (record { chunk = chunk_at found l.output.cells; session = option_map live_session s })
+workers_taken : (l : Lane) (w now : ℕ) (s : Option SessionHistory) (found : Option ℕ) → slice_get l.sessions w ≡ Some s → carry_of w l.output.buffer.carried ≡ None
+    → live_workers (with_carried l.output (carry_more w found l.output.buffer.carried) (max l.output.buffer.moment now)) 0 l.sessions
+    ≡ set (live_workers l.output 0 l.sessions) w (record { chunk = chunk_at found l.output.buffer.cells; session = option_map live_session s })
 workers_taken l w now s None here none =
     let own : live_worker l.output w s ≡ record { chunk = None; session = option_map live_session s } =
-    λ i. record { chunk = option_map (λ c. chunk_of c.number l.output.cells) (none i); session = option_map live_session s } in
+    λ i. record { chunk = option_map (λ c. chunk_of c.number l.output.buffer.cells) (none i); session = option_map live_session s } in
     let at : slice_get (live_workers l.output 0 l.sessions) w ≡ Some (record { chunk = None; session = option_map live_session s }) =
     live_workers-at l.output 0 w l.sessions ∙ ap (λ k. option_map (λ x. live_worker l.output k x) (slice_get l.sessions w)) (zero-add w)
     ∙ ap (option_map (λ x. live_worker l.output w x)) here ∙ ap Some own in
-    live_workers-same (with_carried l.output l.output.carried (max l.output.moment now)) l.output 0 l.sessions (λ k. refl)
+    live_workers-same (with_carried l.output l.output.buffer.carried (max l.output.buffer.moment now)) l.output 0 l.sessions (λ k. refl)
     ∙ sym (set_same (live_workers l.output 0 l.sessions) w (record { chunk = None; session = option_map live_session s }) at)
-workers_taken l w now s (Some k) here none = one_gets l.output w k (max l.output.moment now) 0 w l.sessions s (sym (zero-add w)) none here
+workers_taken l w now s (Some k) here none = one_gets l.output w k (max l.output.buffer.moment now) 0 w l.sessions s (sym (zero-add w)) none here
 
 pub chunk_of-unsettled : (k : ℕ) (acked : List ℕ) (cells : List Cell) → has_number k acked ≡ false → chunk_of k (unsettled acked cells) ≡ chunk_of k cells
 unfolding chunk_of
@@ -107,66 +106,41 @@ not_true true h = absurd cc
 not_true false h = refl
 
 record IsFreeOf (o : OutputHistory) (k : ℕ) : Type 0 where
-  unopened : has_number k o.opened ≡ false
-  uncarried : is_carried k o.carried ≡ false
-  unacked : has_number k o.acknowledged ≡ false
-  below : k ≤ greatest o.cells
+  unopened : has_number k o.buffer.opened ≡ false
+  uncarried : is_carried k o.buffer.carried ≡ false
+  unacked : has_number k o.buffer.acknowledged ≡ false
+  below : k ≤ greatest o.buffer.cells
 
 -- what holds of the number that is found
-free_of : (o : OutputHistory) (k : ℕ) → free_number o ≡ Some k → IsFreeOf o k
+free_of : (o : OutputHistory) (k : ℕ) → free_number o.buffer ≡ Some k → IsFreeOf o k
 free_of o k e =
-    let found = and_parts (is_free o.opened o.carried k) (has_cell k (unsettled o.acknowledged o.cells)) (least_free-free o.opened o.carried (unsettled o.acknowledged o.cells) k e) in
-    let free = and_parts (not (has_number k o.opened)) (not (is_carried k o.carried)) found.0 in
-    let here = and_parts (has_cell k o.cells) (not (has_number k o.acknowledged)) (sym (has_cell-unsettled k o.acknowledged o.cells) ∙ found.1) in
+    let found = and_parts (is_free o.buffer.opened o.buffer.carried k) (has_cell k (unsettled o.buffer.acknowledged o.buffer.cells)) (least_free-free o.buffer.opened o.buffer.carried (unsettled o.buffer.acknowledged o.buffer.cells) k e) in
+    let free = and_parts (not (has_number k o.buffer.opened)) (not (is_carried k o.buffer.carried)) found.0 in
+    let here = and_parts (has_cell k o.buffer.cells) (not (has_number k o.buffer.acknowledged)) (sym (has_cell-unsettled k o.buffer.acknowledged o.buffer.cells) ∙ found.1) in
     record {
-      unopened = not_true (has_number k o.opened) free.0;
-      uncarried = not_true (is_carried k o.carried) free.1;
-      unacked = not_true (has_number k o.acknowledged) here.1;
-      below = has_cell-below k o.cells here.0;
+      unopened = not_true (has_number k o.buffer.opened) free.0;
+      uncarried = not_true (is_carried k o.buffer.carried) free.1;
+      unacked = not_true (has_number k o.buffer.acknowledged) here.1;
+      below = has_cell-below k o.buffer.cells here.0;
     }
 
-found_chunk : (o : OutputHistory) (found : Option ℕ) → ((k : ℕ) → found ≡ Some k → has_number k o.acknowledged ≡ false) → chunk_at found o.cells ≡ chunk_at found (unsettled o.acknowledged o.cells)
+found_chunk : (o : OutputHistory) (found : Option ℕ) → ((k : ℕ) → found ≡ Some k → has_number k o.buffer.acknowledged ≡ false) → chunk_at found o.buffer.cells ≡ chunk_at found (unsettled o.buffer.acknowledged o.buffer.cells)
 found_chunk o None h = refl
-found_chunk o (Some k) h = ap Some (sym (chunk_of-unsettled k o.acknowledged o.cells (h k refl)))
+found_chunk o (Some k) h = ap Some (sym (chunk_of-unsettled k o.buffer.acknowledged o.buffer.cells (h k refl)))
 
-pub found-same : (o : OutputHistory) → chunk_at (free_number o) o.cells ≡ output_found (live_output o)
-unfolding live_output
-found-same o = found_chunk o (free_number o) (λ k e. (free_of o k e).unacked)
+pub free-same : (o : OutputHistory) → chunk_at (free_number o.buffer) o.buffer.cells ≡ buffer_free (live_buffer o.buffer)
+unfolding live_buffer
+free-same o = found_chunk o (free_number o.buffer) (λ k e. (free_of o k e).unacked)
 
-taken-live : (l : Lane) (w now : ℕ) (s : Option SessionHistory) → slice_get l.sessions w ≡ Some s → carry_of w l.output.carried ≡ None
-    → live_lane (with_output l (taken l.output w now)) ≡ livestep.live_takes (live_lane l) w (live_worker l.output w s) now
-unfolding live_lane live_output taken output_takes
-taken-live l w now s here none = λ i. record {
+pub takes-live : (l : Lane) (w now : ℕ) (s : Option SessionHistory) → slice_get l.sessions w ≡ Some s → carry_of w l.output.buffer.carried ≡ None
+    → live_lane (with_buffer l (takes l.output.buffer w now)) ≡ live_takes (live_lane l) w (live_worker l.output w s) now
+unfolding live_lane live_output live_buffer takes buffer_takes
+takes-live l w now s here none = λ i. record {
   config = l.config;
-  output = live_output (taken l.output w now);
-  workers = (workers_taken l w now s (free_number l.output) here none
-      ∙ ap (λ c. set (live_workers l.output 0 l.sessions) w (record { chunk = c; session = option_map live_session s })) (found-same l.output)) i;
+  output = live_output (record { buffer = takes l.output.buffer w now; book = l.output.book });
+  workers = (workers_taken l w now s (free_number l.output.buffer) here none
+      ∙ ap (λ c. set (live_workers l.output 0 l.sessions) w (record { chunk = c; session = option_map live_session s })) (free-same l.output)) i;
 }
-
-found-live : (found : Option ℕ) (l : Lane) → step.found found l ≡ livestep.live_found (chunk_at found l.output.cells)
-unfolding chunk_of
-found-live None l = refl
-found-live (Some k) l = ap (answer.Took k) (sym (length-map (cells_at k l.output.cells) (λ c. c.entry)))
-
-take_carried-live : (c : Option Carry) (l : Lane) → step.take_carried c l ≡ cond (is_some (option_map (λ d. chunk_of d.number l.output.cells) c)) (answer.Refused NotNow) (livestep.live_found (output_found (live_output l.output)))
-take_carried-live None l = found-live (free_number l.output) l ∙ ap livestep.live_found (found-same l.output)
-take_carried-live (Some c) l = refl
-
-pub take_answer-live : (w : ℕ) (s : Option (Option SessionHistory)) (l : Lane) → step.take_answer w s (Some l) ≡ livestep.live_take_answer (option_map (λ x. live_worker l.output w x) s) (Some (live_lane l))
-unfolding live_lane
-take_answer-live w None l = refl
-take_answer-live w (Some s) l = take_carried-live (carry_of w l.output.carried) l
-
-take_carried_next-live : (o w : ℕ) (c : Option Carry) (s : Option SessionHistory) (l : Lane) (now : ℕ) (h : History) → slice_get l.sessions w ≡ Some s → carry_of w l.output.carried ≡ c
-    → live (step.take_carried_next c o w l now h) ≡ cond (is_some (option_map (λ d. chunk_of d.number l.output.cells) c)) (live h) (with_live_lane o (livestep.live_takes (live_lane l) w (live_worker l.output w s) now) (live h))
-take_carried_next-live o w None s l now h here none =
-    with_lane-live o (with_output l (taken l.output w now)) h ∙ ap (λ x. with_live_lane o x (live h)) (taken-live l w now s here none)
-take_carried_next-live o w (Some c) s l now h here e = refl
-
-pub take_next-live : (o w : ℕ) (s : Option (Option SessionHistory)) (l : Lane) (now : ℕ) (h : History) → slice_get l.sessions w ≡ s
-    → live (step.take_next o w s (Some l) now h) ≡ livestep.live_take_next o w (option_map (λ x. live_worker l.output w x) s) (Some (live_lane l)) now (live h)
-take_next-live o w None l now h e = refl
-take_next-live o w (Some s) l now h e = take_carried_next-live o w (carry_of w l.output.carried) s l now h e refl
 
 -- ---- an output stays sane
 
@@ -248,8 +222,8 @@ once_more w k cs none fresh once j c e = elim (same_or w j) [ inl s ↦ same s |
         let all = ap (is_carried c.number) (put_down-push_other w j k cs d) ∙ is_carried-push c.number w k (put_down j cs) in
         all ∙ apart (is_carried c.number (put_down j cs)) (eqb k c.number) free (apart_numbers k c.number cs fresh held)
 
-carry_more-sane : (l : Lane) (w : ℕ) (found : Option ℕ) (now : ℕ) → carry_of w l.output.carried ≡ None → ((k : ℕ) → found ≡ Some k → IsFreeOf l.output k) → IsSaneLane l
-    → IsSaneLane (with_output l (with_carried l.output (carry_more w found l.output.carried) (max l.output.moment now)))
+carry_more-sane : (l : Lane) (w : ℕ) (found : Option ℕ) (now : ℕ) → carry_of w l.output.buffer.carried ≡ None → ((k : ℕ) → found ≡ Some k → IsFreeOf l.output k) → IsSaneLane l
+    → IsSaneLane (with_output l (with_carried l.output (carry_more w found l.output.buffer.carried) (max l.output.buffer.moment now)))
 carry_more-sane l w None now none free own = record {
   opened_below = own.opened_below;
   acked_below = own.acked_below;
@@ -263,39 +237,30 @@ carry_more-sane l w None now none free own = record {
 }
 carry_more-sane l w (Some k) now none free own =
     let is = free k refl in
-    let cs = l.output.carried in
+    let cs = l.output.buffer.carried in
     let parts : (j : ℕ) → is_carried j (cs ++ record { worker = w; number = k } ∷ []) ≡ true → (is_carried j cs ≡ true) ⊎ (eqb k j ≡ true) = λ j h. or_parts (is_carried j cs) (eqb k j) (sym (is_carried-push j w k cs) ∙ h) in
     record {
       opened_below = own.opened_below;
       acked_below = own.acked_below;
-      carried_below = λ j h. elim (parts j h) [ inl e ↦ own.carried_below j e | inr e ↦ subst (λ x. x ≤ greatest l.output.cells) (eq_from k j e) is.below ];
+      carried_below = λ j h. elim (parts j h) [ inl e ↦ own.carried_below j e | inr e ↦ subst (λ x. x ≤ greatest l.output.buffer.cells) (eq_from k j e) is.below ];
       opened_unacked = own.opened_unacked;
-      opened_uncarried = λ j h. is_carried-push j w k cs ∙ apart (is_carried j cs) (eqb k j) (own.opened_uncarried j h) (apart_opened k j l.output.opened is.unopened h);
-      carried_unacked = λ j h. elim (parts j h) [ inl e ↦ own.carried_unacked j e | inr e ↦ subst (λ x. has_number x l.output.acknowledged ≡ false) (eq_from k j e) is.unacked ];
+      opened_uncarried = λ j h. is_carried-push j w k cs ∙ apart (is_carried j cs) (eqb k j) (own.opened_uncarried j h) (apart_opened k j l.output.buffer.opened is.unopened h);
+      carried_unacked = λ j h. elim (parts j h) [ inl e ↦ own.carried_unacked j e | inr e ↦ subst (λ x. has_number x l.output.buffer.acknowledged ≡ false) (eq_from k j e) is.unacked ];
       carried_once = once_more w k cs none is.uncarried own.carried_once;
       spans = own.spans;
       sessions = λ j s h. still j s (own.sessions j s h);
     }
   where
-    still : (j : ℕ) (s : SessionHistory) → IsSaneSession j l.output.carried s → IsSaneSession j (l.output.carried ++ record { worker = w; number = k } ∷ []) s
+    still : (j : ℕ) (s : SessionHistory) → IsSaneSession j l.output.buffer.carried s → IsSaneSession j (l.output.buffer.carried ++ record { worker = w; number = k } ∷ []) s
     still j s fits = record {
       carries = λ n e. elim (same_or w j) [
-        | inl same ↦ absurd (none_some (sym none ∙ ap (λ x. carry_of x l.output.carried) same ∙ fits.carries n e))
-        | inr differ ↦ carry_of-push_other w j k l.output.carried differ ∙ fits.carries n e
+        | inl same ↦ absurd (none_some (sym none ∙ ap (λ x. carry_of x l.output.buffer.carried) same ∙ fits.carries n e))
+        | inr differ ↦ carry_of-push_other w j k l.output.buffer.carried differ ∙ fits.carries n e
       ];
       sent = fits.sent;
       opened = fits.opened;
     }
 
-taken-sane : (l : Lane) (w now : ℕ) → carry_of w l.output.carried ≡ None → IsSaneLane l → IsSaneLane (with_output l (taken l.output w now))
-unfolding taken
-taken-sane l w now none own = carry_more-sane l w (free_number l.output) now none (λ k e. free_of l.output k e) own
-
-take_carried-sane : (o w : ℕ) (c : Option Carry) (l : Lane) (now : ℕ) (h : History) → carry_of w l.output.carried ≡ c → IsSane h → IsSaneLane l → IsSane (step.take_carried_next c o w l now h)
-take_carried-sane o w None l now h e sane own = with_lane-sane o (with_output l (taken l.output w now)) h sane (taken-sane l w now e own)
-take_carried-sane o w (Some c) l now h e sane own = sane
-
-pub take_next-sane : (o w : ℕ) (s : Option (Option SessionHistory)) (l : Option Lane) (now : ℕ) (h : History) → IsSane h → ((k : Lane) → l ≡ Some k → IsSaneLane k) → IsSane (step.take_next o w s l now h)
-take_next-sane o w None l now h sane own = sane
-take_next-sane o w (Some s) None now h sane own = sane
-take_next-sane o w (Some s) (Some l) now h sane own = take_carried-sane o w (carry_of w l.output.carried) l now h refl sane (own l refl)
+pub takes-sane : (l : Lane) (w now : ℕ) → carry_of w l.output.buffer.carried ≡ None → IsSaneLane l → IsSaneLane (with_buffer l (takes l.output.buffer w now))
+unfolding takes
+takes-sane l w now none own = carry_more-sane l w (free_number l.output.buffer) now none (λ k e. free_of l.output k e) own

@@ -1,4 +1,5 @@
-mod Examples
+pub mod Agree
+pub mod Onward
 pub mod Places
 pub mod Settling
 pub mod Reached
@@ -11,6 +12,7 @@ pub mod FollowsTakes
 pub mod FollowsAdmits
 pub mod FollowsSettles
 pub mod FollowsCollects
+pub mod Workers
 pub mod Follows
 pub mod Chronicle
 pub mod ChronicleSessions
@@ -20,3 +22,5 @@ pub mod ChronicleSteps
 pub mod Deliver
 pub mod WayBack
 pub mod Marks
+pub mod Refusals
+mod Examples

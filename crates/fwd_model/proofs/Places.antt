@@ -11,10 +11,10 @@ use Rattle.fwd_source.specs.declared.origin.Origin.{Origin}
 use Rattle.fwd_model.specs.Chunks.{greatest, cells_at, chunk_of, first_tag, carry_of, least_free, is_free, lesser}
 use Rattle.fwd_source.specs.History.{SourceHistory}
 use Rattle.fwd_source.specs.Live.{live_source}
-use Rattle.fwd_model.specs.History.{Connection, source_at, with_source, with_gone, SessionHistory, OutputHistory}
-use Rattle.fwd_model.specs.Live.{live_connection, known, last_id, live_worker, live_workers, live_session}
-use Rattle.fwd_model.specs.Step.{is_fresh}
-use Rattle.fwd_model.specs.LiveStep.{live_source_at, with_live_source, without}
+use Rattle.fwd_model.specs.Outputs.{OutputHistory}
+use Rattle.fwd_model.specs.Sessions.{SessionHistory, live_session}
+use Rattle.fwd_model.specs.History.{Connection, source_at, with_source, with_gone, is_fresh}
+use Rattle.fwd_model.specs.Live.{live_connection, known, last_id, live_worker, live_workers, live_source_at, with_live_source, without}
 
 -- ---- an id stands once
 
@@ -128,7 +128,7 @@ slice_get-set_same (a ∷ xs) zero x y h = refl
 slice_get-set_same (a ∷ xs) (suc i) x y h = slice_get-set_same xs i x y h
 
 -- what a worker has behind more cells, and behind more that is carried
-pub live_workers-same : (o p : OutputHistory) (w : ℕ) (ss : List (Option SessionHistory)) → ((k : ℕ) → option_map (λ c. chunk_of c.number o.cells) (carry_of k o.carried) ≡ option_map (λ c. chunk_of c.number p.cells) (carry_of k p.carried)) → live_workers o w ss ≡ live_workers p w ss
+pub live_workers-same : (o p : OutputHistory) (w : ℕ) (ss : List (Option SessionHistory)) → ((k : ℕ) → option_map (λ c. chunk_of c.number o.buffer.cells) (carry_of k o.buffer.carried) ≡ option_map (λ c. chunk_of c.number p.buffer.cells) (carry_of k p.buffer.carried)) → live_workers o w ss ≡ live_workers p w ss
 live_workers-same o p w [] h = refl
 live_workers-same o p w (s ∷ ss) h = λ i. record { chunk = h w i; session = option_map live_session s } ∷ live_workers-same o p (suc w) ss h i
 

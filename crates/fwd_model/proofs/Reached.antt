@@ -8,15 +8,14 @@ use Rattle.fwd_msgpack.specs.Scans.Split.{Open, Broken}
 use Rattle.fwd_model.specs.declared.cell.Span.{Span}
 use Rattle.fwd_model.specs.declared.cell.Carry.{Carry}
 use Rattle.fwd_source.specs.History.{SourceHistory, IsSane as IsSaneSource}
-use Rattle.fwd_model.specs.History.{SessionHistory, Connection, source_at, with_source, with_gone, Lane, History}
+use Rattle.fwd_model.specs.Books.{has_cell}
+use Rattle.fwd_model.specs.Sessions.{SessionHistory}
+use Rattle.fwd_model.specs.History.{Connection, source_at, with_source, with_gone, Lane, History, is_fresh}
+use Rattle.fwd_model.specs.Live.{last_id, is_above}
 use Rattle.fwd_model.proofs.Places.{Once}
 use Rattle.fwd_model.specs.declared.cell.Cell.{Cell}
 use Rattle.fwd_model.specs.Chunks.{greatest, carry_of, is_carried, has_number, put_down}
-use Rattle.fwd_model.specs.Books.{has_cell}
 use Rattle.fwd_model.specs.Replies.{reply_stream}
-use Rattle.fwd_model.specs.Live.{last_id}
-use Rattle.fwd_model.specs.Step.{is_fresh}
-use Rattle.fwd_model.specs.LiveStep.{is_above}
 
 abbrev pub AllSources : List Connection → Type 0
 AllSources [] = Unit {0}
@@ -37,15 +36,15 @@ pub record IsSaneSession (w : ℕ) (carried : List Carry) (s : SessionHistory) :
 
 -- what holds of an output and its sessions: a number is open, carried or acknowledged, one of them only, once it was given, and carried once
 pub record IsSaneLane (l : Lane) : Type 0 where
-  pub opened_below : (k : ℕ) → has_number k l.output.opened ≡ true → k ≤ greatest l.output.cells
-  pub acked_below : (k : ℕ) → has_number k l.output.acknowledged ≡ true → k ≤ greatest l.output.cells
-  pub carried_below : (k : ℕ) → is_carried k l.output.carried ≡ true → k ≤ greatest l.output.cells
-  pub opened_unacked : (k : ℕ) → has_number k l.output.opened ≡ true → has_number k l.output.acknowledged ≡ false
-  pub opened_uncarried : (k : ℕ) → has_number k l.output.opened ≡ true → is_carried k l.output.carried ≡ false
-  pub carried_unacked : (k : ℕ) → is_carried k l.output.carried ≡ true → has_number k l.output.acknowledged ≡ false
-  pub carried_once : (w : ℕ) (c : Carry) → carry_of w l.output.carried ≡ Some c → is_carried c.number (put_down w l.output.carried) ≡ false
-  pub spans : list_all (λ a. have_cells a.request.spans l.output.cells) l.output.requests ≡ true
-  pub sessions : (w : ℕ) (s : SessionHistory) → slice_get l.sessions w ≡ Some (Some s) → IsSaneSession w l.output.carried s
+  pub opened_below : (k : ℕ) → has_number k l.output.buffer.opened ≡ true → k ≤ greatest l.output.buffer.cells
+  pub acked_below : (k : ℕ) → has_number k l.output.buffer.acknowledged ≡ true → k ≤ greatest l.output.buffer.cells
+  pub carried_below : (k : ℕ) → is_carried k l.output.buffer.carried ≡ true → k ≤ greatest l.output.buffer.cells
+  pub opened_unacked : (k : ℕ) → has_number k l.output.buffer.opened ≡ true → has_number k l.output.buffer.acknowledged ≡ false
+  pub opened_uncarried : (k : ℕ) → has_number k l.output.buffer.opened ≡ true → is_carried k l.output.buffer.carried ≡ false
+  pub carried_unacked : (k : ℕ) → is_carried k l.output.buffer.carried ≡ true → has_number k l.output.buffer.acknowledged ≡ false
+  pub carried_once : (w : ℕ) (c : Carry) → carry_of w l.output.buffer.carried ≡ Some c → is_carried c.number (put_down w l.output.buffer.carried) ≡ false
+  pub spans : list_all (λ a. have_cells a.request.spans l.output.buffer.cells) l.output.book ≡ true
+  pub sessions : (w : ℕ) (s : SessionHistory) → slice_get l.sessions w ≡ Some (Some s) → IsSaneSession w l.output.buffer.carried s
 
 abbrev pub AllSane : List Lane → Type 0
 AllSane [] = Unit {0}

@@ -6,8 +6,8 @@ use Rattle.std.proofs.lemmas.Bool.{cases_lt}
 use Rattle.fwd_model.specs.declared.cell.Cell.{Cell}
 use Rattle.fwd_model.specs.declared.cell.Carry.{Carry}
 use Rattle.fwd_model.specs.Chunks.{greatest, cells_at, has_entry, has_number, is_carried, carry_of, put_down, unsettled, least_free, is_free, lesser}
+use Rattle.fwd_model.specs.Buffers.{settled_cells}
 use Rattle.fwd_model.specs.Books.{has_cell}
-use Rattle.fwd_model.specs.Live.{settled_cells}
 
 -- ---- numbers
 

@@ -11,17 +11,20 @@ use Rattle.fwd_model.specs.declared.answer.Answer.TheVariants as answer
 use Rattle.fwd_model.specs.declared.event.Event.TheVariants as event
 use Rattle.fwd_model.specs.declared.fault.SessionFault.{SessionFault}
 use Rattle.fwd_model.specs.declared.fault.SessionFault.TheVariants.{BadReply}
-use Rattle.fwd_model.specs.declared.fault.Refusal.TheVariants.{Closed, NotNow}
 use Rattle.fwd_model.specs.Chunks.{cells_at, has_number}
-use Rattle.fwd_model.specs.Books.{is_of, is_settled, numbers_of, acks_of}
 use Rattle.fwd_model.specs.Replies.{Replies, Reply, reply_of, reply_named, reply_then, replies, replies_in, silence, failing}
 use Rattle.fwd_model.specs.Replies.Reply.{Skipped, Accepted, Failed}
 use Rattle.fwd_modes.specs.Acks.{ack_name}
 use Rattle.fwd_modes.specs.Kinds.{is_nil}
 use Rattle.fwd_source.specs.History.{SourceHistory}
-use Rattle.fwd_model.specs.History.{SessionHistory, Admission, OutputHistory, Lane, History, source_at, is_handed_on}
-use Rattle.fwd_model.specs.Step as step
-use Rattle.fwd_model.specs.Step.{answer_to, next, is_due, due, with_lane, with_session, session_at, awaited, replies_to, newly_heard, has_heard}
+use Rattle.fwd_model.specs.declared.fault.Refusal.TheVariants.{Closed, NoSuch, NotNow, NotUp}
+use Rattle.fwd_model.specs.Outcome.{answer_of, state_of, within, found as sought, refuse_if, Goes, ◌>>=◌, ◌>>◌}
+use Rattle.fwd_model.specs.Step as steps
+use Rattle.fwd_model.specs.Step.{step}
+use Rattle.fwd_model.specs.Books.{Admission, is_of, is_settled, is_due, numbers_of, acks_of}
+use Rattle.fwd_model.specs.Outputs.{output_history_due}
+use Rattle.fwd_model.specs.Sessions.{SessionHistory, is_handed_on, awaited, replies_to, newly_heard, listens}
+use Rattle.fwd_model.specs.History.{Lane, History, source_at, with_lane, with_session, with_connection, history_worker, histories}
 use Rattle.fwd_model.proofs.Places.{slice_get-set_same}
 
 -- ---- nothing is accepted where nothing is awaited
@@ -49,86 +52,116 @@ none_in (Broken vs fault) = none_accepted vs (failing BadReply) refl
 
 -- ---- a session that heard
 
-put_lane : (h : History) (o w : ℕ) (l : Lane) (u : SessionHistory) → slice_get h.lanes o ≡ Some l → slice_get (with_lane o (with_session w u l) h).lanes o ≡ Some (with_session w u l)
-put_lane h o w l u here = slice_get-set_same h.lanes o (with_session w u l) l here
+-- what settling comes to at a worker whose session is this one
+settled_as : (h : History) (o w : ℕ) (l : Lane) (s : SessionHistory) → slice_get h.lanes o ≡ Some l → slice_get l.sessions w ≡ Some (Some s)
+    → answer_of (step histories h (event.Settle o w)) ≡ answer_of (sought (steps.acked histories s) NotNow >>= (λ k. Goes (answer.Settled (length (cells_at k l.output.buffer.cells))) (histories.settles l w s k)))
+settled_as h o w l s here at =
+    ap (λ x. answer_of (sought x NoSuch >>= (λ m. within (λ n. with_lane o n h) (steps.settle histories m w)))) here
+    ∙ ap (λ x. answer_of (within (λ n. with_lane o n h) (sought (option_map (history_worker l w) x) NoSuch >>= (λ y. sought y.session NotNow >>= (λ u. sought (steps.acked histories u) NotNow >>= (λ k. Goes (answer.Settled (length (cells_at k l.output.buffer.cells))) (histories.settles l w u k))))))) at
+    ∙ outside (steps.acked histories s)
+  where
+    outside : (k : Option ℕ) → answer_of (within (λ n. with_lane o n h) (sought k NotNow >>= (λ k. Goes (answer.Settled (length (cells_at k l.output.buffer.cells))) (histories.settles l w s k))))
+        ≡ answer_of (sought k NotNow >>= (λ k. Goes (answer.Settled (length (cells_at k l.output.buffer.cells))) (histories.settles l w s k)))
+    outside None = refl
+    outside (Some k) = refl
 
-settles_as : (h : History) (o w : ℕ) (l : Lane) (s u : SessionHistory) → slice_get h.lanes o ≡ Some l → slice_get l.sessions w ≡ Some (Some s)
-    → answer_to (with_lane o (with_session w u l) h) (event.Settle o w) ≡ step.settle_number (step.acked_number u) l.output.cells
-settles_as h o w l s u here at =
-    ap (λ x. step.settle_answer (session_at w x) x) (put_lane h o w l u here)
-    ∙ ap (λ x. step.settle_answer x (Some (with_session w u l))) (slice_get-set_same l.sessions w (Some u) (Some s) at)
+-- what hearing comes to there
+heard_as : (h : History) (o w : ℕ) (bytes : List ℕ) (l : Lane) (s : SessionHistory) → slice_get h.lanes o ≡ Some l → slice_get l.sessions w ≡ Some (Some s)
+    → step histories h (event.Heard o w bytes) ≡ (refuse_if s.down NotUp >> Goes (steps.reply_answer (replies_to s h.run o bytes).accepted (replies_to s h.run o bytes).fault) (with_lane o (with_session w (listens s bytes (replies_to s h.run o bytes)) l) h))
+heard_as h o w bytes l s here at =
+    ap (λ x. sought x NoSuch >>= (λ m. within (λ n. with_lane o n h) (steps.at_worker histories m w (λ x. steps.at_session histories x (steps.heard histories h.run o bytes))))) here
+    ∙ ap (λ x. within (λ n. with_lane o n h) (sought (option_map (history_worker l w) x) NoSuch >>= (λ y. within (histories.puts_worker l w) (steps.at_session histories y (steps.heard histories h.run o bytes))))) at
+    ∙ outside s.down
+  where
+    outside : (b : Bool) → within (λ n. with_lane o n h) (within (histories.puts_worker l w) (within (steps.with_session (history_worker l w (Some s))) (refuse_if b NotUp >> Goes (steps.reply_answer (replies_to s h.run o bytes).accepted (replies_to s h.run o bytes).fault) (listens s bytes (replies_to s h.run o bytes)))))
+        ≡ (refuse_if b NotUp >> Goes (steps.reply_answer (replies_to s h.run o bytes).accepted (replies_to s h.run o bytes).fault) (with_lane o (with_session w (listens s bytes (replies_to s h.run o bytes)) l) h))
+    outside true = refl
+    outside false = refl
 
-heard_next-is : (h : History) (o w : ℕ) (bytes : List ℕ) (l : Lane) (s : SessionHistory) → slice_get h.lanes o ≡ Some l → slice_get l.sessions w ≡ Some (Some s)
-    → next h (event.Heard o w bytes) ≡ cond s.down h (with_lane o (with_session w (has_heard s bytes (replies_to h.run o s bytes)) l) h)
-heard_next-is h o w bytes l s here at =
-    ap (λ x. step.heard_next o w (session_at w x) x bytes h) here ∙ ap (λ x. step.heard_next o w x (Some l) bytes h) at
-
-settle_as_is : (h : History) (o w : ℕ) (l : Lane) (s : SessionHistory) → slice_get h.lanes o ≡ Some l → slice_get l.sessions w ≡ Some (Some s) → answer_to h (event.Settle o w) ≡ step.settle_number (step.acked_number s) l.output.cells
-settle_as_is h o w l s here at = ap (λ x. step.settle_answer (session_at w x) x) here ∙ ap (λ x. step.settle_answer x (Some l)) at
+-- what settling comes to after that
+settled_after : (h : History) (o w : ℕ) (l : Lane) (s u : SessionHistory) → slice_get h.lanes o ≡ Some l → slice_get l.sessions w ≡ Some (Some s)
+    → answer_of (step histories (with_lane o (with_session w u l) h) (event.Settle o w)) ≡ answer_of (sought (steps.acked histories u) NotNow >>= (λ k. Goes (answer.Settled (length (cells_at k l.output.buffer.cells))) (histories.settles (with_session w u l) w u k)))
+settled_after h o w l s u here at =
+    settled_as (with_lane o (with_session w u l) h) o w (with_session w u l) u (slice_get-set_same h.lanes o (with_session w u l) l here) (slice_get-set_same l.sessions w (Some u) (Some s) at)
 
 pub early-nothing : (h : History) (o w : ℕ) (bytes : List ℕ) (l : Lane) (s : SessionHistory) → slice_get h.lanes o ≡ Some l → slice_get l.sessions w ≡ Some (Some s) → s.accepted ≡ false → is_handed_on s ≡ false
-    → answer_to (next h (event.Heard o w bytes)) (event.Settle o w) ≡ answer.Refused NotNow
+    → answer_of (step histories (state_of h (step histories h (event.Heard o w bytes))) (event.Settle o w)) ≡ answer.Refused NotNow
 early-nothing h o w bytes l s here at none early =
-    ap (λ k. answer_to k (event.Settle o w)) (heard_next-is h o w bytes l s here at) ∙ by s.down
+    ap (λ x. answer_of (step histories (state_of h x) (event.Settle o w))) (heard_as h o w bytes l s here at) ∙ by s.down
   where
+    u : SessionHistory
+    u = listens s bytes (replies_to s h.run o bytes)
+
     nobody : awaited h.run o s ≡ None
     nobody = (λ i. cond (none i || not (early i)) None (option_map (chunk_name h.run o) s.loaded))
 
-    refused : (replies_to h.run o s bytes).accepted ≡ false
+    refused : (replies_to s h.run o bytes).accepted ≡ false
     refused = ap (λ a. (replies_in a (newly_heard s bytes)).accepted) nobody ∙ none_in (newly_heard s bytes)
 
-    by : (b : Bool) → answer_to (cond b h (with_lane o (with_session w (has_heard s bytes (replies_to h.run o s bytes)) l) h)) (event.Settle o w) ≡ answer.Refused NotNow
-    by true = settle_as_is h o w l s here at ∙ ap (λ b. step.settle_number (cond b s.loaded None) l.output.cells) none
+    by : (b : Bool) → answer_of (step histories (state_of h (refuse_if b NotUp >> Goes (steps.reply_answer (replies_to s h.run o bytes).accepted (replies_to s h.run o bytes).fault) (with_lane o (with_session w u l) h))) (event.Settle o w)) ≡ answer.Refused NotNow
+    by true =
+        settled_as h o w l s here at
+        ∙ ap (λ b. answer_of (sought (cond b s.loaded None) NotNow >>= (λ k. Goes (answer.Settled (length (cells_at k l.output.buffer.cells))) (histories.settles l w s k)))) none
     by false =
-        settles_as h o w l s (has_heard s bytes (replies_to h.run o s bytes)) here at
-        ∙ (λ i. step.settle_number (cond (none i || refused i) s.loaded None) l.output.cells)
+        settled_after h o w l s u here at
+        ∙ (λ i. answer_of (sought (cond (none i || refused i) s.loaded None) NotNow >>= (λ k. Goes (answer.Settled (length (cells_at k l.output.buffer.cells))) (histories.settles (with_session w u l) w u k))))
 
 either_true : (b : Bool) → (b || true) ≡ true
 either_true true = refl
 either_true false = refl
 
 pub before_fault-stands : (h : History) (o w k : ℕ) (bytes : List ℕ) (l : Lane) (s : SessionHistory) (f : SessionFault) → slice_get h.lanes o ≡ Some l → slice_get l.sessions w ≡ Some (Some s) → s.down ≡ false → s.loaded ≡ Some k
-    → (replies_to h.run o s bytes).accepted ≡ true → (replies_to h.run o s bytes).fault ≡ Some f
-    → (answer_to h (event.Heard o w bytes) ≡ answer.SessionFaulted f) × (answer_to (next h (event.Heard o w bytes)) (event.Settle o w) ≡ answer.Settled (length (cells_at k l.output.cells)))
-before_fault-stands h o w k bytes l s f here at up loaded accepted fault = (
-  ap (λ x. step.heard_answer (session_at w x) h.run o bytes) here ∙ ap (λ x. step.heard_answer x h.run o bytes) at
-      ∙ (λ i. cond (up i) (answer.Refused Rattle.fwd_model.specs.declared.fault.Refusal.TheVariants.NotUp) (step.reply_answer (accepted i) (fault i))),
-  ap (λ k. answer_to k (event.Settle o w)) (heard_next-is h o w bytes l s here at ∙ ap (λ b. cond b h (with_lane o (with_session w (has_heard s bytes (replies_to h.run o s bytes)) l) h)) up)
-      ∙ settles_as h o w l s (has_heard s bytes (replies_to h.run o s bytes)) here at
-      ∙ (λ i. step.settle_number (cond (s.accepted || accepted i) s.loaded None) l.output.cells)
-      ∙ (λ i. step.settle_number (cond (either_true s.accepted i) (loaded i) None) l.output.cells),
-)
+    → (replies_to s h.run o bytes).accepted ≡ true → (replies_to s h.run o bytes).fault ≡ Some f
+    → (answer_of (step histories h (event.Heard o w bytes)) ≡ answer.SessionFaulted f) × (answer_of (step histories (state_of h (step histories h (event.Heard o w bytes))) (event.Settle o w)) ≡ answer.Settled (length (cells_at k l.output.buffer.cells)))
+before_fault-stands h o w k bytes l s f here at up loaded accepted fault =
+    let u = listens s bytes (replies_to s h.run o bytes) in
+    let heard = heard_as h o w bytes l s here at ∙ ap (λ b. refuse_if b NotUp >> Goes (steps.reply_answer (replies_to s h.run o bytes).accepted (replies_to s h.run o bytes).fault) (with_lane o (with_session w u l) h)) up in (
+      ap answer_of heard ∙ (λ i. steps.reply_answer (accepted i) (fault i)),
+      ap (λ x. answer_of (step histories (state_of h x) (event.Settle o w))) heard
+          ∙ settled_after h o w l s u here at
+          ∙ (λ i. answer_of (sought (cond (s.accepted || accepted i) s.loaded None) NotNow >>= (λ k. Goes (answer.Settled (length (cells_at k l.output.buffer.cells))) (histories.settles (with_session w u l) w u k))))
+          ∙ (λ i. answer_of (sought (cond (either_true s.accepted i) (loaded i) None) NotNow >>= (λ k. Goes (answer.Settled (length (cells_at k l.output.buffer.cells))) (histories.settles (with_session w u l) w u k)))),
+    )
 
 -- ---- a request without entries
 
-pub listed : (id : ℕ) (output : OutputHistory) (admissions : List Admission) (i : ℕ) (a : Admission) → slice_get admissions i ≡ Some a → is_due id output a ≡ true
-    → has_number a.request.origin.request (numbers_of (map (λ x. x.request) (filter (is_due id output) admissions))) ≡ true
-listed id output [] i a h d = absurd cc
-listed id output (b ∷ admissions) zero a h d =
+pub listed : (id : ℕ) (acked : List ℕ) (admissions : List Admission) (i : ℕ) (a : Admission) → slice_get admissions i ≡ Some a → is_due id acked a ≡ true
+    → has_number a.request.origin.request (numbers_of (map (λ x. x.request) (filter (is_due id acked) admissions))) ≡ true
+listed id acked [] i a h d = absurd cc
+listed id acked (b ∷ admissions) zero a h d =
     let same : b ≡ a = cc in
-    subst (λ x. has_number x.request.origin.request (numbers_of (map (λ y. y.request) (filter (is_due id output) (b ∷ admissions)))) ≡ true) same
-    (ap (λ t. has_number b.request.origin.request (numbers_of (map (λ y. y.request) (cond t (b ∷ filter (is_due id output) admissions) (filter (is_due id output) admissions))))) (ap (is_due id output) same ∙ d)
-    ∙ first_listed b.request.origin.request (numbers_of (map (λ y. y.request) (filter (is_due id output) admissions))))
+    subst (λ x. has_number x.request.origin.request (numbers_of (map (λ y. y.request) (filter (is_due id acked) (b ∷ admissions)))) ≡ true) same
+    (ap (λ t. has_number b.request.origin.request (numbers_of (map (λ y. y.request) (cond t (b ∷ filter (is_due id acked) admissions) (filter (is_due id acked) admissions))))) (ap (is_due id acked) same ∙ d)
+    ∙ first_listed b.request.origin.request (numbers_of (map (λ y. y.request) (filter (is_due id acked) admissions))))
   where
     first_listed : (n : ℕ) (ns : List ℕ) → has_number n (n ∷ ns) ≡ true
     first_listed n ns = grind (arith, nat_tests)
-listed id output (b ∷ admissions) (suc i) a h d = later (is_due id output b) (listed id output admissions i a h d)
+listed id acked (b ∷ admissions) (suc i) a h d = later (is_due id acked b) (listed id acked admissions i a h d)
   where
-    later : (t : Bool) → has_number a.request.origin.request (numbers_of (map (λ y. y.request) (filter (is_due id output) admissions))) ≡ true
-        → has_number a.request.origin.request (numbers_of (map (λ (y : Admission). y.request) (cond t (b ∷ filter (is_due id output) admissions) (filter (is_due id output) admissions)))) ≡ true
+    later : (t : Bool) → has_number a.request.origin.request (numbers_of (map (λ y. y.request) (filter (is_due id acked) admissions))) ≡ true
+        → has_number a.request.origin.request (numbers_of (map (λ (y : Admission). y.request) (cond t (b ∷ filter (is_due id acked) admissions) (filter (is_due id acked) admissions)))) ≡ true
     later true g = grind (arith, nat_tests, g)
     later false g = g
 
+-- what a collect comes to at a connection and an output
+pub told_as : (h : History) (o id : ℕ) (s : SourceHistory) (l : Lane) → source_at id h.connections ≡ Some s → slice_get h.lanes o ≡ Some l → s.shut ≡ false
+    → answer_of (step histories h (event.Collect id o)) ≡ answer.Told (numbers_of (output_history_due l.output id)) (acks_of (output_history_due l.output id))
+told_as h o id s l stands here still =
+    (λ j. answer_of (sought (stands j) NoSuch >>= (λ x. sought (here j) NoSuch >>= (λ y. within (λ two. with_lane o two.1 (with_connection id two.0 h)) (steps.collect histories id x y)))))
+    ∙ ap (λ b. answer_of (within (λ (two : SourceHistory × Lane). with_lane o two.1 (with_connection id two.0 h)) (refuse_if b Closed
+    >> Goes (answer.Told (numbers_of (output_history_due l.output id)) (acks_of (output_history_due l.output id))) (histories.appends s (acks_of (output_history_due l.output id)), histories.tells l id)))) still
+
 pub without_entries-told : (h : History) (o i : ℕ) (s : SourceHistory) (l : Lane) (a : Admission) → source_at a.request.origin.conn h.connections ≡ Some s → s.shut ≡ false → slice_get h.lanes o ≡ Some l
-    → slice_get l.output.requests i ≡ Some a → a.told ≡ false → a.request.spans ≡ []
-    → (numbers out : List ℕ) × (answer_to h (event.Collect a.request.origin.conn o) ≡ answer.Told numbers out) × (has_number a.request.origin.request numbers ≡ true)
+    → slice_get l.output.book i ≡ Some a → a.told ≡ false → a.request.spans ≡ []
+    → (numbers out : List ℕ) × (answer_of (step histories h (event.Collect a.request.origin.conn o)) ≡ answer.Told numbers out) × (has_number a.request.origin.request numbers ≡ true)
 without_entries-told h o i s l a stands still here at untold none =
     let id = a.request.origin.conn in
     let is_its : is_of id a.request ≡ true = grind (arith, nat_tests) in
-    let all : is_settled l.output.acknowledged a.request ≡ true = ap (list_all (λ (x : Span). has_number x.number l.output.acknowledged)) none in
-    let d : is_due id l.output a ≡ true = λ j. not (untold j) && (is_its j && all j) in (
-      numbers_of (due id l.output),
-      acks_of (due id l.output),
-      (λ j. step.collect_answer id (stands j) (here j)) ∙ ap (λ b. cond b (answer.Refused Closed) (answer.Told (numbers_of (due id l.output)) (acks_of (due id l.output)))) still,
-      listed id l.output l.output.requests i a at d,
+    let acked = l.output.buffer.acknowledged in
+    let all : is_settled acked a.request ≡ true = ap (list_all (λ (x : Span). has_number x.number acked)) none in
+    let d : is_due id acked a ≡ true = λ j. not (untold j) && (is_its j && all j) in (
+      numbers_of (output_history_due l.output id),
+      acks_of (output_history_due l.output id),
+      told_as h o id s l stands here still,
+      listed id acked l.output.book i a at d,
     )

@@ -1,5 +1,5 @@
 -- Who is to be told: the requests that an output entered, and when their entries are settled.
-use Rattle.std.specs.Prelude.{ℕ, Bool, not, List, [], ◌∷◌, length, map, Option, Some, None, ◌==◌, if◌then◌else◌}
+use Rattle.std.specs.Prelude.{ℕ, Bool, not, ◌&&◌, ◌||◌, List, [], ◌∷◌, length, map, filter, Option, Some, None, ◌==◌, if◌then◌else◌}
 use Rattle.std.specs.List.{list_all, list_any, concat}
 use Rattle.fwd_modes.specs.Requests.{Request}
 use Rattle.fwd_modes.specs.Acks.{ack_text}
@@ -45,3 +45,44 @@ has_cell number cells = list_any (λ c. c.number == number) cells
 -- none of its entries is among these
 abbrev pub none_left : List Cell → Entered → Bool
 none_left cells q = list_all (λ s. not (has_cell s.number cells)) q.spans
+
+-- ---- the history
+
+-- a request that was entered at an output, and whether its connection was told that all its entries were acknowledged
+pub record Admission : Type 0 where
+  pub request : Entered
+  pub told : Bool
+
+-- a collect tells a request of the connection that was not told, once all its entries are acknowledged
+abbrev pub is_due : ℕ → List ℕ → Admission → Bool
+is_due conn acknowledged a = not a.told && (is_of conn a.request && is_settled acknowledged a.request)
+
+-- the requests that a collect tells, in the order in which they were entered, which is that of their numbers
+abbrev pub due : ℕ → List ℕ → List Admission → List Entered
+due conn acknowledged book = map (λ a. a.request) (filter (is_due conn acknowledged) book)
+
+-- the request is told where the test holds
+abbrev pub told_if : Bool → Admission → Admission
+told_if b a = record { request = a.request; told = a.told || b }
+
+-- the requests that a collect tells are told
+unfoldable pub tells : ℕ → List ℕ → List Admission → List Admission
+tells conn acknowledged book = map (λ a. told_if (is_due conn acknowledged a) a) book
+
+-- ---- what still matters
+
+-- the requests that were not told
+abbrev pub untold : List Admission → List Entered
+untold book = map (λ a. a.request) (filter (λ a. not a.told) book)
+
+-- none of a request's entries is left, by the entries that are
+abbrev pub book_is_due : ℕ → List Cell → Entered → Bool
+book_is_due conn cells q = is_of conn q && none_left cells q
+
+-- the requests that a collect tells
+abbrev pub book_due : ℕ → List Cell → List Entered → List Entered
+book_due conn cells requests = filter (book_is_due conn cells) requests
+
+-- what is told leaves
+unfoldable pub book_tells : ℕ → List Cell → List Entered → List Entered
+book_tells conn cells requests = filter (λ q. not (book_is_due conn cells q)) requests

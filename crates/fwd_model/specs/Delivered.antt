@@ -13,24 +13,43 @@ use Rattle.fwd_model.specs.declared.event.Event.TheVariants as event
 use Rattle.fwd_model.specs.declared.answer.Answer.TheVariants as answer
 use Rattle.fwd_model.specs.Chunks.{cells_at, has_number}
 use Rattle.fwd_match.specs.Patterns.{route}
-use Rattle.fwd_model.specs.Books.{has_cell}
 use Rattle.fwd_source.specs.History.{SourceHistory, judged}
-use Rattle.fwd_model.specs.History.{source_at, SessionHistory, Lane, History, opening}
-use Rattle.fwd_model.specs.Step.{answer_to, after, session_at, newly_heard}
+use Rattle.fwd_model.specs.declared.answer.Answer.{Answer}
+use Rattle.fwd_model.specs.Outcome.{answer_of}
+use Rattle.fwd_model.specs.Step.{step, after}
+use Rattle.fwd_model.specs.Books.{has_cell}
+use Rattle.fwd_model.specs.Sessions.{SessionHistory, newly_heard}
+use Rattle.fwd_model.specs.History.{source_at, Lane, History, opening, histories}
 
 -- where events lead from the opening state of the settings
 abbrev pub reached : Config → List Event → History
-reached config es = after (opening config) es
+reached config es = after histories (opening config) es
 
+-- what an event is answered after others
+abbrev pub answered : Config → List Event → Event → Answer
+answered config es e = answer_of (step histories (reached config es) e)
+
+-- the session that stands at a worker's place, if there is the worker
 abbrev pub standing : Option (Option SessionHistory) → Option SessionHistory
 standing None = None
 standing (Some s) = s
+
+-- the place of an output's worker, if there is the output
+abbrev pub session_at : ℕ → Option Lane → Option (Option SessionHistory)
+session_at w None = None
+session_at w (Some l) = slice_get l.sessions w
 
 -- the session that a worker of an output has
 abbrev pub session_of : History → ℕ → ℕ → Option SessionHistory
 session_of h o w = standing (session_at w (slice_get h.lanes o))
 
--- Among the events the worker's session with a server of the output began. It has not ended since: no event ends one.
+-- after these events, none of the later ones began a session of the worker
+abbrev pub NoneBegan : Config → List Event → List Event → ℕ → ℕ → Type 0
+NoneBegan config before later o w = (between rest : List Event) (server : ℕ) (salt : List ℕ) (moment : ℕ) →
+    later ≡ between ++ event.Up o w server salt moment ∷ rest →
+    answered config (before ++ between) (event.Up o w server salt moment) ≡ answer.Done → ⊥
+
+-- among the events the worker's session with a server of the output began, and no other of that worker's began since
 pub record HasBegun (config : Config) (es : List Event) (o w : ℕ) : Type 0 where
   pub before : List Event
   pub server : ℕ
@@ -38,7 +57,8 @@ pub record HasBegun (config : Config) (es : List Event) (o w : ℕ) : Type 0 whe
   pub moment : ℕ
   pub later : List Event
   pub split : es ≡ before ++ event.Up o w server salt moment ∷ later
-  pub done : answer_to (reached config before) (event.Up o w server salt moment) ≡ answer.Done
+  pub done : answered config before (event.Up o w server salt moment) ≡ answer.Done
+  pub alone : NoneBegan config (before ++ event.Up o w server salt moment ∷ []) later o w
 
 -- among the events, after that, the session was loaded with the frame
 pub record WasLoaded (config : Config) (es : List Event) (o w : ℕ) (frame : List ℕ) : Type 0 where
@@ -46,7 +66,7 @@ pub record WasLoaded (config : Config) (es : List Event) (o w : ℕ) (frame : Li
   pub moment : ℕ
   pub later : List Event
   pub split : es ≡ before ++ event.Load o w moment ∷ later
-  pub loads : answer_to (reached config before) (event.Load o w moment) ≡ answer.Frame frame
+  pub loads : answered config before (event.Load o w moment) ≡ answer.Frame frame
   pub begun : HasBegun config before o w
 
 -- the link took all bytes of the session, of which the last are the frame
@@ -61,7 +81,7 @@ pub record WasSent (config : Config) (es : List Event) (o w : ℕ) (frame : List
   pub count : ℕ
   pub later : List Event
   pub split : es ≡ before ++ event.Wrote o w count ∷ later
-  pub done : answer_to (reached config before) (event.Wrote o w count) ≡ answer.Done
+  pub done : answered config before (event.Wrote o w count) ≡ answer.Done
   pub session : SessionHistory
   pub stands : session_of (reached config (before ++ event.Wrote o w count ∷ [])) o w ≡ Some session
   pub taken : IsTaken session frame
@@ -104,11 +124,11 @@ pub record IsDelivered (config : Config) (es : List Event) (id r o : ℕ) : Type
   pub first_match : route config.routes request.tag ≡ Some o
   pub lane : Lane
   pub here : slice_get (reached config es).lanes o ≡ Some lane
-  pub entries : map (λ c. c.entry) (cells_from id r lane.output.cells) ≡ request.entries
-  pub tags : list_all (λ c. bytes_eq c.tag request.tag) (cells_from id r lane.output.cells) ≡ true
-  pub settled : (k : ℕ) → has_cell k (cells_from id r lane.output.cells) ≡ true → has_number k lane.output.acknowledged ≡ true
-  pub sent : (k : ℕ) → has_cell k (cells_from id r lane.output.cells) ≡ true →
-      (w : ℕ) × WasAcknowledged config es o w (whole_frame config o request.tag lane.output.cells k) (chunk_name config.run o k)
+  pub entries : map (λ c. c.entry) (cells_from id r lane.output.buffer.cells) ≡ request.entries
+  pub tags : list_all (λ c. bytes_eq c.tag request.tag) (cells_from id r lane.output.buffer.cells) ≡ true
+  pub settled : (k : ℕ) → has_cell k (cells_from id r lane.output.buffer.cells) ≡ true → has_number k lane.output.buffer.acknowledged ≡ true
+  pub sent : (k : ℕ) → has_cell k (cells_from id r lane.output.buffer.cells) ≡ true →
+      (w : ℕ) × WasAcknowledged config es o w (whole_frame config o request.tag lane.output.buffer.cells k) (chunk_name config.run o k)
 
 -- among the events, the connection was told that the request's entries were all acknowledged
 pub record IsTold (config : Config) (es : List Event) (id r o : ℕ) : Type 0 where
@@ -117,5 +137,5 @@ pub record IsTold (config : Config) (es : List Event) (id r o : ℕ) : Type 0 wh
   pub out : List ℕ
   pub later : List Event
   pub split : es ≡ before ++ event.Collect id o ∷ later
-  pub told : answer_to (reached config before) (event.Collect id o) ≡ answer.Told numbers out
+  pub told : answered config before (event.Collect id o) ≡ answer.Told numbers out
   pub among : has_number r numbers ≡ true

@@ -1,18 +1,52 @@
--- The history of a relay: all that ever came, with nothing removed.
-use Rattle.std.specs.Prelude.{ℕ, Bool, true, List, [], ◌∷◌, length, map, drop, replicate, Option, Some, None, nat_le, ◌==◌, if◌then◌else◌}
+-- The history of a relay: all that ever came, with nothing removed. It is one reading of the layers of a step.
+use Rattle.std.specs.Prelude.{◌≡◌, ℕ, Bool, true, false, List, [], ◌∷◌, ◌++◌, length, map, filter, replicate, Option, Some, None, option_map, nat_lt, ◌==◌, if◌then◌else◌, slice_get, slice_set}
+use Rattle.std.specs.List.{list_all}
 use Rattle.fwd_handshake.specs.declared.credentials.Security.{Security}
-use Rattle.fwd_source.specs.History.{SourceHistory}
-use Rattle.fwd_model.specs.declared.cell.Cell.{Cell}
-use Rattle.fwd_model.specs.declared.cell.Carry.{Carry}
-use Rattle.fwd_model.specs.declared.cell.Entered.{Entered}
+use Rattle.fwd_source.specs.History.{Setup, SourceHistory, opened}
+use Rattle.fwd_source.specs.Layer.{source_histories}
 use Rattle.fwd_model.specs.declared.config.Config.{Config}
 use Rattle.fwd_model.specs.declared.config.OutputConfig.{OutputConfig}
+use Rattle.fwd_model.specs.declared.event.Event.{Event}
+use Rattle.fwd_model.specs.Chunks.{chunk_of, carry_of, cells_at}
+use Rattle.fwd_model.specs.Buffers as buffer
+use Rattle.fwd_model.specs.Buffers.{BufferHistory, chunk_at, no_cells}
+use Rattle.fwd_model.specs.Outputs.{OutputHistory, output_history_enters, output_history_due, output_history_tells}
+use Rattle.fwd_model.specs.Sessions.{SessionHistory, unloads, session_histories}
+use Rattle.fwd_model.specs.Layers.{Worker, Lanes, Layers}
+use Rattle.fwd_model.specs.Step.{after}
+
+-- ---- what is kept
 
 -- a connection: its id, its history, and whether it was shut, and is known no more
 pub record Connection : Type 0 where
   pub id : ℕ
   pub source : SourceHistory
   pub gone : Bool
+
+-- an output with its settings, and a place for each of its workers
+pub record Lane : Type 0 where
+  pub config : OutputConfig
+  pub output : OutputHistory
+  pub sessions : List (Option SessionHistory)
+
+-- the relay: what tells its run from others, the pattern of each output as its expanded words, what a source has to prove,
+-- the connections ever accepted, and the outputs
+pub record History : Type 0 where
+  pub run : List ℕ
+  pub routes : List (List (List ℕ))
+  pub security : Security
+  pub connections : List Connection
+  pub lanes : List Lane
+
+-- an output before any event
+abbrev pub new_lane : OutputConfig → Lane
+new_lane c = record { config = c; output = record { buffer = no_cells; book = [] }; sessions = replicate c.workers None }
+
+-- before any event
+unfoldable pub opening : Config → History
+opening config = record { run = config.run; routes = config.routes; security = config.security; connections = []; lanes = map new_lane config.outputs }
+
+-- ---- connections
 
 -- the connection that was accepted under an id, known or not
 abbrev pub ever_at : ℕ → List Connection → Option SourceHistory
@@ -24,6 +58,7 @@ abbrev pub source_at : ℕ → List Connection → Option SourceHistory
 source_at id [] = None
 source_at id (c ∷ cs) = if c.id == id then (if c.gone then None else Some c.source) else source_at id cs
 
+-- another history under the id
 abbrev pub with_source : ℕ → SourceHistory → List Connection → List Connection
 with_source id s [] = []
 with_source id s (c ∷ cs) = if c.id == id then record { id = c.id; source = s; gone = c.gone } ∷ cs else c ∷ with_source id s cs
@@ -33,60 +68,93 @@ abbrev pub with_gone : ℕ → List Connection → List Connection
 with_gone id [] = []
 with_gone id (c ∷ cs) = if c.id == id then record { id = c.id; source = c.source; gone = true } ∷ cs else c ∷ with_gone id cs
 
--- a request that was entered at an output, and whether its connection was told that all its entries were acknowledged
-pub record Admission : Type 0 where
-  pub request : Entered
-  pub told : Bool
+-- the id is above every earlier one
+abbrev pub is_fresh : ℕ → List Connection → Bool
+is_fresh id cs = list_all (λ c. nat_lt c.id id) cs
 
--- an output: every entry ever admitted, in order; the numbers that may take more; the numbers that a server acknowledged; who has which number; every request ever entered, in order; the greatest moment handed in
-pub record OutputHistory : Type 0 where
-  pub cells : List Cell
-  pub opened : List ℕ
-  pub acknowledged : List ℕ
-  pub carried : List Carry
-  pub requests : List Admission
-  pub moment : ℕ
-
--- a worker's session with a server: all bytes heard; all bytes appended for sending, and how many of them the link took; the number that it is loaded with, and whether that one's acknowledgement was accepted; whether a fault put it down; the greatest moment handed in
-pub record SessionHistory : Type 0 where
-  pub server : ℕ
-  pub heard : List ℕ
-  pub appended : List ℕ
-  pub sent : ℕ
-  pub loaded : Option ℕ
-  pub accepted : Bool
-  pub down : Bool
-  pub moment : ℕ
-
--- the bytes that wait to be sent to a server
-abbrev pub to_send : SessionHistory → List ℕ
-to_send s = if s.down then [] else drop s.sent s.appended
-
--- all bytes were taken by the link, through the last
-abbrev pub is_handed_on : SessionHistory → Bool
-is_handed_on s = nat_le (length s.appended) s.sent
-
--- an output with its settings, and a place for each of its workers
-pub record Lane : Type 0 where
-  pub config : OutputConfig
-  pub output : OutputHistory
-  pub sessions : List (Option SessionHistory)
-
--- the relay: what tells its run from others, the pattern of each output as its expanded words, what a source has to prove, the connections ever accepted, and the outputs
-pub record History : Type 0 where
-  pub run : List ℕ
-  pub routes : List (List (List ℕ))
-  pub security : Security
-  pub connections : List Connection
-  pub lanes : List Lane
-
-abbrev pub new_lane : OutputConfig → Lane
-new_lane c = record {
-  config = c;
-  output = record { cells = []; opened = []; acknowledged = []; carried = []; requests = []; moment = 0 };
-  sessions = replicate c.workers None;
+-- a connection comes
+abbrev pub accepts : History → Setup → History
+accepts h setup = record {
+  run = h.run;
+  routes = h.routes;
+  security = h.security;
+  connections = h.connections ++ record { id = setup.conn; source = opened setup; gone = false } ∷ [];
+  lanes = h.lanes;
 }
 
--- before any event
-unfoldable pub opening : Config → History
-opening config = record { run = config.run; routes = config.routes; security = config.security; connections = []; lanes = map new_lane config.outputs }
+-- the connection of this id is another
+abbrev pub with_connection : ℕ → SourceHistory → History → History
+with_connection id s h =
+    record { run = h.run; routes = h.routes; security = h.security; connections = with_source id s h.connections; lanes = h.lanes }
+
+-- the connection is known no more. Its id stays used, and what it asked for stands
+abbrev pub leaves : ℕ → History → History
+leaves id h =
+    record { run = h.run; routes = h.routes; security = h.security; connections = with_gone id h.connections; lanes = h.lanes }
+
+-- ---- outputs
+
+-- the output has other entries and requests
+abbrev pub with_output : Lane → OutputHistory → Lane
+with_output l o = record { config = l.config; output = o; sessions = l.sessions }
+
+-- the output has other entries
+abbrev pub with_buffer : Lane → BufferHistory → Lane
+with_buffer l b = with_output l (record { buffer = b; book = l.output.book })
+
+-- the worker has this session
+abbrev pub with_session : ℕ → SessionHistory → Lane → Lane
+with_session w s l = record { config = l.config; output = l.output; sessions = slice_set l.sessions w (Some s) }
+
+-- the output of this number is another
+abbrev pub with_lane : ℕ → Lane → History → History
+with_lane o l h =
+    record { run = h.run; routes = h.routes; security = h.security; connections = h.connections; lanes = slice_set h.lanes o l }
+
+-- ---- the history as layers
+
+-- a worker, with the chunk that it carries
+abbrev pub history_worker : Lane → ℕ → Option SessionHistory → Worker SessionHistory
+history_worker l w s = record { chunk = option_map (λ c. chunk_of c.number l.output.buffer.cells) (carry_of w l.output.buffer.carried); session = s }
+
+-- outputs as all that ever came to them
+abbrev pub lane_histories : Lanes SessionHistory
+lane_histories = record {
+  Lane = Lane;
+  config = λ l. l.config;
+  is_spent = λ l q. buffer.has_no_number l.output.buffer q;
+  closing = λ l now kind. length (filter (buffer.is_closed_by l.output.buffer l.config.flush_interval now kind) l.output.buffer.opened);
+  flushes = λ l now kind. with_buffer l (buffer.flushes l.output.buffer l.config.flush_interval now kind);
+  enters = λ l origin q now. with_output l (output_history_enters l.output origin q now);
+  due = λ l conn. output_history_due l.output conn;
+  tells = λ l conn. with_output l (output_history_tells l.output conn);
+  worker_at = λ l w. option_map (history_worker l w) (slice_get l.sessions w);
+  puts_worker = λ l w x. record { config = l.config; output = l.output; sessions = slice_set l.sessions w x.session };
+  free = λ l. chunk_at (buffer.free_number l.output.buffer) l.output.buffer.cells;
+  takes = λ l w x now. with_buffer l (buffer.takes l.output.buffer w now);
+  entries_at = λ l number. length (cells_at number l.output.buffer.cells);
+  settles = λ l w s number. with_session w (unloads s) (with_buffer l (buffer.settles l.output.buffer w number));
+}
+
+-- the relay as all that ever came to it
+abbrev pub histories : Layers
+histories = record {
+  sources = source_histories;
+  sessions = session_histories;
+  lanes = lane_histories;
+  Relay = History;
+  run = λ h. h.run;
+  routes = λ h. h.routes;
+  security = λ h. h.security;
+  is_fresh = λ h id. is_fresh id h.connections;
+  accepts = accepts;
+  source_at = λ h id. source_at id h.connections;
+  puts_source = λ h id s. with_connection id s h;
+  leaves = λ h id. leaves id h;
+  lane_at = λ h o. slice_get h.lanes o;
+  puts_lane = λ h o l. with_lane o l h;
+}
+
+-- a list of events leads from the opening state of the settings to this one
+abbrev pub IsReached : Config → History → Type 0
+IsReached config h = (es : List Event) × (after histories (opening config) es ≡ h)

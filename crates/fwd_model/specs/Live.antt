@@ -1,104 +1,32 @@
--- What of a history still matters: the bytes of unfinished values, the requests that wait, the counts, and what is not yet settled.
-use Rattle.std.specs.Prelude.{ℕ, suc, Bool, not, List, [], ◌∷◌, length, map, filter, Option, Some, None, option_map, if◌then◌else◌}
+-- What of a history still matters: the bytes of unfinished values, the requests that wait, the counts, and what is not yet
+-- settled. It is the other reading of the layers of a step.
+use Rattle.std.specs.Prelude.{ℕ, suc, Bool, true, not, List, [], ◌∷◌, ◌++◌, length, map, filter, Option, Some, None, option_map, nat_lt, ◌==◌, if◌then◌else◌, slice_get, slice_set}
 use Rattle.fwd_handshake.specs.declared.credentials.Security.{Security}
-use Rattle.fwd_source.specs.Live.{LiveSource, live_source}
-use Rattle.fwd_model.specs.declared.cell.Cell.{Cell}
-use Rattle.fwd_model.specs.declared.cell.Carry.{Carry}
-use Rattle.fwd_model.specs.declared.cell.Chunk.{Chunk}
-use Rattle.fwd_model.specs.declared.cell.Entered.{Entered}
+use Rattle.fwd_source.specs.History.{Setup}
+use Rattle.fwd_source.specs.Live.{LiveSource, live_source, opened_source}
+use Rattle.fwd_source.specs.Layer.{live_sources}
 use Rattle.fwd_model.specs.declared.config.OutputConfig.{OutputConfig}
-use Rattle.fwd_model.specs.Chunks.{greatest, chunk_of, carry_of, unsettled, has_number}
-use Rattle.fwd_model.specs.Replies.{reply_stream, rest_of}
-use Rattle.fwd_model.specs.History.{Connection, Admission, OutputHistory, SessionHistory, to_send, Lane, History}
+use Rattle.fwd_model.specs.Chunks.{chunk_of, carry_of, cells_at}
+use Rattle.fwd_model.specs.Buffers.{LiveBuffer, buffer_is_spent, buffer_closes, buffer_flushes, buffer_free, buffer_takes, buffer_settles}
+use Rattle.fwd_model.specs.Outputs.{OutputHistory, LiveOutput, live_output, output_enters, output_due, output_tells}
+use Rattle.fwd_model.specs.Sessions.{SessionHistory, LiveSession, live_session, session_unloads, live_sessions}
+use Rattle.fwd_model.specs.Layers.{Worker, Lanes, Layers}
+use Rattle.fwd_model.specs.History.{Connection, Lane, History}
 
+-- ---- what is kept
+
+-- a connection that is known
 pub record LiveConnection : Type 0 where
   pub id : ℕ
   pub source : LiveSource
 
-abbrev pub live_connection : Connection → LiveConnection
-live_connection c = record { id = c.id; source = live_source c.source }
-
--- the connections that were not shut
-abbrev pub known : List Connection → List Connection
-known cs = filter (λ c. not c.gone) cs
-
--- the requests that were not told
-abbrev pub untold : List Admission → List Entered
-untold requests = map (λ a. a.request) (filter (λ a. not a.told) requests)
-
--- the entries whose number is acknowledged
-abbrev pub settled_cells : List ℕ → List Cell → List Cell
-settled_cells acknowledged cells = filter (λ c. has_number c.number acknowledged) cells
-
--- an output: the entries that are not settled, the requests that were not told, and the counts that its cells gave, which stay when cells go
-pub record LiveOutput : Type 0 where
-  pub cells : List Cell
-  pub opened : List ℕ
-  pub greatest : ℕ
-  pub accepted : ℕ
-  pub settled : ℕ
-  pub carried : List Carry
-  pub requests : List Entered
-  pub moment : ℕ
-
-unfoldable pub live_output : OutputHistory → LiveOutput
-live_output o = record {
-  cells = unsettled o.acknowledged o.cells;
-  opened = o.opened;
-  greatest = greatest o.cells;
-  accepted = length o.cells;
-  settled = length (settled_cells o.acknowledged o.cells);
-  carried = o.carried;
-  requests = untold o.requests;
-  moment = o.moment;
-}
-
--- a session: the bytes that wait to be sent, and those of an unfinished reply; none of them once it is down
-pub record LiveSession : Type 0 where
-  pub server : ℕ
-  pub waiting : List ℕ
-  pub rest : List ℕ
-  pub loaded : Option ℕ
-  pub accepted : Bool
-  pub down : Bool
-  pub moment : ℕ
-
-unfoldable pub live_session : SessionHistory → LiveSession
-live_session s = record {
-  server = s.server;
-  waiting = to_send s;
-  rest = if s.down then [] else rest_of (reply_stream s.heard);
-  loaded = s.loaded;
-  accepted = s.accepted;
-  down = s.down;
-  moment = s.moment;
-}
-
--- a worker: the chunk that it has, with its entries, and its session
-pub record LiveWorker : Type 0 where
-  pub chunk : Option Chunk
-  pub session : Option LiveSession
-
-abbrev pub live_worker : OutputHistory → ℕ → Option SessionHistory → LiveWorker
-live_worker o w s = record {
-  chunk = option_map (λ c. chunk_of c.number o.cells) (carry_of w o.carried);
-  session = option_map live_session s;
-}
-
--- the workers from this place on
-abbrev pub live_workers : OutputHistory → ℕ → List (Option SessionHistory) → List LiveWorker
-live_workers o w [] = []
-live_workers o w (s ∷ ss) = live_worker o w s ∷ live_workers o (suc w) ss
-
+-- an output with its settings and its workers
 pub record LiveLane : Type 0 where
   pub config : OutputConfig
   pub output : LiveOutput
-  pub workers : List LiveWorker
+  pub workers : List (Worker LiveSession)
 
-unfoldable pub live_lane : Lane → LiveLane
-live_lane l = record { config = l.config; output = live_output l.output; workers = live_workers l.output 0 l.sessions }
-
--- the last id accepted is kept, since connections go
+-- the relay; the last id accepted is kept, since connections go
 pub record LiveRelay : Type 0 where
   pub run : List ℕ
   pub routes : List (List (List ℕ))
@@ -107,11 +35,37 @@ pub record LiveRelay : Type 0 where
   pub connections : List LiveConnection
   pub lanes : List LiveLane
 
+-- the live part of a connection
+abbrev pub live_connection : Connection → LiveConnection
+live_connection c = record { id = c.id; source = live_source c.source }
+
+-- the connections that were not shut
+abbrev pub known : List Connection → List Connection
+known cs = filter (λ c. not c.gone) cs
+
+-- the last id that was accepted
 abbrev pub last_id : List Connection → Option ℕ
 last_id [] = None
 last_id (c ∷ []) = Some c.id
 last_id (c ∷ d ∷ cs) = last_id (d ∷ cs)
 
+-- the live part of a worker: the chunk that it carries, with its entries, and its session
+abbrev pub live_worker : OutputHistory → ℕ → Option SessionHistory → Worker LiveSession
+live_worker o w s = record {
+  chunk = option_map (λ c. chunk_of c.number o.buffer.cells) (carry_of w o.buffer.carried);
+  session = option_map live_session s;
+}
+
+-- the workers from this place on
+abbrev pub live_workers : OutputHistory → ℕ → List (Option SessionHistory) → List (Worker LiveSession)
+live_workers o w [] = []
+live_workers o w (s ∷ ss) = live_worker o w s ∷ live_workers o (suc w) ss
+
+-- the live part of an output with its workers
+unfoldable pub live_lane : Lane → LiveLane
+live_lane l = record { config = l.config; output = live_output l.output; workers = live_workers l.output 0 l.sessions }
+
+-- the live part of a history
 unfoldable pub live : History → LiveRelay
 live h = record {
   run = h.run;
@@ -120,4 +74,121 @@ live h = record {
   last = last_id h.connections;
   connections = map live_connection (known h.connections);
   lanes = map live_lane h.lanes;
+}
+
+-- ---- connections
+
+-- the connection under an id
+abbrev pub live_source_at : ℕ → List LiveConnection → Option LiveSource
+live_source_at id [] = None
+live_source_at id (c ∷ cs) = if c.id == id then Some c.source else live_source_at id cs
+
+-- another source under the id
+abbrev pub with_live_source : ℕ → LiveSource → List LiveConnection → List LiveConnection
+with_live_source id s [] = []
+with_live_source id s (c ∷ cs) = if c.id == id then record { id = c.id; source = s } ∷ cs else c ∷ with_live_source id s cs
+
+-- the connections but this one
+abbrev pub without : ℕ → List LiveConnection → List LiveConnection
+without id cs = filter (λ c. not (c.id == id)) cs
+
+-- the id is above the last one
+abbrev pub is_above : ℕ → Option ℕ → Bool
+is_above id None = true
+is_above id (Some k) = nat_lt k id
+
+-- a connection comes
+abbrev pub live_accepts : LiveRelay → Setup → LiveRelay
+live_accepts r setup = record {
+  run = r.run;
+  routes = r.routes;
+  security = r.security;
+  last = Some setup.conn;
+  connections = r.connections ++ record { id = setup.conn; source = opened_source setup } ∷ [];
+  lanes = r.lanes;
+}
+
+-- the connection of this id is another
+abbrev pub with_live_connection : ℕ → LiveSource → LiveRelay → LiveRelay
+with_live_connection id s r =
+    record { run = r.run; routes = r.routes; security = r.security; last = r.last; connections = with_live_source id s r.connections; lanes = r.lanes }
+
+-- the connection leaves
+abbrev pub live_leaves : ℕ → LiveRelay → LiveRelay
+live_leaves id r =
+    record { run = r.run; routes = r.routes; security = r.security; last = r.last; connections = without id r.connections; lanes = r.lanes }
+
+-- ---- outputs
+
+-- the output has other entries and requests
+abbrev pub with_live_output : LiveLane → LiveOutput → LiveLane
+with_live_output l o = record { config = l.config; output = o; workers = l.workers }
+
+-- the output has other entries
+abbrev pub with_live_buffer : LiveLane → LiveBuffer → LiveLane
+with_live_buffer l b = with_live_output l (record { buffer = b; book = l.output.book })
+
+-- another worker stands in this place
+abbrev pub with_live_worker : LiveLane → ℕ → Worker LiveSession → LiveLane
+with_live_worker l w x = record { config = l.config; output = l.output; workers = slice_set l.workers w x }
+
+-- the worker has the chunk with the least free number, if there is one
+abbrev pub live_takes : LiveLane → ℕ → Worker LiveSession → ℕ → LiveLane
+live_takes l w x now = record {
+  config = l.config;
+  output = record { buffer = buffer_takes l.output.buffer w now; book = l.output.book };
+  workers = slice_set l.workers w (record { chunk = buffer_free l.output.buffer; session = x.session });
+}
+
+-- the worker's chunk is settled
+abbrev pub live_settles : LiveLane → ℕ → LiveSession → ℕ → LiveLane
+live_settles l w s number = record {
+  config = l.config;
+  output = record { buffer = buffer_settles l.output.buffer w number; book = l.output.book };
+  workers = slice_set l.workers w (record { chunk = None; session = Some (session_unloads s) });
+}
+
+-- the output of this number is another
+abbrev pub with_live_lane : ℕ → LiveLane → LiveRelay → LiveRelay
+with_live_lane o l r =
+    record { run = r.run; routes = r.routes; security = r.security; last = r.last; connections = r.connections; lanes = slice_set r.lanes o l }
+
+-- ---- the live part as layers
+
+-- outputs as what still matters of them
+abbrev pub live_lanes : Lanes LiveSession
+live_lanes = record {
+  Lane = LiveLane;
+  config = λ l. l.config;
+  is_spent = λ l q. buffer_is_spent l.output.buffer q;
+  closing = λ l now kind. length (filter (buffer_closes l.output.buffer l.config.flush_interval now kind) l.output.buffer.opened);
+  flushes = λ l now kind. with_live_buffer l (buffer_flushes l.output.buffer l.config.flush_interval now kind);
+  enters = λ l origin q now. with_live_output l (output_enters l.output origin q now);
+  due = λ l conn. output_due l.output conn;
+  tells = λ l conn. with_live_output l (output_tells l.output conn);
+  worker_at = λ l w. slice_get l.workers w;
+  puts_worker = with_live_worker;
+  free = λ l. buffer_free l.output.buffer;
+  takes = live_takes;
+  entries_at = λ l number. length (cells_at number l.output.buffer.cells);
+  settles = live_settles;
+}
+
+-- the relay as what still matters of it
+abbrev pub lives : Layers
+lives = record {
+  sources = live_sources;
+  sessions = live_sessions;
+  lanes = live_lanes;
+  Relay = LiveRelay;
+  run = λ r. r.run;
+  routes = λ r. r.routes;
+  security = λ r. r.security;
+  is_fresh = λ r id. is_above id r.last;
+  accepts = live_accepts;
+  source_at = λ r id. live_source_at id r.connections;
+  puts_source = λ r id s. with_live_connection id s r;
+  leaves = λ r id. live_leaves id r;
+  lane_at = λ r o. slice_get r.lanes o;
+  puts_lane = λ r o l. with_live_lane o l r;
 }

@@ -1,82 +1,110 @@
 //! Laws over the definitions, each the contract of a function that does nothing.
 
-ghost use Rattle.std.specs.Prelude.{◌≡◌};
-ghost use Rattle.std.specs.Prelude.{List, [], ℕ, length, take, drop};
+ghost use Rattle.std.specs.Prelude.{
+    ◌≡◌, ℕ, List, [], length, take, drop, Option, None, Some, true, false, slice_get,
+};
 ghost use Rattle.fwd_msgpack.specs.declared.fault.ScanFault.{ScanFault};
 ghost use Rattle.fwd_msgpack.specs.Scans.{Whole, Short, Bad, first_of};
-ghost use Rattle.std.specs.Prelude.{Option, None};
-ghost use Rattle.fwd_model.specs.declared.fault.SessionFault.TheVariants.{BadReply};
-ghost use Rattle.fwd_model.specs.Replies.{reply_of, reply_then, replies_in, reply_stream, rest_of, silence, failing};
-ghost use Rattle.std.specs.Prelude.{Some, true, false, slice_get, is_some};
-ghost use Rattle.fwd_model.specs.declared.answer.Answer.{Answer};
-ghost use Rattle.fwd_model.specs.declared.answer.Answer.TheVariants as answer;
-ghost use Rattle.fwd_model.specs.declared.event.Event.TheVariants as event;
-ghost use Rattle.fwd_model.specs.declared.fault.SessionFault.{SessionFault};
-ghost use Rattle.fwd_model.specs.declared.fault.Refusal.TheVariants.{NotNow};
-ghost use Rattle.fwd_model.specs.Chunks.{cells_at, has_number};
 ghost use Rattle.fwd_source.specs.History.{SourceHistory};
-ghost use Rattle.fwd_model.specs.History.{SessionHistory, Admission, Lane, source_at, is_handed_on};
-ghost use Rattle.fwd_model.specs.Delivered.{IsTold, IsDelivered, reached};
-ghost use Rattle.fwd_model.specs.Step.{replies_to};
+ghost use Rattle.fwd_model.specs.declared.answer.Answer.TheVariants as answer;
 ghost use Rattle.fwd_model.specs.declared.config.Config.{Config};
 ghost use Rattle.fwd_model.specs.declared.event.Event.{Event};
-ghost use Rattle.fwd_model.specs.History.{History};
-ghost use Rattle.fwd_model.specs.Step.{answer_to, next, answers, after, IsReached};
-ghost use Rattle.fwd_model.specs.Live.{live};
-ghost use Rattle.fwd_model.specs.LiveStep.{live_answer_to, live_next, live_answers, live_after};
+ghost use Rattle.fwd_model.specs.declared.event.Event.TheVariants as event;
+ghost use Rattle.fwd_model.specs.declared.fault.Refusal.TheVariants.{NotNow};
+ghost use Rattle.fwd_model.specs.declared.fault.SessionFault.{SessionFault};
+ghost use Rattle.fwd_model.specs.declared.fault.SessionFault.TheVariants.{BadReply};
+ghost use Rattle.fwd_model.specs.Outcome.{answer_of, state_of, within, is_refusal};
+ghost use Rattle.fwd_model.specs.Step.{step, answers, after};
+ghost use Rattle.fwd_model.specs.Chunks.{cells_at, has_number};
+ghost use Rattle.fwd_model.specs.Books.{Admission};
+ghost use Rattle.fwd_model.specs.Replies.{
+    reply_of, reply_then, replies_in, reply_stream, rest_of, silence, failing,
+};
+ghost use Rattle.fwd_model.specs.Sessions.{SessionHistory, is_handed_on, replies_to};
+ghost use Rattle.fwd_model.specs.History.{History, Lane, histories, source_at, IsReached};
+ghost use Rattle.fwd_model.specs.Delivered.{IsTold, IsDelivered, reached};
+ghost use Rattle.fwd_model.specs.Live.{LiveRelay, live, lives};
 
-/// The live part is enough: from a history that a run reaches, a step answers what the live step answers at the
-/// history's live part, and the live part of the next history is the live step's next state.
+/// The live part is enough: from a history that a run reaches, what an event comes to, seen in its live part, is what it
+/// comes to at the history's live part.
 pub fn live_follows()
-    ensures answer { (config : Config) (h : History) (e : Event) → IsReached config h → answer_to h e ≡ live_answer_to (live h) e }
-    ensures next { (config : Config) (h : History) (e : Event) → IsReached config h → live (next h e) ≡ live_next (live h) e }
+    ensures { (config : Config) (h : History) (e : Event) → IsReached config h →
+        within live (step histories h e) ≡ step lives (live h) e }
 {}
 
 /// The same over a list of events.
 pub fn live_run_follows()
-    ensures answers { (config : Config) (h : History) (es : List Event) → IsReached config h → answers h es ≡ live_answers (live h) es }
-    ensures after { (config : Config) (h : History) (es : List Event) → IsReached config h → live (after h es) ≡ live_after (live h) es }
+    ensures answers { (config : Config) (h : History) (es : List Event) → IsReached config h →
+        answers histories h es ≡ answers lives (live h) es }
+    ensures after { (config : Config) (h : History) (es : List Event) → IsReached config h →
+        live (after histories h es) ≡ after lives (live h) es }
+{}
+
+/// An event that is refused leaves the history as it was, and the live part too.
+pub fn refusal_changes_nothing()
+    ensures history { (h : History) (e : Event) → is_refusal (answer_of (step histories h e)) ≡ true →
+        state_of h (step histories h e) ≡ h }
+    ensures live { (r : LiveRelay) (e : Event) → is_refusal (answer_of (step lives r e)) ≡ true →
+        state_of r (step lives r e) ≡ r }
 {}
 
 /// What a server's bytes say where a name is awaited, and what is left of them, by what stands at their front.
 pub fn replies_by_front()
-    ensures whole { (awaited : Option (List ℕ)) (bytes : List ℕ) (used : ℕ) → first_of 65536 64 bytes ≡ Whole used →
-        replies_in awaited (reply_stream bytes) ≡ reply_then (reply_of awaited (take used bytes)) (replies_in awaited (reply_stream (drop used bytes))) (replies_in None (reply_stream (drop used bytes))) }
-    ensures behind { (bytes : List ℕ) (used : ℕ) → first_of 65536 64 bytes ≡ Whole used → rest_of (reply_stream bytes) ≡ rest_of (reply_stream (drop used bytes)) }
-    ensures short { (awaited : Option (List ℕ)) (bytes : List ℕ) → first_of 65536 64 bytes ≡ Short → replies_in awaited (reply_stream bytes) ≡ silence }
+    ensures whole { (awaited : Option (List ℕ)) (bytes : List ℕ) (used : ℕ) →
+        first_of 65536 64 bytes ≡ Whole used →
+        replies_in awaited (reply_stream bytes) ≡ reply_then (reply_of awaited (take used bytes))
+            (replies_in awaited (reply_stream (drop used bytes)))
+            (replies_in None (reply_stream (drop used bytes))) }
+    ensures behind { (bytes : List ℕ) (used : ℕ) → first_of 65536 64 bytes ≡ Whole used →
+        rest_of (reply_stream bytes) ≡ rest_of (reply_stream (drop used bytes)) }
+    ensures short { (awaited : Option (List ℕ)) (bytes : List ℕ) → first_of 65536 64 bytes ≡ Short →
+        replies_in awaited (reply_stream bytes) ≡ silence }
     ensures rest { (bytes : List ℕ) → first_of 65536 64 bytes ≡ Short → rest_of (reply_stream bytes) ≡ bytes }
-    ensures bad { (awaited : Option (List ℕ)) (bytes : List ℕ) (fault : ScanFault) → first_of 65536 64 bytes ≡ Bad fault → replies_in awaited (reply_stream bytes) ≡ failing BadReply }
+    ensures bad { (awaited : Option (List ℕ)) (bytes : List ℕ) (fault : ScanFault) →
+        first_of 65536 64 bytes ≡ Bad fault → replies_in awaited (reply_stream bytes) ≡ failing BadReply }
 {}
 
 /// Whoever is told was delivered: where a connection was told, among any list of events, that a request of its was
 /// acknowledged, the events before had delivered that request.
 pub fn told_is_delivered()
-    ensures { (config : Config) (es : List Event) (id r o : ℕ) (t : IsTold config es id r o) → IsDelivered config t.before id r o }
+    ensures { (config : Config) (es : List Event) (id r o : ℕ) (t : IsTold config es id r o) →
+        IsDelivered config t.before id r o }
 {}
 
 /// A request that a run has marked as told was told by a collect of that run, to its connection.
 pub fn marked_is_told()
-    ensures { (config : Config) (es : List Event) (o i : ℕ) (l : Lane) (a : Admission) → slice_get (reached config es).lanes o ≡ Some l → slice_get l.output.requests i ≡ Some a → a.told ≡ true →
+    ensures { (config : Config) (es : List Event) (o i : ℕ) (l : Lane) (a : Admission) →
+        slice_get (reached config es).lanes o ≡ Some l → slice_get l.output.book i ≡ Some a → a.told ≡ true →
         IsTold config es a.request.origin.conn a.request.origin.request o }
 {}
 
 /// A request without entries is told at the first collect of its connection.
 pub fn told_without_entries()
-    ensures { (h : History) (o i : ℕ) (s : SourceHistory) (l : Lane) (a : Admission) → source_at a.request.origin.conn h.connections ≡ Some s → s.shut ≡ false → slice_get h.lanes o ≡ Some l →
-        slice_get l.output.requests i ≡ Some a → a.told ≡ false → a.request.spans ≡ [] →
-        (numbers out : List ℕ) × (answer_to h (event.Collect a.request.origin.conn o) ≡ answer.Told numbers out) × (has_number a.request.origin.request numbers ≡ true) }
+    ensures { (h : History) (o i : ℕ) (s : SourceHistory) (l : Lane) (a : Admission) →
+        source_at a.request.origin.conn h.connections ≡ Some s → s.shut ≡ false →
+        slice_get h.lanes o ≡ Some l → slice_get l.output.book i ≡ Some a → a.told ≡ false →
+        a.request.spans ≡ [] → (numbers out : List ℕ)
+            × (answer_of (step histories h (event.Collect a.request.origin.conn o)) ≡ answer.Told numbers out)
+            × (has_number a.request.origin.request numbers ≡ true) }
 {}
 
 /// What is heard before the link took the frame's last byte settles nothing.
 pub fn early_reply_settles_nothing()
-    ensures { (h : History) (o w : ℕ) (bytes : List ℕ) (l : Lane) (s : SessionHistory) → slice_get h.lanes o ≡ Some l → slice_get l.sessions w ≡ Some (Some s) → s.accepted ≡ false → is_handed_on s ≡ false →
-        answer_to (next h (event.Heard o w bytes)) (event.Settle o w) ≡ answer.Refused NotNow }
+    ensures { (h : History) (o w : ℕ) (bytes : List ℕ) (l : Lane) (s : SessionHistory) →
+        slice_get h.lanes o ≡ Some l → slice_get l.sessions w ≡ Some (Some s) → s.accepted ≡ false →
+        is_handed_on s ≡ false →
+        answer_of (step histories (state_of h (step histories h (event.Heard o w bytes))) (event.Settle o w))
+            ≡ answer.Refused NotNow }
 {}
 
 /// An acknowledgement that was accepted before a fault in the same piece stands: the fault is answered, and the chunk can
 /// be settled.
 pub fn acknowledgement_before_fault_stands()
-    ensures { (h : History) (o w k : ℕ) (bytes : List ℕ) (l : Lane) (s : SessionHistory) (f : SessionFault) → slice_get h.lanes o ≡ Some l → slice_get l.sessions w ≡ Some (Some s) → s.down ≡ false → s.loaded ≡ Some k →
-        (replies_to h.run o s bytes).accepted ≡ true → (replies_to h.run o s bytes).fault ≡ Some f →
-        (answer_to h (event.Heard o w bytes) ≡ answer.SessionFaulted f) × (answer_to (next h (event.Heard o w bytes)) (event.Settle o w) ≡ answer.Settled (length (cells_at k l.output.cells))) }
+    ensures { (h : History) (o w k : ℕ) (bytes : List ℕ) (l : Lane) (s : SessionHistory) (f : SessionFault) →
+        slice_get h.lanes o ≡ Some l → slice_get l.sessions w ≡ Some (Some s) → s.down ≡ false →
+        s.loaded ≡ Some k → (replies_to s h.run o bytes).accepted ≡ true →
+        (replies_to s h.run o bytes).fault ≡ Some f →
+        (answer_of (step histories h (event.Heard o w bytes)) ≡ answer.SessionFaulted f)
+            × (answer_of (step histories (state_of h (step histories h (event.Heard o w bytes))) (event.Settle o w))
+                ≡ answer.Settled (length (cells_at k l.output.buffer.cells))) }
 {}

@@ -1,0 +1,101 @@
+-- An event that is refused leaves the state as it was: what it goes on to is answered otherwise, whatever the layers are.
+use Rattle.std.proofs.Common.{◌≡◌, ℕ, ◌+◌, Bool, true, false, List, length, Option, Some, None, refl}
+use Rattle.std.specs.Prelude.{not, is_some, nat_lt, ◌==◌}
+use Rattle.fwd_modes.specs.Requests.{Request}
+use Rattle.fwd_match.specs.Patterns.{route}
+use Rattle.fwd_source.specs.declared.piece.Piece.{Piece}
+use Rattle.fwd_source.specs.declared.piece.Piece.TheVariants as verdict
+use Rattle.fwd_source.specs.History.{Setup, opening_text}
+use Rattle.fwd_model.specs.declared.cell.Chunk.{Chunk}
+use Rattle.fwd_model.specs.declared.event.Event.{Event}
+use Rattle.fwd_model.specs.declared.event.Event.TheVariants as event
+use Rattle.fwd_model.specs.declared.answer.Answer.{Answer}
+use Rattle.fwd_model.specs.declared.answer.Answer.TheVariants as answer
+use Rattle.fwd_model.specs.declared.fault.Refusal.TheVariants.{Closed, NoSuch, NotNow, NotUp}
+use Rattle.fwd_model.specs.declared.fault.SessionFault.{SessionFault}
+use Rattle.fwd_model.specs.Outcome.{Outcome, Stays, Goes, answer_of, state_of, is_refusal}
+use Rattle.fwd_model.specs.Layers.{Worker, Layers}
+use Rattle.fwd_model.specs.Step as steps
+use Rattle.fwd_model.specs.Step.{step, setup_of, of_piece, first_of, chunk_answer, is_loaded, frame_of, reply_answer}
+use Rattle.fwd_model.proofs.Onward.{Onward, to, past, past_found, past_either, source_on, lane_on, both_on, worker_on, session_on}
+
+-- what is gone on to is no refusal
+abbrev Answered : {S : Type 0} → Answer → S → Type 0
+Answered a s = is_refusal a ≡ false
+
+chunk_counts : (c : Option Chunk) → is_refusal (chunk_answer c) ≡ false
+chunk_counts None = refl
+chunk_counts (Some c) = refl
+
+reply_counts : (accepted : Bool) (fault : Option SessionFault) → is_refusal (reply_answer accepted fault) ≡ false
+reply_counts true None = refl
+reply_counts false None = refl
+reply_counts true (Some f) = refl
+reply_counts false (Some f) = refl
+
+piece_counts : {S : Type 0} (p : Piece) (count : ℕ) (out : List ℕ) (s : S) → Onward Answered (of_piece p count out s)
+piece_counts verdict.Closed count out s = record { holds = tt }
+piece_counts (verdict.Waiting n) count out s = to refl
+piece_counts (verdict.Fault f) count out s = to refl
+
+module _ (L : Layers) where
+  drained_counts : (s : L.Source) (count : ℕ) → Onward Answered (steps.drained L s count)
+  drained_counts s count = past NotNow {b = nat_lt (length (L.unsent s)) count} (λ few. to {a = answer.Done} refl)
+
+  routed_counts : (first : Option ℕ) (s : L.Source) (q : Request) (id o : ℕ) (l : L.Lane) (now : ℕ) → Onward Answered (steps.routed L first s q id o l now)
+  routed_counts None s q id o l now = to refl
+  routed_counts (Some first) s q id o l now =
+      past NotNow {b = not (first == o)} (λ this. past_either {b = L.is_spent l q} (λ spent. to {a = answer.NumbersSpent} refl) (λ room. to {a = answer.Admitted (L.admitted s + 1) (length q.entries)} refl))
+
+  admit_counts : (patterns : List (List (List ℕ))) (id o now : ℕ) (s : L.Source) (l : L.Lane) → Onward Answered (steps.admit L patterns id o now s l)
+  admit_counts patterns id o now s l = past_found NotNow {x = first_of (L.waiting s)} (λ q first. routed_counts (route patterns q.tag) s q id o l now)
+
+  collect_counts : (id : ℕ) (s : L.Source) (l : L.Lane) → Onward Answered (steps.collect L id s l)
+  collect_counts id s l = past Closed {b = L.is_shut s} (λ up. to refl)
+
+  up_counts : (servers server now : ℕ) (x : Worker L.Session) → Onward Answered (steps.up L servers server now x)
+  up_counts servers server now x = past NoSuch {b = not (nat_lt server servers)} (λ known. past NotNow {b = is_some x.session} (λ none. to {a = answer.Done} refl))
+
+  take_counts : (l : L.Lane) (w now : ℕ) → Onward Answered (steps.take L l w now)
+  take_counts l w now = past_found NoSuch {x = L.worker_at l w} (λ x at. past NotNow {b = is_some x.chunk} (λ none. to {a = chunk_answer (L.free l)} (chunk_counts (L.free l))))
+
+  load_counts : (name : List ℕ) (o now : ℕ) (x : Worker L.Session) → Onward Answered (steps.load L name o now x)
+  load_counts name o now x =
+      past_found NotNow {x = x.session} (λ s f. past_found NotNow {x = x.chunk} (λ c g. past NotNow {b = is_loaded (L.loaded s) c.number} (λ fresh. past NotUp {b = L.is_down s} (λ up. to {a = answer.Frame (frame_of name o c)} refl))))
+
+  wrote_counts : (count : ℕ) (s : L.Session) → Onward Answered (steps.wrote L count s)
+  wrote_counts count s = past NotNow {b = nat_lt (length (L.to_send s)) count} (λ few. to {a = answer.Done} refl)
+
+  heard_counts : (name : List ℕ) (o : ℕ) (bytes : List ℕ) (s : L.Session) → Onward Answered (steps.heard L name o bytes s)
+  heard_counts name o bytes s = past NotUp {b = L.is_down s} (λ up. to (reply_counts (L.replies s name o bytes).accepted (L.replies s name o bytes).fault))
+
+  settle_counts : (l : L.Lane) (w : ℕ) → Onward Answered (steps.settle L l w)
+  settle_counts l w = past_found NoSuch {x = L.worker_at l w} (λ x at. past_found NotNow {x = x.session} (λ s f. past_found NotNow {x = steps.acked L s} (λ k acked. to {a = answer.Settled (L.entries_at l k)} refl)))
+
+  accept_counts : (r : L.Relay) (setup : Setup) → Onward Answered (steps.accept L r setup)
+  accept_counts r setup = past NotNow {b = not (L.is_fresh r setup.conn)} (λ fresh. to {a = answer.Accepted (opening_text setup)} refl)
+
+  shut_counts : (r : L.Relay) (id : ℕ) → Onward Answered (steps.shut L r id)
+  shut_counts r id = past_found NoSuch {x = L.source_at r id} (λ s here. to {a = answer.Done} refl)
+
+  event_counts : (r : L.Relay) (e : Event) → Onward Answered (step L r e)
+  event_counts r (event.Accept id nonce auth) = accept_counts r (setup_of (L.security r) id nonce auth)
+  event_counts r (event.Piece id bytes) = source_on L r id Answered _ (λ s here. piece_counts (L.piece_answer s bytes) (length (L.waiting (L.hears s bytes))) (L.pong s bytes) (L.hears s bytes))
+  event_counts r (event.Admit id o now) = both_on L r id o Answered _ (λ s l here lane. admit_counts (L.routes r) id o now s l)
+  event_counts r (event.Flush o now kind) = lane_on L r o Answered (λ l. steps.flush L l now kind) (λ l here. to refl)
+  event_counts r (event.Up o w server salt now) = lane_on L r o Answered _ (λ l here. worker_on L l w Answered _ (λ x at. up_counts (L.config l).servers server now x))
+  event_counts r (event.Take o w now) = lane_on L r o Answered _ (λ l here. take_counts l w now)
+  event_counts r (event.Load o w now) = lane_on L r o Answered _ (λ l here. worker_on L l w Answered _ (λ x at. load_counts (L.run r) o now x))
+  event_counts r (event.Wrote o w count) = lane_on L r o Answered _ (λ l here. worker_on L l w Answered _ (λ x at. session_on L x Answered _ (λ s f. wrote_counts count s)))
+  event_counts r (event.Heard o w bytes) = lane_on L r o Answered _ (λ l here. worker_on L l w Answered _ (λ x at. session_on L x Answered _ (λ s f. heard_counts (L.run r) o bytes s)))
+  event_counts r (event.Settle o w) = lane_on L r o Answered _ (λ l here. settle_counts l w)
+  event_counts r (event.Collect id o) = both_on L r id o Answered _ (λ s l here lane. collect_counts id s l)
+  event_counts r (event.Drained id count) = source_on L r id Answered _ (λ s here. drained_counts s count)
+  event_counts r (event.Shut id) = shut_counts r id
+
+stays_by : {S : Type 0} (before : S) (x : Outcome S) → Onward Answered x → is_refusal (answer_of x) ≡ true → state_of before x ≡ before
+stays_by before (Stays a) counts e = refl
+stays_by before (Goes a s) counts e = let no : is_refusal a ≡ false = counts.holds in absurd cc
+
+pub refused_stays : (L : Layers) (r : L.Relay) (e : Event) → is_refusal (answer_of (step L r e)) ≡ true → state_of r (step L r e) ≡ r
+refused_stays L r e h = stays_by r (step L r e) (event_counts L r e) h

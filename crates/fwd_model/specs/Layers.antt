@@ -1,0 +1,81 @@
+-- What a step asks of a relay's layers, and what it changes in them. Sources say theirs in their own crate.
+use Rattle.std.specs.Prelude.{ℕ, Bool, List, Option}
+use Rattle.fwd_handshake.specs.declared.credentials.Security.{Security}
+use Rattle.fwd_modes.specs.Requests.{Request}
+use Rattle.fwd_source.specs.declared.origin.Origin.{Origin}
+use Rattle.fwd_source.specs.History.{Setup}
+use Rattle.fwd_source.specs.Layer.{Sources}
+use Rattle.fwd_model.specs.declared.cell.Chunk.{Chunk}
+use Rattle.fwd_model.specs.declared.cell.Entered.{Entered}
+use Rattle.fwd_model.specs.declared.config.OutputConfig.{OutputConfig}
+use Rattle.fwd_model.specs.declared.event.FlushKind.{FlushKind}
+use Rattle.fwd_model.specs.Replies.{Replies}
+
+-- a worker: the chunk that it has, with its entries, and its session
+pub record Worker (Session : Type 0) : Type 0 where
+  pub chunk : Option Chunk
+  pub session : Option Session
+
+-- a session of a worker with a server
+pub record Sessions : Type 1 where
+  pub Session : Type 0
+  -- the number that it is loaded with, whether that one's acknowledgement was accepted, whether a fault put it down
+  pub loaded : Session → Option ℕ
+  pub is_acked : Session → Bool
+  pub is_down : Session → Bool
+  -- the bytes that wait to be sent
+  pub to_send : Session → List ℕ
+  -- what a piece says, by the run and the output's number
+  pub replies : Session → List ℕ → ℕ → List ℕ → Replies
+  -- it begins with a server; is loaded with a number's frame; its link takes bytes; a piece is heard
+  pub begins : ℕ → ℕ → Session
+  pub loads : Session → ℕ → List ℕ → ℕ → Session
+  pub sends : Session → ℕ → Session
+  pub listens : Session → List ℕ → Replies → Session
+
+-- a lane: an output with its workers
+pub record Lanes (Session : Type 0) : Type 1 where
+  pub Lane : Type 0
+  pub config : Lane → OutputConfig
+  -- no number, or no count, is left for the request's entries
+  pub is_spent : Lane → Request → Bool
+  -- how many open numbers a flush closes, and the flush
+  pub closing : Lane → ℕ → FlushKind → ℕ
+  pub flushes : Lane → ℕ → FlushKind → Lane
+  -- a request is entered
+  pub enters : Lane → Origin → Request → ℕ → Lane
+  -- the requests of a connection that are to be told, and that they are
+  pub due : Lane → ℕ → List Entered
+  pub tells : Lane → ℕ → Lane
+  -- a worker, and that another stands in its place
+  pub worker_at : Lane → ℕ → Option (Worker Session)
+  pub puts_worker : Lane → ℕ → Worker Session → Lane
+  -- the chunk with the least free number, and that the worker has it
+  pub free : Lane → Option Chunk
+  pub takes : Lane → ℕ → Worker Session → ℕ → Lane
+  -- how many entries a number has, and that they are settled
+  pub entries_at : Lane → ℕ → ℕ
+  pub settles : Lane → ℕ → Session → ℕ → Lane
+
+-- the relay over its layers
+pub record Layers : Type 1 where
+  pub sources : Sources
+  pub open sources use *
+  pub sessions : Sessions
+  pub open sessions use *
+  pub lanes : Lanes Session
+  pub open lanes use *
+  pub Relay : Type 0
+  -- what tells the run from others, the patterns of the outputs, and what a source has to prove
+  pub run : Relay → List ℕ
+  pub routes : Relay → List (List (List ℕ))
+  pub security : Relay → Security
+  -- the id is above every earlier one; a connection comes, is known by its id, goes
+  pub is_fresh : Relay → ℕ → Bool
+  pub accepts : Relay → Setup → Relay
+  pub source_at : Relay → ℕ → Option Source
+  pub puts_source : Relay → ℕ → Source → Relay
+  pub leaves : Relay → ℕ → Relay
+  -- an output by its number
+  pub lane_at : Relay → ℕ → Option Lane
+  pub puts_lane : Relay → ℕ → Lane → Relay

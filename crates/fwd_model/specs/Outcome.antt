@@ -1,0 +1,58 @@
+-- What an event comes to: it is answered, and the state stays as it was, or goes on to another.
+use Rattle.std.specs.Prelude.{Bool, true, false, Option, Some, None}
+use Rattle.fwd_model.specs.declared.answer.Answer.{Answer}
+use Rattle.fwd_model.specs.declared.answer.Answer.TheVariants as answer
+use Rattle.fwd_model.specs.declared.fault.Refusal.{Refusal}
+
+infixr 1 ◌>>=◌ ◌>>◌
+
+-- an answer where the state stays, or an answer and the next state
+pub data Outcome (S : Type 0) : Type 0 where
+  Stays : Answer → Outcome S
+  Goes : Answer → S → Outcome S
+
+-- the answer, either way
+abbrev pub answer_of : {S : Type 0} → Outcome S → Answer
+answer_of (Stays a) = a
+answer_of (Goes a s) = a
+
+-- the state afterwards, where it was this one before
+abbrev pub state_of : {S : Type 0} → S → Outcome S → S
+state_of before (Stays a) = before
+state_of before (Goes a s) = s
+
+-- what comes of a part, said of the whole that the part is put into
+abbrev pub within : {S T : Type 0} → (S → T) → Outcome S → Outcome T
+within put (Stays a) = Stays a
+within put (Goes a s) = Goes a (put s)
+
+-- a check in front of an outcome: the event is refused, or goes on with what was found
+pub data Check (X : Type 0) : Type 0 where
+  Fails : Refusal → Check X
+  Passes : X → Check X
+
+-- the check, and then what is done with what it found
+abbrev pub ◌>>=◌ : {X S : Type 0} → Check X → (X → Outcome S) → Outcome S
+◌>>=◌ (Fails why) then = Stays (answer.Refused why)
+◌>>=◌ (Passes x) then = then x
+
+-- the check, and then the rest
+abbrev pub ◌>>◌ : {S : Type 0} → Check (Unit {0}) → Outcome S → Outcome S
+◌>>◌ (Fails why) then = Stays (answer.Refused why)
+◌>>◌ (Passes x) then = then
+
+-- what there is, or the refusal
+abbrev pub found : {X : Type 0} → Option X → Refusal → Check X
+found None why = Fails why
+found (Some x) why = Passes x
+
+-- the refusal where the test holds
+abbrev pub refuse_if : Bool → Refusal → Check (Unit {0})
+refuse_if true why = Fails why
+refuse_if false why = Passes tt
+
+-- an answer that says that nothing has changed
+abbrev pub is_refusal : Answer → Bool
+is_refusal (answer.Refused why) = true
+is_refusal answer.Memory = true
+is_refusal _ = false
