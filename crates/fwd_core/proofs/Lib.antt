@@ -4,3 +4,4 @@ pub mod RelayLemmas
 pub mod OpeningLemmas
 pub mod RunLemmas
 pub mod DueLemmas
+pub mod SpentLemmas

@@ -3,21 +3,22 @@ use Rattle.std.proofs.Common.{◌≡◌, ℕ, zero, suc, List, [], ◌∷◌, No
 use Rattle.std.specs.Prelude.{map}
 use Rattle.fwd_model.specs.declared.config.Config.{Config}
 use Rattle.fwd_model.specs.declared.config.OutputConfig.{OutputConfig}
-use Rattle.fwd_model.specs.History.{OutputHistory, new_lane, opening}
-use Rattle.fwd_model.specs.Live.{live, live_lane, live_output, live_workers}
-use Rattle.fwd_model.specs.LiveStep.{no_entries}
+use Rattle.fwd_model.specs.Buffers.{no_cells, live_buffer}
+use Rattle.fwd_model.specs.Outputs.{OutputHistory, live_output, no_requests}
+use Rattle.fwd_model.specs.History.{new_lane, opening}
+use Rattle.fwd_model.specs.Live.{live, live_lane, live_workers}
 use Rattle.fwd_core.specs.Lanes.{no_work, new_live_lane}
 
 abbrev nothing : OutputHistory
-nothing = record { cells = []; opened = []; acknowledged = []; carried = []; requests = []; moment = 0 }
+nothing = record { buffer = no_cells; book = [] }
 
 idle_workers : (w n : ℕ) → live_workers nothing w (replicate n None) ≡ replicate n no_work
 idle_workers w zero = refl
 idle_workers w (suc n) = ap (λ xs. no_work ∷ xs) (idle_workers (suc w) n)
 
 new_lane-live : (c : OutputConfig) → live_lane (new_lane c) ≡ new_live_lane c
-unfolding live_lane live_output
-new_lane-live c = λ i. record { config = c; output = no_entries; workers = idle_workers 0 c.workers i }
+unfolding live_lane live_output live_buffer
+new_lane-live c = λ i. record { config = c; output = no_requests; workers = idle_workers 0 c.workers i }
 
 new_lanes-live : (cs : List OutputConfig) → map live_lane (map new_lane cs) ≡ map new_live_lane cs
 new_lanes-live [] = refl

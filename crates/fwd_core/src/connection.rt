@@ -1,12 +1,16 @@
 //! The connections that stand, by their ids, and what becomes of one.
 
-ghost use Rattle.std.specs.Prelude.{◌≡◌, ◌<◌, IfNone, IfOk, OnOk, OnErr, MatchOption, None, Some, length, slice_get};
+ghost use Rattle.std.specs.Prelude.{◌≡◌, ◌<◌, IfNone, IfOk, OnOk, OnErr, MatchOption, None, length, slice_get};
 ghost use Rattle.std.specs.Arc.{arc_value};
-ghost use Rattle.fwd_source.specs.Live.{live_next, live_piece_next};
+ghost use Rattle.fwd_source.specs.Live.{live_next};
 ghost use Rattle.fwd_model.specs.Step.{setup_of};
 ghost use Rattle.fwd_core.specs.Places.{IsPlace};
-ghost use Rattle.fwd_core.specs.Relays.{drained_source, new_live_connection};
-ghost use Rattle.fwd_model.specs.LiveStep.{live_source_at, live_piece_answer, live_drained_answer, without};
+ghost use Rattle.fwd_core.specs.Relays.{new_live_connection};
+ghost use Rattle.fwd_model.specs.Live.{live_source_at, without};
+
+ghost use Rattle.fwd_model.specs.Outcome.{answer_of, state_of};
+ghost use Rattle.fwd_model.specs.Step.{piece, drained};
+ghost use Rattle.fwd_model.specs.Live.{lives};
 
 use fwd_handshake::{Nonces, Security};
 use fwd_model::{Answer, Refusal};
@@ -83,8 +87,8 @@ pub fn leave(id: u64, connections: &mut Vec<Connection>)
 /// More bytes come from a connection. On an error nothing has changed.
 #[tactic(auto, unfolding(fwd_source::specs::Live::source_hears))]
 pub fn hear_piece(alloc: Global, source: &mut Source, bytes: &[u8]) -> Result<Answer, AllocError>
-    ensures answer { IfOk result (λ a. a ≡ live_piece_answer (Some source.old.live) bytes.now) }
-    ensures next { OnOk result (source.new.live ≡ live_piece_next source.old.live bytes.now) }
+    ensures answer { IfOk result (λ a. a ≡ answer_of (piece lives source.old.live bytes.now)) }
+    ensures next { OnOk result (source.new.live ≡ state_of source.old.live (piece lives source.old.live bytes.now)) }
     ensures err { OnErr result (source.new.live ≡ source.old.live) }
 {
     let told = source.piece(alloc, bytes)?;
@@ -109,8 +113,8 @@ pub fn give(source: &mut Source)
 
 /// A connection's link took so many of the bytes that wait to be sent.
 pub fn drain(source: &mut Source, count: u64) -> Answer
-    ensures answer { result ≡ live_drained_answer (Some source.old.live) count }
-    ensures next { source.new.live ≡ drained_source source.old.live count }
+    ensures answer { result ≡ answer_of (drained lives source.old.live count) }
+    ensures next { source.new.live ≡ state_of source.old.live (drained lives source.old.live count) }
 {
     if count > source.out().len() as u64 {
         return Answer::Refused(Refusal::NotNow);

@@ -1,12 +1,22 @@
 //! An output with its settings and its workers.
 
-ghost use Rattle.std.specs.Prelude.{◌≡◌, IfOk, OnOk, OnErr, IfSome, IsErrOf, Some, true, false, is_some, filter, length, slice_get};
+ghost use Rattle.std.specs.Prelude.{
+    ◌≡◌, Err, IfOk, OnOk, OnErr, IfSome, IsErrOf, true, false, is_some, filter, length, not,
+};
 ghost use Rattle.std.specs.List.{concat};
 ghost use Rattle.fwd_core.specs.Fits.{FitsFrame};
 ghost use Rattle.fwd_model.specs.Step.{frame_of};
-ghost use Rattle.fwd_model.specs.LiveStep.{live_up_answer, live_take_answer, live_load_answer, live_load_with, live_found, worker_with, fresh_session, with_live_output, output_enters, output_is_spent, output_closes, output_flushes, live_wrote_answer, live_heard_answer, live_settle_answer, session_in, live_due, output_told};
+ghost use Rattle.fwd_model.specs.Buffers.{buffer_is_spent};
+ghost use Rattle.fwd_model.specs.Outputs.{output_enters};
+ghost use Rattle.fwd_model.specs.Sessions.{session_begins};
+ghost use Rattle.fwd_model.specs.Live.{with_live_output};
+ghost use Rattle.fwd_core.specs.Due.{due_among, is_due_among, origins_of};
 ghost use Rattle.fwd_model.specs.Books.{numbers_of, acks_of};
-ghost use Rattle.fwd_core.specs.Lanes.{no_work, worker_loads, lane_up, lane_takes, lane_loads, new_live_lane, worker_sends, worker_hears, worker_settled, lane_sends, lane_hears, lane_settles, acked_in};
+ghost use Rattle.fwd_core.specs.Lanes.{no_work, new_live_lane, worker_settled, acked_in};
+
+ghost use Rattle.fwd_model.specs.Outcome.{answer_of, state_of};
+ghost use Rattle.fwd_model.specs.Step.{chunk_answer, with_session, at_worker, at_session, up, take, load, wrote, heard, settle};
+ghost use Rattle.fwd_model.specs.Live.{lives};
 
 use crate::output::{AdmitError, Due, OutputState};
 use crate::session::Session;
@@ -25,10 +35,11 @@ pub struct Worker {
 
 impl Model for Worker {
     ghost use Rattle.std.specs.Prelude.{IfSome};
-    ghost use Rattle.fwd_model.specs.Live.{LiveWorker};
+    ghost use Rattle.fwd_model.specs.Layers.{Worker};
+    ghost use Rattle.fwd_model.specs.Sessions.{LiveSession};
     ghost use Rattle.fwd_core.specs.Fits.{FitsFrame};
 
-    ghost Value = { LiveWorker };
+    ghost Value = { Worker LiveSession };
 
     ghost view = { λ w. record { chunk = w.chunk; session = w.session } };
 
@@ -77,7 +88,7 @@ fn frame_of(alloc: Global, run: &[u8; 6], output: u16, chunk: &Chunk) -> Result<
 
 /// What is told of a chunk that was taken.
 fn told_of(found: &Option<Chunk>) -> Answer
-    ensures { result ≡ live_found found.now }
+    ensures { result ≡ chunk_answer found.now }
 {
     match found {
         None => Answer::TookNothing,
@@ -121,7 +132,7 @@ impl Worker {
 
     /// The worker's session with a server begins.
     fn set_session(&mut self, alloc: Global, server: u16, now: u64)
-        ensures { self.new ≡ worker_with self.old (fresh_session server now) }
+        ensures { self.new ≡ with_session self.old (session_begins server now) }
     {
         self.session = Some(Session::up(alloc, server, now));
     }
@@ -134,8 +145,8 @@ impl Worker {
         output: u16,
         now: u64,
     ) -> Result<Answer, AllocError>
-        ensures answer { IfOk result (λ a. a ≡ live_load_with self.old.session self.old.chunk run.now output) }
-        ensures next { OnOk result (self.new ≡ worker_loads self.old now run.now output self.old.session self.old.chunk) }
+        ensures answer { IfOk result (λ a. a ≡ answer_of (load lives run.now output now self.old)) }
+        ensures next { OnOk result (self.new ≡ state_of self.old (load lives run.now output now self.old)) }
         ensures err { OnErr result (self.new ≡ self.old) }
     {
         let Some(chunk) = &self.chunk else {
@@ -157,8 +168,8 @@ impl Worker {
 
     /// The link took so many bytes of the worker's session.
     fn wrote(&mut self, count: u64) -> Answer
-        ensures answer { result ≡ live_wrote_answer (Some self.old.session) count }
-        ensures next { self.new ≡ worker_sends self.old count self.old.session }
+        ensures answer { result ≡ answer_of (at_session lives self.old (wrote lives count)) }
+        ensures next { self.new ≡ state_of self.old (at_session lives self.old (wrote lives count)) }
     {
         let Some(session) = &mut self.session else {
             return Answer::Refused(Refusal::NotNow);
@@ -178,8 +189,8 @@ impl Worker {
         output: u16,
         bytes: &[u8],
     ) -> Result<Answer, AllocError>
-        ensures answer { IfOk result (λ a. a ≡ live_heard_answer (Some self.old.session) run.now output bytes.now) }
-        ensures next { OnOk result (self.new ≡ worker_hears self.old run.now output bytes.now self.old.session) }
+        ensures answer { IfOk result (λ a. a ≡ answer_of (at_session lives self.old (heard lives run.now output bytes.now))) }
+        ensures next { OnOk result (self.new ≡ state_of self.old (at_session lives self.old (heard lives run.now output bytes.now))) }
         ensures err { OnErr result (self.new ≡ self.old) }
     {
         let Some(session) = &mut self.session else {
@@ -235,8 +246,9 @@ impl Lane {
         now: u64,
     ) -> Result<(), AdmitError>
         ensures ok { OnOk result (self.new ≡ with_live_output self.old (output_enters self.old.output origin batch.now now)) }
-        ensures room { OnOk result (output_is_spent self.old.output batch.now ≡ false) }
-        ensures spent { IsErrOf result AdmitError.NumbersSpent → output_is_spent self.old.output batch.now ≡ true }
+        ensures room { OnOk result (buffer_is_spent self.old.output.buffer batch.now ≡ false) }
+        ensures spent { IsErrOf result AdmitError.NumbersSpent → buffer_is_spent self.old.output.buffer batch.now ≡ true }
+        ensures first { buffer_is_spent self.old.output.buffer batch.now ≡ true → result ≡ Err AdmitError.NumbersSpent }
         ensures err { OnErr result (self.new ≡ self.old) }
     {
         self.output.admit(alloc, origin, batch, now)
@@ -244,16 +256,16 @@ impl Lane {
 
     /// Closes the open numbers that a flush closes, and answers how many.
     pub fn flush(&mut self, now: u64, kind: FlushKind) -> usize
-        ensures count { result ≡ length (filter (output_closes self.old.output self.old.config.flush_interval now kind) self.old.output.opened) }
-        ensures flushed { self.new ≡ with_live_output self.old (output_flushes self.old.output self.old.config.flush_interval now kind) }
+        ensures count { result ≡ lives.closing self.old now kind }
+        ensures flushed { self.new ≡ lives.flushes self.old now kind }
     {
         self.output.flush(self.config.flush_interval, now, kind)
     }
 
     /// A worker's session with a server begins.
     pub fn up(&mut self, alloc: Global, worker: u16, server: u16, now: u64) -> Answer
-        ensures answer { result ≡ live_up_answer server (slice_get self.old.workers worker) (Some self.old) }
-        ensures next { self.new ≡ lane_up self.old worker server now (slice_get self.old.workers worker) }
+        ensures answer { result ≡ answer_of (at_worker lives self.old worker (up lives self.old.config.servers server now)) }
+        ensures next { self.new ≡ state_of self.old (at_worker lives self.old worker (up lives self.old.config.servers server now)) }
     {
         let place = usize::from(worker);
         if place >= self.workers.len() || server >= self.config.servers {
@@ -268,8 +280,8 @@ impl Lane {
 
     /// A worker takes the least free chunk. On an error nothing has changed.
     pub fn take(&mut self, alloc: Global, worker: u16, now: u64) -> Result<Answer, AllocError>
-        ensures answer { IfOk result (λ a. a ≡ live_take_answer (slice_get self.old.workers worker) (Some self.old)) }
-        ensures next { OnOk result (self.new ≡ lane_takes self.old worker now (slice_get self.old.workers worker)) }
+        ensures answer { IfOk result (λ a. a ≡ answer_of (take lives self.old worker now)) }
+        ensures next { OnOk result (self.new ≡ state_of self.old (take lives self.old worker now)) }
         ensures err { OnErr result (self.new ≡ self.old) }
     {
         let place = usize::from(worker);
@@ -294,8 +306,8 @@ impl Lane {
         worker: u16,
         now: u64,
     ) -> Result<Answer, AllocError>
-        ensures answer { IfOk result (λ a. a ≡ live_load_answer (slice_get self.old.workers worker) (Some self.old) run.now output) }
-        ensures next { OnOk result (self.new ≡ lane_loads self.old worker now run.now output (slice_get self.old.workers worker)) }
+        ensures answer { IfOk result (λ a. a ≡ answer_of (at_worker lives self.old worker (load lives run.now output now))) }
+        ensures next { OnOk result (self.new ≡ state_of self.old (at_worker lives self.old worker (load lives run.now output now))) }
         ensures err { OnErr result (self.new ≡ self.old) }
     {
         let place = usize::from(worker);
@@ -307,8 +319,8 @@ impl Lane {
 
     /// The link took so many bytes of a worker's session.
     pub fn wrote(&mut self, worker: u16, count: u64) -> Answer
-        ensures answer { result ≡ live_wrote_answer (session_in (slice_get self.old.workers worker)) count }
-        ensures next { self.new ≡ lane_sends self.old worker count (slice_get self.old.workers worker) }
+        ensures answer { result ≡ answer_of (at_worker lives self.old worker (λ x. at_session lives x (wrote lives count))) }
+        ensures next { self.new ≡ state_of self.old (at_worker lives self.old worker (λ x. at_session lives x (wrote lives count))) }
     {
         let place = usize::from(worker);
         if place >= self.workers.len() {
@@ -326,8 +338,8 @@ impl Lane {
         worker: u16,
         bytes: &[u8],
     ) -> Result<Answer, AllocError>
-        ensures answer { IfOk result (λ a. a ≡ live_heard_answer (session_in (slice_get self.old.workers worker)) run.now output bytes.now) }
-        ensures next { OnOk result (self.new ≡ lane_hears self.old worker run.now output bytes.now (slice_get self.old.workers worker)) }
+        ensures answer { IfOk result (λ a. a ≡ answer_of (at_worker lives self.old worker (λ x. at_session lives x (heard lives run.now output bytes.now)))) }
+        ensures next { OnOk result (self.new ≡ state_of self.old (at_worker lives self.old worker (λ x. at_session lives x (heard lives run.now output bytes.now)))) }
         ensures err { OnErr result (self.new ≡ self.old) }
     {
         let place = usize::from(worker);
@@ -339,8 +351,8 @@ impl Lane {
 
     /// A worker's acknowledged chunk leaves the output.
     pub fn settle(&mut self, worker: u16) -> Answer
-        ensures answer { result ≡ live_settle_answer (slice_get self.old.workers worker) (Some self.old) }
-        ensures next { self.new ≡ lane_settles self.old worker (slice_get self.old.workers worker) }
+        ensures answer { result ≡ answer_of (settle lives self.old worker) }
+        ensures next { self.new ≡ state_of self.old (settle lives self.old worker) }
     {
         let place = usize::from(worker);
         if place >= self.workers.len() {
@@ -354,18 +366,30 @@ impl Lane {
         Answer::Settled { entries }
     }
 
-    /// What a connection is to be told of its requests at the output.
-    pub fn due(&self, alloc: Global, conn: u64) -> Result<Due, AllocError>
-        ensures numbers { IfOk result (λ due. due.requests ≡ numbers_of (live_due conn self.now.output)) }
-        ensures acks { IfOk result (λ due. due.out ≡ acks_of (live_due conn self.now.output)) }
+    /// The origins of a connection's requests that were not told yet, by rising number.
+    pub fn untold(&self, alloc: Global, conn: u64) -> Result<Vec<Origin>, AllocError>
+        ensures { IfOk result (λ origins. origins.items ≡ origins_of conn self.now.output.book) }
     {
-        self.output.due(alloc, conn)
+        self.output.untold(alloc, conn)
     }
 
-    /// The connection was told what was due.
-    pub fn tell(&mut self, conn: u64)
-        ensures { self.new ≡ with_live_output self.old (output_told self.old.output conn) }
+    /// What is to be told of the requests of these origins.
+    pub fn due(&self, alloc: Global, origins: &[Origin]) -> Result<Due, AllocError>
+        ensures numbers { IfOk result (λ due. due.requests ≡
+            numbers_of (due_among origins.now self.now.output.buffer.cells self.now.output.book)) }
+        ensures acks { IfOk result (λ due. due.out ≡
+            acks_of (due_among origins.now self.now.output.buffer.cells self.now.output.book)) }
     {
-        self.output.tell(conn);
+        self.output.due(alloc, origins)
+    }
+
+    /// What was due of these origins was told.
+    pub fn tell(&mut self, origins: &[Origin])
+        ensures { self.new ≡ with_live_output self.old (record {
+          buffer = self.old.output.buffer;
+          book = filter (λ q. not (is_due_among origins.now self.old.output.buffer.cells q)) self.old.output.book;
+        }) }
+    {
+        self.output.tell(origins);
     }
 }

@@ -2,6 +2,7 @@
 #![tactic(auto)]
 
 mod book;
+mod buffer;
 mod chunks;
 mod connection;
 mod lane;

@@ -1,17 +1,19 @@
 //! The relay: connections, outputs, and one step at a time.
 
-ghost use Rattle.std.specs.Prelude.{◌≡◌, ◌≢◌, true, map, Some, IfOk, OnOk, OnErr, slice_get};
+ghost use Rattle.std.specs.Prelude.{◌≡◌, ◌≢◌, true, map, IfOk, OnOk, OnErr, []};
 ghost use Rattle.fwd_model.specs.History.{opening};
 ghost use Rattle.fwd_model.specs.Live.{live};
-ghost use Rattle.fwd_model.specs.LiveStep.{live_answer_to, live_next, live_answers, live_after, live_source_at, is_above, live_piece_answer, live_piece_next, live_admit_answer, live_admit_next, live_flush_answer, live_flush_next, live_up_answer, live_up_next, live_take_answer, live_take_next, live_load_answer, live_load_next, worker_at, session_in, live_wrote_answer, live_wrote_next, live_heard_answer, live_heard_next, live_settle_answer, live_settle_next, live_collect_answer, live_collect_next, live_collect_open, live_drained_answer, live_drained_next, live_shut_answer, live_shut_next};
 ghost use Rattle.std.specs.Prelude.{length};
 ghost use Rattle.fwd_model.specs.declared.config.Config.{Config as Settings};
 ghost use Rattle.fwd_model.specs.History.{History};
-ghost use Rattle.fwd_model.specs.Step.{answers as history_answers, after, IsReached};
+ghost use Rattle.fwd_model.specs.History.{histories, IsReached};
 ghost use Rattle.fwd_core.specs.Runs.{told, kept, takes_none};
 ghost use Rattle.fwd_core.specs.Lanes.{new_live_lane};
-ghost use Rattle.fwd_model.specs.Step.{accept_answer, setup_of};
-ghost use Rattle.fwd_core.specs.Relays.{accept_next, admit_source, admit_lane, told_source, told_lane};
+
+ghost use Rattle.fwd_model.specs.declared.event.Event.TheVariants as event;
+ghost use Rattle.fwd_model.specs.Outcome.{answer_of, state_of};
+ghost use Rattle.fwd_model.specs.Step.{step, admit, collect, answers as answers_to, after};
+ghost use Rattle.fwd_model.specs.Live.{lives};
 
 use crate::connection::{Connection, drain, give, hear_piece, leave, place_of};
 use crate::lane::Lane;
@@ -22,7 +24,7 @@ use fwd_model::{
     Answer, Config, Event, FlushKind, Origin, OutputConfig, Refusal, live_run_follows,
 };
 use fwd_msgpack::Bytes;
-use fwd_source::{AnswerError, Source};
+use fwd_source::Source;
 use std::alloc::{AllocError, Global};
 use std::marker::Model;
 use std::sync::Arc;
@@ -73,8 +75,8 @@ impl Relay {
     /// What an event does, and what is answered. It is the live step of the abstract relay, or want of memory, and
     /// then nothing has changed.
     pub fn step(&mut self, alloc: Global, event: &Event) -> Answer
-        ensures answer { result ≢ Answer.Memory → result ≡ live_answer_to self.old event.now }
-        ensures next { result ≢ Answer.Memory → self.new ≡ live_next self.old event.now }
+        ensures answer { result ≢ Answer.Memory → result ≡ answer_of (step lives self.old event.now) }
+        ensures next { result ≢ Answer.Memory → self.new ≡ state_of self.old (step lives self.old event.now) }
         ensures memory { result ≡ Answer.Memory → self.new ≡ self.old }
         ensures none { takes_none event.now ≡ true → result ≢ Answer.Memory }
     {
@@ -123,10 +125,10 @@ impl Relay {
     /// Where the room for the answers is refused, nothing has changed.
     pub fn run(&mut self, alloc: Global, events: &[Event]) -> Result<Vec<Answer>, AllocError>
         ensures count { IfOk result (λ answers. length answers.items ≡ length events.now) }
-        ensures answers { IfOk result (λ answers. told answers.items ≡ live_answers self.old (kept events.now answers.items)) }
-        ensures state { IfOk result (λ answers. self.new ≡ live_after self.old (kept events.now answers.items)) }
+        ensures answers { IfOk result (λ answers. told answers.items ≡ answers_to lives self.old (kept events.now answers.items)) }
+        ensures state { IfOk result (λ answers. self.new ≡ after lives self.old (kept events.now answers.items)) }
         ensures history { IfOk result (λ answers. (config : Settings) (h : History) → IsReached config h → self.old ≡ live h →
-            (told answers.items ≡ history_answers h (kept events.now answers.items)) × (self.new ≡ live (after h (kept events.now answers.items)))) }
+            (told answers.items ≡ answers_to histories h (kept events.now answers.items)) × (self.new ≡ live (after histories h (kept events.now answers.items)))) }
         ensures err { OnErr result (self.new ≡ self.old) }
     {
         live_run_follows();
@@ -146,8 +148,8 @@ impl Relay {
         nonce: [u8; 16],
         auth: [u8; 16],
     ) -> Result<Answer, AllocError>
-        ensures answer { IfOk result (λ a. a ≡ accept_answer (is_above conn self.old.last) (setup_of self.old.security conn nonce auth)) }
-        ensures next { OnOk result (self.new ≡ accept_next (setup_of self.old.security conn nonce auth) self.old) }
+        ensures answer { IfOk result (λ a. a ≡ answer_of (step lives self.old (event.Accept conn nonce auth))) }
+        ensures next { OnOk result (self.new ≡ state_of self.old (step lives self.old (event.Accept conn nonce auth))) }
         ensures err { OnErr result (self.new ≡ self.old) }
     {
         let above = match self.last {
@@ -167,8 +169,8 @@ impl Relay {
 
     /// Bytes are read from a connection. On an error nothing has changed.
     fn piece(&mut self, alloc: Global, conn: u64, bytes: &[u8]) -> Result<Answer, AllocError>
-        ensures answer { IfOk result (λ a. a ≡ live_piece_answer (live_source_at conn self.old.connections) bytes.now) }
-        ensures next { OnOk result (self.new ≡ live_piece_next conn (live_source_at conn self.old.connections) bytes.now self.old) }
+        ensures answer { IfOk result (λ a. a ≡ answer_of (step lives self.old (event.Piece conn bytes.now))) }
+        ensures next { OnOk result (self.new ≡ state_of self.old (step lives self.old (event.Piece conn bytes.now))) }
         ensures err { OnErr result (self.new ≡ self.old) }
     {
         let Some(place) = place_of(conn, &self.connections) else {
@@ -180,8 +182,8 @@ impl Relay {
 
     /// A connection's link took so many of the bytes that wait to be sent.
     fn drained(&mut self, conn: u64, count: u64) -> Answer
-        ensures answer { result ≡ live_drained_answer (live_source_at conn self.old.connections) count }
-        ensures next { self.new ≡ live_drained_next conn (live_source_at conn self.old.connections) count self.old }
+        ensures answer { result ≡ answer_of (step lives self.old (event.Drained conn count)) }
+        ensures next { self.new ≡ state_of self.old (step lives self.old (event.Drained conn count)) }
     {
         let Some(place) = place_of(conn, &self.connections) else {
             return Answer::Refused(Refusal::NoSuch);
@@ -192,8 +194,8 @@ impl Relay {
 
     /// A connection is known no more.
     fn shut(&mut self, conn: u64) -> Answer
-        ensures answer { result ≡ live_shut_answer (live_source_at conn self.old.connections) }
-        ensures next { self.new ≡ live_shut_next conn (live_source_at conn self.old.connections) self.old }
+        ensures answer { result ≡ answer_of (step lives self.old (event.Shut conn)) }
+        ensures next { self.new ≡ state_of self.old (step lives self.old (event.Shut conn)) }
     {
         if place_of(conn, &self.connections).is_none() {
             return Answer::Refused(Refusal::NoSuch);
@@ -210,8 +212,8 @@ impl Relay {
         output: u16,
         now: u64,
     ) -> Result<Answer, AllocError>
-        ensures answer { IfOk result (λ a. a ≡ live_admit_answer self.old.routes (live_source_at conn self.old.connections) output (slice_get self.old.lanes output)) }
-        ensures next { OnOk result (self.new ≡ live_admit_next conn (live_source_at conn self.old.connections) output (slice_get self.old.lanes output) now self.old) }
+        ensures answer { IfOk result (λ a. a ≡ answer_of (step lives self.old (event.Admit conn output now))) }
+        ensures next { OnOk result (self.new ≡ state_of self.old (step lives self.old (event.Admit conn output now))) }
         ensures err { OnErr result (self.new ≡ self.old) }
     {
         let Some(place) = place_of(conn, &self.connections) else {
@@ -236,8 +238,8 @@ impl Relay {
 
     /// Open chunks of an output are closed.
     fn flush(&mut self, output: u16, now: u64, kind: FlushKind) -> Answer
-        ensures answer { result ≡ live_flush_answer (slice_get self.old.lanes output) now kind }
-        ensures next { self.new ≡ live_flush_next output (slice_get self.old.lanes output) now kind self.old }
+        ensures answer { result ≡ answer_of (step lives self.old (event.Flush output now kind)) }
+        ensures next { self.new ≡ state_of self.old (step lives self.old (event.Flush output now kind)) }
     {
         let place = usize::from(output);
         if place >= self.lanes.len() {
@@ -250,8 +252,8 @@ impl Relay {
 
     /// A worker's session with a server begins.
     fn up(&mut self, alloc: Global, output: u16, worker: u16, server: u16, now: u64) -> Answer
-        ensures answer { result ≡ live_up_answer server (worker_at worker (slice_get self.old.lanes output)) (slice_get self.old.lanes output) }
-        ensures next { self.new ≡ live_up_next output worker server now (worker_at worker (slice_get self.old.lanes output)) (slice_get self.old.lanes output) self.old }
+        ensures answer { result ≡ answer_of (step lives self.old (event.Up output worker server [] now)) }
+        ensures next { self.new ≡ state_of self.old (step lives self.old (event.Up output worker server [] now)) }
     {
         let place = usize::from(output);
         if place >= self.lanes.len() {
@@ -269,8 +271,8 @@ impl Relay {
         worker: u16,
         now: u64,
     ) -> Result<Answer, AllocError>
-        ensures answer { IfOk result (λ a. a ≡ live_take_answer (worker_at worker (slice_get self.old.lanes output)) (slice_get self.old.lanes output)) }
-        ensures next { OnOk result (self.new ≡ live_take_next output worker (worker_at worker (slice_get self.old.lanes output)) (slice_get self.old.lanes output) now self.old) }
+        ensures answer { IfOk result (λ a. a ≡ answer_of (step lives self.old (event.Take output worker now))) }
+        ensures next { OnOk result (self.new ≡ state_of self.old (step lives self.old (event.Take output worker now))) }
         ensures err { OnErr result (self.new ≡ self.old) }
     {
         let place = usize::from(output);
@@ -289,8 +291,8 @@ impl Relay {
         worker: u16,
         now: u64,
     ) -> Result<Answer, AllocError>
-        ensures answer { IfOk result (λ a. a ≡ live_load_answer (worker_at worker (slice_get self.old.lanes output)) (slice_get self.old.lanes output) self.old.run output) }
-        ensures next { OnOk result (self.new ≡ live_load_next output worker (worker_at worker (slice_get self.old.lanes output)) (slice_get self.old.lanes output) now self.old) }
+        ensures answer { IfOk result (λ a. a ≡ answer_of (step lives self.old (event.Load output worker now))) }
+        ensures next { OnOk result (self.new ≡ state_of self.old (step lives self.old (event.Load output worker now))) }
         ensures err { OnErr result (self.new ≡ self.old) }
     {
         let place = usize::from(output);
@@ -304,8 +306,8 @@ impl Relay {
 
     /// The link took so many bytes of a worker's session.
     fn wrote(&mut self, output: u16, worker: u16, count: u64) -> Answer
-        ensures answer { result ≡ live_wrote_answer (session_in (worker_at worker (slice_get self.old.lanes output))) count }
-        ensures next { self.new ≡ live_wrote_next output worker (worker_at worker (slice_get self.old.lanes output)) (slice_get self.old.lanes output) count self.old }
+        ensures answer { result ≡ answer_of (step lives self.old (event.Wrote output worker count)) }
+        ensures next { self.new ≡ state_of self.old (step lives self.old (event.Wrote output worker count)) }
     {
         let place = usize::from(output);
         if place >= self.lanes.len() {
@@ -323,8 +325,8 @@ impl Relay {
         worker: u16,
         bytes: &[u8],
     ) -> Result<Answer, AllocError>
-        ensures answer { IfOk result (λ a. a ≡ live_heard_answer (session_in (worker_at worker (slice_get self.old.lanes output))) self.old.run output bytes.now) }
-        ensures next { OnOk result (self.new ≡ live_heard_next output worker (worker_at worker (slice_get self.old.lanes output)) (slice_get self.old.lanes output) bytes.now self.old) }
+        ensures answer { IfOk result (λ a. a ≡ answer_of (step lives self.old (event.Heard output worker bytes.now))) }
+        ensures next { OnOk result (self.new ≡ state_of self.old (step lives self.old (event.Heard output worker bytes.now))) }
         ensures err { OnErr result (self.new ≡ self.old) }
     {
         let place = usize::from(output);
@@ -338,8 +340,8 @@ impl Relay {
 
     /// A worker's acknowledged chunk leaves its output.
     fn settle(&mut self, output: u16, worker: u16) -> Answer
-        ensures answer { result ≡ live_settle_answer (worker_at worker (slice_get self.old.lanes output)) (slice_get self.old.lanes output) }
-        ensures next { self.new ≡ live_settle_next output worker (worker_at worker (slice_get self.old.lanes output)) (slice_get self.old.lanes output) self.old }
+        ensures answer { result ≡ answer_of (step lives self.old (event.Settle output worker)) }
+        ensures next { self.new ≡ state_of self.old (step lives self.old (event.Settle output worker)) }
     {
         let place = usize::from(output);
         if place >= self.lanes.len() {
@@ -351,8 +353,8 @@ impl Relay {
 
     /// A connection is told of its requests at an output whose entries are all settled. On an error nothing has changed.
     fn collect(&mut self, alloc: Global, conn: u64, output: u16) -> Result<Answer, AllocError>
-        ensures answer { IfOk result (λ a. a ≡ live_collect_answer conn (live_source_at conn self.old.connections) (slice_get self.old.lanes output)) }
-        ensures next { OnOk result (self.new ≡ live_collect_next conn (live_source_at conn self.old.connections) output (slice_get self.old.lanes output) self.old) }
+        ensures answer { IfOk result (λ a. a ≡ answer_of (step lives self.old (event.Collect conn output))) }
+        ensures next { OnOk result (self.new ≡ state_of self.old (step lives self.old (event.Collect conn output))) }
         ensures err { OnErr result (self.new ≡ self.old) }
     {
         let Some(place) = place_of(conn, &self.connections) else {
@@ -388,9 +390,9 @@ fn admit_from(
     output: u16,
     now: u64,
 ) -> Result<Answer, AllocError>
-    ensures answer { IfOk result (λ a. a ≡ live_admit_answer routes.now (Some source.old.live) output (Some lane.old)) }
-    ensures source { OnOk result (source.new.live ≡ admit_source routes.now source.old.live source.old.live.waiting output lane.old) }
-    ensures lane { OnOk result (lane.new ≡ admit_lane routes.now conn source.old.live source.old.live.waiting output lane.old now) }
+    ensures answer { IfOk result (λ a. a ≡ answer_of (admit lives routes.now conn output now source.old.live lane.old)) }
+    ensures source { OnOk result (source.new.live ≡ (state_of (source.old.live, lane.old) (admit lives routes.now conn output now source.old.live lane.old)).0) }
+    ensures lane { OnOk result (lane.new ≡ (state_of (source.old.live, lane.old) (admit lives routes.now conn output now source.old.live lane.old)).1) }
     ensures source_err { OnErr result (source.new ≡ source.old) }
     ensures lane_err { OnErr result (lane.new ≡ lane.old) }
 {
@@ -425,19 +427,22 @@ fn tell_from(
     source: &mut Source,
     conn: u64,
 ) -> Result<Answer, AllocError>
-    ensures answer { IfOk result (λ a. a ≡ live_collect_open conn source.old.live lane.old.output) }
-    ensures source { OnOk result (source.new.live ≡ told_source conn source.old.live lane.old) }
-    ensures lane { OnOk result (lane.new ≡ told_lane conn source.old.live lane.old) }
+    ensures answer { IfOk result (λ a. a ≡ answer_of (collect lives conn source.old.live lane.old)) }
+    ensures source { OnOk result (source.new.live ≡ (state_of (source.old.live, lane.old) (collect lives conn source.old.live lane.old)).0) }
+    ensures lane { OnOk result (lane.new ≡ (state_of (source.old.live, lane.old) (collect lives conn source.old.live lane.old)).1) }
     ensures source_err { OnErr result (source.new.live ≡ source.old.live) }
     ensures lane_err { OnErr result (lane.new ≡ lane.old) }
 {
-    let Due { requests, out } = lane.due(alloc, conn)?;
+    if source.is_shut() {
+        return Ok(Answer::Refused(Refusal::Closed));
+    }
+    let origins = lane.untold(alloc, conn)?;
+    let Due { requests, out } = lane.due(alloc, &origins)?;
     match source.answer(out.as_slice()) {
         Ok(()) => {
-            lane.tell(conn);
+            lane.tell(&origins);
             Ok(Answer::Told { requests, out })
         }
-        Err(AnswerError::Closed) => Ok(Answer::Refused(Refusal::Closed)),
-        Err(AnswerError::Memory) => Err(AllocError),
+        Err(_) => Err(AllocError),
     }
 }

@@ -1,9 +1,13 @@
 //! One output session: a worker's link to a server.
 
-ghost use Rattle.std.specs.Prelude.{◌≡◌, ◌++◌, not, nat_lt, length, Some, IfOk, OnOk, OnErr};
+ghost use Rattle.std.specs.Prelude.{◌≡◌, ◌++◌, not, nat_lt, length, IfOk, OnOk, OnErr};
 ghost use Rattle.fwd_model.specs.Step.{is_loaded};
-ghost use Rattle.fwd_model.specs.LiveStep.{fresh_session, session_loads, session_unloads, live_awaited, live_acked_number, live_heard_answer};
-ghost use Rattle.fwd_core.specs.Lanes.{session_sent, session_heard};
+ghost use Rattle.fwd_model.specs.Sessions.{
+    session_begins, session_loads, session_unloads, session_awaits,
+};
+ghost use Rattle.fwd_model.specs.Outcome.{answer_of, state_of};
+ghost use Rattle.fwd_model.specs.Step.{wrote, heard, acked};
+ghost use Rattle.fwd_model.specs.Live.{lives};
 
 use crate::replies::hear;
 use fwd_model::{Answer, Refusal};
@@ -25,7 +29,7 @@ pub struct Session {
 }
 
 impl Model for Session {
-    ghost use Rattle.fwd_model.specs.Live.{LiveSession};
+    ghost use Rattle.fwd_model.specs.Sessions.{LiveSession};
 
     ghost Value = { LiveSession };
 
@@ -35,7 +39,7 @@ impl Model for Session {
 impl Session {
     /// A session that begins at a moment (milliseconds).
     pub fn up(alloc: Global, server: u16, now: u64) -> Self
-        ensures { result ≡ fresh_session server now }
+        ensures { result ≡ session_begins server now }
     {
         Session {
             server,
@@ -77,10 +81,10 @@ impl Session {
     }
 
     /// The link took so many bytes. Where fewer wait nothing changes, and the answer is false.
-    #[tactic(auto, unfolding(fwd_model::specs::LiveStep::session_sends))]
+    #[tactic(auto, unfolding(fwd_model::specs::Sessions::session_sends))]
     pub fn wrote(&mut self, count: u64) -> bool
         ensures within { result ≡ not (nat_lt (length self.old.waiting) count) }
-        ensures sent { self.new ≡ session_sent self.old count }
+        ensures sent { self.new ≡ state_of self.old (wrote lives count self.old) }
     {
         if count > self.waiting.len() as u64 {
             return false;
@@ -91,7 +95,7 @@ impl Session {
 
     /// The name of the chunk whose acknowledgement is awaited: one that was handed on whole and is not acknowledged.
     fn awaited(&self, run: &[u8; 6], output: u16) -> Option<[u8; 24]>
-        ensures { result ≡ live_awaited run.now output self.now }
+        ensures { result ≡ session_awaits run.now output self.now }
     {
         if self.accepted || !self.waiting.is_empty() {
             return None;
@@ -103,7 +107,7 @@ impl Session {
     }
 
     /// Bytes are read from the link. After a fault each further piece is refused. On an error nothing has changed.
-    #[tactic(auto, unfolding(fwd_model::specs::LiveStep::session_hears))]
+    #[tactic(auto, unfolding(fwd_model::specs::Sessions::session_listens))]
     pub fn heard(
         &mut self,
         alloc: Global,
@@ -111,8 +115,8 @@ impl Session {
         output: u16,
         bytes: &[u8],
     ) -> Result<Answer, AllocError>
-        ensures answer { IfOk result (λ a. a ≡ live_heard_answer (Some (Some self.old)) run.now output bytes.now) }
-        ensures next { OnOk result (self.new ≡ session_heard run.now output self.old bytes.now) }
+        ensures answer { IfOk result (λ a. a ≡ answer_of (heard lives run.now output bytes.now self.old)) }
+        ensures next { OnOk result (self.new ≡ state_of self.old (heard lives run.now output bytes.now self.old)) }
         ensures err { OnErr result (self.new ≡ self.old) }
     {
         if self.down {
@@ -140,7 +144,7 @@ impl Session {
 
     /// The number of the chunk whose acknowledgement was accepted.
     pub fn acked(&self) -> Option<u64>
-        ensures { result ≡ live_acked_number self.now }
+        ensures { result ≡ acked lives self.now }
     {
         if self.accepted { self.loaded } else { None }
     }

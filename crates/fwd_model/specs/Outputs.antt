@@ -3,7 +3,7 @@ use Rattle.std.specs.Prelude.{ℕ, ◌+◌, List, [], ◌∷◌, ◌++◌, false
 use Rattle.fwd_modes.specs.Requests.{Request}
 use Rattle.fwd_source.specs.declared.origin.Origin.{Origin}
 use Rattle.fwd_model.specs.declared.cell.Entered.{Entered}
-use Rattle.fwd_model.specs.Buffers.{BufferHistory, next_number, enters, LiveBuffer, live_buffer, buffer_enters}
+use Rattle.fwd_model.specs.Buffers.{BufferHistory, next_number, enters, LiveBuffer, live_buffer, no_entries, buffer_enters}
 use Rattle.fwd_model.specs.Books.{Admission, entered_as, due, tells, untold, book_due, book_tells}
 
 -- its entries, and every request ever entered, in order
@@ -36,6 +36,10 @@ pub record LiveOutput : Type 0 where
 -- the live part of a history
 unfoldable pub live_output : OutputHistory → LiveOutput
 live_output o = record { buffer = live_buffer o.buffer; book = untold o.book }
+
+-- before any event
+abbrev pub no_requests : LiveOutput
+no_requests = record { buffer = no_entries; book = [] }
 
 -- a request is entered, with its entries
 abbrev pub output_enters : LiveOutput → Origin → Request → ℕ → LiveOutput

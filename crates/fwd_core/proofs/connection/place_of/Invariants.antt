@@ -1,6 +1,6 @@
 use Rattle.std.proofs.Common.{◌≡◌, ◌++◌, take, drop}
 use Rattle.fwd_source.specs.Live.{LiveSource}
-use Rattle.fwd_model.specs.LiveStep.{live_source_at, with_live_source}
+use Rattle.fwd_model.specs.Live.{live_source_at, with_live_source}
 use Rattle.fwd_core.proofs.connection.place_of.Given as goal
 
 -- nothing before this place has the id

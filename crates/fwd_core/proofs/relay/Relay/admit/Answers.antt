@@ -2,9 +2,11 @@ use Rattle.std.proofs.lemmas.Result.{on_ok_weaker}
 use Rattle.std.proofs.lemmas.Option.{slice_get_read}
 use Rattle.std.proofs.Common.{◌≡◌, length, sym, ap, ◌∙◌, refl, subst, Some, Result, Ok, Err}
 use Rattle.std.specs.Prelude.{slice_get, OnOk}
+use Rattle.fwd_model.specs.Outcome.{state_of}
+use Rattle.fwd_model.specs.Step as steps
+use Rattle.fwd_model.specs.Live.{lives}
 use Rattle.fwd_core.specs.Places.{IsPlace}
-use Rattle.fwd_core.specs.Relays.{admit_source, admit_lane}
-use Rattle.fwd_core.proofs.RelayLemmas.{admit_done, read_place}
+use Rattle.fwd_core.proofs.RelayLemmas.{both_done, read_place}
 use Rattle.fwd_core.proofs.relay.Relay.admit.Goals as goal
 
 both : {T E : Type 0} (P Q : Type 0) (r : Result T E) → OnOk r P → OnOk r Q → OnOk r (P × Q)
@@ -25,7 +27,8 @@ returns-clause-next c =
     let shown = c.connection.view_is in
     let s = c.connection.inside.source.live in
     let t = c.admit_from.new.source.live in
+    let came = state_of (s, l) (steps.admit lives c.self.inside.routes c.args.conn c.args.output c.args.now s l) in
     on_ok_weaker c.admit_from.result
-    (λ d. admit_done _ c.args.self.now c.self.view_is c.args.output c.from-lane_place.result c.from-lane_place.ensures l c.admit_from.new.lane here c.args.conn c.in-Some.place c.args.now at s t _
-    (own.0 ∙ sym (ap (λ y. y.source) shown)) (ap (λ n. record { id = n; source = t }) (ap (λ y. y.id) shown ∙ own.1)) d.0 d.1)
-    (both (t ≡ admit_source c.self.inside.routes s s.waiting c.args.output l) (c.admit_from.new.lane ≡ admit_lane c.self.inside.routes c.args.conn s s.waiting c.args.output l c.args.now) c.admit_from.result c.admit_from.ensures.source c.admit_from.ensures.lane)
+    (λ d. both_done _ c.args.self.now c.self.view_is c.args.output c.from-lane_place.result c.from-lane_place.ensures l c.admit_from.new.lane here c.args.conn c.in-Some.place at s t _
+    (own.0 ∙ sym (ap (λ y. y.source) shown)) (ap (λ n. record { id = n; source = t }) (ap (λ y. y.id) shown ∙ own.1)) (λ r x m. steps.admit lives r.routes c.args.conn c.args.output c.args.now x m) d.0 d.1)
+    (both (t ≡ came.0) (c.admit_from.new.lane ≡ came.1) c.admit_from.result c.admit_from.ensures.source c.admit_from.ensures.lane)

@@ -1,8 +1,10 @@
 use Rattle.std.proofs.lemmas.Option.{slice_get_read}
 use Rattle.std.proofs.Common.{◌≡◌, length, sym, ap, ◌∙◌, refl, subst, Some}
 use Rattle.std.specs.Prelude.{slice_get}
+use Rattle.fwd_model.specs.Step as steps
+use Rattle.fwd_model.specs.Live.{lives}
 use Rattle.fwd_core.specs.Places.{IsPlace}
-use Rattle.fwd_core.proofs.RelayLemmas.{drained_done, read_place}
+use Rattle.fwd_core.proofs.RelayLemmas.{source_done, read_place}
 use Rattle.fwd_core.proofs.relay.Relay.drained.Goals as goal
 
 pub returns-clause-next : goal.returns-clause-next
@@ -13,5 +15,4 @@ returns-clause-next c =
     let here : slice_get connections.items c.in-Some.place ≡ Some x = slice_get_read connections.items (length connections.items) c.in-Some.place x refl at.within c.index_mut-connection.ensures.value in
     let own = read_place c.args.conn connections.items c.in-Some.place at x here in
     let shown = c.connection.view_is in
-    drained_done _ c.args.self.now c.self.view_is c.args.conn c.in-Some.place c.args.count at c.connection.inside.source.live c.drain.new.source.live _
-    (own.0 ∙ sym (ap (λ y. y.source) shown)) (ap (λ n. record { id = n; source = c.drain.new.source.live }) (ap (λ y. y.id) shown ∙ own.1)) c.drain.ensures.next
+    source_done _ c.args.self.now c.self.view_is c.args.conn c.in-Some.place at c.connection.inside.source.live c.drain.new.source.live _ (own.0 ∙ sym (ap (λ y. y.source) shown)) (ap (λ n. record { id = n; source = c.drain.new.source.live }) (ap (λ y. y.id) shown ∙ own.1)) (λ s. steps.drained lives s c.args.count) c.drain.ensures.next

@@ -1,7 +1,8 @@
 use Rattle.std.proofs.Common.{◌≡◌, ◌+◌, ◌∷◌, ◌++◌, [], take, sym, ap, ◌∙◌, arith}
 use Rattle.std.specs.Prelude.{is_ok, if◌then◌else◌}
 use Rattle.std.proofs.lemmas.List.{take_all, take_more}
-use Rattle.fwd_model.specs.LiveStep.{live_answers, live_after}
+use Rattle.fwd_model.specs.Step.{answers as answers_to, after}
+use Rattle.fwd_model.specs.Live.{lives}
 use Rattle.fwd_core.specs.Runs.{kept}
 use Rattle.fwd_core.proofs.RunLemmas.{ran_more}
 use Rattle.fwd_core.proofs.relay.Relay.run.Goals as goal
@@ -28,6 +29,6 @@ returns-clause-history c = λ config h reached same.
     let run = c.loop-event.invariant.ran in
     let all = take_all c.loop-event.event-index es c.loop-event-test.false in
     let law = c.live_run_follows.ensures in (
-      run.told_is ∙ (λ i. live_answers (same i) (kept (all i) told)) ∙ sym (law.answers config h (kept es told) reached),
-      run.state_is ∙ (λ i. live_after (same i) (kept (all i) told)) ∙ sym (law.after config h (kept es told) reached),
+      run.told_is ∙ (λ i. answers_to lives (same i) (kept (all i) told)) ∙ sym (law.answers config h (kept es told) reached),
+      run.state_is ∙ (λ i. after lives (same i) (kept (all i) told)) ∙ sym (law.after config h (kept es told) reached),
     )

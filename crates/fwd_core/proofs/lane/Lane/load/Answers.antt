@@ -1,0 +1,16 @@
+use Rattle.std.proofs.lemmas.Result.{on_ok_weaker}
+use Rattle.std.proofs.lemmas.Option.{slice_get_read}
+use Rattle.std.proofs.Common.{◌≡◌, length, ◌∙◌, Some}
+use Rattle.std.specs.Prelude.{slice_get}
+use Rattle.fwd_model.specs.Step as steps
+use Rattle.fwd_model.specs.Live.{lives}
+use Rattle.fwd_core.proofs.RelayLemmas.{worker_done}
+use Rattle.fwd_core.proofs.lane.Lane.load.Goals as goal
+
+pub returns-clause-next : goal.returns-clause-next
+returns-clause-next c =
+    let workers = c.self.inside.workers in
+    let x = c.index_mut.result.now in
+    let size : c.len.result ≡ length workers.items = c.len.ensures ∙ workers.ok.0 in
+    let here : slice_get workers.items c.from-place.result ≡ Some x = slice_get_read workers.items c.len.result c.from-place.result x size c.if-place-len.false c.index_mut.ensures.value in
+    on_ok_weaker c.load.result (λ d. worker_done _ c.args.self.now c.self.view_is c.args.worker c.from-place.result c.from-place.ensures x c.load.new.self here (steps.load lives c.args.run.now c.args.output c.args.now) d) c.load.ensures.next
