@@ -6,15 +6,24 @@ use Rattle.std.specs.Io.KnownBytes.{Appends, Keeps}
 use Rattle.fwd_model.specs.declared.event.Event.{Event}
 use Rattle.fwd_model.specs.declared.answer.Answer.{Answer}
 use Rattle.fwd_model.specs.declared.config.Config.{Config}
-use Rattle.fwd_model.specs.History.{opening}
+use Rattle.fwd_model.specs.Outcome.{answer_of, state_of}
+use Rattle.fwd_model.specs.Step.{step}
+use Rattle.fwd_model.specs.History.{History, opening, histories}
 use Rattle.fwd_model.specs.Live.{LiveRelay, live}
-use Rattle.fwd_model.specs.Step.{answer_to, next}
 use Rattle.fwd_script.specs.Configs.{Configures}
 use Rattle.fwd_script.specs.Lines.{event_of}
 use Rattle.fwd_script.specs.Texts.{text_of}
 use Rattle.fwd_script.specs.Script.{lines_of, settings_of, event_lines, head_len}
 use Rattle.fwd_script.specs.declared.status.Status.{Status}
 use Rattle.fwd_script.specs.declared.status.Status.TheVariants.{Done, BadSettings, BadLine, Memory, Input, Output}
+
+-- what the abstract relay answers to an event
+abbrev pub answer_to : History → Event → Answer
+answer_to h e = answer_of (step histories h e)
+
+-- and its state afterwards
+abbrev pub next : History → Event → History
+next h e = state_of h (step histories h e)
 
 -- the events of the lines before the first that is none
 abbrev pub events_of : List (List ℕ) → List Event

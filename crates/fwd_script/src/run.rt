@@ -15,11 +15,13 @@ use std::alloc::Global;
 use std::io::{Read, Write};
 
 impl Step for Relay {
-    ghost use Rattle.fwd_model.specs.LiveStep.{live_answer_to, live_next};
+    ghost use Rattle.fwd_model.specs.Outcome.{answer_of, state_of};
+    ghost use Rattle.fwd_model.specs.Step.{step};
+    ghost use Rattle.fwd_model.specs.Live.{lives};
 
-    ghost answer_to = { live_answer_to };
+    ghost answer_to = { λ r e. answer_of (step lives r e) };
 
-    ghost next = { live_next };
+    ghost next = { λ r e. state_of r (step lives r e) };
 
     fn step(&mut self, alloc: Global, event: &Event) -> Answer {
         Relay::step(self, alloc, event)
