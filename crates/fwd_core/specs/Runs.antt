@@ -1,10 +1,11 @@
 -- Which events of a run counted: those not answered by want of memory.
 use Rattle.std.specs.Prelude.{Bool, true, false, not, List, [], ◌∷◌, filter, if◌then◌else◌}
 use Rattle.fwd_model.specs.declared.event.Event.{Event}
-use Rattle.fwd_model.specs.declared.event.Event.TheVariants.{Flush, Wrote, Settle, Drained, Shut}
+use Rattle.fwd_model.specs.declared.event.Event.TheVariants.{Flush, Up, Wrote, Settle, Drained, Shut}
 use Rattle.fwd_model.specs.declared.answer.Answer.{Answer}
-use Rattle.fwd_model.specs.declared.answer.Answer.TheVariants.{Memory}
+use Rattle.fwd_model.specs.declared.answer.Answer.TheVariants.{Memory, Refused, NoRoute, NumbersSpent}
 
+-- want of memory
 abbrev pub is_memory : Answer → Bool
 is_memory Memory = true
 is_memory _ = false
@@ -22,8 +23,16 @@ kept (e ∷ es) (a ∷ answers) = if is_memory a then kept es answers else e ∷
 -- the events that take no memory
 abbrev pub takes_none : Event → Bool
 takes_none (Flush output now kind) = true
+takes_none (Up output worker server salt now) = true
 takes_none (Wrote output worker count) = true
 takes_none (Settle output worker) = true
 takes_none (Drained conn count) = true
 takes_none (Shut conn) = true
 takes_none _ = false
+
+-- the answers that take no memory: refusals, and the faults of an admission
+abbrev pub is_free : Answer → Bool
+is_free (Refused why) = true
+is_free NoRoute = true
+is_free NumbersSpent = true
+is_free _ = false

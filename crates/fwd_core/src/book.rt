@@ -1,10 +1,30 @@
 //! The requests that an output entered and that were not told yet.
 
 ghost use Rattle.std.specs.Prelude.{
-    ◌≡◌, ◌<◌, ◌≤◌, ◌&&◌, ◌++◌, ◌∷◌, [], filter, length, map, not, IfOk, OnOk, OnErr,
+  ◌≡◌,
+  ◌<◌,
+  ◌≤◌,
+  ◌&&◌,
+  ◌++◌,
+  ◌∷◌,
+  [],
+  filter,
+  length,
+  map,
+  not,
+  IfOk,
+  OnOk,
+  OnErr,
 };
 ghost use Rattle.fwd_model.specs.Books.{
-    has_cell, is_of, none_left, numbers_of, acks_of, ack_of, spans_of, entered_as,
+  has_cell,
+  is_of,
+  none_left,
+  numbers_of,
+  acks_of,
+  ack_of,
+  spans_of,
+  entered_as,
 };
 ghost use Rattle.fwd_modes.specs.Requests.{Request};
 ghost use Rattle.fwd_core.specs.Due.{is_among, is_due_among, due_among, origins_of};

@@ -1,13 +1,36 @@
 //! The entries of one output that are not yet settled, with the numbers of their chunks.
 
 ghost use Rattle.std.specs.Prelude.{
-    ◌≡◌, ◌+◌, ◌<◌, ◌≤◌, ◌∷◌, ◌++◌, [], true, false, None, OnOk, OnErr, IfOk, IfSome, IfNone, filter, length, not,
+  ◌≡◌,
+  ◌+◌,
+  ◌<◌,
+  ◌≤◌,
+  ◌∷◌,
+  ◌++◌,
+  [],
+  true,
+  false,
+  None,
+  OnOk,
+  OnErr,
+  IfOk,
+  IfSome,
+  IfNone,
+  filter,
+  length,
+  not,
 };
 ghost use Rattle.fwd_core.specs.Fits.{FitsFrame};
 ghost use Rattle.fwd_model.specs.Chunks.{cells_at, cells_of, has_entry};
 ghost use Rattle.fwd_model.specs.Buffers.{
-    no_entries, buffer_is_spent, buffer_enters, buffer_closes, buffer_flushes, buffer_takes, buffer_free,
-    buffer_settles,
+  no_entries,
+  buffer_is_spent,
+  buffer_enters,
+  buffer_closes,
+  buffer_flushes,
+  buffer_takes,
+  buffer_free,
+  buffer_settles,
 };
 
 use crate::chunks;

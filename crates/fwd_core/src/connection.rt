@@ -1,13 +1,13 @@
 //! The connections that stand, by their ids, and what becomes of one.
 
-ghost use Rattle.std.specs.Prelude.{◌≡◌, ◌<◌, IfNone, IfOk, OnOk, OnErr, MatchOption, None, length, slice_get};
+ghost use Rattle.std.specs.Prelude.{◌≡◌, ◌<◌, IfNone, IfOk, IsOk, OnOk, OnErr, MatchOption, None, true, length, slice_get};
 ghost use Rattle.std.specs.Arc.{arc_value};
 ghost use Rattle.fwd_source.specs.Live.{live_next};
 ghost use Rattle.fwd_model.specs.Step.{setup_of};
 ghost use Rattle.fwd_core.specs.Places.{IsPlace};
 ghost use Rattle.fwd_core.specs.Relays.{new_live_connection};
 ghost use Rattle.fwd_model.specs.Live.{live_source_at, without};
-
+ghost use Rattle.fwd_core.specs.Runs.{is_free};
 ghost use Rattle.fwd_model.specs.Outcome.{answer_of, state_of};
 ghost use Rattle.fwd_model.specs.Step.{piece, drained};
 ghost use Rattle.fwd_model.specs.Live.{lives};
@@ -88,6 +88,7 @@ pub fn leave(id: u64, connections: &mut Vec<Connection>)
 #[tactic(auto, unfolding(fwd_source::specs::Live::source_hears))]
 pub fn hear_piece(alloc: Global, source: &mut Source, bytes: &[u8]) -> Result<Answer, AllocError>
     ensures answer { IfOk result (λ a. a ≡ answer_of (piece lives source.old.live bytes.now)) }
+    ensures sure { is_free (answer_of (piece lives source.old.live bytes.now)) ≡ true → IsOk result }
     ensures next { OnOk result (source.new.live ≡ state_of source.old.live (piece lives source.old.live bytes.now)) }
     ensures err { OnErr result (source.new.live ≡ source.old.live) }
 {

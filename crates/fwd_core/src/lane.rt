@@ -1,7 +1,20 @@
 //! An output with its settings and its workers.
 
 ghost use Rattle.std.specs.Prelude.{
-    ◌≡◌, Err, IfOk, OnOk, OnErr, IfSome, IsErrOf, true, false, is_some, filter, length, not,
+  ◌≡◌,
+  Err,
+  IfOk,
+  IsOk,
+  OnOk,
+  OnErr,
+  IfSome,
+  IsErrOf,
+  true,
+  false,
+  is_some,
+  filter,
+  length,
+  not,
 };
 ghost use Rattle.std.specs.List.{concat};
 ghost use Rattle.fwd_core.specs.Fits.{FitsFrame};
@@ -13,7 +26,7 @@ ghost use Rattle.fwd_model.specs.Live.{with_live_output};
 ghost use Rattle.fwd_core.specs.Due.{due_among, is_due_among, origins_of};
 ghost use Rattle.fwd_model.specs.Books.{numbers_of, acks_of};
 ghost use Rattle.fwd_core.specs.Lanes.{no_work, new_live_lane, worker_settled, acked_in};
-
+ghost use Rattle.fwd_core.specs.Runs.{is_free};
 ghost use Rattle.fwd_model.specs.Outcome.{answer_of, state_of};
 ghost use Rattle.fwd_model.specs.Step.{chunk_answer, with_session, at_worker, at_session, up, take, load, wrote, heard, settle};
 ghost use Rattle.fwd_model.specs.Live.{lives};
@@ -146,6 +159,7 @@ impl Worker {
         now: u64,
     ) -> Result<Answer, AllocError>
         ensures answer { IfOk result (λ a. a ≡ answer_of (load lives run.now output now self.old)) }
+        ensures sure { is_free (answer_of (load lives run.now output now self.old)) ≡ true → IsOk result }
         ensures next { OnOk result (self.new ≡ state_of self.old (load lives run.now output now self.old)) }
         ensures err { OnErr result (self.new ≡ self.old) }
     {
@@ -190,6 +204,7 @@ impl Worker {
         bytes: &[u8],
     ) -> Result<Answer, AllocError>
         ensures answer { IfOk result (λ a. a ≡ answer_of (at_session lives self.old (heard lives run.now output bytes.now))) }
+        ensures sure { is_free (answer_of (at_session lives self.old (heard lives run.now output bytes.now))) ≡ true → IsOk result }
         ensures next { OnOk result (self.new ≡ state_of self.old (at_session lives self.old (heard lives run.now output bytes.now))) }
         ensures err { OnErr result (self.new ≡ self.old) }
     {
@@ -281,6 +296,7 @@ impl Lane {
     /// A worker takes the least free chunk. On an error nothing has changed.
     pub fn take(&mut self, alloc: Global, worker: u16, now: u64) -> Result<Answer, AllocError>
         ensures answer { IfOk result (λ a. a ≡ answer_of (take lives self.old worker now)) }
+        ensures sure { is_free (answer_of (take lives self.old worker now)) ≡ true → IsOk result }
         ensures next { OnOk result (self.new ≡ state_of self.old (take lives self.old worker now)) }
         ensures err { OnErr result (self.new ≡ self.old) }
     {
@@ -307,6 +323,7 @@ impl Lane {
         now: u64,
     ) -> Result<Answer, AllocError>
         ensures answer { IfOk result (λ a. a ≡ answer_of (at_worker lives self.old worker (load lives run.now output now))) }
+        ensures sure { is_free (answer_of (at_worker lives self.old worker (load lives run.now output now))) ≡ true → IsOk result }
         ensures next { OnOk result (self.new ≡ state_of self.old (at_worker lives self.old worker (load lives run.now output now))) }
         ensures err { OnErr result (self.new ≡ self.old) }
     {
@@ -339,6 +356,7 @@ impl Lane {
         bytes: &[u8],
     ) -> Result<Answer, AllocError>
         ensures answer { IfOk result (λ a. a ≡ answer_of (at_worker lives self.old worker (λ x. at_session lives x (heard lives run.now output bytes.now)))) }
+        ensures sure { is_free (answer_of (at_worker lives self.old worker (λ x. at_session lives x (heard lives run.now output bytes.now)))) ≡ true → IsOk result }
         ensures next { OnOk result (self.new ≡ state_of self.old (at_worker lives self.old worker (λ x. at_session lives x (heard lives run.now output bytes.now)))) }
         ensures err { OnErr result (self.new ≡ self.old) }
     {

@@ -1,14 +1,31 @@
 //! One output's state, which will lie under one lock: its entries, and the requests that they came with.
 
 ghost use Rattle.std.specs.Prelude.{
-    ◌≡◌, true, false, Err, IsErrOf, OnOk, OnErr, IfOk, IfSome, filter, length, not,
+  ◌≡◌,
+  true,
+  false,
+  Err,
+  IsErrOf,
+  OnOk,
+  OnErr,
+  IfOk,
+  IfSome,
+  filter,
+  length,
+  not,
 };
 ghost use Rattle.fwd_core.specs.Due.{due_among, is_due_among, origins_of};
 ghost use Rattle.fwd_core.specs.Fits.{FitsFrame};
 ghost use Rattle.fwd_model.specs.Books.{numbers_of, acks_of};
 ghost use Rattle.fwd_model.specs.Chunks.{cells_at};
 ghost use Rattle.fwd_model.specs.Buffers.{
-    no_entries, buffer_is_spent, buffer_closes, buffer_flushes, buffer_takes, buffer_free, buffer_settles,
+  no_entries,
+  buffer_is_spent,
+  buffer_closes,
+  buffer_flushes,
+  buffer_takes,
+  buffer_free,
+  buffer_settles,
 };
 ghost use Rattle.fwd_model.specs.Outputs.{no_requests, output_enters};
 

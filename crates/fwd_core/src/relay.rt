@@ -1,16 +1,17 @@
 //! The relay: connections, outputs, and one step at a time.
 
-ghost use Rattle.std.specs.Prelude.{◌≡◌, ◌≢◌, true, map, IfOk, OnOk, OnErr, []};
+ghost use Rattle.std.specs.Prelude.{◌≡◌, ◌≢◌, ◌++◌, ℕ, List, true, map, IfOk, IsOk, OnOk, OnErr, []};
 ghost use Rattle.fwd_model.specs.History.{opening};
 ghost use Rattle.fwd_model.specs.Live.{live};
 ghost use Rattle.std.specs.Prelude.{length};
 ghost use Rattle.fwd_model.specs.declared.config.Config.{Config as Settings};
 ghost use Rattle.fwd_model.specs.History.{History};
 ghost use Rattle.fwd_model.specs.History.{histories, IsReached};
-ghost use Rattle.fwd_core.specs.Runs.{told, kept, takes_none};
+ghost use Rattle.fwd_core.specs.Runs.{told, kept, takes_none, is_free};
 ghost use Rattle.fwd_core.specs.Lanes.{new_live_lane};
-
+ghost use Rattle.fwd_model.specs.declared.event.Event.{Event as AbstractEvent};
 ghost use Rattle.fwd_model.specs.declared.event.Event.TheVariants as event;
+ghost use Rattle.fwd_model.specs.Delivered.{IsDelivered, IsToldAmong, reached};
 ghost use Rattle.fwd_model.specs.Outcome.{answer_of, state_of};
 ghost use Rattle.fwd_model.specs.Step.{step, admit, collect, answers as answers_to, after};
 ghost use Rattle.fwd_model.specs.Live.{lives};
@@ -22,6 +23,7 @@ use fwd_handshake::{Nonces, Security};
 use fwd_match::Routes;
 use fwd_model::{
     Answer, Config, Event, FlushKind, Origin, OutputConfig, Refusal, live_run_follows,
+    told_among_is_delivered,
 };
 use fwd_msgpack::Bytes;
 use fwd_source::Source;
@@ -79,6 +81,7 @@ impl Relay {
         ensures next { result ≢ Answer.Memory → self.new ≡ state_of self.old (step lives self.old event.now) }
         ensures memory { result ≡ Answer.Memory → self.new ≡ self.old }
         ensures none { takes_none event.now ≡ true → result ≢ Answer.Memory }
+        ensures sure { is_free (answer_of (step lives self.old event.now)) ≡ true → result ≢ Answer.Memory }
     {
         let answered = match event {
             Event::Accept { conn, nonce, auth } => self.accept(alloc, *conn, *nonce, *auth),
@@ -129,9 +132,15 @@ impl Relay {
         ensures state { IfOk result (λ answers. self.new ≡ after lives self.old (kept events.now answers.items)) }
         ensures history { IfOk result (λ answers. (config : Settings) (h : History) → IsReached config h → self.old ≡ live h →
             (told answers.items ≡ answers_to histories h (kept events.now answers.items)) × (self.new ≡ live (after histories h (kept events.now answers.items)))) }
+        // Whoever is told was delivered, by what came before.
+        ensures delivered { IfOk result (λ answers. (config : Settings) (es : List AbstractEvent) →
+            self.old ≡ live (reached config es) → (id r o : ℕ)
+            (t : IsToldAmong (kept events.now answers.items) (told answers.items) id r o) →
+            IsDelivered config (es ++ t.before) id r o) }
         ensures err { OnErr result (self.new ≡ self.old) }
     {
         live_run_follows();
+        told_among_is_delivered();
         let mut answers = Vec::with_capacity(alloc, events.len())?;
         for event in events {
             let answer = self.step(alloc, event);
@@ -149,6 +158,7 @@ impl Relay {
         auth: [u8; 16],
     ) -> Result<Answer, AllocError>
         ensures answer { IfOk result (λ a. a ≡ answer_of (step lives self.old (event.Accept conn nonce auth))) }
+        ensures sure { is_free (answer_of (step lives self.old (event.Accept conn nonce auth))) ≡ true → IsOk result }
         ensures next { OnOk result (self.new ≡ state_of self.old (step lives self.old (event.Accept conn nonce auth))) }
         ensures err { OnErr result (self.new ≡ self.old) }
     {
@@ -170,6 +180,7 @@ impl Relay {
     /// Bytes are read from a connection. On an error nothing has changed.
     fn piece(&mut self, alloc: Global, conn: u64, bytes: &[u8]) -> Result<Answer, AllocError>
         ensures answer { IfOk result (λ a. a ≡ answer_of (step lives self.old (event.Piece conn bytes.now))) }
+        ensures sure { is_free (answer_of (step lives self.old (event.Piece conn bytes.now))) ≡ true → IsOk result }
         ensures next { OnOk result (self.new ≡ state_of self.old (step lives self.old (event.Piece conn bytes.now))) }
         ensures err { OnErr result (self.new ≡ self.old) }
     {
@@ -213,6 +224,7 @@ impl Relay {
         now: u64,
     ) -> Result<Answer, AllocError>
         ensures answer { IfOk result (λ a. a ≡ answer_of (step lives self.old (event.Admit conn output now))) }
+        ensures sure { is_free (answer_of (step lives self.old (event.Admit conn output now))) ≡ true → IsOk result }
         ensures next { OnOk result (self.new ≡ state_of self.old (step lives self.old (event.Admit conn output now))) }
         ensures err { OnErr result (self.new ≡ self.old) }
     {
@@ -272,6 +284,7 @@ impl Relay {
         now: u64,
     ) -> Result<Answer, AllocError>
         ensures answer { IfOk result (λ a. a ≡ answer_of (step lives self.old (event.Take output worker now))) }
+        ensures sure { is_free (answer_of (step lives self.old (event.Take output worker now))) ≡ true → IsOk result }
         ensures next { OnOk result (self.new ≡ state_of self.old (step lives self.old (event.Take output worker now))) }
         ensures err { OnErr result (self.new ≡ self.old) }
     {
@@ -292,6 +305,7 @@ impl Relay {
         now: u64,
     ) -> Result<Answer, AllocError>
         ensures answer { IfOk result (λ a. a ≡ answer_of (step lives self.old (event.Load output worker now))) }
+        ensures sure { is_free (answer_of (step lives self.old (event.Load output worker now))) ≡ true → IsOk result }
         ensures next { OnOk result (self.new ≡ state_of self.old (step lives self.old (event.Load output worker now))) }
         ensures err { OnErr result (self.new ≡ self.old) }
     {
@@ -326,6 +340,7 @@ impl Relay {
         bytes: &[u8],
     ) -> Result<Answer, AllocError>
         ensures answer { IfOk result (λ a. a ≡ answer_of (step lives self.old (event.Heard output worker bytes.now))) }
+        ensures sure { is_free (answer_of (step lives self.old (event.Heard output worker bytes.now))) ≡ true → IsOk result }
         ensures next { OnOk result (self.new ≡ state_of self.old (step lives self.old (event.Heard output worker bytes.now))) }
         ensures err { OnErr result (self.new ≡ self.old) }
     {
@@ -354,6 +369,7 @@ impl Relay {
     /// A connection is told of its requests at an output whose entries are all settled. On an error nothing has changed.
     fn collect(&mut self, alloc: Global, conn: u64, output: u16) -> Result<Answer, AllocError>
         ensures answer { IfOk result (λ a. a ≡ answer_of (step lives self.old (event.Collect conn output))) }
+        ensures sure { is_free (answer_of (step lives self.old (event.Collect conn output))) ≡ true → IsOk result }
         ensures next { OnOk result (self.new ≡ state_of self.old (step lives self.old (event.Collect conn output))) }
         ensures err { OnErr result (self.new ≡ self.old) }
     {
@@ -391,6 +407,7 @@ fn admit_from(
     now: u64,
 ) -> Result<Answer, AllocError>
     ensures answer { IfOk result (λ a. a ≡ answer_of (admit lives routes.now conn output now source.old.live lane.old)) }
+    ensures sure { is_free (answer_of (admit lives routes.now conn output now source.old.live lane.old)) ≡ true → IsOk result }
     ensures source { OnOk result (source.new.live ≡ (state_of (source.old.live, lane.old) (admit lives routes.now conn output now source.old.live lane.old)).0) }
     ensures lane { OnOk result (lane.new ≡ (state_of (source.old.live, lane.old) (admit lives routes.now conn output now source.old.live lane.old)).1) }
     ensures source_err { OnErr result (source.new ≡ source.old) }
@@ -428,6 +445,7 @@ fn tell_from(
     conn: u64,
 ) -> Result<Answer, AllocError>
     ensures answer { IfOk result (λ a. a ≡ answer_of (collect lives conn source.old.live lane.old)) }
+    ensures sure { is_free (answer_of (collect lives conn source.old.live lane.old)) ≡ true → IsOk result }
     ensures source { OnOk result (source.new.live ≡ (state_of (source.old.live, lane.old) (collect lives conn source.old.live lane.old)).0) }
     ensures lane { OnOk result (lane.new ≡ (state_of (source.old.live, lane.old) (collect lives conn source.old.live lane.old)).1) }
     ensures source_err { OnErr result (source.new.live ≡ source.old.live) }

@@ -1,10 +1,14 @@
 //! One output session: a worker's link to a server.
 
-ghost use Rattle.std.specs.Prelude.{◌≡◌, ◌++◌, not, nat_lt, length, IfOk, OnOk, OnErr};
+ghost use Rattle.std.specs.Prelude.{◌≡◌, ◌++◌, not, nat_lt, length, IfOk, IsOk, OnOk, OnErr, true};
 ghost use Rattle.fwd_model.specs.Step.{is_loaded};
 ghost use Rattle.fwd_model.specs.Sessions.{
-    session_begins, session_loads, session_unloads, session_awaits,
+  session_begins,
+  session_loads,
+  session_unloads,
+  session_awaits,
 };
+ghost use Rattle.fwd_core.specs.Runs.{is_free};
 ghost use Rattle.fwd_model.specs.Outcome.{answer_of, state_of};
 ghost use Rattle.fwd_model.specs.Step.{wrote, heard, acked};
 ghost use Rattle.fwd_model.specs.Live.{lives};
@@ -116,6 +120,7 @@ impl Session {
         bytes: &[u8],
     ) -> Result<Answer, AllocError>
         ensures answer { IfOk result (λ a. a ≡ answer_of (heard lives run.now output bytes.now self.old)) }
+        ensures sure { is_free (answer_of (heard lives run.now output bytes.now self.old)) ≡ true → IsOk result }
         ensures next { OnOk result (self.new ≡ state_of self.old (heard lives run.now output bytes.now self.old)) }
         ensures err { OnErr result (self.new ≡ self.old) }
     {

@@ -14,15 +14,17 @@ use Rattle.fwd_model.specs.declared.cell.Span.{Span}
 use Rattle.fwd_model.specs.declared.config.Config.{Config}
 use Rattle.fwd_model.specs.declared.event.Event.{Event}
 use Rattle.fwd_model.specs.declared.answer.Answer.TheVariants as answer
+use Rattle.fwd_model.specs.declared.event.Event.TheVariants as event
 use Rattle.fwd_model.specs.Chunks.{cells_at, cells_of, chunk_of, first_tag, has_number}
 use Rattle.fwd_source.specs.History.{SourceHistory}
 use Rattle.fwd_model.specs.declared.fault.Refusal.TheVariants.{Closed, NoSuch}
-use Rattle.fwd_model.specs.Outcome.{answer_of, within, found as sought, refuse_if, Goes, ◌>>=◌, ◌>>◌}
+use Rattle.fwd_model.specs.Outcome.{answer_of, state_of, within, found as sought, refuse_if, Goes, ◌>>=◌, ◌>>◌}
 use Rattle.fwd_model.specs.Step as steps
+use Rattle.fwd_model.specs.Step.{step}
 use Rattle.fwd_model.specs.Books.{Admission, entered_as, is_settled, is_of, is_due, due, numbers_of, acks_of, has_cell}
 use Rattle.fwd_model.specs.Outputs.{OutputHistory, output_history_due}
-use Rattle.fwd_model.specs.History.{Connection, ever_at, source_at, Lane, opening, new_lane, with_connection, with_lane, histories}
-use Rattle.fwd_model.specs.Delivered.{reached, cells_from, whole_frame, WasAcknowledged, IsDelivered, IsTold}
+use Rattle.fwd_model.specs.History.{Connection, ever_at, source_at, Lane, History, opening, new_lane, with_connection, with_lane, histories}
+use Rattle.fwd_model.specs.Delivered.{reached, cells_from, whole_frame, WasAcknowledged, IsDelivered, IsTold, IsToldAmong}
 use Rattle.fwd_model.proofs.Follows.{reached_sane}
 use Rattle.fwd_model.proofs.Chronicle.{ever_from, frame_at, RequestStory, AllTold, LaneStory, Story, by_last, after-push}
 use Rattle.fwd_model.proofs.ChronicleSteps.{goes_on}
@@ -178,3 +180,30 @@ told_by config es id r o numbers out (Some s) (Some l) known here story told amo
 pub told_delivered : (config : Config) (es : List Event) (id r o : ℕ) (t : IsTold config es id r o) → IsDelivered config t.before id r o
 told_delivered config es id r o t =
     told_by config t.before id r o t.numbers t.out (source_at id (reached config t.before).connections) (slice_get (reached config t.before).lanes o) refl refl (every_story config t.before) t.told t.among
+
+-- ---- the same of the answers to further events
+
+after-append : (h : History) (es fs : List Event) → steps.after histories h (es ++ fs) ≡ steps.after histories (steps.after histories h es) fs
+after-append h [] fs = refl
+after-append h (e ∷ es) fs = after-append (state_of h (step histories h e)) es fs
+
+-- the answer at a place is what the event there is answered after those before it
+answer_at : (h : History) (before : List Event) (e : Event) (later : List Event) → slice_get (steps.answers histories h (before ++ e ∷ later)) (length before) ≡ Some (answer_of (step histories (steps.after histories h before) e))
+answer_at h [] e later = refl
+answer_at h (d ∷ before) e later = answer_at (state_of h (step histories h d)) before e later
+
+some_is : {X : Type 0} {x y : X} → Some x ≡ Some y → x ≡ y
+some_is h = cc
+
+pub told_among-delivered : (config : Config) (es events : List Event) (id r o : ℕ) (t : IsToldAmong events (steps.answers histories (reached config es) events) id r o) → IsDelivered config (es ++ t.before) id r o
+told_among-delivered config es events id r o t =
+    told_delivered config ((es ++ t.before) ++ event.Collect id o ∷ t.later) id r o (record {
+      before = es ++ t.before;
+      numbers = t.numbers;
+      out = t.out;
+      later = t.later;
+      split = refl;
+      told = ap (λ h. answer_of (step histories h (event.Collect id o))) (after-append (opening config) es t.before)
+          ∙ some_is (sym (answer_at (reached config es) t.before (event.Collect id o) t.later) ∙ ap (λ xs. slice_get (steps.answers histories (reached config es) xs) (length t.before)) (sym t.split) ∙ t.told);
+      among = t.among;
+    })

@@ -165,4 +165,3 @@ enters-sane l origin r now own =
         by_test : (t : Bool) → is_carried k cs ≡ t → t ≡ false
         by_test true e = absurd (omega (arith, lt, below k e))
         by_test false e = refl
-

@@ -23,4 +23,5 @@ pub mod Deliver
 pub mod WayBack
 pub mod Marks
 pub mod Refusals
+pub mod Least
 mod Examples

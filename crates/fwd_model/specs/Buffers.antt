@@ -1,12 +1,13 @@
 -- The entries of one output, with the numbers of their chunks: all that ever came, and what of it still matters.
-use Rattle.std.specs.Prelude.{ℕ, ◌+◌, Bool, not, List, [], ◌∷◌, ◌++◌, length, filter, Option, Some, None, ◌==◌, max, if◌then◌else◌}
+use Rattle.std.specs.Prelude.{◌≡◌, ℕ, ◌+◌, Bool, true, false, not, List, [], ◌∷◌, ◌++◌, length, filter, Option, Some, None, ◌==◌, max, if◌then◌else◌}
 use Rattle.fwd_modes.specs.Requests.{Request}
 use Rattle.fwd_source.specs.declared.origin.Origin.{Origin}
 use Rattle.fwd_model.specs.declared.cell.Cell.{Cell}
 use Rattle.fwd_model.specs.declared.cell.Carry.{Carry}
 use Rattle.fwd_model.specs.declared.cell.Chunk.{Chunk}
 use Rattle.fwd_model.specs.declared.event.FlushKind.{FlushKind}
-use Rattle.fwd_model.specs.Chunks.{greatest, cells_of, open_after, is_spent, closes, least_free, chunk_of, cells_at, put_down, unsettled, has_number}
+use Rattle.fwd_model.specs.Chunks.{greatest, cells_of, open_after, is_spent, closes, least_free, chunk_of, cells_at, put_down, unsettled, has_number, is_carried}
+use Rattle.fwd_model.specs.Books.{has_cell}
 
 -- ---- the history
 
@@ -55,7 +56,14 @@ flushes b interval now kind = record {
   moment = max b.moment now;
 }
 
--- the least number of an entry that is not settled and may be taken
+-- a number is free: it has entries, it is closed, no server acknowledged it, and no worker has it
+pub record IsFree (b : BufferHistory) (number : ℕ) : Type 0 where
+  pub has_entries : has_cell number b.cells ≡ true
+  pub is_closed : has_number number b.opened ≡ false
+  pub unacknowledged : has_number number b.acknowledged ≡ false
+  pub uncarried : is_carried number b.carried ≡ false
+
+-- the least free number, if there is one
 abbrev pub free_number : BufferHistory → Option ℕ
 free_number b = least_free b.opened b.carried (unsettled b.acknowledged b.cells)
 

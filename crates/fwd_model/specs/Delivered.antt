@@ -139,3 +139,13 @@ pub record IsTold (config : Config) (es : List Event) (id r o : ℕ) : Type 0 wh
   pub split : es ≡ before ++ event.Collect id o ∷ later
   pub told : answered config before (event.Collect id o) ≡ answer.Told numbers out
   pub among : has_number r numbers ≡ true
+
+-- among events and their answers, a collect of the connection was told that the request's entries were all acknowledged
+pub record IsToldAmong (events : List Event) (answers : List Answer) (id r o : ℕ) : Type 0 where
+  pub before : List Event
+  pub later : List Event
+  pub numbers : List ℕ
+  pub out : List ℕ
+  pub split : events ≡ before ++ event.Collect id o ∷ later
+  pub told : slice_get answers (length before) ≡ Some (answer.Told numbers out)
+  pub among : has_number r numbers ≡ true

@@ -5,7 +5,6 @@ use Rattle.fwd_model.specs.declared.answer.Answer.TheVariants as answer
 use Rattle.fwd_model.specs.declared.fault.Refusal.{Refusal}
 
 infixr 1 ◌>>=◌ ◌>>◌
-
 -- an answer where the state stays, or an answer and the next state
 pub data Outcome (S : Type 0) : Type 0 where
   Stays : Answer → Outcome S

@@ -133,7 +133,7 @@ module _ (L : Layers) where
   enter s q id l now =
       if is_spent l q then Goes answer.NumbersSpent (shuts s, l)
       else Goes (answer.Admitted (admitted s + 1) (length q.entries))
-          (gives s, enters l (record { conn = id; request = admitted s + 1 }) q now)
+      (gives s, enters l (record { conn = id; request = admitted s + 1 }) q now)
 
   -- a request goes to the first output whose pattern matches its tag, and to no other; where none does, its source is shut
   abbrev pub routed : Option ℕ → Source → Request → ℕ → ℕ → Lane → ℕ → Outcome (Source × Lane)

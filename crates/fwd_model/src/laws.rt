@@ -1,7 +1,21 @@
 //! Laws over the definitions, each the contract of a function that does nothing.
 
 ghost use Rattle.std.specs.Prelude.{
-    ◌≡◌, ℕ, List, [], length, take, drop, Option, None, Some, true, false, slice_get,
+  ◌≡◌,
+  ◌≤◌,
+  ◌++◌,
+  ℕ,
+  List,
+  [],
+  length,
+  take,
+  drop,
+  Option,
+  None,
+  Some,
+  true,
+  false,
+  slice_get,
 };
 ghost use Rattle.fwd_msgpack.specs.declared.fault.ScanFault.{ScanFault};
 ghost use Rattle.fwd_msgpack.specs.Scans.{Whole, Short, Bad, first_of};
@@ -17,12 +31,19 @@ ghost use Rattle.fwd_model.specs.Outcome.{answer_of, state_of, within, is_refusa
 ghost use Rattle.fwd_model.specs.Step.{step, answers, after};
 ghost use Rattle.fwd_model.specs.Chunks.{cells_at, has_number};
 ghost use Rattle.fwd_model.specs.Books.{Admission};
+ghost use Rattle.fwd_model.specs.Buffers.{BufferHistory, IsFree, free_number};
 ghost use Rattle.fwd_model.specs.Replies.{
-    reply_of, reply_then, replies_in, reply_stream, rest_of, silence, failing,
+  reply_of,
+  reply_then,
+  replies_in,
+  reply_stream,
+  rest_of,
+  silence,
+  failing,
 };
 ghost use Rattle.fwd_model.specs.Sessions.{SessionHistory, is_handed_on, replies_to};
 ghost use Rattle.fwd_model.specs.History.{History, Lane, histories, source_at, IsReached};
-ghost use Rattle.fwd_model.specs.Delivered.{IsTold, IsDelivered, reached};
+ghost use Rattle.fwd_model.specs.Delivered.{IsTold, IsToldAmong, IsDelivered, reached};
 ghost use Rattle.fwd_model.specs.Live.{LiveRelay, live, lives};
 
 /// The live part is enough: from a history that a run reaches, what an event comes to, seen in its live part, is what it
@@ -53,8 +74,8 @@ pub fn replies_by_front()
     ensures whole { (awaited : Option (List ℕ)) (bytes : List ℕ) (used : ℕ) →
         first_of 65536 64 bytes ≡ Whole used →
         replies_in awaited (reply_stream bytes) ≡ reply_then (reply_of awaited (take used bytes))
-            (replies_in awaited (reply_stream (drop used bytes)))
-            (replies_in None (reply_stream (drop used bytes))) }
+        (replies_in awaited (reply_stream (drop used bytes)))
+        (replies_in None (reply_stream (drop used bytes))) }
     ensures behind { (bytes : List ℕ) (used : ℕ) → first_of 65536 64 bytes ≡ Whole used →
         rest_of (reply_stream bytes) ≡ rest_of (reply_stream (drop used bytes)) }
     ensures short { (awaited : Option (List ℕ)) (bytes : List ℕ) → first_of 65536 64 bytes ≡ Short →
@@ -71,6 +92,20 @@ pub fn told_is_delivered()
         IsDelivered config t.before id r o }
 {}
 
+/// The same of the answers to further events: whoever is told among them was delivered, by what came before.
+pub fn told_among_is_delivered()
+    ensures { (config : Config) (es events : List Event) (id r o : ℕ)
+        (t : IsToldAmong events (answers histories (reached config es) events) id r o) →
+        IsDelivered config (es ++ t.before) id r o }
+{}
+
+/// The number that a worker takes is free, and no free number is below it; where it takes none, no number is free.
+pub fn taken_is_least()
+    ensures some { (b : BufferHistory) (k : ℕ) → free_number b ≡ Some k →
+        IsFree b k × ((j : ℕ) → IsFree b j → k ≤ j) }
+    ensures none { (b : BufferHistory) → free_number b ≡ None → (j : ℕ) → ¬ IsFree b j }
+{}
+
 /// A request that a run has marked as told was told by a collect of that run, to its connection.
 pub fn marked_is_told()
     ensures { (config : Config) (es : List Event) (o i : ℕ) (l : Lane) (a : Admission) →
@@ -84,8 +119,8 @@ pub fn told_without_entries()
         source_at a.request.origin.conn h.connections ≡ Some s → s.shut ≡ false →
         slice_get h.lanes o ≡ Some l → slice_get l.output.book i ≡ Some a → a.told ≡ false →
         a.request.spans ≡ [] → (numbers out : List ℕ)
-            × (answer_of (step histories h (event.Collect a.request.origin.conn o)) ≡ answer.Told numbers out)
-            × (has_number a.request.origin.request numbers ≡ true) }
+        × (answer_of (step histories h (event.Collect a.request.origin.conn o)) ≡ answer.Told numbers out)
+        × (has_number a.request.origin.request numbers ≡ true) }
 {}
 
 /// What is heard before the link took the frame's last byte settles nothing.
@@ -94,7 +129,7 @@ pub fn early_reply_settles_nothing()
         slice_get h.lanes o ≡ Some l → slice_get l.sessions w ≡ Some (Some s) → s.accepted ≡ false →
         is_handed_on s ≡ false →
         answer_of (step histories (state_of h (step histories h (event.Heard o w bytes))) (event.Settle o w))
-            ≡ answer.Refused NotNow }
+        ≡ answer.Refused NotNow }
 {}
 
 /// An acknowledgement that was accepted before a fault in the same piece stands: the fault is answered, and the chunk can
@@ -105,6 +140,6 @@ pub fn acknowledgement_before_fault_stands()
         s.loaded ≡ Some k → (replies_to s h.run o bytes).accepted ≡ true →
         (replies_to s h.run o bytes).fault ≡ Some f →
         (answer_of (step histories h (event.Heard o w bytes)) ≡ answer.SessionFaulted f)
-            × (answer_of (step histories (state_of h (step histories h (event.Heard o w bytes))) (event.Settle o w))
-                ≡ answer.Settled (length (cells_at k l.output.buffer.cells))) }
+        × (answer_of (step histories (state_of h (step histories h (event.Heard o w bytes))) (event.Settle o w))
+        ≡ answer.Settled (length (cells_at k l.output.buffer.cells))) }
 {}

@@ -17,6 +17,6 @@ pub use fault::{Refusal, SessionFault};
 pub use fwd_source::{Origin, SourceFault};
 pub use laws::{
     acknowledgement_before_fault_stands, early_reply_settles_nothing, live_follows,
-    live_run_follows, marked_is_told, refusal_changes_nothing, replies_by_front, told_is_delivered,
-    told_without_entries,
+    live_run_follows, marked_is_told, refusal_changes_nothing, replies_by_front, taken_is_least,
+    told_among_is_delivered, told_is_delivered, told_without_entries,
 };
