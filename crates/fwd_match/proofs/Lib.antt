@@ -2,6 +2,8 @@ mod Examples
 mod Cuts
 mod Pairs
 mod Spellings
+mod Counts
+mod Asterisks
 mod Verdicts
 mod Matchings
 mod Tries

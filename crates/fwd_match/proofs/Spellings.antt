@@ -6,19 +6,8 @@ use Rattle.std.proofs.lemmas.List.Splits.{length-slice_split}
 use Rattle.std.proofs.lemmas.List.Folds.{length-flat_map-take}
 use Rattle.std.proofs.lemmas.Grind.{flat_map-append}
 use Rattle.fwd_match.specs.Patterns.{is_comma, is_brace, is_good_part, parts, alternatives, choices, each_with, spelled, spellings, has_good_stars}
-use Rattle.fwd_match.specs.Verdicts.{FailsFor}
-use Rattle.fwd_match.specs.declared.fault.PatternFault.{PatternFault}
-use Rattle.fwd_match.specs.declared.fault.PatternFault.TheVariants.{Memory, Empty, BadBrace, BadStar, TooMany}
 
--- what fails for some words fails for more
-pub fails_more : (fault : PatternFault) (n m : ℕ) → n ≤ m → FailsFor fault n → FailsFor fault m
-fails_more Memory n m le fails = tt
-fails_more Empty n m le fails = fails
-fails_more BadBrace n m le fails = fails
-fails_more BadStar n m le fails = fails
-fails_more TooMany n m le fails = omega arith
-
-length_behind : (text : List ℕ) (behind : List (List ℕ)) → length (map (λ more. text ++ more) behind) ≡ length behind
+pub length_behind : (text : List ℕ) (behind : List (List ℕ)) → length (map (λ more. text ++ more) behind) ≡ length behind
 length_behind text [] = refl
 length_behind text (first ∷ more) = ap suc (length_behind text more)
 

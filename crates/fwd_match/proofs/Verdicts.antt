@@ -4,9 +4,8 @@ use Rattle.std.specs.Prelude.{filter}
 use Rattle.std.specs.List.{list_all}
 use Rattle.std.proofs.lemmas.Bool.Decides.{nat_tests}
 use Rattle.fwd_match.specs.Patterns.{words, expanded, has_good_braces, has_good_stars, is_something}
-use Rattle.fwd_match.specs.Verdicts.{Good, Bad, verdict, FailsFor}
-use Rattle.fwd_match.specs.declared.fault.PatternFault.{PatternFault}
-use Rattle.fwd_match.specs.declared.fault.PatternFault.TheVariants.{Memory, Empty, BadBrace, BadStar, TooMany}
+use Rattle.fwd_match.specs.Verdicts.{Good, Bad, verdict}
+use Rattle.fwd_match.specs.declared.fault.PatternFault.TheVariants.{Empty, BadBrace, BadStar, TooMany}
 
 some_words : (n : ℕ) → n ≢ 0 → eqb n 0 ≡ false
 some_words n h = grind (arith, nat_tests)
@@ -38,14 +37,6 @@ pub good_verdict : (text : List ℕ) → length (words text) ≢ 0 → list_all 
     list_all has_good_stars (expanded text) ≡ true → verdict text ≡ Good (expanded text)
 unfolding verdict
 good_verdict text some good fit stars = rw (some_words (length (words text)) some, good, few (length (expanded text)) fit, stars) refl
-
--- what is no want of memory is too many words
-pub fails_as_many : (fault : PatternFault) (n : ℕ) → FailsFor fault n → fault ≢ Memory → (fault ≡ TooMany) × (64 < n)
-fails_as_many Memory n fails other = absurd (other refl)
-fails_as_many Empty n fails other = absurd fails
-fails_as_many BadBrace n fails other = absurd fails
-fails_as_many BadStar n fails other = absurd fails
-fails_as_many TooMany n fails other = (refl, fails)
 
 -- a field with something in it is a word
 pub word_stays : (word : List ℕ) (more : List (List ℕ)) → eqb (length word) 0 ≡ false → filter is_something (word ∷ more) ≡ word ∷ filter is_something more

@@ -1,9 +1,9 @@
 -- Whether a text is a pattern.
-use Rattle.std.specs.Prelude.{ℕ, ◌<◌, ◌==◌, not, nat_lt, List, length, if◌then◌else◌}
+use Rattle.std.specs.Prelude.{ℕ, ◌==◌, not, nat_lt, List, length, if◌then◌else◌}
 use Rattle.std.specs.List.{list_all}
 use Rattle.fwd_match.specs.Patterns.{words, expanded, has_good_braces, has_good_stars}
 use Rattle.fwd_match.specs.declared.fault.PatternFault.{PatternFault}
-use Rattle.fwd_match.specs.declared.fault.PatternFault.TheVariants.{Memory, Empty, BadBrace, BadStar, TooMany}
+use Rattle.fwd_match.specs.declared.fault.PatternFault.TheVariants.{Empty, BadBrace, BadStar, TooMany}
 
 -- a text is a pattern of these words, or it has a fault
 pub data Verdict : Type 0 where
@@ -18,9 +18,3 @@ verdict text =
     else (if nat_lt 64 (length (expanded text)) then Bad TooMany
     else (if not (list_all has_good_stars (expanded text)) then Bad BadStar
     else Good (expanded text))))
-
--- why so many words could not be stored
-abbrev pub FailsFor : PatternFault → ℕ → Type 0
-FailsFor Memory count = Unit {0}
-FailsFor TooMany count = 64 < count
-FailsFor _ count = ⊥

@@ -2,6 +2,7 @@
 #![tactic(auto)]
 
 mod braces;
+mod counting;
 mod fault;
 mod fields;
 mod matching;

@@ -1,11 +1,13 @@
 //! Patterns: texts that are read once and then match tags.
 
-ghost use Rattle.std.specs.Prelude.{◌≡◌, ◌≢◌, ◌<◌, length, MatchResult, IfOk, IfErr, true};
+ghost use Rattle.std.specs.Prelude.{◌≡◌, ◌≢◌, length, OnOk, IfOk, IfErr, true};
 ghost use Rattle.std.specs.List.{list_all};
 ghost use Rattle.fwd_match.specs.Patterns as patterns;
 ghost use Rattle.fwd_match.specs.Verdicts.{verdict, Good, Bad};
+ghost use Rattle.fwd_match.specs.declared.fault.PatternFault.{PatternFault};
 
 use crate::braces::has_good_braces;
+use crate::counting::has_few_words;
 use crate::fault::PatternFault;
 use crate::fields::{Mark, first_field};
 use crate::matching::word_matches;
@@ -32,19 +34,17 @@ impl Model for Pattern {
 }
 
 impl Pattern {
-    /// Reads the text of a pattern, or answers its first fault in the order Empty, BadBrace, TooMany, BadStar. Braces are
-    /// expanded from left to right, and a text is given up once more than 64 words stand: so however many words it
-    /// would have, no more than 64 of each stage are held.
+    /// Reads the text of a pattern, or answers its first fault in the order Empty, BadBrace, TooMany, BadStar. All
+    /// faults are found before any memory is taken, so want of memory (Memory) is answered only of a text that is a
+    /// pattern, and no more than 64 words are ever held.
     pub fn read(alloc: Global, text: &str) -> Result<Self, PatternFault>
         ensures ok { IfOk result (λ pattern. verdict text.now ≡ Good pattern) }
         ensures fault { IfErr result (λ fault. fault ≢ PatternFault.Memory → verdict text.now ≡ Bad fault) }
+        ensures refused { (fault : PatternFault) → verdict text.now ≡ Bad fault → result ≡ Err fault }
     {
         let text = text.as_bytes();
-        check_words(text)?;
+        judge(text)?;
         let words = expand(alloc, text)?;
-        if !have_good_stars(&words) {
-            return Err(PatternFault::BadStar);
-        }
         Ok(Pattern { words })
     }
 
@@ -60,11 +60,19 @@ impl Pattern {
     }
 }
 
-/// Whether each word has good stars.
-fn have_good_stars(words: &[Text]) -> bool
-    ensures { result ≡ list_all patterns.has_good_stars words.now }
+/// Whether a text is a pattern, or its first fault.
+fn judge(text: &[u8]) -> Result<(), PatternFault>
+    ensures ok { OnOk result (verdict text.now ≡ Good (patterns.expanded text.now)) }
+    ensures fault { IfErr result (λ fault. verdict text.now ≡ Bad fault) }
 {
-    words.iter().all(|word| has_good_stars(word.as_slice()))
+    check_words(text)?;
+    if !has_few_words(text) {
+        return Err(PatternFault::TooMany);
+    }
+    if !has_good_stars(text) {
+        return Err(PatternFault::BadStar);
+    }
+    Ok(())
 }
 
 /// Whether the words of a text are good as they stand, before their braces are expanded.

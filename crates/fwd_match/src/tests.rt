@@ -109,11 +109,11 @@ fn faults(rt: HostRuntime) {
 
 #[test]
 fn the_numbers_of_faults(rt: HostRuntime) {
-    assert_eq!(rt; PatternFault::Memory as u8, 0);
-    assert_eq!(rt; PatternFault::Empty as u8, 1);
-    assert_eq!(rt; PatternFault::BadBrace as u8, 2);
-    assert_eq!(rt; PatternFault::BadStar as u8, 3);
-    assert_eq!(rt; PatternFault::TooMany as u8, 4);
+    assert_eq!(rt; PatternFault::Memory.number(), 0);
+    assert_eq!(rt; PatternFault::Empty.number(), 1);
+    assert_eq!(rt; PatternFault::BadBrace.number(), 2);
+    assert_eq!(rt; PatternFault::BadStar.number(), 3);
+    assert_eq!(rt; PatternFault::TooMany.number(), 4);
 }
 
 #[test]

@@ -3,3 +3,4 @@ pub mod TextLemmas
 pub mod EntryLemmas
 pub mod FrameLemmas
 pub mod KeptLemmas
+pub mod Judgements

@@ -1,9 +1,11 @@
 //! What a whole value asks for (Forward Protocol Specification v1, "Message Modes").
 
-ghost use Rattle.std.specs.Prelude.{◌≡◌, ◌≤◌, ℕ, Some, IfOk};
+ghost use Rattle.std.specs.Prelude.{◌≡◌, ◌≢◌, ◌≤◌, ℕ, Some, IfOk};
 ghost use Rattle.std.specs.Option.{option_map};
 ghost use Rattle.fwd_msgpack.specs.Values.{bytes_of};
 ghost use Rattle.fwd_modes.specs.Requests.{request_of, of_parts, one_entry};
+ghost use Rattle.fwd_modes.specs.Requests.Reading.{Heartbeat as heartbeat, Fails as fails};
+ghost use Rattle.fwd_modes.specs.declared.fault.InputFault.{InputFault};
 ghost use Rattle.fwd_modes.specs.Readings.{shown, kept as kept_of, entries_given, parts_shown, judged};
 
 use crate::asked::Asked;
@@ -76,12 +78,32 @@ fn read_entries(alloc: Global, given: Given<'_>, depth: u8) -> Result<Option<Kep
     }
 }
 
+/// A request of these entries, or the fault that one of them is none.
+fn read_asked(
+    alloc: Global,
+    given: Given<'_>,
+    asked: Asked<'_>,
+    depth: u8,
+) -> Result<Reading, AllocError>
+    requires { depth ≤ 64 }
+    ensures { IfOk result (λ r. shown r ≡ judged (entries_given depth given.entry) (Ok asked.entry)) }
+{
+    match read_entries(alloc, given, depth)? {
+        Some(kept) => Ok(Reading::Asks(Batch::new(alloc, asked.tag, kept, asked.chunk)?)),
+        None => Ok(Reading::Fails(InputFault::BadEntry)),
+    }
+}
+
 /// What a whole value says: a heartbeat, a request, or the first fault in the order shape, tag, option, compression,
 /// entry. Packed entries are at most as deep as the limits say, each counted from its own array; the limits' bytes are
-/// those of the value, and have been looked at when it was cut.
+/// those of the value, and have been looked at when it was cut. Memory is taken only for entries: a heartbeat and the
+/// faults of shape, tag, option and compression are never answered as want of memory.
 #[tactic(auto, unfolding(crate::specs::Requests::request_of))]
 pub fn read_request(alloc: Global, value: Value<'_>, limits: Limits) -> Result<Reading, AllocError>
-    ensures { IfOk result (λ r. shown r ≡ request_of limits.depth (bytes_of value.entry)) }
+    ensures value { IfOk result (λ r. shown r ≡ request_of limits.depth (bytes_of value.entry)) }
+    ensures skipped { request_of limits.depth (bytes_of value.entry) ≡ heartbeat → result ≡ Ok Reading.Heartbeat }
+    ensures refused { (fault : InputFault) → fault ≢ InputFault.BadEntry
+        → request_of limits.depth (bytes_of value.entry) ≡ fails fault → result ≡ Ok (Reading.Fails fault) }
 {
     if is_nil(value) {
         return Ok(Reading::Heartbeat);
@@ -89,12 +111,8 @@ pub fn read_request(alloc: Global, value: Value<'_>, limits: Limits) -> Result<R
     let Some(parts) = Parts::of(value) else {
         return Ok(Reading::Fails(InputFault::BadShape));
     };
-    let asked = match judge(parts) {
-        Ok(asked) => asked,
-        Err(fault) => return Ok(Reading::Fails(fault)),
-    };
-    match read_entries(alloc, parts.entries, limits.depth)? {
-        Some(kept) => Ok(Reading::Asks(Batch::new(alloc, asked.tag, kept, asked.chunk)?)),
-        None => Ok(Reading::Fails(InputFault::BadEntry)),
+    match judge(parts) {
+        Ok(asked) => read_asked(alloc, parts.entries, asked, limits.depth),
+        Err(fault) => Ok(Reading::Fails(fault)),
     }
 }

@@ -1,5 +1,6 @@
 use super::*;
 use fwd_msgpack::{Cut, Limits, Value, cut};
+use std::alloc::{AllocError, Global};
 use std::test::Fail;
 
 /// How long and how deep a source's values may be.
@@ -98,5 +99,64 @@ fn event_times_are_read(rt: HostRuntime) -> Result<(), Fail> {
     ] {
         assert!(rt; EventTime::read(value(bytes)?).is_none());
     }
+    Ok(())
+}
+
+/// 100,000 entries one after the other, 16,000,000 bytes in all: each a time and a map of one str of 153 bytes.
+fn many_entries(alloc: Global) -> Result<Vec<u8>, AllocError> {
+    let mut entry = vec![in alloc; b'x'; 160]?;
+    for (to, from) in entry.iter_mut().zip(b"\x92\x01\x81\xa1k\xd9\x99") {
+        *to = *from;
+    }
+    let mut entries = Vec::new(alloc);
+    for _ in 0..100_000 {
+        entries.extend_from_slice(&entry)?;
+    }
+    Ok(entries)
+}
+
+/// Bytes between others.
+fn between(alloc: Global, front: &[u8], bytes: &[u8], back: &[u8]) -> Result<Vec<u8>, AllocError> {
+    let mut all = Vec::new(alloc);
+    all.extend_from_slice(front)?;
+    all.extend_from_slice(bytes)?;
+    all.extend_from_slice(back)?;
+    Ok(all)
+}
+
+/// Whether the request of these bytes has the tag `a`, and these entries of 160 bytes each.
+fn asks_for(alloc: Global, bytes: &[u8], entries: &[u8]) -> Result<bool, Fail> {
+    match read_request(alloc, value(bytes)?, LIMITS)? {
+        Reading::Asks(batch) => Ok(
+            batch.tag() == b"a".as_slice()
+                && batch.entries() == entries
+                && batch.len() == 100_000
+                && batch.ends().last() == Some(&16_000_000),
+        ),
+        _ => Ok(false),
+    }
+}
+
+/// A request nearly as long as a value of a source may be.
+#[test]
+fn a_request_of_the_greatest_size(rt: HostRuntime) -> Result<(), Fail> {
+    let entries = many_entries(rt.alloc())?;
+    let front = b"\x92\xa1\x61\xdd\x00\x01\x86\xa0";
+    let bytes = between(rt.alloc(), front, &entries, b"")?;
+    assert!(rt; asks_for(rt.alloc(), &bytes, &entries)?);
+    Ok(())
+}
+
+/// A frame of as many bytes of entries as a chunk may have.
+#[test]
+fn a_frame_of_the_greatest_size(rt: HostRuntime) -> Result<(), Fail> {
+    let entries = many_entries(rt.alloc())?;
+    let name = chunk_name(&[0; 6], 0, 1);
+    assert!(rt; entries.len() == 16_000_000);
+    let frame = write_chunk(rt.alloc(), b"a", &entries, 100_000, &name)?;
+    let front = b"\x93\xa1\x61\xc6\x00\xf4\x24\x00";
+    let back = b"\x82\xa4size\xce\x00\x01\x86\xa0\xa5chunk\xb8AAAAAAAAAAAAAAAAAAAAAQ==";
+    let expected = between(rt.alloc(), front, &entries, back)?;
+    assert!(rt; frame == expected);
     Ok(())
 }

@@ -1,5 +1,5 @@
-use Rattle.std.proofs.Common.{◌≡◌, ◌≤◌, ◌++◌}
-use Rattle.std.specs.Prelude.{vec_len, filter}
+use Rattle.std.proofs.Common.{◌≡◌, ◌++◌}
+use Rattle.std.specs.Prelude.{filter}
 use Rattle.std.specs.List.{flat_map}
 use Rattle.std.specs.Option.{option_copied}
 use Rattle.fwd_match.specs.Patterns.{expanded, spellings, is_something, is_blank}
@@ -7,10 +7,7 @@ use Rattle.fwd_match.specs.Marks.{fields_left, size_left}
 use Rattle.fwd_match.proofs.spelling.expand.Given as goal
 
 abbrev pub invariant-loop-rest : goal.invariant-loop-rest
-invariant-loop-rest l = record {
-  room : vec_len l.words ≤ 64;
-  put : expanded l.text ≡ l.words.items ++ flat_map spellings (filter is_something (fields_left is_blank (option_copied l.rest)));
-}
+invariant-loop-rest l = expanded l.text ≡ l.words.items ++ flat_map spellings (filter is_something (fields_left is_blank (option_copied l.rest)))
 
 abbrev pub decreases-loop-rest : goal.decreases-loop-rest
 decreases-loop-rest l = size_left (option_copied l.rest)

@@ -1,5 +1,4 @@
-use Rattle.std.proofs.Common.{◌≡◌, ◌≤◌, ◌+◌, ◌++◌, length, map}
-use Rattle.std.specs.Prelude.{vec_len}
+use Rattle.std.proofs.Common.{◌≡◌, ◌++◌, map}
 use Rattle.std.specs.Option.{option_copied}
 use Rattle.fwd_match.specs.Patterns.{alternatives}
 use Rattle.fwd_match.specs.Marks.{marks, fields_left, size_left}
@@ -7,12 +6,9 @@ use Rattle.fwd_match.specs.declared.fields.Mark.TheVariants.{Comma}
 use Rattle.fwd_match.proofs.spelling.put_each.Given as goal
 
 abbrev pub invariant-loop-rest : goal.invariant-loop-rest
-invariant-loop-rest l = record {
-  room : vec_len l.out ≤ 64;
-  count : vec_len l.initial.out + length (alternatives l.inside l.text) ≡ vec_len l.out + length (fields_left (marks (Comma l.inside)) (option_copied l.rest));
-  put : l.initial.out.items ++ map (λ more. l.front ++ more) (alternatives l.inside l.text)
-      ≡ l.out.items ++ map (λ more. l.front ++ more) (fields_left (marks (Comma l.inside)) (option_copied l.rest));
-}
+invariant-loop-rest l =
+    l.initial.out.items ++ map (λ more. l.front ++ more) (alternatives l.inside l.text)
+    ≡ l.out.items ++ map (λ more. l.front ++ more) (fields_left (marks (Comma l.inside)) (option_copied l.rest))
 
 abbrev pub decreases-loop-rest : goal.decreases-loop-rest
 decreases-loop-rest l = size_left (option_copied l.rest)
