@@ -1,7 +1,6 @@
 -- A replay against the live part of a history is one against the history.
 use Rattle.std.proofs.Common.{◌≡◌, ℕ, List, [], ◌∷◌, Option, Some, None, Result, Ok, Err, inl, inr, refl, sym, ap, subst, ◌∙◌}
 use Rattle.std.specs.List.{flat_map}
-use Rattle.std.specs.Prelude.{IfSome}
 use Rattle.std.specs.Io.KnownBytes.{Appends}
 use Rattle.fwd_model.specs.declared.event.Event.{Event}
 use Rattle.fwd_model.specs.declared.config.Config.{Config}
@@ -14,6 +13,7 @@ use Rattle.fwd_script.specs.Configs.{Configures}
 use Rattle.fwd_script.specs.Script.{lines_of, settings_of, event_lines, head_len}
 use Rattle.fwd_model.specs.Live.{LiveRelay, live, lives}
 use Rattle.fwd_script.specs.Replay.{answer_to, next, events_of, answers, answer_line, output, Ends, Opens, Replays}
+use Rattle.fwd_script.specs.Writes.{AppendsFront}
 use Rattle.fwd_script.specs.declared.status.Status.{Status}
 use Rattle.fwd_script.specs.declared.status.Status.TheVariants.{Done, BadSettings, BadLine, Memory, Input, Output}
 
@@ -43,9 +43,17 @@ module _ (h : History) (r : LiveRelay) (shown : r ≡ live h) (law : (es : List 
   of_history Done count lines old new f = (f.0, subst (λ bytes. Appends old new bytes) (same_output lines) f.1)
   of_history (BadLine n) count lines old new f = (f.0, subst (λ bytes. Appends old new bytes) (same_output lines) f.1)
   of_history (BadSettings fault) count lines old new f = f
-  of_history Memory count lines old new f = (f.0, f.1, f.2, subst (λ bytes. Appends old new bytes) (same_output f.0) f.3)
+  of_history Memory count lines old new f =
+      record {
+        front = f.front;
+        line = f.line;
+        rest = f.rest;
+        parts = f.parts;
+        are_events = f.are_events;
+        wrote = subst (λ bytes. Appends old new bytes) (same_output f.front) f.wrote;
+      }
   of_history Input count lines old new f = f
-  of_history Output count lines old new f = tt
+  of_history Output count lines old new f = subst (λ bytes. AppendsFront old new bytes) (same_output lines) f
 
 -- a script that was answered by a relay that its settings opened
 pub opened_replays : (script text : List ℕ) (relay : LiveRelay) (status : Status) (count : ℕ) (lines : List (List ℕ)) (old new : Option (List ℕ))
@@ -69,8 +77,4 @@ opened_replays script text relay status count lines old new law opened same befo
     by (BadSettings fault) e = absurd e
     by Memory e = inr (config, good, e)
     by Input e = absurd e
-    by Output e = tt
-
-pub if_some_weaker : {A : Type 0} (P Q : A → Type 0) (o : Option A) → ((x : A) → P x → Q x) → IfSome o P → IfSome o Q
-if_some_weaker P Q None f h = tt
-if_some_weaker P Q (Some x) f h = f x h
+    by Output e = (config, good, e)

@@ -8,3 +8,5 @@ pub mod ListText
 pub mod FirstBad
 pub mod History
 pub mod Examples
+pub mod Results
+pub mod CheckLemmas

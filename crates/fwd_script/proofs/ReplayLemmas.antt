@@ -1,13 +1,18 @@
 -- A run over lines: what was written for those so far, and how it ends.
-use Rattle.std.proofs.Common.{◌≡◌, ℕ, ◌+◌, List, [], ◌∷◌, ◌++◌, length, Option, Some, None, refl, sym, ap, ◌∙◌, arith, append_assoc, length-append}
+use Rattle.std.proofs.Common.{◌≡◌, ℕ, ◌+◌, List, [], ◌∷◌, ◌++◌, length, map, Option, Some, None, ◌⊎◌, inl, inr, refl, sym, ap, ◌∙◌, arith, append_assoc, length-append}
 use Rattle.std.specs.List.{flat_map}
 use Rattle.std.specs.Io.KnownBytes.{Appends, Keeps}
 use Rattle.std.proofs.lemmas.List.{append-nil}
 use Rattle.fwd_model.specs.declared.event.Event.{Event}
 use Rattle.fwd_model.specs.declared.answer.Answer.{Answer}
-use Rattle.fwd_script.specs.declared.status.Status.TheVariants.{Done, BadLine, Memory}
+use Rattle.fwd_script.specs.Stops.{Stops, stop_status}
+use Rattle.fwd_script.specs.declared.stepping.Stop.{Stop}
+use Rattle.fwd_script.specs.declared.stepping.Stop.TheVariants as stops
+use Rattle.fwd_script.specs.declared.status.Status.{Status}
+use Rattle.fwd_script.specs.declared.status.Status.TheVariants.{Done, BadSettings, BadLine, Memory, Input, Output}
 use Rattle.fwd_script.specs.Lines.{event_of}
-use Rattle.fwd_script.specs.Replay.{events_of, bad_line, answers, answer_line, output, Ends}
+use Rattle.fwd_script.specs.Replay.{events_of, bad_line, answers, answer_line, output, after, AllAreEvents, StopsAtLine, MeetsMemory, Ends}
+use Rattle.fwd_script.specs.Writes.{AppendsFront}
 
 -- ---- writes, one after the other
 
@@ -27,6 +32,21 @@ Appends-keeps (Some as_) None c x p q = absurd p
 Appends-keeps (Some as_) (Some bs) None x p q = absurd q
 Appends-keeps (Some as_) (Some bs) (Some cs) x p q = q ∙ p
 
+-- all of some bytes is a front of them, and so is what they begin with
+pub AppendsFront-all : (old new : Option (List ℕ)) (bytes : List ℕ) → Appends old new bytes → AppendsFront old new bytes
+AppendsFront-all old new bytes h = (bytes, [], sym (append-nil bytes), h)
+
+pub AppendsFront-more : (old new : Option (List ℕ)) (bytes more : List ℕ) → AppendsFront old new bytes → AppendsFront old new (bytes ++ more)
+AppendsFront-more old new bytes more h =
+    (h.0, h.1 ++ more, ap (λ (t : List ℕ). t ++ more) h.2 ∙ append_assoc h.0 h.1 more, h.3)
+
+pub AppendsFront-then : (a b c : Option (List ℕ)) (x y : List ℕ) → Appends a b x → AppendsFront b c y → AppendsFront a c (x ++ y)
+AppendsFront-then a b c x y p q =
+    (x ++ q.0, q.1, ap (λ (t : List ℕ). x ++ t) q.2 ∙ sym (append_assoc x q.0 q.1), Appends-then a b c x q.0 p q.3)
+
+pub AppendsFront-keeps : (a b c : Option (List ℕ)) (x : List ℕ) → AppendsFront a b x → Keeps b c → AppendsFront a c x
+AppendsFront-keeps a b c x p keeps = (p.0, p.1, p.2, Appends-keeps a b c p.0 p.3 keeps)
+
 -- ---- lines that are events, and then more
 
 -- each line is an event
@@ -34,10 +54,23 @@ abbrev pub AreEvents : List (List ℕ) → Type 0
 AreEvents [] = Unit {0}
 AreEvents (line ∷ lines) = ((event : Event) × (event_of line ≡ Some event)) × AreEvents lines
 
--- the state after events
-abbrev pub after : {S : Type 0} → (S → Event → S) → S → List Event → S
-after next s [] = s
-after next s (event ∷ events) = after next (next s event) events
+AreEvents-all : (lines : List (List ℕ)) → AreEvents lines → AllAreEvents lines
+AreEvents-all [] h = refl
+AreEvents-all (line ∷ lines) h = rw h.0.1 (ap (λ (es : List (Option Event)). Some h.0.0 ∷ es) (AreEvents-all lines h.1))
+
+AllAreEvents-tail : (line : List ℕ) (lines : List (List ℕ)) (o : Option Event) → event_of line ≡ o → AllAreEvents (line ∷ lines) → ((event : Event) × (o ≡ Some event)) × AllAreEvents lines
+AllAreEvents-tail line lines (Some event) e h =
+    let all : Some event ∷ map event_of lines ≡ Some event ∷ map Some (events_of lines) = rw e at h in
+    ((event, refl), cc)
+AllAreEvents-tail line lines None e h =
+    let all : None ∷ map event_of lines ≡ [] = rw e at h in
+    absurd cc
+
+AreEvents-of : (lines : List (List ℕ)) → AllAreEvents lines → AreEvents lines
+AreEvents-of [] h = tt
+AreEvents-of (line ∷ lines) h =
+    let parts = AllAreEvents-tail line lines (event_of line) refl h in
+    (parts.0, AreEvents-of lines parts.1)
 
 AreEvents-push : (lines : List (List ℕ)) (line : List ℕ) (event : Event) → AreEvents lines → event_of line ≡ Some event → AreEvents (lines ++ line ∷ [])
 AreEvents-push [] line event h e = ((event, e), tt)
@@ -123,7 +156,107 @@ IsAnswered-bad answer_to next first before lines old s number line rest new newe
     ∙ append-nil (output answer_to next first a.front) in
     (ap (bad_line before) a.parts ∙ bad_line-append before a.front (line ∷ rest) a.are_events ∙ here ∙ ap Some (omega arith), rw text (Appends-keeps old new newer (output answer_to next first a.front) a.wrote keeps))
 
-pub IsAnswered-memory : {S : Type 0} (answer_to : S → Event → Answer) (next : S → Event → S) (first : S) (before : ℕ) (lines : List (List ℕ)) (old : Option (List ℕ)) (s : S) (number : ℕ) (rest : List (List ℕ)) (new newer : Option (List ℕ))
-    → IsAnswered answer_to next first before lines old s number rest new → Keeps new newer → Ends Memory answer_to next first before lines old newer
-IsAnswered-memory answer_to next first before lines old s number rest new newer a keeps =
-    (a.front, rest, a.parts, Appends-keeps old new newer (output answer_to next first a.front) a.wrote keeps)
+-- what is written for a front of the lines is a front of what is written for all
+output-front : {S : Type 0} (answer_to : S → Event → Answer) (next : S → Event → S) (s : S) (front rest : List (List ℕ)) (old new : Option (List ℕ)) → AreEvents front
+    → Appends old new (output answer_to next s front) → AppendsFront old new (output answer_to next s (front ++ rest))
+output-front answer_to next s front rest old new are h =
+    let more = output answer_to next (after next s (events_of front)) rest in
+    rw (output-append answer_to next s front rest are)
+    (AppendsFront-more old new (output answer_to next s front) more (AppendsFront-all old new (output answer_to next s front) h))
+
+pub IsAnswered-memory : {S : Type 0} (answer_to : S → Event → Answer) (next : S → Event → S) (first : S) (before : ℕ) (lines : List (List ℕ)) (old : Option (List ℕ)) (s : S) (number : ℕ) (line : List ℕ) (rest : List (List ℕ)) (new : Option (List ℕ)) (t : S) (newer : Option (List ℕ))
+    → IsAnswered answer_to next first before lines old s number (line ∷ rest) new → Keeps new newer → (t ≡ s) ⊎ ((event : Event) × (event_of line ≡ Some event) × (t ≡ next s event))
+    → MeetsMemory answer_to next first t lines old newer
+IsAnswered-memory {S = S} answer_to next first before lines old s number line rest new t newer a keeps state =
+    record {
+      stops = record {
+        front = a.front;
+        line = line;
+        rest = rest;
+        parts = a.parts;
+        are_events = AreEvents-all a.front a.are_events;
+        wrote = Appends-keeps old new newer (output answer_to next first a.front) a.wrote keeps;
+      };
+      state = elim state [
+        | inl same ↦ inl (same ∙ a.state)
+        | inr went ↦ inr (more went.0 went.1 went.2)
+      ];
+    }
+  where
+    more : (event : Event) → event_of line ≡ Some event → t ≡ next s event → t ≡ after next first (events_of (a.front ++ line ∷ []))
+    more event e goes =
+        let one : events_of (line ∷ []) ≡ event ∷ [] = rw e refl in
+        let all : events_of (a.front ++ line ∷ []) ≡ events_of a.front ++ event ∷ [] = events_of-append a.front (line ∷ []) a.are_events ∙ ap (λ (es : List Event). events_of a.front ++ es) one in
+        goes ∙ ap (λ (u : S). next u event) a.state ∙ sym (ap (after next first) all ∙ after-append next first (events_of a.front) (event ∷ []))
+
+pub IsAnswered-output : {S : Type 0} (answer_to : S → Event → Answer) (next : S → Event → S) (first : S) (before : ℕ) (lines : List (List ℕ)) (old : Option (List ℕ)) (s : S) (number : ℕ) (line : List ℕ) (rest : List (List ℕ)) (new : Option (List ℕ)) (event : Event) (newer : Option (List ℕ))
+    → IsAnswered answer_to next first before lines old s number (line ∷ rest) new → event_of line ≡ Some event → AppendsFront new newer (answer_line (answer_to s event))
+    → Ends Output answer_to next first before lines old newer
+IsAnswered-output {S = S} answer_to next first before lines old s number line rest new event newer a e wrote =
+    let here : output answer_to next s (line ∷ rest) ≡ answer_line (answer_to s event) ++ output answer_to next (next s event) rest = rw e refl in
+    let text : output answer_to next first lines ≡ output answer_to next first a.front ++ (answer_line (answer_to s event) ++ output answer_to next (next s event) rest) =
+    ap (output answer_to next first) a.parts
+    ∙ output-append answer_to next first a.front (line ∷ rest) a.are_events
+    ∙ ap (λ (u : S). output answer_to next first a.front ++ output answer_to next u (line ∷ rest)) (sym a.state)
+    ∙ ap (λ (u : List ℕ). output answer_to next first a.front ++ u) here in
+    rw text (AppendsFront-then old new newer (output answer_to next first a.front) _ a.wrote
+    (AppendsFront-more new newer (answer_line (answer_to s event)) (output answer_to next (next s event) rest) wrote))
+
+-- ---- a flush keeps how a run ended, or turns it into a failed write
+
+pub StopsAtLine-keeps : {S : Type 0} (answer_to : S → Event → Answer) (next : S → Event → S) (first : S) (lines : List (List ℕ)) (old new newer : Option (List ℕ))
+    → StopsAtLine answer_to next first lines old new → Keeps new newer → StopsAtLine answer_to next first lines old newer
+StopsAtLine-keeps answer_to next first lines old new newer a keeps =
+    record {
+      front = a.front;
+      line = a.line;
+      rest = a.rest;
+      parts = a.parts;
+      are_events = a.are_events;
+      wrote = Appends-keeps old new newer (output answer_to next first a.front) a.wrote keeps;
+    }
+
+pub MeetsMemory-keeps : {S : Type 0} (answer_to : S → Event → Answer) (next : S → Event → S) (first t : S) (lines : List (List ℕ)) (old new newer : Option (List ℕ))
+    → MeetsMemory answer_to next first t lines old new → Keeps new newer → MeetsMemory answer_to next first t lines old newer
+unfolding StopsAtLine-keeps
+MeetsMemory-keeps answer_to next first t lines old new newer a keeps =
+    record { stops = StopsAtLine-keeps answer_to next first lines old new newer a.stops keeps; state = a.state }
+
+pub Ends-keeps : {S : Type 0} (answer_to : S → Event → Answer) (next : S → Event → S) (first : S) (status : Status) (before : ℕ) (lines : List (List ℕ)) (old new newer : Option (List ℕ))
+    → Ends status answer_to next first before lines old new → Keeps new newer → Ends status answer_to next first before lines old newer
+Ends-keeps answer_to next first Done before lines old new newer e keeps = (e.0, Appends-keeps old new newer _ e.1 keeps)
+Ends-keeps answer_to next first (BadLine n) before lines old new newer e keeps = (e.0, Appends-keeps old new newer _ e.1 keeps)
+Ends-keeps answer_to next first (BadSettings fault) before lines old new newer e keeps = absurd e
+Ends-keeps answer_to next first Memory before lines old new newer e keeps = StopsAtLine-keeps answer_to next first lines old new newer e keeps
+Ends-keeps answer_to next first Input before lines old new newer e keeps = absurd e
+Ends-keeps answer_to next first Output before lines old new newer e keeps = AppendsFront-keeps old new newer _ e keeps
+
+pub Ends-output : {S : Type 0} (answer_to : S → Event → Answer) (next : S → Event → S) (first : S) (status : Status) (before : ℕ) (lines : List (List ℕ)) (old new : Option (List ℕ))
+    → Ends status answer_to next first before lines old new → Ends Output answer_to next first before lines old new
+Ends-output answer_to next first Done before lines old new e = AppendsFront-all old new _ e.1
+Ends-output answer_to next first (BadLine n) before lines old new e = AppendsFront-all old new _ e.1
+Ends-output answer_to next first (BadSettings fault) before lines old new e = absurd e
+Ends-output answer_to next first Memory before lines old new e =
+    rw e.parts (output-front answer_to next first e.front (e.line ∷ e.rest) old new (AreEvents-of e.front e.are_events) e.wrote)
+Ends-output answer_to next first Input before lines old new e = absurd e
+Ends-output answer_to next first Output before lines old new e = e
+
+-- ---- a line that stops the run
+
+pub IsAnswered-stop : {S : Type 0} (answer_to : S → Event → Answer) (next : S → Event → S) (first : S) (before : ℕ) (lines : List (List ℕ)) (old : Option (List ℕ)) (s : S) (number : ℕ) (line : List ℕ) (rest : List (List ℕ)) (new : Option (List ℕ)) (t : S) (newer : Option (List ℕ)) (stop : Stop)
+    → IsAnswered answer_to next first before lines old s number (line ∷ rest) new → Stops stop answer_to next s t (event_of line) new newer
+    → Ends (stop_status stop (number + 1)) answer_to next first before lines old newer
+IsAnswered-stop answer_to next first before lines old s number line rest new t newer stops.Bad a h =
+    IsAnswered-bad answer_to next first before lines old s number line rest new newer a h.0 h.1
+IsAnswered-stop answer_to next first before lines old s number line rest new t newer stops.Memory a h =
+    (IsAnswered-memory answer_to next first before lines old s number line rest new t newer a h.0 h.1).stops
+IsAnswered-stop answer_to next first before lines old s number line rest new t newer stops.Output a h =
+    IsAnswered-output answer_to next first before lines old s number line rest new h.0 newer a h.1 h.2
+
+pub IsAnswered-met : {S : Type 0} (answer_to : S → Event → Answer) (next : S → Event → S) (first : S) (before : ℕ) (lines : List (List ℕ)) (old : Option (List ℕ)) (s : S) (number : ℕ) (line : List ℕ) (rest : List (List ℕ)) (new : Option (List ℕ)) (t : S) (newer : Option (List ℕ)) (stop : Stop)
+    → IsAnswered answer_to next first before lines old s number (line ∷ rest) new → Stops stop answer_to next s t (event_of line) new newer
+    → stop_status stop (number + 1) ≡ Memory → MeetsMemory answer_to next first t lines old newer
+IsAnswered-met answer_to next first before lines old s number line rest new t newer stops.Bad a h e = absurd cc
+IsAnswered-met answer_to next first before lines old s number line rest new t newer stops.Memory a h e =
+    IsAnswered-memory answer_to next first before lines old s number line rest new t newer a h.0 h.1
+IsAnswered-met answer_to next first before lines old s number line rest new t newer stops.Output a h e = absurd cc

@@ -2,8 +2,11 @@ pub mod Words
 pub mod Lines
 pub mod Texts
 pub mod Script
+pub mod Reads
+pub mod Writes
 pub mod Replay
 pub mod Stops
 pub mod Statuses
 pub mod Configs
 pub mod Checks
+pub mod Program

@@ -14,6 +14,7 @@ use Rattle.fwd_script.specs.Configs.{Configures}
 use Rattle.fwd_script.specs.Lines.{event_of}
 use Rattle.fwd_script.specs.Texts.{text_of}
 use Rattle.fwd_script.specs.Script.{lines_of, settings_of, event_lines, head_len}
+use Rattle.fwd_script.specs.Writes.{AppendsFront}
 use Rattle.fwd_script.specs.declared.status.Status.{Status}
 use Rattle.fwd_script.specs.declared.status.Status.TheVariants.{Done, BadSettings, BadLine, Memory, Input, Output}
 
@@ -48,17 +49,39 @@ answer_line answer = text_of answer ++ 10 ∷ []
 abbrev pub output : {S : Type 0} → (S → Event → Answer) → (S → Event → S) → S → List (List ℕ) → List ℕ
 output answer_to next s lines = flat_map answer_line (answers answer_to next s (events_of lines))
 
--- some of the lines, from the first on, were answered, and no more was written
-abbrev pub WritesFront : {S : Type 0} → (S → Event → Answer) → (S → Event → S) → S → List (List ℕ) → Option (List ℕ) → Option (List ℕ) → Type 0
-WritesFront answer_to next s lines old new =
-    (front : List (List ℕ)) × (rest : List (List ℕ)) × (lines ≡ front ++ rest) × Appends old new (output answer_to next s front)
+-- the state after events
+abbrev pub after : {S : Type 0} → (S → Event → S) → S → List Event → S
+after next s [] = s
+after next s (event ∷ events) = after next (next s event) events
+
+-- each line is an event: one of the events each
+abbrev pub AllAreEvents : List (List ℕ) → Type 0
+AllAreEvents lines = map event_of lines ≡ map Some (events_of lines)
+
+-- the events of the lines before one of them were answered, and no more was written than their answers
+pub record StopsAtLine {S : Type 0} (answer_to : S → Event → Answer) (next : S → Event → S) (s : S)
+    (lines : List (List ℕ)) (old new : Option (List ℕ)) : Type 0 where
+  pub front : List (List ℕ)
+  pub line : List ℕ
+  pub rest : List (List ℕ)
+  pub parts : lines ≡ front ++ line ∷ rest
+  pub are_events : AllAreEvents front
+  pub wrote : Appends old new (output answer_to next s front)
+
+-- The same, and the state is the one after those events, or after the event of that line too, whose
+-- answer was not written.
+pub record MeetsMemory {S : Type 0} (answer_to : S → Event → Answer) (next : S → Event → S) (s t : S)
+    (lines : List (List ℕ)) (old new : Option (List ℕ)) : Type 0 where
+  pub stops : StopsAtLine answer_to next s lines old new
+  pub state : (t ≡ after next s (events_of stops.front))
+      ⊎ (t ≡ after next s (events_of (stops.front ++ stops.line ∷ [])))
 
 -- How a run over lines ended, where count lines stood before them, and what it wrote.
 abbrev pub Ends : {S : Type 0} → Status → (S → Event → Answer) → (S → Event → S) → S → ℕ → List (List ℕ) → Option (List ℕ) → Option (List ℕ) → Type 0
 Ends Done answer_to next s count lines old new = (bad_line count lines ≡ None) × Appends old new (output answer_to next s lines)
 Ends (BadLine n) answer_to next s count lines old new = (bad_line count lines ≡ Some n) × Appends old new (output answer_to next s lines)
-Ends Memory answer_to next s count lines old new = WritesFront answer_to next s lines old new
-Ends Output answer_to next s count lines old new = Unit {0}
+Ends Memory answer_to next s count lines old new = StopsAtLine answer_to next s lines old new
+Ends Output answer_to next s count lines old new = AppendsFront old new (output answer_to next s lines)
 Ends (BadSettings fault) answer_to next s count lines old new = ⊥
 Ends Input answer_to next s count lines old new = ⊥
 
@@ -70,9 +93,10 @@ Replays (BadLine n) script old new =
     (config : Config) × Configures (settings_of script) (Ok config) × Ends (BadLine n) answer_to next (opening config) (head_len (lines_of script)) (event_lines (lines_of script)) old new
 Replays (BadSettings fault) script old new = Configures (settings_of script) (Err fault) × Keeps old new
 Replays Memory script old new =
-    Keeps old new ⊎ ((config : Config) × Configures (settings_of script) (Ok config) × WritesFront answer_to next (opening config) (event_lines (lines_of script)) old new)
+    Keeps old new ⊎ ((config : Config) × Configures (settings_of script) (Ok config) × Ends Memory answer_to next (opening config) (head_len (lines_of script)) (event_lines (lines_of script)) old new)
 Replays Input script old new = Keeps old new
-Replays Output script old new = Unit {0}
+Replays Output script old new =
+    (config : Config) × Configures (settings_of script) (Ok config) × Ends Output answer_to next (opening config) (head_len (lines_of script)) (event_lines (lines_of script)) old new
 
 -- how a relay was opened by a script's text of settings, or why it was not
 abbrev pub Opens : List ℕ → Result LiveRelay Status → Type 0
@@ -85,10 +109,6 @@ Opens text (Err Input) = ⊥
 Opens text (Err Output) = ⊥
 
 -- ---- what those words say together
-
--- each line is an event: one of the events each
-abbrev pub AllAreEvents : List (List ℕ) → Type 0
-AllAreEvents lines = map event_of lines ≡ map Some (events_of lines)
 
 -- the line of this number is no event, and those before it are the events
 pub record IsBadLine (count : ℕ) (lines : List (List ℕ)) (n : ℕ) : Type 0 where

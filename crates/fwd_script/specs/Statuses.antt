@@ -2,6 +2,10 @@
 use Rattle.std.specs.Prelude.{ℕ, List, [], ◌++◌, codes}
 use Rattle.std.specs.Fmt.{decimal}
 use Rattle.fwd_settings.specs.Faults.{fault_text}
+use Rattle.fwd_settings.specs.declared.fault.SettingsFault.{SettingsFault}
+use Rattle.fwd_settings.specs.declared.fault.SettingsFault.TheVariants as faults
+use Rattle.fwd_script.specs.declared.input.InputError.{InputError}
+use Rattle.fwd_script.specs.declared.input.InputError.TheVariants as reads
 use Rattle.fwd_script.specs.declared.status.Status.{Status}
 use Rattle.fwd_script.specs.declared.status.Status.TheVariants.{Done, BadSettings, BadLine, Memory, Input, Output}
 
@@ -21,3 +25,19 @@ status_text (BadLine number) = codes "line " ++ (decimal number ++ codes ": bad 
 status_text Memory = codes "memory"
 status_text Input = codes "input"
 status_text Output = codes "output"
+
+-- how a replay ends whose input was not read to its end
+abbrev pub unread_status : InputError → Status
+unread_status reads.Memory = Memory
+unread_status reads.Failed = Input
+
+-- how a run ends whose settings are refused: want of memory is no fault of theirs
+abbrev pub refused_status : SettingsFault → Status
+refused_status faults.Memory = Memory
+refused_status faults.Unreadable = BadSettings faults.Unreadable
+refused_status faults.NotToml = BadSettings faults.NotToml
+refused_status (faults.Missing key) = BadSettings (faults.Missing key)
+refused_status (faults.WrongKind key) = BadSettings (faults.WrongKind key)
+refused_status (faults.OutOfRange key) = BadSettings (faults.OutOfRange key)
+refused_status (faults.Unknown key) = BadSettings (faults.Unknown key)
+refused_status (faults.BadPattern key) = BadSettings (faults.BadPattern key)

@@ -1,49 +1,94 @@
-//! Whether a file of settings is good.
+//! Whether settings are good.
 
-ghost use Rattle.std.specs.Prelude.{◌≡◌, ◌≢◌, Err, IfOk, IfErr};
+ghost use Rattle.std.specs.Prelude.{◌≡◌, ◌≢◌, ℕ, List, Err, IfOk, IfErr, IfSome, MatchResult};
+ghost use Rattle.std.specs.String.{string_bytes};
 ghost use Rattle.fwd_settings.specs.Whole.{settings_of};
-ghost use Rattle.fwd_script.specs.Checks.{verdict_on, unread};
+ghost use Rattle.fwd_script.specs.Checks.{Checks, TellsGood, good_line, verdict_on, unread};
 
 use crate::input::{InputError, read_input};
 use crate::status::Status;
+use crate::writing::write_all;
 use fwd_settings::{Settings, SettingsFault, read_settings};
-use std::alloc::Global;
+use std::alloc::{AllocError, Global};
+use std::fs;
+use std::io::{Read, Write};
 use std::rt::Files;
-use std::{fs, io};
+
+/// What is wrong with settings that were not read to their end.
+fn unread(error: InputError) -> SettingsFault
+    ensures { result ≡ unread error }
+{
+    match error {
+        InputError::Memory => SettingsFault::Memory,
+        InputError::Failed => SettingsFault::Unreadable,
+    }
+}
 
 /// The settings in what was read, or how a check of it ends: what was not read to its end is `unreadable`.
 fn settings_in(alloc: Global, read: Result<Vec<u8>, InputError>) -> Result<Settings, Status>
     ensures text { IfOk read (λ text. result ≢ Err Status.Memory → result ≡ verdict_on (settings_of text.items)) }
-    ensures unread { IfErr read (λ error. result ≡ Err (unread error)) }
+    ensures unread { IfErr read (λ error. result ≡ verdict_on (Err (unread error))) }
 {
     let text = match read {
         Ok(text) => text,
-        Err(InputError::Memory) => return Err(Status::Memory),
-        Err(InputError::Failed) => return Err(Status::BadSettings(SettingsFault::Unreadable)),
+        Err(error) => return Err(Status::from(unread(error))),
     };
-    match read_settings(alloc, text.as_slice()) {
-        Ok(settings) => Ok(settings),
-        Err(SettingsFault::Memory) => Err(Status::Memory),
-        Err(fault) => Err(Status::BadSettings(fault)),
+    Ok(read_settings(alloc, text.as_slice())?)
+}
+
+/// What is told of good settings, with its line feed.
+fn print_good(alloc: Global, settings: &Settings) -> Result<String, AllocError>
+    ensures { IfOk result (λ text. string_bytes text ≡ good_line settings.now) }
+{
+    let outputs = settings.outputs.len();
+    format!(in alloc; "settings are good, outputs: {outputs}\n")
+}
+
+/// Writes what is told of good settings.
+fn write_good<W: Write>(alloc: Global, settings: &Settings, writer: &mut W) -> Result<(), Status>
+    ensures { MatchResult result
+        (λ _. TellsGood Status.Done settings.now (W.contents writer.old) (W.contents writer.new))
+        (λ status. TellsGood status settings.now (W.contents writer.old) (W.contents writer.new)) }
+{
+    let text = print_good(alloc, settings)?;
+    Ok(write_all(writer, text.as_bytes())?)
+}
+
+/// Writes what is told of good settings, and flushes the writer.
+fn tell_good<W: Write>(alloc: Global, settings: &Settings, writer: &mut W) -> Status
+    ensures { TellsGood result settings.now (W.contents writer.old) (W.contents writer.new) }
+{
+    let status = match write_good(alloc, settings, writer) {
+        Ok(()) => Status::Done,
+        Err(status) => status,
+    };
+    status.flushed(writer.flush())
+}
+
+/// Checks the settings that the reader gives: writes `settings are good, outputs: N` and a line feed where they are good, and
+/// else answers their first fault. A read that failed, or 2^32 reads without an end, is `BadSettings(Unreadable)`, a
+/// failed write or flush `Output`, and behind it a front of the line was written. `Memory` has written nothing.
+pub fn check<R: Read, W: Write>(alloc: Global, reader: &mut R, writer: &mut W) -> Status
+    ensures { (text : List ℕ) × IfSome (R.remaining reader.old) (λ left. text ≡ left)
+        × Checks result text (W.contents writer.old) (W.contents writer.new) }
+{
+    match settings_in(alloc, read_input(alloc, reader)) {
+        Ok(settings) => tell_good(alloc, &settings, writer),
+        Err(status) => status,
     }
 }
 
-/// The settings in a file. A file that cannot be opened or read is `unreadable`.
-fn read_file<R: Files + AllocGlobal>(rt: &R, path: &str) -> Result<Settings, Status> {
-    match fs::open(rt, path) {
-        Ok(mut file) => settings_in(rt.alloc(), read_input(rt.alloc(), &mut file)),
-        Err(_) => Err(Status::BadSettings(SettingsFault::Unreadable)),
-    }
-}
-
-/// Checks a file of settings, and prints how many outputs they have where they are good.
-pub fn check<R: Files + Print + AllocGlobal>(rt: &R, path: &str) -> io::Result<Status> {
-    match read_file(rt, path) {
-        Ok(settings) => {
-            let outputs = settings.outputs.len();
-            println!(rt; "settings are good, outputs: {outputs}")?;
-            Ok(Status::Done)
-        }
-        Err(status) => Ok(status),
+/// Checks the settings in a file, as `check` does. A file that cannot be opened is `BadSettings(Unreadable)`.
+pub fn check_file<F: Files, W: Write>(
+    alloc: Global,
+    files: &F,
+    path: &str,
+    writer: &mut W,
+) -> Status
+    ensures { (text : List ℕ) × Checks result text (W.contents writer.old) (W.contents writer.new) }
+{
+    match fs::open(files, path) {
+        Ok(mut file) => check(alloc, &mut file, writer),
+        Err(_) => Status::BadSettings(SettingsFault::Unreadable),
     }
 }

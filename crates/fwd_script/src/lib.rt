@@ -5,22 +5,27 @@ mod checking;
 mod config;
 mod event;
 mod input;
+mod program;
 mod run;
 mod script;
 mod status;
 mod stepping;
 mod text;
 mod word;
+mod writing;
 
-pub use checking::check;
+pub use checking::{check, check_file};
 pub use config::read_config;
 pub use event::{events_are_text, one_spelling, read_event};
 pub use input::{InputError, read_input};
+pub use program::{Command, End, asked, buffered, perform, run_program, tell, words};
 pub use run::replay;
 pub use script::{Script, next_line, split_script};
 pub use status::Status;
 pub use stepping::{Step, answer_lines, answer_script, bad_line_is_first};
 pub use text::{print_answer, refusal_name, session_fault_name, source_fault_name};
 
+#[cfg(test)]
+mod program_tests;
 #[cfg(test)]
 mod tests;

@@ -1,16 +1,15 @@
 //! The replay of a script against the relay that runs.
 
-ghost use Rattle.std.specs.Prelude.{◌≡◌, IfSome};
+ghost use Rattle.std.specs.Prelude.{◌≡◌, ℕ, List, IfSome};
 ghost use Rattle.fwd_script.specs.Replay.{Opens, Replays};
 
 use crate::config::read_config;
-use crate::input::{InputError, read_input};
+use crate::input::read_input;
 use crate::script::split_script;
 use crate::status::Status;
 use crate::stepping::{Step, answer_script};
 use fwd_core::Relay;
 use fwd_model::{Answer, Event, live_run_follows};
-use fwd_settings::SettingsFault;
 use std::alloc::Global;
 use std::io::{Read, Write};
 
@@ -32,15 +31,8 @@ impl Step for Relay {
 fn open_relay(alloc: Global, text: &[u8]) -> Result<Relay, Status>
     ensures { Opens text.now result }
 {
-    let config = match read_config(alloc, text) {
-        Ok(config) => config,
-        Err(SettingsFault::Memory) => return Err(Status::Memory),
-        Err(fault) => return Err(Status::BadSettings(fault)),
-    };
-    match Relay::new(alloc, config) {
-        Ok(relay) => Ok(relay),
-        Err(_) => Err(Status::Memory),
-    }
+    let config = read_config(alloc, text)?;
+    Ok(Relay::new(alloc, config)?)
 }
 
 /// Replays a script: reads all of the input (at most 2^32 reads), and then answers the event of each line on a line
@@ -49,15 +41,16 @@ fn open_relay(alloc: Global, text: &[u8]) -> Result<Relay, Status>
 ///
 /// At `Done` and at `BadLine` what was written is the lines of the abstract relay's answers, from its opening state by these
 /// settings, to the events of the lines before the first bad one; `BadLine` has that line's number, counted from 1 over all
-/// of the input. At `BadSettings` nothing was written, and the fault is the first of the settings.
+/// of the input. At `BadSettings` nothing was written, and the fault is the first of the settings. At `Memory` what was
+/// written is the answers to the lines before the one that met it, and at `Output` a front of what `Done` would have written.
 pub fn replay<R: Read, W: Write>(alloc: Global, reader: &mut R, writer: &mut W) -> Status
-    ensures { IfSome (R.remaining reader.old) (λ script. Replays result script (W.contents writer.old) (W.contents writer.new)) }
+    ensures { (script : List ℕ) × IfSome (R.remaining reader.old) (λ left. script ≡ left)
+        × Replays result script (W.contents writer.old) (W.contents writer.new) }
 {
     live_run_follows();
     let input = match read_input(alloc, reader) {
         Ok(input) => input,
-        Err(InputError::Memory) => return Status::Memory,
-        Err(InputError::Failed) => return Status::Input,
+        Err(error) => return Status::from(error),
     };
     let script = split_script(input.as_slice());
     let mut relay = match open_relay(alloc, script.settings) {

@@ -1,8 +1,12 @@
-ghost use Rattle.std.specs.Prelude.{◌≡◌};
-ghost use Rattle.fwd_script.specs.Statuses.{exit_code};
+ghost use Rattle.std.specs.Prelude.{◌≡◌, OnOk, OnErr};
+ghost use Rattle.fwd_script.specs.Statuses.{exit_code, unread_status, refused_status};
+ghost use Rattle.fwd_script.specs.declared.status.Status.TheVariants as statuses;
 
+use crate::input::InputError;
+use crate::writing::WriteFailed;
 use fwd_settings::SettingsFault;
-use std::fmt;
+use std::alloc::AllocError;
+use std::{fmt, io};
 
 /// How a replay ended.
 #[derive(Debug, Drop)]
@@ -32,6 +36,55 @@ impl Status {
             Status::BadLine(_) => 3,
             Status::Memory => 4,
             Status::Input | Status::Output => 5,
+        }
+    }
+
+    /// How a run ends that would end so, once its writer was flushed: a flush that fails is a failed write.
+    pub(crate) fn flushed(self, flush: io::Result<()>) -> Status
+        ensures ok { OnOk flush (result ≡ self) }
+        ensures err { OnErr flush (result ≡ statuses.Output) }
+    {
+        match flush {
+            Ok(()) => self,
+            Err(_) => Status::Output,
+        }
+    }
+}
+
+impl From<AllocError> for Status {
+    ghost from_gives = { λ _ status. status ≡ statuses.Memory };
+
+    fn from(_error: AllocError) -> Status {
+        Status::Memory
+    }
+}
+
+impl From<WriteFailed> for Status {
+    ghost from_gives = { λ _ status. status ≡ statuses.Output };
+
+    fn from(_error: WriteFailed) -> Status {
+        Status::Output
+    }
+}
+
+impl From<InputError> for Status {
+    ghost from_gives = { λ error status. status ≡ unread_status error };
+
+    fn from(error: InputError) -> Status {
+        match error {
+            InputError::Memory => Status::Memory,
+            InputError::Failed => Status::Input,
+        }
+    }
+}
+
+impl From<SettingsFault> for Status {
+    ghost from_gives = { λ fault status. status ≡ refused_status fault };
+
+    fn from(fault: SettingsFault) -> Status {
+        match fault {
+            SettingsFault::Memory => Status::Memory,
+            fault => Status::BadSettings(fault),
         }
     }
 }

@@ -6,13 +6,16 @@ ghost use Rattle.fwd_model.specs.declared.answer.Answer.{Answer};
 ghost use Rattle.fwd_model.specs.declared.answer.Answer.TheVariants.{Memory};
 ghost use Rattle.fwd_script.specs.Lines.{event_of};
 ghost use Rattle.fwd_script.specs.Script.{lines_of};
-ghost use Rattle.fwd_script.specs.Replay.{answer_line, Ends, SplitsAtBad};
-ghost use Rattle.fwd_script.specs.Stops.{Stops};
+ghost use Rattle.fwd_script.specs.Replay.{answer_line, Ends, MeetsMemory, SplitsAtBad};
+ghost use Rattle.fwd_script.specs.Stops.{Stops, stop_status};
+ghost use Rattle.fwd_script.specs.declared.status.Status.TheVariants as statuses;
+ghost use Rattle.fwd_script.specs.declared.stepping.Stop.TheVariants as stops;
 
 use crate::event::read_event;
 use crate::script::{Script, next_line};
 use crate::status::Status;
 use crate::text::print_answer;
+use crate::writing::{WriteFailed, write_all};
 use fwd_model::{Answer, Event};
 use std::alloc::{AllocError, Global};
 use std::io::Write;
@@ -48,6 +51,35 @@ enum Stop {
     Output,
 }
 
+impl Stop {
+    /// How a run ends that stops so at the line of this number.
+    fn status(self, number: u64) -> Status
+        ensures { result ≡ stop_status self number }
+    {
+        match self {
+            Stop::Bad => Status::BadLine(number),
+            Stop::Memory => Status::Memory,
+            Stop::Output => Status::Output,
+        }
+    }
+}
+
+impl From<AllocError> for Stop {
+    ghost from_gives = { λ _ stop. stop ≡ stops.Memory };
+
+    fn from(_error: AllocError) -> Stop {
+        Stop::Memory
+    }
+}
+
+impl From<WriteFailed> for Stop {
+    ghost from_gives = { λ _ stop. stop ≡ stops.Output };
+
+    fn from(_error: WriteFailed) -> Stop {
+        Stop::Output
+    }
+}
+
 /// Answers one event after the other, a line of the text for each, and writes each answer on a line of its own.
 /// It stops at the first line that is no event, where memory runs out, and where a write fails.
 pub fn answer_lines<S: Step, W: Write>(
@@ -58,20 +90,19 @@ pub fn answer_lines<S: Step, W: Write>(
     writer: &mut W,
 ) -> Status
     requires { lines_before + length text.now < 2 ^ 64 }
-    ensures { Ends result S.answer_to S.next relay.old lines_before (lines_of text.now)
+    ensures ends { Ends result S.answer_to S.next relay.old lines_before (lines_of text.now)
         (W.contents writer.old) (W.contents writer.new) }
+    ensures memory { result ≡ statuses.Memory → MeetsMemory S.answer_to S.next relay.old relay.new
+        (lines_of text.now) (W.contents writer.old) (W.contents writer.new) }
 {
     let mut rest = text;
     let mut number = lines_before;
     while let Some((line, after)) = next_line(rest) {
         number += 1;
         match answer_event(alloc, relay, line, writer) {
-            Ok(()) => {}
-            Err(Stop::Bad) => return Status::BadLine(number),
-            Err(Stop::Memory) => return Status::Memory,
-            Err(Stop::Output) => return Status::Output,
+            Ok(()) => rest = after,
+            Err(stop) => return stop.status(number),
         }
-        rest = after;
     }
     Status::Done
 }
@@ -84,14 +115,14 @@ pub fn answer_script<S: Step, W: Write>(
     writer: &mut W,
 ) -> Status
     requires { script.lines_before + length script.events.now < 2 ^ 64 }
-    ensures { Ends result S.answer_to S.next relay.old script.entry.lines_before (lines_of script.entry.events.now)
+    ensures ends { Ends result S.answer_to S.next relay.old
+        script.entry.lines_before (lines_of script.entry.events.now)
         (W.contents writer.old) (W.contents writer.new) }
+    ensures memory { result ≡ statuses.Memory → MeetsMemory S.answer_to S.next relay.old relay.new
+        (lines_of script.entry.events.now) (W.contents writer.old) (W.contents writer.new) }
 {
     let status = answer_lines(alloc, relay, script.events, script.lines_before, writer);
-    match writer.flush() {
-        Ok(()) => status,
-        Err(_) => Status::Output,
-    }
+    status.flushed(writer.flush())
 }
 
 /// Answers the event of a line, and writes the answer on a line of its own.
@@ -104,24 +135,18 @@ fn answer_event<S: Step, W: Write>(
     ensures { MatchResult result
         (λ _. (event : Event) × (event_of line.now ≡ Some event) × (relay.new ≡ S.next relay.old event)
         × Appends (W.contents writer.old) (W.contents writer.new) (answer_line (S.answer_to relay.old event)))
-        (λ stop. Stops stop (event_of line.now) (W.contents writer.old) (W.contents writer.new)) }
+        (λ stop. Stops stop S.answer_to S.next relay.old relay.new (event_of line.now)
+        (W.contents writer.old) (W.contents writer.new)) }
 {
-    let event = match read_event(alloc, line) {
-        Ok(Some(event)) => event,
-        Ok(None) => return Err(Stop::Bad),
-        Err(_) => return Err(Stop::Memory),
+    let Some(event) = read_event(alloc, line)? else {
+        return Err(Stop::Bad);
     };
     let answer = relay.step(alloc, &event);
     if let Answer::Memory = answer {
         return Err(Stop::Memory);
     }
-    let Ok(text) = print_line(alloc, &answer) else {
-        return Err(Stop::Memory);
-    };
-    match writer.write_all(text.as_bytes()) {
-        Ok(()) => Ok(()),
-        Err(_) => Err(Stop::Output),
-    }
+    let text = print_line(alloc, &answer)?;
+    Ok(write_all(writer, text.as_bytes())?)
 }
 
 /// The line of an answer, with its line feed.

@@ -1,0 +1,8 @@
+use Rattle.std.proofs.Common.{◌≡◌, ◌++◌, ℕ, List}
+use Rattle.std.specs.Io.KnownBytes.{Appends}
+use Rattle.fwd_script.proofs.writing.write_all.Given as goal
+
+-- what was written, and then what is left, are the bytes
+abbrev pub invariant-loop : goal.invariant-loop
+invariant-loop g l =
+    (done : List ℕ) × (l.bytes ≡ done ++ l.rest) × Appends (g.W.Write.contents l.initial.writer) (g.W.Write.contents l.writer) done
