@@ -3,7 +3,7 @@
 ghost use Rattle.std.specs.Prelude.{◌≡◌, ◌<◌, IfNone, IfOk, IsOk, OnOk, OnErr, MatchOption, None, true, length, slice_get};
 ghost use Rattle.std.specs.Arc.{arc_value};
 ghost use Rattle.fwd_source.specs.Live.{live_next};
-ghost use Rattle.fwd_model.specs.Step.{setup_of};
+ghost use Rattle.fwd_model.specs.Setups.{setup_of};
 ghost use Rattle.fwd_core.specs.Places.{IsPlace};
 ghost use Rattle.fwd_core.specs.Relays.{new_live_connection};
 ghost use Rattle.fwd_model.specs.Live.{live_source_at, without};

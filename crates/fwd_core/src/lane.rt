@@ -18,7 +18,7 @@ ghost use Rattle.std.specs.Prelude.{
 };
 ghost use Rattle.std.specs.List.{concat};
 ghost use Rattle.fwd_core.specs.Fits.{FitsFrame};
-ghost use Rattle.fwd_model.specs.Step.{frame_of};
+ghost use Rattle.fwd_model.specs.Chunks.{frame_of};
 ghost use Rattle.fwd_model.specs.Buffers.{buffer_is_spent};
 ghost use Rattle.fwd_model.specs.Outputs.{output_enters};
 ghost use Rattle.fwd_model.specs.Sessions.{session_begins};

@@ -1,7 +1,7 @@
 //! One output session: a worker's link to a server.
 
 ghost use Rattle.std.specs.Prelude.{◌≡◌, ◌++◌, not, nat_lt, length, IfOk, IsOk, OnOk, OnErr, true};
-ghost use Rattle.fwd_model.specs.Step.{is_loaded};
+ghost use Rattle.fwd_model.specs.Replies.{is_loaded};
 ghost use Rattle.fwd_model.specs.Sessions.{
   session_begins,
   session_loads,

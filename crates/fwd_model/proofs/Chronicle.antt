@@ -17,7 +17,8 @@ use Rattle.fwd_source.specs.History.{SourceHistory, judged}
 use Rattle.fwd_model.specs.declared.answer.Answer.TheVariants as answer
 use Rattle.fwd_model.specs.declared.fault.Refusal.TheVariants.{NoSuch, NotNow}
 use Rattle.fwd_model.specs.Outcome.{Goes, answer_of, state_of, within, found, refuse_if, ◌>>=◌, ◌>>◌}
-use Rattle.fwd_model.specs.Step.{step, after, frame_of, at_worker, up, with_session}
+use Rattle.fwd_model.specs.Step.{step, after, at_worker, up, with_session}
+use Rattle.fwd_model.specs.Chunks.{frame_of}
 use Rattle.fwd_model.specs.Books.{Admission, entered_as, has_cell}
 use Rattle.fwd_model.specs.Sessions.{SessionHistory, is_handed_on}
 use Rattle.fwd_model.specs.History.{Connection, ever_at, source_at, with_source, with_gone, Lane, History, with_lane, history_worker, histories}

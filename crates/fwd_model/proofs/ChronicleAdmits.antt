@@ -14,7 +14,7 @@ use Rattle.fwd_model.specs.declared.config.Config.{Config}
 use Rattle.fwd_model.specs.declared.event.Event.{Event}
 use Rattle.fwd_model.specs.Chunks.{greatest, cells_at, cells_of, first_tag}
 use Rattle.fwd_source.specs.History.{SourceHistory, judged}
-use Rattle.fwd_model.specs.Step.{frame_of}
+use Rattle.fwd_model.specs.Chunks.{frame_of}
 use Rattle.fwd_model.specs.Buffers.{enters as buffer_history_enters}
 use Rattle.fwd_model.specs.Books.{Admission, entered_as, has_cell}
 use Rattle.fwd_model.specs.Outputs.{output_history_enters}

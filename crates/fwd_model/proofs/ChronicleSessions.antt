@@ -21,7 +21,7 @@ use Rattle.fwd_model.specs.declared.fault.SessionFault.TheVariants.{BadReply, Wr
 use Rattle.fwd_model.specs.Chunks.{carry_of}
 use Rattle.fwd_model.specs.Replies.{Replies, Reply, reply_of, reply_named, reply_then, replies, replies_in, silence, failing}
 use Rattle.fwd_model.specs.Replies.Reply.{Skipped, Accepted, Failed}
-use Rattle.fwd_model.specs.Step.{is_loaded}
+use Rattle.fwd_model.specs.Replies.{is_loaded}
 use Rattle.fwd_model.specs.Sessions as session
 use Rattle.fwd_model.specs.Sessions.{SessionHistory, is_handed_on}
 use Rattle.fwd_model.specs.History.{Connection, Lane, with_session}

@@ -22,7 +22,10 @@ use Rattle.fwd_model.specs.Outcome.{Outcome, Stays, Goes, answer_of, state_of}
 use Rattle.fwd_model.specs.Layers.{Worker}
 use Rattle.fwd_model.specs.Books.{acks_of}
 use Rattle.fwd_model.specs.Step as steps
-use Rattle.fwd_model.specs.Step.{step, setup_of, frame_of, is_loaded, of_piece, first_of}
+use Rattle.fwd_model.specs.Step.{step, of_piece, first_of}
+use Rattle.fwd_model.specs.Setups.{setup_of}
+use Rattle.fwd_model.specs.Chunks.{frame_of}
+use Rattle.fwd_model.specs.Replies.{is_loaded}
 use Rattle.fwd_model.specs.Buffers as buffer
 use Rattle.fwd_model.specs.Outputs.{output_history_enters, output_history_due, output_history_tells}
 use Rattle.fwd_model.specs.Sessions as session

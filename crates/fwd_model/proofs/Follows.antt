@@ -22,7 +22,10 @@ use Rattle.fwd_model.specs.Outcome.{Outcome, Stays, Goes, answer_of, state_of, w
 use Rattle.fwd_model.specs.Layers.{Worker}
 use Rattle.fwd_model.specs.Books.{numbers_of, acks_of}
 use Rattle.fwd_model.specs.Step as steps
-use Rattle.fwd_model.specs.Step.{step, answers, after, setup_of, frame_of, is_loaded, of_piece, first_of, chunk_answer, reply_answer, with_session}
+use Rattle.fwd_model.specs.Step.{step, answers, after, of_piece, first_of, chunk_answer, with_session}
+use Rattle.fwd_model.specs.Setups.{setup_of}
+use Rattle.fwd_model.specs.Chunks.{frame_of}
+use Rattle.fwd_model.specs.Replies.{is_loaded, reply_answer}
 use Rattle.fwd_model.specs.Buffers.{is_closed_by, has_no_number, live_buffer, buffer_closes}
 use Rattle.fwd_model.specs.Outputs.{live_output, output_history_due}
 use Rattle.fwd_model.specs.Sessions.{SessionHistory, LiveSession, live_session, loads}

@@ -19,7 +19,8 @@ use Rattle.fwd_source.specs.declared.origin.Origin.{Origin}
 use Rattle.fwd_model.specs.Outcome.{Outcome, Stays, Goes, state_of}
 use Rattle.fwd_model.specs.Layers.{Worker}
 use Rattle.fwd_model.specs.Step as steps
-use Rattle.fwd_model.specs.Step.{step, setup_of}
+use Rattle.fwd_model.specs.Step.{step}
+use Rattle.fwd_model.specs.Setups.{setup_of}
 use Rattle.fwd_model.specs.Buffers.{next_number}
 use Rattle.fwd_model.specs.Books.{Admission, entered_as, is_of, is_settled, is_due, told_if, tells, numbers_of, acks_of}
 use Rattle.fwd_model.specs.Outputs.{output_history_enters, output_history_due, output_history_tells}

@@ -16,7 +16,10 @@ use Rattle.fwd_model.specs.declared.fault.SessionFault.{SessionFault}
 use Rattle.fwd_model.specs.Outcome.{Outcome, Stays, Goes, answer_of, state_of, is_refusal}
 use Rattle.fwd_model.specs.Layers.{Worker, Layers}
 use Rattle.fwd_model.specs.Step as steps
-use Rattle.fwd_model.specs.Step.{step, setup_of, of_piece, first_of, chunk_answer, is_loaded, frame_of, reply_answer}
+use Rattle.fwd_model.specs.Step.{step, of_piece, first_of, chunk_answer}
+use Rattle.fwd_model.specs.Setups.{setup_of}
+use Rattle.fwd_model.specs.Replies.{is_loaded, reply_answer}
+use Rattle.fwd_model.specs.Chunks.{frame_of}
 use Rattle.fwd_model.proofs.Onward.{Onward, to, past, past_found, past_either, source_on, lane_on, both_on, worker_on, session_on}
 
 -- what is gone on to is no refusal

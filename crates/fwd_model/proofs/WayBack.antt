@@ -20,6 +20,7 @@ use Rattle.fwd_source.specs.History.{SourceHistory}
 use Rattle.fwd_model.specs.declared.fault.Refusal.TheVariants.{Closed, NoSuch, NotNow, NotUp}
 use Rattle.fwd_model.specs.Outcome.{answer_of, state_of, within, found as sought, refuse_if, Goes, ◌>>=◌, ◌>>◌}
 use Rattle.fwd_model.specs.Step as steps
+use Rattle.fwd_model.specs.Replies.{reply_answer}
 use Rattle.fwd_model.specs.Step.{step}
 use Rattle.fwd_model.specs.Books.{Admission, is_of, is_settled, is_due, numbers_of, acks_of}
 use Rattle.fwd_model.specs.Outputs.{output_history_due}
@@ -67,14 +68,14 @@ settled_as h o w l s here at =
 
 -- what hearing comes to there
 heard_as : (h : History) (o w : ℕ) (bytes : List ℕ) (l : Lane) (s : SessionHistory) → slice_get h.lanes o ≡ Some l → slice_get l.sessions w ≡ Some (Some s)
-    → step histories h (event.Heard o w bytes) ≡ (refuse_if s.down NotUp >> Goes (steps.reply_answer (replies_to s h.run o bytes).accepted (replies_to s h.run o bytes).fault) (with_lane o (with_session w (listens s bytes (replies_to s h.run o bytes)) l) h))
+    → step histories h (event.Heard o w bytes) ≡ (refuse_if s.down NotUp >> Goes (reply_answer (replies_to s h.run o bytes).accepted (replies_to s h.run o bytes).fault) (with_lane o (with_session w (listens s bytes (replies_to s h.run o bytes)) l) h))
 heard_as h o w bytes l s here at =
     ap (λ x. sought x NoSuch >>= (λ m. within (λ n. with_lane o n h) (steps.at_worker histories m w (λ x. steps.at_session histories x (steps.heard histories h.run o bytes))))) here
     ∙ ap (λ x. within (λ n. with_lane o n h) (sought (option_map (history_worker l w) x) NoSuch >>= (λ y. within (histories.puts_worker l w) (steps.at_session histories y (steps.heard histories h.run o bytes))))) at
     ∙ outside s.down
   where
-    outside : (b : Bool) → within (λ n. with_lane o n h) (within (histories.puts_worker l w) (within (steps.with_session (history_worker l w (Some s))) (refuse_if b NotUp >> Goes (steps.reply_answer (replies_to s h.run o bytes).accepted (replies_to s h.run o bytes).fault) (listens s bytes (replies_to s h.run o bytes)))))
-        ≡ (refuse_if b NotUp >> Goes (steps.reply_answer (replies_to s h.run o bytes).accepted (replies_to s h.run o bytes).fault) (with_lane o (with_session w (listens s bytes (replies_to s h.run o bytes)) l) h))
+    outside : (b : Bool) → within (λ n. with_lane o n h) (within (histories.puts_worker l w) (within (steps.with_session (history_worker l w (Some s))) (refuse_if b NotUp >> Goes (reply_answer (replies_to s h.run o bytes).accepted (replies_to s h.run o bytes).fault) (listens s bytes (replies_to s h.run o bytes)))))
+        ≡ (refuse_if b NotUp >> Goes (reply_answer (replies_to s h.run o bytes).accepted (replies_to s h.run o bytes).fault) (with_lane o (with_session w (listens s bytes (replies_to s h.run o bytes)) l) h))
     outside true = refl
     outside false = refl
 
@@ -98,7 +99,7 @@ early-nothing h o w bytes l s here at none early =
     refused : (replies_to s h.run o bytes).accepted ≡ false
     refused = ap (λ a. (replies_in a (newly_heard s bytes)).accepted) nobody ∙ none_in (newly_heard s bytes)
 
-    by : (b : Bool) → answer_of (step histories (state_of h (refuse_if b NotUp >> Goes (steps.reply_answer (replies_to s h.run o bytes).accepted (replies_to s h.run o bytes).fault) (with_lane o (with_session w u l) h))) (event.Settle o w)) ≡ answer.Refused NotNow
+    by : (b : Bool) → answer_of (step histories (state_of h (refuse_if b NotUp >> Goes (reply_answer (replies_to s h.run o bytes).accepted (replies_to s h.run o bytes).fault) (with_lane o (with_session w u l) h))) (event.Settle o w)) ≡ answer.Refused NotNow
     by true =
         settled_as h o w l s here at
         ∙ ap (λ b. answer_of (sought (cond b s.loaded None) NotNow >>= (λ k. Goes (answer.Settled (length (cells_at k l.output.buffer.cells))) (histories.settles l w s k)))) none
@@ -115,8 +116,8 @@ pub before_fault-stands : (h : History) (o w k : ℕ) (bytes : List ℕ) (l : La
     → (answer_of (step histories h (event.Heard o w bytes)) ≡ answer.SessionFaulted f) × (answer_of (step histories (state_of h (step histories h (event.Heard o w bytes))) (event.Settle o w)) ≡ answer.Settled (length (cells_at k l.output.buffer.cells)))
 before_fault-stands h o w k bytes l s f here at up loaded accepted fault =
     let u = listens s bytes (replies_to s h.run o bytes) in
-    let heard = heard_as h o w bytes l s here at ∙ ap (λ b. refuse_if b NotUp >> Goes (steps.reply_answer (replies_to s h.run o bytes).accepted (replies_to s h.run o bytes).fault) (with_lane o (with_session w u l) h)) up in (
-      ap answer_of heard ∙ (λ i. steps.reply_answer (accepted i) (fault i)),
+    let heard = heard_as h o w bytes l s here at ∙ ap (λ b. refuse_if b NotUp >> Goes (reply_answer (replies_to s h.run o bytes).accepted (replies_to s h.run o bytes).fault) (with_lane o (with_session w u l) h)) up in (
+      ap answer_of heard ∙ (λ i. reply_answer (accepted i) (fault i)),
       ap (λ x. answer_of (step histories (state_of h x) (event.Settle o w))) heard
           ∙ settled_after h o w l s u here at
           ∙ (λ i. answer_of (sought (cond (s.accepted || accepted i) s.loaded None) NotNow >>= (λ k. Goes (answer.Settled (length (cells_at k l.output.buffer.cells))) (histories.settles (with_session w u l) w u k))))

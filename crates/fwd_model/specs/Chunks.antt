@@ -3,6 +3,7 @@ use Rattle.std.specs.Prelude.{ℕ, ◌+◌, ◌^◌, Bool, true, false, not, ◌
 use Rattle.std.specs.List.{list_any}
 use Rattle.std.specs.Str.{bytes_eq}
 use Rattle.fwd_modes.specs.Requests.{Request}
+use Rattle.fwd_modes.specs.Frames.{chunk_frame, chunk_name}
 use Rattle.fwd_model.specs.declared.cell.Cell.{Cell}
 use Rattle.fwd_source.specs.declared.origin.Origin.{Origin}
 use Rattle.fwd_model.specs.declared.cell.Carry.{Carry}
@@ -93,3 +94,7 @@ put_down worker carried = filter (λ c. not (c.worker == worker)) carried
 -- what the worker has
 abbrev pub carry_of : ℕ → List Carry → Option Carry
 carry_of worker carried = find (λ c. c.worker == worker) carried
+
+-- a chunk's frame, by its run and output
+abbrev pub frame_of : List ℕ → ℕ → Chunk → List ℕ
+frame_of run o chunk = chunk_frame chunk.tag chunk.entries (chunk_name run o chunk.number)

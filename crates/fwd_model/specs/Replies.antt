@@ -1,10 +1,12 @@
 -- What a server's bytes say to a session (Forward Protocol Specification v1, "Response").
-use Rattle.std.specs.Prelude.{ℕ, Bool, true, false, List, [], ◌∷◌, drop, length, Option, Some, None, if◌then◌else◌}
+use Rattle.std.specs.Prelude.{ℕ, Bool, true, false, List, [], ◌∷◌, drop, length, Option, Some, None, ◌==◌, if◌then◌else◌}
 use Rattle.std.specs.Str.{bytes_eq}
 use Rattle.fwd_msgpack.specs.Scans.{Split, split_of, values_of}
 use Rattle.fwd_msgpack.specs.Scans.Split.{Open, Broken}
 use Rattle.fwd_modes.specs.Kinds.{is_nil}
 use Rattle.fwd_modes.specs.Acks.{ack_name}
+use Rattle.fwd_model.specs.declared.answer.Answer.{Answer}
+use Rattle.fwd_model.specs.declared.answer.Answer.TheVariants as answer
 use Rattle.fwd_model.specs.declared.fault.SessionFault.{SessionFault}
 use Rattle.fwd_model.specs.declared.fault.SessionFault.TheVariants.{BadReply, WrongAck, EarlyAck}
 
@@ -73,3 +75,16 @@ ended_by heard stream = behind (length (values_of (reply_stream heard))) stream
 abbrev pub rest_of : Split → List ℕ
 rest_of (Open values rest) = rest
 rest_of (Broken values fault) = []
+
+-- ---- what a session is told
+
+-- the session has this number already
+abbrev pub is_loaded : Option ℕ → ℕ → Bool
+is_loaded None number = false
+is_loaded (Some k) number = k == number
+
+-- a fault is answered before an acknowledgement
+abbrev pub reply_answer : Bool → Option SessionFault → Answer
+reply_answer accepted (Some f) = answer.SessionFaulted f
+reply_answer true None = answer.Acked []
+reply_answer false None = answer.Quiet []

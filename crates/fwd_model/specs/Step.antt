@@ -1,12 +1,8 @@
 -- What one event does to a relay. It is said once, over any layers: the history of all that came, or what of it still
 -- matters. Each event reads from the top: its checks in their order, and then its answer and what it changes.
 use Rattle.std.specs.Prelude.{ℕ, ◌+◌, Bool, true, false, not, List, [], ◌∷◌, length, Option, Some, None, is_some, nat_lt, ◌==◌, if◌then◌else◌}
-use Rattle.std.proofs.Math.Nat.{le_refl}
-use Rattle.fwd_msgpack.specs.declared.limits.Limits.{Limits}
 use Rattle.fwd_modes.specs.Requests.{Request}
-use Rattle.fwd_modes.specs.Frames.{chunk_frame, chunk_name}
 use Rattle.fwd_match.specs.Patterns.{route}
-use Rattle.fwd_handshake.specs.declared.credentials.Security.{Security}
 use Rattle.fwd_source.specs.declared.piece.Piece.{Piece}
 use Rattle.fwd_source.specs.declared.piece.Piece.TheVariants as told
 use Rattle.fwd_source.specs.History.{Setup, opening_text}
@@ -17,19 +13,12 @@ use Rattle.fwd_model.specs.declared.event.FlushKind.{FlushKind}
 use Rattle.fwd_model.specs.declared.answer.Answer.{Answer}
 use Rattle.fwd_model.specs.declared.answer.Answer.TheVariants as answer
 use Rattle.fwd_model.specs.declared.fault.Refusal.TheVariants.{Closed, NoSuch, NotNow, NotUp}
-use Rattle.fwd_model.specs.declared.fault.SessionFault.{SessionFault}
 use Rattle.fwd_model.specs.Books.{numbers_of, acks_of}
 use Rattle.fwd_model.specs.Outcome.{Outcome, Stays, Goes, answer_of, state_of, within, ◌>>=◌, ◌>>◌, found, refuse_if}
 use Rattle.fwd_model.specs.Layers.{Worker, Layers}
-
--- how long and how deep a value of a source may be: 16,777,216 bytes, and 64 arrays and maps one in another
-abbrev pub source_limits : Limits
-source_limits = record { bytes = 16777216; depth = 64; shallow = le_refl 64 }
-
--- what a connection is accepted with
-abbrev pub setup_of : Security → ℕ → (nonce auth : List ℕ) → Setup
-setup_of security id nonce auth =
-    record { conn = id; security = security; nonces = record { nonce = nonce; auth = auth }; limits = source_limits }
+use Rattle.fwd_model.specs.Setups.{setup_of}
+use Rattle.fwd_model.specs.Chunks.{frame_of}
+use Rattle.fwd_model.specs.Replies.{reply_answer, is_loaded}
 
 -- a piece is refused once the source is closed; else its fault is told, or how many requests wait, and the PONG
 abbrev pub of_piece : {S : Type 0} → Piece → ℕ → List ℕ → S → Outcome S
@@ -50,21 +39,6 @@ chunk_answer (Some c) = answer.Took c.number (length c.entries)
 -- the worker with this session
 abbrev pub with_session : {S : Type 0} → Worker S → S → Worker S
 with_session x s = record { chunk = x.chunk; session = Some s }
-
--- the session has this number already
-abbrev pub is_loaded : Option ℕ → ℕ → Bool
-is_loaded None number = false
-is_loaded (Some k) number = k == number
-
--- a chunk's frame, by its run and output
-abbrev pub frame_of : List ℕ → ℕ → Chunk → List ℕ
-frame_of run o chunk = chunk_frame chunk.tag chunk.entries (chunk_name run o chunk.number)
-
--- a fault is answered before an acknowledgement
-abbrev pub reply_answer : Bool → Option SessionFault → Answer
-reply_answer accepted (Some f) = answer.SessionFaulted f
-reply_answer true None = answer.Acked []
-reply_answer false None = answer.Quiet []
 
 module _ (L : Layers) where
   open L use {Relay, Source, Lane, Session, run, routes, security, is_fresh, source_at, lane_at, accepts, leaves, puts_source, puts_lane, is_shut, waiting, admitted, unsent, piece_answer, pong, hears, gives, appends, drains, shuts, config, is_spent, closing, free, entries_at, due, worker_at, enters, flushes, takes, settles, tells, puts_worker, begins, loaded, is_acked, is_down, to_send, replies, loads, sends, listens}
