@@ -1,10 +1,13 @@
 -- Lists as their members.
 use Rattle.std.proofs.Common.{◌≡◌, ℕ, suc, ◌+◌, ◌<◌, List, [], ◌∷◌, ◌++◌, length, get_or, take, drop, map, Some, None, refl, ap}
 use Rattle.std.proofs.lemmas.List.{drop_more, take_more, map-append}
-use Rattle.toml.specs.Data.{Data, string, integer, float, boolean, datetime, array, table, Members, as_array, as_table}
+use Rattle.toml.specs.Data.{Data, string, integer, float, boolean, datetime, array, table, Members, no_members, as_array, as_table}
 use Rattle.toml.specs.View.{view, items_view, items_of}
 use Rattle.toml.specs.declared.value.Value.{Value}
+use Rattle.std.specs.List.{list_all}
+use Rattle.std.proofs.lemmas.List.Folds.{list_all-map}
 use Rattle.fwd_settings.specs.Kinds.{data_in, list_of, each}
+use Rattle.fwd_settings.specs.Keys.{table_of, is_standby}
 
 data_in_items : (values : List Data) → data_in (items_of values) ≡ values
 data_in_items [] = refl
@@ -54,3 +57,16 @@ table_seen (integer n) shown h = cc
 table_seen (float x) shown h = cc
 table_seen (boolean b) shown h = cc
 table_seen (datetime d) shown h = cc
+
+-- a value that is none
+pub no_table : (value : Data) → as_table value ≡ None → table_of value ≡ no_members
+no_table (table inside) h = cc
+no_table (array items) h = refl
+no_table (string text) h = refl
+no_table (integer n) h = refl
+no_table (float x) h = refl
+no_table (boolean b) h = refl
+no_table (datetime d) h = refl
+
+pub all_viewed : (values : List Value) → list_all is_standby (map view values) ≡ list_all (λ value. is_standby (view value)) values
+all_viewed values = list_all-map is_standby view values

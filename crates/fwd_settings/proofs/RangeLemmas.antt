@@ -4,6 +4,7 @@ use Rattle.std.specs.Prelude.{map, not, ◌&&◌, nat_le, codes, ℤ, pos, negsu
 use Rattle.std.specs.List.{list_all}
 use Rattle.std.proofs.lemmas.Bool.Decides.{nat_tests}
 use Rattle.std.proofs.lemmas.List.{length-map}
+use Rattle.std.proofs.lemmas.List.Folds.{list_all-map}
 use Rattle.toml.specs.Data.{Data, string, integer, float, boolean, datetime, array, table, Members, no_members, get_member, as_str}
 use Rattle.fwd_settings.specs.declared.fault.SettingsFault.{SettingsFault}
 use Rattle.fwd_settings.specs.declared.place.Place.{Place}
@@ -12,7 +13,7 @@ use Rattle.fwd_settings.specs.declared.settings.Settings.{Settings}
 use Rattle.fwd_settings.specs.declared.settings.ServerSettings.{ServerSettings}
 use Rattle.fwd_settings.specs.Faults.{fault_with, key_under}
 use Rattle.fwd_settings.specs.Kinds.{Key, optional, required, given, unless_out, is_within, number_flaw, number_of, number_key, text_flaw, text_key, optional_text_key, required_text_key, data_in, list_flaw, list_of, required_list_key, allowed_list_flaw, optional_list_key, each, fault_at, setting_at}
-use Rattle.fwd_settings.specs.Keys.{first, table_in, outputs, relay_table, relay_settings, connections, relay_hostname, shared_key, users, user_name, user_password, user_table, user_fault, user_settings, output_table, output_fault, output_settings, retry_wait, username, password, servers, servers_in, server_settings, standby_fault}
+use Rattle.fwd_settings.specs.Keys.{first, table_in, outputs, relay_table, relay_settings, connections, relay_hostname, shared_key, users, user_name, user_password, user_table, user_fault, user_settings, output_table, output_fault, output_settings, retry_wait, username, password, servers, server_settings, is_standby, standby_fault}
 use Rattle.fwd_settings.specs.Whole.{relay_fault, root_table, root_settings, judged, of_document, document_of, settings_of}
 use Rattle.fwd_settings.specs.Ranges.{user_in_range, key_in_range, have_key, relay_in_range, output_in_range, in_range}
 
@@ -183,8 +184,9 @@ relay_within members h =
     (both (is_within 1 1024 r.connections) (list_all user_in_range r.users && have_key r.shared_key r.users) count
     (both (list_all user_in_range r.users) (have_key r.shared_key r.users) all allowed)))
 
-standby_none : (output : ℕ) (listed : List ServerSettings) → standby_fault output listed ≡ None → not (list_all (λ server. server.standby) listed) ≡ true
-standby_none output listed h = by (list_all (λ server. server.standby) listed) h
+standby_none : (output : ℕ) (listed : List Data) → standby_fault output listed ≡ None → not (list_all (λ server. server.standby) (map server_settings listed)) ≡ true
+standby_none output listed h =
+    ap not (list_all-map (λ (server : ServerSettings). server.standby) server_settings listed) ∙ by (list_all is_standby listed) h
   where
     by : (b : Bool) → cond b (Some (Rattle.fwd_settings.specs.declared.fault.SettingsFault.TheVariants.OutOfRange (key_under (Output output) (codes "server")))) None ≡ None → not b ≡ true
     by true f = absurd cc
@@ -215,7 +217,7 @@ module _ (output : ℕ) (members : Members) (h : first (output_table output memb
       let secret = at_most 0 255 (length (setting_at members password)) (text_here 10 (codes "password") 0 (codes "") refl refl) in
       let listed = list_within (Output output) members (codes "server") 16 (none_at (output_table output members) 11 (fault_at (Output output) members servers) h refl) in
       let count = ap (is_within 1 16) (length-map (setting_at members servers) server_settings) ∙ listed in
-      let usable = standby_none output (servers_in members) (none_at (output_table output members) 13 (standby_fault output (servers_in members)) h refl) in
+      let usable = standby_none output (setting_at members servers) (none_at (output_table output members) 12 (standby_fault output (setting_at members servers)) h refl) in
       grind (
         arith,
         nat_tests,

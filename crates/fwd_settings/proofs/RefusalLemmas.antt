@@ -10,10 +10,9 @@ use Rattle.fwd_settings.specs.declared.place.Place.TheVariants.{Relay, User, Out
 use Rattle.fwd_settings.specs.declared.place.Flaw.{Flaw}
 use Rattle.fwd_settings.specs.declared.place.Flaw.TheVariants as flaws
 use Rattle.fwd_settings.specs.declared.settings.Settings.{Settings}
-use Rattle.fwd_settings.specs.declared.settings.ServerSettings.{ServerSettings}
 use Rattle.fwd_settings.specs.Faults.{fault_with, key_under, own_key}
 use Rattle.fwd_settings.specs.Kinds.{Key, each, fault_at}
-use Rattle.fwd_settings.specs.Keys.{first, relay_table, user_table, user_fault, output_table, output_fault, server_table, server_fault, standby_fault}
+use Rattle.fwd_settings.specs.Keys.{first, relay_table, user_table, user_fault, output_table, output_fault, server_table, server_fault, is_standby, standby_fault}
 use Rattle.fwd_settings.specs.Whole.{relay_fault, root_table, root_settings, judged, of_document, document_of, settings_of}
 
 -- whether a fault, if there is one, is of the text
@@ -72,8 +71,8 @@ in_server output server (boolean x) = wrong_kind (own_key (Server output server)
 in_server output server (datetime x) = wrong_kind (own_key (Server output server))
 in_server output server (array x) = wrong_kind (own_key (Server output server))
 
-standbys : (output : ℕ) (listed : List ServerSettings) → of_text (standby_fault output listed) ≡ true
-standbys output listed = by (list_all (λ server. server.standby) listed)
+standbys : (output : ℕ) (listed : List Data) → of_text (standby_fault output listed) ≡ true
+standbys output listed = by (list_all is_standby listed)
   where
     out : of_text (Some (OutOfRange (key_under (Output output) (codes "server")))) ≡ true
     out = flawed (Some flaws.OutOfRange) (key_under (Output output) (codes "server"))

@@ -1,5 +1,5 @@
 -- The table of keys: each with its kind, its range and its default, and the order in which they are judged.
-use Rattle.std.specs.Prelude.{ℕ, Bool, false, List, [], ◌∷◌, map, codes, max, Option, Some, None, is_some, unwrap_or, option_and_then, if◌then◌else◌}
+use Rattle.std.specs.Prelude.{ℕ, Bool, false, List, [], ◌∷◌, ◌++◌, map, codes, max, Option, Some, None, is_some, unwrap_or, option_and_then, if◌then◌else◌}
 use Rattle.std.specs.List.{list_all}
 use Rattle.std.specs.declared.net.socket_addr.SocketAddr.{SocketAddr}
 use Rattle.toml.specs.Data.{Data, table, Members, no_members, get_member, as_table}
@@ -10,6 +10,9 @@ use Rattle.fwd_settings.specs.declared.settings.RelaySettings.{RelaySettings}
 use Rattle.fwd_settings.specs.declared.settings.UserSettings.{UserSettings}
 use Rattle.fwd_settings.specs.declared.settings.OutputSettings.{OutputSettings}
 use Rattle.fwd_settings.specs.declared.settings.ServerSettings.{ServerSettings}
+use Rattle.fwd_settings.specs.declared.output.Sizes.{Sizes}
+use Rattle.fwd_settings.specs.declared.output.Waits.{Waits}
+use Rattle.fwd_settings.specs.declared.output.Login.{Login}
 use Rattle.fwd_settings.specs.Addresses.{home}
 use Rattle.fwd_settings.specs.Faults.{own_key, key_under}
 use Rattle.fwd_settings.specs.Kinds.{Key, each, fault_at, setting_at, number_key, flag_key, text_key, optional_text_key, required_text_key, digits_key, address_key, address_key_or, required_address_key, required_pattern_key, required_list_key, optional_list_key}
@@ -194,27 +197,70 @@ output_names =
 abbrev pub servers_in : Members → List ServerSettings
 servers_in output = map server_settings (setting_at output servers)
 
--- a list of servers that are all standbys is out of range
-abbrev pub standby_fault : ℕ → List ServerSettings → Option SettingsFault
+-- a member counts as a standby where its `standby` is true, whatever else is wrong with it
+abbrev pub is_standby : Data → Bool
+is_standby value = setting_at (table_of value) standby
+
+-- a list of servers that are all standbys is out of range, which is judged before its members' keys
+abbrev pub standby_fault : ℕ → List Data → Option SettingsFault
 standby_fault output listed =
-    if list_all (λ server. server.standby) listed then Some (OutOfRange (key_under (Output output) (codes "server"))) else None
+    if list_all is_standby listed then Some (OutOfRange (key_under (Output output) (codes "server"))) else None
+
+-- how much an output holds
+abbrev pub size_table : ℕ → Members → List (Option SettingsFault)
+size_table output members =
+    fault_at (Output output) members workers ∷
+    fault_at (Output output) members chunk_limit ∷
+    fault_at (Output output) members total_limit ∷ []
+
+-- how long it waits
+abbrev pub wait_table : ℕ → Members → List (Option SettingsFault)
+wait_table output members =
+    fault_at (Output output) members flush_interval ∷
+    fault_at (Output output) members retry_wait ∷
+    fault_at (Output output) members (retry_max members) ∷
+    fault_at (Output output) members ack_wait ∷ []
+
+-- how it logs in
+abbrev pub login_table : ℕ → Members → List (Option SettingsFault)
+login_table output members =
+    fault_at (Output output) members output_hostname ∷
+    fault_at (Output output) members username ∷
+    fault_at (Output output) members password ∷ []
+
+-- its servers: first the list's own range
+abbrev pub list_table : ℕ → Members → List (Option SettingsFault)
+list_table output members =
+    fault_at (Output output) members servers ∷
+    standby_fault output (setting_at members servers) ∷
+    first (each (server_fault output) 0 (setting_at members servers)) ∷ []
 
 abbrev pub output_table : ℕ → Members → List (Option SettingsFault)
 output_table output members =
     fault_at (Output output) members pattern ∷
-    fault_at (Output output) members workers ∷
-    fault_at (Output output) members chunk_limit ∷
-    fault_at (Output output) members total_limit ∷
-    fault_at (Output output) members flush_interval ∷
-    fault_at (Output output) members retry_wait ∷
-    fault_at (Output output) members (retry_max members) ∷
-    fault_at (Output output) members ack_wait ∷
-    fault_at (Output output) members output_hostname ∷
-    fault_at (Output output) members username ∷
-    fault_at (Output output) members password ∷
-    fault_at (Output output) members servers ∷
-    first (each (server_fault output) 0 (setting_at members servers)) ∷
-    standby_fault output (servers_in members) ∷ []
+    (size_table output members ++ (wait_table output members ++ (login_table output members ++ list_table output members)))
+
+abbrev pub output_sizes : Members → Sizes
+output_sizes output = record {
+  workers = setting_at output workers;
+  chunk_limit = setting_at output chunk_limit;
+  total_limit = setting_at output total_limit;
+}
+
+abbrev pub output_waits : Members → Waits
+output_waits output = record {
+  flush_interval = setting_at output flush_interval;
+  retry_wait = setting_at output retry_wait;
+  retry_max = setting_at output (retry_max output);
+  ack_wait = setting_at output ack_wait;
+}
+
+abbrev pub output_login : Members → Login
+output_login output = record {
+  hostname = setting_at output output_hostname;
+  username = setting_at output username;
+  password = setting_at output password;
+}
 
 abbrev pub output_fault : ℕ → Data → Option SettingsFault
 output_fault output (table members) = first (output_table output members)

@@ -1,41 +1,114 @@
 //! The outputs.
 
-ghost use Rattle.std.specs.Prelude.{◌≡◌, map};
-ghost use Rattle.std.specs.List.{list_all};
+ghost use Rattle.std.specs.Prelude.{map};
 ghost use Rattle.toml.specs.Data.{table as data_table};
 ghost use Rattle.toml.specs.View.{view, table_view};
 ghost use Rattle.fwd_settings.specs.Kinds.{Answers, each};
-ghost use Rattle.fwd_settings.specs.Keys.{first, output_fault, output_settings, output_table, standby_fault};
+ghost use Rattle.fwd_settings.specs.Keys.{first, output_fault, output_settings, output_table, size_table, output_sizes, wait_table, output_waits, login_table, output_login, list_table, servers_in};
 
 use crate::fault::SettingsFault;
 use crate::place::{Flaw, Place};
 use crate::section::Section;
 use crate::seq::Seq;
-use crate::server::servers_of;
+use crate::server::{check_usable, servers_of};
 use crate::settings::{OutputSettings, ServerSettings};
+use crate::text::Text;
 use std::alloc::Global;
 use toml::{Table, Value};
 
-/// Whether all of the servers are standbys.
-fn are_standbys(servers: &[ServerSettings]) -> bool
-    ensures { result ≡ list_all (λ server. server.standby) servers.now }
-{
-    servers.iter().all(|server| server.standby)
+/// How much an output holds.
+#[derive(Clone, Copy, Debug)]
+struct Sizes {
+    workers: u16,
+    chunk_limit: u64,
+    total_limit: u64,
 }
 
-/// Whether one of the servers is no standby.
-fn check_usable(
+/// How long an output waits, in milliseconds.
+#[derive(Clone, Copy, Debug)]
+struct Waits {
+    flush_interval: u64,
+    retry_wait: u64,
+    retry_max: u64,
+    ack_wait: u64,
+}
+
+/// How an output logs in.
+#[derive(Drop)]
+struct Login {
+    hostname: Text,
+    username: Text,
+    password: Text,
+}
+
+/// The sizes in an output's table.
+fn sizes_in(alloc: Global, output: usize, table: &Table) -> Result<Sizes, SettingsFault>
+    ensures { let members = table_view table.now in
+        Answers (first (size_table output members)) (output_sizes members) result }
+{
+    let place = Place::Output(output);
+    let section = Section { place, table };
+    let workers = section.count(alloc, "workers", 16, 1)?;
+    let chunk_limit = section.number(alloc, "chunk_limit", 1, 16_000_000, 8_000_000)?;
+    let total_limit = section.number(alloc, "total_limit", 1, 1_000_000_000_000, 512_000_000)?;
+    Ok(Sizes {
+        workers,
+        chunk_limit,
+        total_limit,
+    })
+}
+
+/// The times in an output's table.
+fn waits_in(alloc: Global, output: usize, table: &Table) -> Result<Waits, SettingsFault>
+    ensures { let members = table_view table.now in
+        Answers (first (wait_table output members)) (output_waits members) result }
+{
+    let place = Place::Output(output);
+    let section = Section { place, table };
+    let flush_interval = section.number(alloc, "flush_interval", 0, 86_400_000, 5000)?;
+    let retry_wait = section.number(alloc, "retry_wait", 1, 86_400_000, 1000)?;
+    let retry_max = section.retry_max(alloc, retry_wait)?;
+    let ack_wait = section.number(alloc, "ack_wait", 1, 86_400_000, 190_000)?;
+    Ok(Waits {
+        flush_interval,
+        retry_wait,
+        retry_max,
+        ack_wait,
+    })
+}
+
+/// The names and the password in an output's table.
+fn login_in(alloc: Global, output: usize, table: &Table) -> Result<Login, SettingsFault>
+    ensures { let members = table_view table.now in
+        Answers (first (login_table output members)) (output_login members) result }
+{
+    let place = Place::Output(output);
+    let section = Section { place, table };
+    let hostname = section.text(alloc, "hostname", 1, 255, "relay")?;
+    let username = section.text(alloc, "username", 0, 255, "")?;
+    let password = section.text(alloc, "password", 0, 255, "")?;
+    Ok(Login {
+        hostname,
+        username,
+        password,
+    })
+}
+
+/// The servers in an output's table. The list's own range is judged first: how many there are, and whether one of them
+/// is no standby.
+fn servers_in(
     alloc: Global,
     output: usize,
-    servers: &[ServerSettings],
-) -> Result<(), SettingsFault>
-    ensures { Answers (standby_fault output servers.now) tt result }
+    table: &Table,
+) -> Result<Seq<ServerSettings>, SettingsFault>
+    ensures { let members = table_view table.now in
+        Answers (first (list_table output members)) (servers_in members) result }
 {
-    if are_standbys(servers) {
-        Err(Place::Output(output).fault(alloc, "server", Flaw::OutOfRange))
-    } else {
-        Ok(())
-    }
+    let place = Place::Output(output);
+    let section = Section { place, table };
+    let listed = section.required_list(alloc, "server", 16)?;
+    check_usable(alloc, output, listed)?;
+    servers_of(alloc, output, listed)
 }
 
 /// The settings in an output's table.
@@ -45,31 +118,22 @@ fn output_in(alloc: Global, output: usize, table: &Table) -> Result<OutputSettin
     let place = Place::Output(output);
     let section = Section { place, table };
     let pattern = section.required_pattern(alloc, "match")?;
-    let workers = section.count(alloc, "workers", 16, 1)?;
-    let chunk_limit = section.number(alloc, "chunk_limit", 1, 16_000_000, 8_000_000)?;
-    let total_limit = section.number(alloc, "total_limit", 1, 1_000_000_000_000, 512_000_000)?;
-    let flush_interval = section.number(alloc, "flush_interval", 0, 86_400_000, 5000)?;
-    let retry_wait = section.number(alloc, "retry_wait", 1, 86_400_000, 1000)?;
-    let retry_max = section.retry_max(alloc, retry_wait)?;
-    let ack_wait = section.number(alloc, "ack_wait", 1, 86_400_000, 190_000)?;
-    let hostname = section.text(alloc, "hostname", 1, 255, "relay")?;
-    let username = section.text(alloc, "username", 0, 255, "")?;
-    let password = section.text(alloc, "password", 0, 255, "")?;
-    let listed = section.required_list(alloc, "server", 16)?;
-    let servers = servers_of(alloc, output, listed)?;
-    check_usable(alloc, output, servers.as_slice())?;
+    let sizes = sizes_in(alloc, output, table)?;
+    let waits = waits_in(alloc, output, table)?;
+    let login = login_in(alloc, output, table)?;
+    let servers = servers_in(alloc, output, table)?;
     Ok(OutputSettings {
         pattern,
-        workers,
-        chunk_limit,
-        total_limit,
-        flush_interval,
-        retry_wait,
-        retry_max,
-        ack_wait,
-        hostname,
-        username,
-        password,
+        workers: sizes.workers,
+        chunk_limit: sizes.chunk_limit,
+        total_limit: sizes.total_limit,
+        flush_interval: waits.flush_interval,
+        retry_wait: waits.retry_wait,
+        retry_max: waits.retry_max,
+        ack_wait: waits.ack_wait,
+        hostname: login.hostname,
+        username: login.username,
+        password: login.password,
         servers,
     })
 }

@@ -1,16 +1,18 @@
 //! The servers of an output.
 
-ghost use Rattle.std.specs.Prelude.{map};
+ghost use Rattle.std.specs.Prelude.{◌≡◌, map};
+ghost use Rattle.std.specs.List.{list_all};
 ghost use Rattle.toml.specs.Data.{table as data_table};
 ghost use Rattle.toml.specs.View.{view, table_view};
 ghost use Rattle.fwd_settings.specs.Kinds.{Answers, each};
-ghost use Rattle.fwd_settings.specs.Keys.{first, server_fault, server_settings, server_table};
+ghost use Rattle.fwd_settings.specs.Keys.{first, is_standby, standby_fault, server_fault, server_settings, server_table};
 
 use crate::fault::SettingsFault;
 use crate::place::{Flaw, Place};
 use crate::section::Section;
 use crate::seq::Seq;
 use crate::settings::ServerSettings;
+use crate::values::is_true;
 use std::alloc::Global;
 use toml::{Table, Value};
 
@@ -42,6 +44,35 @@ fn server_of(
     match value.as_table() {
         Some(table) => server_in(alloc, output, server, table),
         None => Err(Place::Server(output, server).own_fault(alloc, Flaw::WrongKind)),
+    }
+}
+
+/// Whether a member of the list counts as a standby: its `standby` is true, whatever else is wrong with it.
+fn is_standby(value: &Value) -> bool
+    ensures { result ≡ is_standby (view value.now) }
+{
+    match value.as_table() {
+        Some(table) => is_true(table.get("standby")),
+        None => false,
+    }
+}
+
+/// Whether all of the members count as standbys.
+fn are_standbys(values: &[Value]) -> bool
+    ensures { result ≡ list_all (λ value. is_standby (view value)) values.now }
+{
+    values.iter().all(|value| is_standby(value))
+}
+
+/// Whether one of the members counts as no standby.
+#[tactic(auto, using(crate::proofs::ListLemmas::all_viewed))]
+pub fn check_usable(alloc: Global, output: usize, values: &[Value]) -> Result<(), SettingsFault>
+    ensures { Answers (standby_fault output (map view values.now)) tt result }
+{
+    if are_standbys(values) {
+        Err(Place::Output(output).fault(alloc, "server", Flaw::OutOfRange))
+    } else {
+        Ok(())
     }
 }
 

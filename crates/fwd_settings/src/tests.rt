@@ -165,7 +165,19 @@ fn tables_and_lists(rt: HostRuntime) -> Result<(), Fail> {
         ),
         (
             "[[output]]\nmatch = \"a\"\n[[output.server]]\naddress = \"1.2.3.4:5\"\nstandby = true\n[[output.server]]\nstandby = true",
-            "missing output[0].server[1].address",
+            "out of range output[0].server",
+        ),
+        (
+            "[[output]]\nmatch = \"a\"\n[[output.server]]\naddress = \"1.2.3.4\"\nstandby = true",
+            "out of range output[0].server",
+        ),
+        (
+            "[[output]]\nmatch = \"a\"\n[[output.server]]\naddress = \"1.2.3.4\"\nstandby = true\n[[output.server]]\naddress = \"1.2.3.4:5\"",
+            "out of range output[0].server[0].address",
+        ),
+        (
+            "[[output]]\nmatch = \"a\"\n[[output.server]]\naddress = \"1.2.3.4:5\"\nstandby = true\n[[output.server]]\naddress = \"1.2.3.4:5\"\nstandby = \"true\"",
+            "wrong kind output[0].server[1].standby",
         ),
         ("[monitor]\n[[output]]", "missing output[0].match"),
         ("a = ", "not toml"),
@@ -193,6 +205,33 @@ fn long_lists(rt: HostRuntime) -> Result<(), Fail> {
             "at {times}"
         );
     }
+    Ok(())
+}
+
+/// A text of 65,536 bytes with a key of 1,024, 64 outputs, and 16 servers at the first of them.
+fn greatest(alloc: Global) -> Result<String, AllocError> {
+    let key = repeated(alloc, "[relay]\nshared_key = \"", "k", 1024)?;
+    let front = format!(in alloc; "{key}\"\n{MATCH}")?;
+    let first = repeated(alloc, front.as_str(), SERVER, 16)?;
+    let output = format!(in alloc; "{MATCH}{SERVER}")?;
+    let all = repeated(alloc, first.as_str(), output.as_str(), 63)?;
+    let missing = 65_536_usize.saturating_sub(all.len());
+    repeated(alloc, all.as_str(), "#", missing)
+}
+
+#[test]
+fn settings_of_the_greatest_size(rt: HostRuntime) -> Result<(), Fail> {
+    let text = greatest(rt.alloc())?;
+    assert_eq!(rt; text.len(), 65_536);
+    let settings = read_settings(rt.alloc(), text.as_bytes())?;
+    let key = settings.relay.shared_key.as_ref();
+    assert_eq!(rt; key.map(|key| key.as_str().len()), Some(1024));
+    let outputs = settings.outputs.as_slice();
+    assert_eq!(rt; outputs.len(), 64);
+    assert_eq!(rt;
+        outputs.first().map(|output| output.servers.len()),
+        Some(16)
+    );
     Ok(())
 }
 

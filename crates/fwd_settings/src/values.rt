@@ -1,9 +1,9 @@
 //! What a value is under the rule of its kind.
 
-ghost use Rattle.std.specs.Prelude.{◌≡◌, ◌≤◌, IfOk, IfErr, Some, None, map, option_map};
+ghost use Rattle.std.specs.Prelude.{◌≡◌, ◌≤◌, IfOk, IfErr, Some, None, false, map, option_map};
 ghost use Rattle.toml.specs.Data.{as_str, as_bool};
 ghost use Rattle.toml.specs.View.{view};
-ghost use Rattle.fwd_settings.specs.Kinds.{number_flaw, number_of, flag_flaw, text_flaw, digits_flaw, bytes_of, address_flaw, list_of, list_flaw, allowed_list_flaw};
+ghost use Rattle.fwd_settings.specs.Kinds.{given, number_flaw, number_of, flag_flaw, text_flaw, digits_flaw, bytes_of, address_flaw, list_of, list_flaw, allowed_list_flaw};
 ghost use Rattle.fwd_settings.specs.Kinds as spec;
 ghost use Rattle.fwd_settings.specs.Addresses.{address_of_text, socket_of};
 
@@ -34,6 +34,16 @@ pub fn flag_in(value: &Value) -> Result<bool, Flaw>
     ensures flaw { IfErr result (λ flaw. flag_flaw (view value.now) ≡ Some flaw) }
 {
     value.as_bool().ok_or(Flaw::WrongKind)
+}
+
+/// Whether there is a value and it is true.
+pub fn is_true(value: Option<&Value>) -> bool
+    ensures { result ≡ given as_bool false (option_map (λ value. view value.now) value.entry) }
+{
+    match value {
+        Some(value) => value.as_bool().unwrap_or(false),
+        None => false,
+    }
 }
 
 /// A text of so many bytes.
