@@ -232,7 +232,7 @@ def answers():
     answer("keep", ["HELO", Pairs([nonce, auth])], auth=AUTH, name=b"", password=b"")
     answer("keep", ["HELO", Pairs([nonce])], salt=b"", host=b"")
     answer("keep", ["HELO", Pairs([nonce])], salt=b"5" * 32, key=b"k" * 1024)
-    answer("keep", ["HELO", Pairs([nonce])], key=None)
+    answer("not_helo", ["HELO", Pairs([nonce])], key=None)
     answer("not_helo", ["HELO", Pairs([nonce, ("nonce", 3)])])
     answer("not_helo", ["HELO", Pairs([auth, ("keepalive", True)])])
     answer("not_helo", ["HELO", Pairs([])])

@@ -15,7 +15,7 @@ use Rattle.fwd_handshake.specs.declared.verdict.HeloAnswer.TheVariants.{Ping as 
 use Rattle.fwd_handshake.specs.Agreements.{auth_given}
 use Rattle.fwd_handshake.specs.Messages.{binary, auth_value, helo_text}
 use Rattle.fwd_handshake.specs.Readings.{is_word, behind, bool_of, text_under}
-use Rattle.fwd_handshake.specs.Verdicts.{Helo, helo_under, helo_in, helo_of, answering, helo_judged, helo_answer}
+use Rattle.fwd_handshake.specs.Verdicts.{Helo, helo_under, helo_in, helo_of, answering, heard_helo, helo_judged, helo_answer}
 use Rattle.fwd_handshake.proofs.Written.{bool_plain}
 
 binary_plain : (bytes : List ℕ) → length bytes < 2 ^ 32 → IsPlain (binary bytes)
@@ -142,6 +142,7 @@ module _ (users : List User) (nonce auth : List ℕ) (sized : length (helo_text 
       ∙ under
 
   -- the answer has the nonce and the auth salt that were written
-  pub helo_answered : (login : Login) (salt : List ℕ) → helo_answer login salt (helo_text users nonce auth) ≡ Answers (answering login salt nonce (auth_given users auth)) nonce true
+  pub helo_answered : (login : Login) (salt key : List ℕ) → login.shared_key ≡ Some key → helo_answer login salt (helo_text users nonce auth) ≡ Answers (answering login salt nonce (auth_given users auth)) nonce true
   unfolding helo_answer
-  helo_answered login salt = ap (helo_judged login salt) helo_said
+  helo_answered login salt key has =
+      ap (λ k. helo_judged login salt (heard_helo k (helo_text users nonce auth))) has ∙ ap (helo_judged login salt) helo_said

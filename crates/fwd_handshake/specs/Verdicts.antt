@@ -145,13 +145,19 @@ answering login salt nonce auth =
     ping_text login.hostname salt (key_digest salt login.hostname nonce (unwrap_or login.shared_key []))
     (username_for login auth) (proof_for login auth)
 
+-- what a HELO says to a client: without a shared key there is no handshake, and no value is one
+abbrev pub heard_helo : (shared_key : Option (List ℕ)) → List ℕ → Option Helo
+heard_helo None bytes = None
+heard_helo (Some key) bytes = helo_of bytes
+
 abbrev pub helo_judged : Login → (salt : List ℕ) → Option Helo → HeloAnswer
 helo_judged login salt None = NotHelo
 helo_judged login salt (Some helo) = Answers (answering login salt helo.nonce helo.auth) helo.nonce helo.keepalive
 
--- What a value is, and the PING that answers it: no HELO; a HELO, with its nonce and whether the link is kept.
+-- What a value is, and the PING that answers it: no HELO, or a client without a shared key; a HELO, with its nonce and
+-- whether the link is kept.
 unfoldable pub helo_answer : Login → (salt : List ℕ) → List ℕ → HeloAnswer
-helo_answer login salt bytes = helo_judged login salt (helo_of bytes)
+helo_answer login salt bytes = helo_judged login salt (heard_helo login.shared_key bytes)
 
 -- ---- PONG
 

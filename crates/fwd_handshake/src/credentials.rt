@@ -30,7 +30,7 @@ pub struct Security {
 pub struct Login {
     /// The client's hostname, of less than 2^32 bytes.
     pub hostname: Bytes,
-    /// The key that both sides know. Without one there is no handshake: none is sent, and no PONG is good.
+    /// The key that both sides know. Without one there is no handshake: no HELO is answered, and no PONG is good.
     pub shared_key: Option<Bytes>,
     /// The username that is sent where the server asks for one, of less than 2^32 bytes.
     pub username: Bytes,

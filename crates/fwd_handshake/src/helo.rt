@@ -1,13 +1,14 @@
 //! HELO, as a server writes it and a client answers it (Forward Protocol Specification v1, "Handshake Messages").
 
-ghost use Rattle.std.specs.Prelude.{◌≡◌, ◌++◌, ◌<◌, ◌^◌, [], length, codes, option_and_then, IfOk};
+ghost use Rattle.std.specs.Prelude.{◌≡◌, ◌++◌, ◌<◌, ◌^◌, [], length, codes, option_and_then, IfOk, IsOk};
 ghost use Rattle.std.specs.Option.{option_map};
 ghost use Rattle.fwd_msgpack.specs.Scans.{pairs_of};
 ghost use Rattle.fwd_msgpack.specs.Texts.{text};
 ghost use Rattle.fwd_msgpack.specs.Values.{bytes_of, pairs_left};
 ghost use Rattle.fwd_handshake.specs.Messages.{auth_value, binary, helo_text};
 ghost use Rattle.fwd_handshake.specs.Readings.{values_behind};
-ghost use Rattle.fwd_handshake.specs.Verdicts.{helo_of, helo_under, username_for, proof_for, answering, helo_answer};
+ghost use Rattle.fwd_handshake.specs.Verdicts.{helo_of, helo_under, heard_helo, username_for, proof_for, answering, helo_answer};
+ghost use Rattle.fwd_handshake.specs.declared.verdict.HeloAnswer.TheVariants.{NotHelo};
 ghost use Rattle.fwd_handshake.specs.Shown.{helo_shown, salt_bytes};
 
 use crate::credentials::{Login, Security};
@@ -92,6 +93,16 @@ fn helo_of<'a>(value: Value<'a>) -> Option<Helo<'a>>
     helo_under(options.pairs()?)
 }
 
+/// What a HELO says to this client, if the value is one and the client has a shared key.
+fn heard_helo<'a>(login: &Login, value: Value<'a>) -> Option<Helo<'a>>
+    ensures { option_map helo_shown result ≡ heard_helo login.now.shared_key (bytes_of value.entry) }
+{
+    match login.shared_key {
+        Some(_) => helo_of(value),
+        None => None,
+    }
+}
+
 /// Appends the username and the password digest, both empty where the server gives no auth salt.
 fn write_claim(out: &mut Vec<u8>, login: &Login, auth: &[u8]) -> Result<(), AllocError>
     ensures { IfOk result (λ _. out.new.items ≡ out.old.items ++ text (username_for login.now auth.now) ++ text (proof_for login.now auth.now)) }
@@ -135,9 +146,9 @@ fn write_ping(
 }
 
 /// What a value is that the next hop sent at first, and the PING that answers it. The first case that holds counts: no
-/// HELO; a HELO, whose `auth` counts as empty where it is no str and no bin, and whose `keepalive` as true where it is no
+/// HELO, or a login without a shared key, which has no handshake; a HELO, whose `auth` counts as empty where it is no str and no bin, and whose `keepalive` as true where it is no
 /// bool (Forward Protocol Specification v1, "Handshake Messages", "HELO" and "PING"). The only error is want of
-/// memory.
+/// memory, and `NotHelo` takes none.
 #[tactic(auto, unfolding(crate::specs::Verdicts::helo_answer))]
 pub fn answer_helo(
     alloc: Global,
@@ -145,9 +156,10 @@ pub fn answer_helo(
     login: &Login,
     salt: Salt<'_>,
 ) -> Result<HeloAnswer, AllocError>
-    ensures { IfOk result (λ answer. answer ≡ helo_answer login.now (salt_bytes salt.entry) (bytes_of value.entry)) }
+    ensures answer { IfOk result (λ answer. answer ≡ helo_answer login.now (salt_bytes salt.entry) (bytes_of value.entry)) }
+    ensures other { helo_answer login.now (salt_bytes salt.entry) (bytes_of value.entry) ≡ NotHelo → IsOk result }
 {
-    let Some(helo) = helo_of(value) else {
+    let Some(helo) = heard_helo(login, value) else {
         return Ok(HeloAnswer::NotHelo);
     };
     let bytes = write_ping(alloc, login, salt, helo.nonce, helo.auth)?;

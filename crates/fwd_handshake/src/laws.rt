@@ -1,6 +1,6 @@
 //! Laws of the definitions: each is the contract of a function that does nothing.
 
-ghost use Rattle.std.specs.Prelude.{◌≡◌, ◌<◌, ◌^◌, true, List, ℕ, length};
+ghost use Rattle.std.specs.Prelude.{◌≡◌, ◌<◌, ◌^◌, true, List, ℕ, Some, length};
 ghost use Rattle.fwd_handshake.specs.declared.credentials.User.{User};
 ghost use Rattle.fwd_handshake.specs.declared.credentials.Security.{Security};
 ghost use Rattle.fwd_handshake.specs.declared.credentials.Login.{Login};
@@ -12,10 +12,11 @@ ghost use Rattle.fwd_handshake.specs.Agreements.{IsAgreed, auth_given};
 ghost use Rattle.fwd_handshake.specs.Messages.{helo_text};
 ghost use Rattle.fwd_handshake.specs.Verdicts.{answering, passing, helo_answer, ping_verdict, pong_verdict};
 
-/// The HELO that a server writes is answered by the PING for its nonce and its auth salt, which is empty where no users are
+/// The HELO that a server writes is answered, by a client with a shared key, by the PING for its nonce and its auth salt, which is empty where no users are
 /// set, and says that the link is kept.
 pub fn written_helo_is_answered()
-    ensures { (login : Login) (users : List User) (nonce auth salt : List ℕ) → length (helo_text users nonce auth) < 2 ^ 32 →
+    ensures { (login : Login) (users : List User) (nonce auth salt key : List ℕ) →
+        login.shared_key ≡ Some key → length (helo_text users nonce auth) < 2 ^ 32 →
         helo_answer login salt (helo_text users nonce auth) ≡ Answers (answering login salt nonce (auth_given users auth)) nonce true }
 {}
 

@@ -1,11 +1,12 @@
 //! PING, as a server judges it (Forward Protocol Specification v1, "Handshake Messages").
 
-ghost use Rattle.std.specs.Prelude.{◌≡◌, IfOk};
+ghost use Rattle.std.specs.Prelude.{◌≡◌, IfOk, IsOk};
 ghost use Rattle.std.specs.List.{list_any};
 ghost use Rattle.std.specs.Option.{option_map};
 ghost use Rattle.fwd_msgpack.specs.Scans.{text_of};
 ghost use Rattle.fwd_msgpack.specs.Values.{bytes_of};
 ghost use Rattle.fwd_handshake.specs.Verdicts.{claim_in, ping_of, is_of_user, is_of_a_user, denial_of, passing, ping_verdict};
+ghost use Rattle.fwd_handshake.specs.declared.verdict.PingVerdict.TheVariants.{NotPing};
 ghost use Rattle.fwd_handshake.specs.Shown.{claim_shown, ping_shown};
 
 use crate::credentials::{Security, User};
@@ -129,7 +130,7 @@ fn passing(
 /// What a value is that a source sent after HELO, and the PONG that answers it. The first case that holds counts: no
 /// PING; a key digest that is not the shared key's; a username and password digest that are not one user's, where users
 /// are set; a good PING (Forward Protocol Specification v1, "Handshake Messages", "PING" and "PONG"). The only error is want of
-/// memory.
+/// memory, and `NotPing` takes none.
 #[tactic(auto, unfolding(crate::specs::Verdicts::ping_verdict))]
 pub fn judge_ping(
     alloc: Global,
@@ -137,7 +138,8 @@ pub fn judge_ping(
     security: &Security,
     nonces: &Nonces,
 ) -> Result<PingVerdict, AllocError>
-    ensures { IfOk result (λ verdict. verdict ≡ ping_verdict security.now nonces.now (bytes_of value.entry)) }
+    ensures verdict { IfOk result (λ verdict. verdict ≡ ping_verdict security.now nonces.now (bytes_of value.entry)) }
+    ensures other { ping_verdict security.now nonces.now (bytes_of value.entry) ≡ NotPing → IsOk result }
 {
     let Some(ping) = ping_of(value) else {
         return Ok(PingVerdict::NotPing);

@@ -245,3 +245,63 @@ fn pongs_are_judged(rt: HostRuntime) -> Result<(), Fail> {
     }
     Ok(())
 }
+
+/// What Python's hashlib gives for the worked salt, hostname and nonce, and a key of 1,024 bytes `k`.
+const DIGEST_OF_THE_LONGEST_KEY: &str =
+    "78887c0d62c452c0b966521f9dc6728ff26972679e98a9a4acf38bb0f06bf1e9490471e5b498f71404e808eff3a70093bc609b5bed86dde8cff37564d53856fa";
+
+/// The longest key that settings may give, on both sides of a whole handshake.
+#[test]
+fn the_longest_key_passes(rt: HostRuntime) -> Result<(), Fail> {
+    let alloc = rt.alloc();
+    let key = [b'k'; 1024];
+    let digest = key_digest(b"The quick ", b"brown", &NONCES.nonce, &key);
+    assert_eq!(rt; digest.as_slice(), DIGEST_OF_THE_LONGEST_KEY.as_bytes());
+    let shared = Bytes::from_slice(alloc, &key)?;
+    let login = client(alloc, b"brown", Some(shared), b"", b"")?;
+    let shared = Bytes::from_slice(alloc, &key)?;
+    let security = server(alloc, b"brown", Some(shared), Seq::new(alloc))?;
+    let Some(salt) = Salt::new(b"The quick ") else {
+        return Err(Fail::from("no salt"));
+    };
+    let helo = write_helo(alloc, &security, &NONCES)?;
+    let HeloAnswer::Ping { bytes, .. } = answer_helo(alloc, value(helo.as_slice())?, &login, salt)?
+    else {
+        return Err(Fail::from("no HELO"));
+    };
+    let PingVerdict::Pass(pong) = judge_ping(alloc, value(bytes.as_slice())?, &security, &NONCES)?
+    else {
+        return Err(Fail::from("denied"));
+    };
+    assert_eq!(rt;
+        judge_pong(
+            value(pong.as_slice())?,
+            &login,
+            b"The quick ",
+            &NONCES.nonce
+        ),
+        PongVerdict::Pass
+    );
+    Ok(())
+}
+
+/// A client without a shared key has no handshake: it answers no HELO, and takes no PONG.
+#[test]
+fn a_client_without_a_key_answers_no_helo(rt: HostRuntime) -> Result<(), Fail> {
+    let alloc = rt.alloc();
+    let login = client(alloc, b"brown", None, b"u", b"p")?;
+    let Some(salt) = Salt::new(b"The quick ") else {
+        return Err(Fail::from("no salt"));
+    };
+    for text in [HELO, HELO_TO_USERS, HELO_ONCE] {
+        let helo = hex::decode(alloc, text)?;
+        let answer = answer_helo(alloc, value(&helo)?, &login, salt)?;
+        assert!(rt; matches!(answer, HeloAnswer::NotHelo));
+    }
+    let pong = hex::decode(alloc, PONG)?;
+    assert_eq!(rt;
+        judge_pong(value(&pong)?, &login, b"The quick ", &NONCES.nonce),
+        PongVerdict::BadDigest
+    );
+    Ok(())
+}

@@ -1,3 +1,4 @@
 pub mod Judging
 pub mod Following
 pub mod Pieces
+pub mod Examples
