@@ -43,8 +43,6 @@ with_session x s = record { chunk = x.chunk; session = Some s }
 module _ (L : Layers) where
   open L use {Relay, Source, Lane, Session, run, routes, security, is_fresh, source_at, lane_at, accepts, leaves, puts_source, puts_lane, is_shut, waiting, admitted, unsent, piece_answer, pong, hears, gives, appends, drains, shuts, config, is_spent, closing, free, entries_at, due, worker_at, enters, flushes, takes, settles, tells, puts_worker, begins, loaded, is_acked, is_down, to_send, replies, loads, sends, listens}
 
-  -- ---- where it happens
-
   -- at the connection of this id
   abbrev pub at_source : Relay → ℕ → (Source → Outcome Source) → Outcome Relay
   at_source r id event = do
@@ -181,8 +179,6 @@ module _ (L : Layers) where
     s ← found x.session NotNow
     k ← found (acked s) NotNow
     Goes (answer.Settled (entries_at l k)) (settles l w s k)
-
-  -- ---- the step, and runs
 
   -- what one event comes to
   abbrev pub step : Relay → Event → Outcome Relay
