@@ -5,8 +5,10 @@ Run at the top of the repository, with Debian's python3-msgpack:
 
     /usr/bin/python3 tools/vectors.py > crates/relay_tests/src/spellings.rt
 
-Each value is written as a front, and a unit of bytes that is repeated behind it some number of times, so that long
-values stay short in the file. That is how the packer's bytes are written down; the bytes themselves are the packer's.
+A line says what the packer was given (its kind, and its number, its payload's length or its count of members), and then
+the packer's bytes: a front, and a unit of bytes that is repeated behind it some number of times, so that long values stay
+short in the file. A payload stands at the end of its value. The word `raw` is a str that the packer writes in the old
+format, which has no length of one byte, and so not in the shortest way.
 """
 
 import msgpack
@@ -14,8 +16,35 @@ import msgpack
 SHORT = 40  # bytes: a longer tail of one repeated unit is written as a count
 
 
+def given(value, how):
+    """The kind of a value, its numbers, and its payload."""
+    if value is None:
+        return "nil", b""
+    if isinstance(value, bool):
+        return str(value).lower(), b""
+    if isinstance(value, int):
+        return f"int {value}", b""
+    if isinstance(value, float):
+        return f"float {4 if how.get('use_single_float') else 8}", b""
+    if isinstance(value, str):
+        return f"str {len(value.encode())}", value.encode()
+    if isinstance(value, bytes) and how.get("use_bin_type", True):
+        return f"bin {len(value)}", value
+    if isinstance(value, bytes):
+        return f"{'raw' if 32 <= len(value) < 256 else 'str'} {len(value)}", value
+    if isinstance(value, list):
+        return f"arr {len(value)}", b""
+    if isinstance(value, dict):
+        return f"map {len(value)}", b""
+    kind, data = (-1, value.to_bytes()) if isinstance(value, msgpack.Timestamp) else (value.code, value.data)
+    return f"ext {kind} {len(data)}", data
+
+
 def packed(value, **how):
-    return msgpack.packb(value, **how)
+    words, payload = given(value, how)
+    spelling = msgpack.packb(value, **how)
+    assert spelling.endswith(payload)
+    return words, spelling
 
 
 def integers():
@@ -59,7 +88,7 @@ def extensions():
 
 
 def of_pairs(pairs):
-    return msgpack.Packer().pack_map_pairs(pairs)
+    return f"map {len(pairs)}", msgpack.Packer().pack_map_pairs(pairs)
 
 
 def containers():
@@ -87,7 +116,7 @@ def requests():
     yield packed(["app.web.access", 1700000000, record])
     yield packed(["app.web.access", time, record, {"chunk": "cDg3YWY="}])
     yield packed(["app.web.access", [[1700000000, record], [time, {}]]])
-    entries = packed([1700000000, record]) + packed([time, record])
+    entries = packed([1700000000, record])[1] + packed([time, record])[1]
     yield packed(["app.web.access", entries, {"size": 2, "compressed": "text"}])
     yield packed({"ack": "cDg3YWY="})
     yield packed(["HELO", {"nonce": b"\x01" * 16, "auth": b"", "keepalive": True}])
@@ -105,10 +134,10 @@ def split(value):
     return value, b"", 0
 
 
-def line(value):
+def line(words, value):
     front, unit, count = split(value)
     assert front + unit * count == value
-    return f"{front.hex()} {unit.hex()} {count}" if count else front.hex()
+    return f"{words}:{front.hex()} {unit.hex()} {count}" if count else f"{words}:{front.hex()}"
 
 
 def main():
@@ -117,10 +146,14 @@ def main():
         values += kind()
     print("//! Values as python3-msgpack spells them, written by `/usr/bin/python3 tools/vectors.py`: do not edit.")
     print()
-    print("/// A value a line, in hex: a front, and where more follow, a unit and how many times it stands behind the front.")
+    print("/// A value a line: what the packer was given, and behind a colon its bytes in hex, a front, and where more follow, a")
+    print("/// unit and how many times it stands behind the front.")
     print('pub static SPELLINGS: &str = "\\')
-    for value in dict.fromkeys(values):
-        print(line(value) + "\\n\\")
+    seen = set()
+    for words, value in values:
+        if value not in seen:
+            seen.add(value)
+            print(line(words, value) + "\\n\\")
     print('";')
 
 

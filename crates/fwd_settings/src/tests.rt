@@ -209,7 +209,7 @@ fn long_lists(rt: HostRuntime) -> Result<(), Fail> {
 }
 
 /// A text of 65,536 bytes with a key of 1,024, 64 outputs, and 16 servers at the first of them.
-fn greatest(alloc: Global) -> Result<String, AllocError> {
+fn largest(alloc: Global) -> Result<String, AllocError> {
     let key = repeated(alloc, "[relay]\nshared_key = \"", "k", 1024)?;
     let front = format!(in alloc; "{key}\"\n{MATCH}")?;
     let first = repeated(alloc, front.as_str(), SERVER, 16)?;
@@ -220,8 +220,8 @@ fn greatest(alloc: Global) -> Result<String, AllocError> {
 }
 
 #[test]
-fn settings_of_the_greatest_size(rt: HostRuntime) -> Result<(), Fail> {
-    let text = greatest(rt.alloc())?;
+fn settings_of_the_largest_size(rt: HostRuntime) -> Result<(), Fail> {
+    let text = largest(rt.alloc())?;
     assert_eq!(rt; text.len(), 65_536);
     let settings = read_settings(rt.alloc(), text.as_bytes())?;
     let key = settings.relay.shared_key.as_ref();

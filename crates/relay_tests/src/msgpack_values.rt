@@ -1,7 +1,10 @@
 //! MessagePack values as others spell them: by the specification's table of formats, and by python3-msgpack.
 
 use crate::spellings::SPELLINGS;
-use fwd_msgpack::{Bytes, Cut, Limits, ScanFault, cut};
+ghost use Rattle.std.specs.Bool.{OnTrue};
+ghost use Rattle.fwd_msgpack.specs.Heads.{IsSpelled};
+
+use fwd_msgpack::{Bytes, Cut, Head, Limits, ScanFault, Value, cut, write_head};
 use std::process::Abort;
 use std::test::Fail;
 
@@ -61,7 +64,7 @@ static SIZED: [(u8, usize, u64, u64, u8, u32); 13] = [
 ];
 
 /// Asserts that the bytes are one value, and less than one without the last byte.
-fn assert_value(rt: &impl Abort, bytes: &[u8], name: &str) {
+fn assert_value<'a>(rt: &impl Abort, bytes: &'a [u8], name: &str) -> Value<'a> {
     let Cut::Whole(value, used) = cut(bytes, Limits::WIDEST) else {
         panic!(rt; "no value: {name}")
     };
@@ -71,6 +74,7 @@ fn assert_value(rt: &impl Abort, bytes: &[u8], name: &str) {
         panic!(rt; "no bytes: {name}")
     };
     assert!(rt; matches!(cut(front, Limits::WIDEST), Cut::Short), "{name}");
+    value
 }
 
 /// Asserts that a head and so many times a byte behind it are one value.
@@ -159,11 +163,114 @@ fn spelled(rt: &impl AllocGlobal, line: &str) -> Result<Bytes, Fail> {
     Ok(bytes)
 }
 
+/// The integer that these digits are.
+fn integer(digits: &str) -> Result<Head, Fail> {
+    match digits.strip_prefix('-') {
+        Some(digits) => Ok(Head::Int {
+            neg: true,
+            mag: digits.parse()?,
+        }),
+        None => Ok(Head::Int {
+            neg: false,
+            mag: digits.parse()?,
+        }),
+    }
+}
+
+/// The head of what the packer was given, by its kind and its numbers.
+fn head_given(words: &str) -> Result<Head, Fail> {
+    let (kind, numbers) = words.split_once(' ').unwrap_or((words, ""));
+    match kind {
+        "nil" => Ok(Head::Nil),
+        "true" => Ok(Head::Bool(true)),
+        "false" => Ok(Head::Bool(false)),
+        "int" => integer(numbers),
+        "float" => Ok(Head::Float {
+            len: numbers.parse()?,
+        }),
+        "str" | "raw" => Ok(Head::Str(numbers.parse()?)),
+        "bin" => Ok(Head::Bin(numbers.parse()?)),
+        "arr" => Ok(Head::Arr(numbers.parse()?)),
+        "map" => Ok(Head::Map(numbers.parse()?)),
+        "ext" => extension(numbers),
+        _ => Err(Fail::from("no kind")),
+    }
+}
+
+/// The extension of a type and a length.
+fn extension(numbers: &str) -> Result<Head, Fail> {
+    let (kind, len) = numbers.split_once(' ').ok_or("two numbers")?;
+    Ok(Head::Ext {
+        kind: kind.parse()?,
+        len: len.parse()?,
+    })
+}
+
+/// The payload of a value's kind, if it has one: it stands at the end of the value.
+fn payload<'a>(bytes: &'a [u8], len: u32) -> &'a [u8] {
+    let front = bytes.len().saturating_sub(len as usize);
+    &bytes[front..]
+}
+
+/// Whether the readers of a value answer what its head says.
+fn is_read(value: Value<'_>, head: Head) -> bool {
+    let bytes = value.bytes();
+    match head {
+        Head::Int { neg, mag } => value.int() == Some((neg, mag)),
+        Head::Str(len) | Head::Bin(len) => value.text() == Some(payload(bytes, len)),
+        Head::Ext { kind, len } => value.ext() == Some((kind, payload(bytes, len))),
+        Head::Arr(n) => value.items().map(|items| items.count()) == Some(n as usize),
+        Head::Map(n) => value.pairs().map(|pairs| pairs.count()) == Some(n as usize),
+        _ => value.int().is_none() && value.text().is_none() && value.ext().is_none(),
+    }
+}
+
+/// Whether a head has a spelling.
+fn is_spelled(head: Head) -> bool
+    ensures { OnTrue result (IsSpelled head) }
+{
+    match head {
+        Head::Int { neg: true, mag } => 1 <= mag && mag <= 1 << 63,
+        Head::Float { len } => len == 4 || len == 8,
+        _ => true,
+    }
+}
+
+/// Asserts that the bytes begin with the head as it is written, and have no byte between it and its payload.
+fn assert_written(
+    rt: &(impl Abort + AllocGlobal),
+    bytes: &[u8],
+    head: Head,
+    name: &str,
+) -> Result<(), Fail> {
+    assert!(rt; is_spelled(head), "{name}");
+    let mut out = Vec::new(rt.alloc());
+    write_head(&mut out, head)?;
+    assert!(rt; bytes.starts_with(out.as_slice()), "{name}");
+    let behind = match head {
+        Head::Arr(_) | Head::Map(_) => return Ok(()),
+        Head::Float { len } => u32::from(len),
+        Head::Str(len) | Head::Bin(len) | Head::Ext { len, .. } => len,
+        _ => 0,
+    };
+    assert_eq!(rt; bytes.len().checked_sub(out.len()), Some(behind as usize), "{name}");
+    Ok(())
+}
+
+/// Kinds, numbers, payloads and counts of members are those that the packer was given, and a head is written as the
+/// packer writes it where that is the shortest way.
 #[test]
 fn values_of_python(rt: HostRuntime) -> Result<(), Fail> {
     for line in SPELLINGS.lines() {
-        let value = spelled(&rt, line)?;
-        assert_value(&rt, value.as_slice(), line);
+        let (words, spelling) = line.split_once(':').ok_or("a colon")?;
+        let head = head_given(words)?;
+        let bytes = spelled(&rt, spelling)?;
+        let value = assert_value(&rt, bytes.as_slice(), line);
+        assert_eq!(rt; value.head(), head, "{line}");
+        assert!(rt; is_read(value, head), "{line}");
+        if !words.starts_with("raw") {
+            assert_written(&rt, bytes.as_slice(), head, line)?;
+        }
     }
     assert!(rt; SPELLINGS.lines().count() >= 500);
     Ok(())
