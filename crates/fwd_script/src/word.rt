@@ -1,4 +1,4 @@
-ghost use Rattle.std.specs.Prelude.{◌≡◌, ◌<◌, ◌≤◌, ◌^◌, ◌↔◌, length, slice_index, IsTrue, map, None, IfOk, IsErr, MatchOption};
+ghost use Rattle.std.specs.Prelude.{◌≡◌, ◌≢◌, ◌<◌, ◌≤◌, ◌^◌, ◌↔◌, length, slice_index, IsTrue, map, None, IfOk, IsOk, IsErr, MatchOption};
 ghost use Rattle.std.specs.Char.{is_ascii_uppercase};
 ghost use Rattle.std.specs.List.{list_any};
 ghost use Rattle.std.specs.Str.Parse.{AllDigits, digits_value};
@@ -63,10 +63,11 @@ fn has_upper_case(word: &[u8]) -> bool
     word.iter().any(|b| b.is_ascii_uppercase())
 }
 
-/// No bytes, unless it is memory that ran out.
+/// No bytes, unless it is memory that ran out: a bad word is no want of memory.
 fn no_bytes(error: FromHexError) -> Result<Option<Bytes>, AllocError>
     ensures none { IfOk result (λ b. b ≡ None) }
     ensures memory { error ≡ OutOfMemory → IsErr result }
+    ensures other { error ≢ OutOfMemory → IsOk result }
 {
     match error {
         FromHexError::OutOfMemory => Err(AllocError),

@@ -8,6 +8,8 @@ mod cut_scripts;
 #[cfg(test)]
 mod cuts;
 #[cfg(test)]
+mod edges;
+#[cfg(test)]
 mod first_path;
 #[cfg(test)]
 mod msgpack_values;
