@@ -1,9 +1,9 @@
 //! MessagePack values as others spell them: by the specification's table of formats, and by python3-msgpack.
 
-use crate::spellings::SPELLINGS;
 ghost use Rattle.std.specs.Bool.{OnTrue};
 ghost use Rattle.fwd_msgpack.specs.Heads.{IsSpelled};
 
+use crate::spellings::SPELLINGS;
 use fwd_msgpack::{Bytes, Cut, Head, Limits, ScanFault, Value, cut, write_head};
 use std::process::Abort;
 use std::test::Fail;
@@ -212,6 +212,24 @@ fn payload<'a>(bytes: &'a [u8], len: u32) -> &'a [u8] {
     &bytes[front..]
 }
 
+/// How many members an array has.
+fn count_items(value: Value<'_>) -> Option<u32> {
+    let mut count = 0u32;
+    for _ in value.items()? {
+        count = count.saturating_add(1);
+    }
+    Some(count)
+}
+
+/// How many pairs a map has.
+fn count_pairs(value: Value<'_>) -> Option<u32> {
+    let mut count = 0u32;
+    for _ in value.pairs()? {
+        count = count.saturating_add(1);
+    }
+    Some(count)
+}
+
 /// Whether the readers of a value answer what its head says.
 fn is_read(value: Value<'_>, head: Head) -> bool {
     let bytes = value.bytes();
@@ -219,8 +237,8 @@ fn is_read(value: Value<'_>, head: Head) -> bool {
         Head::Int { neg, mag } => value.int() == Some((neg, mag)),
         Head::Str(len) | Head::Bin(len) => value.text() == Some(payload(bytes, len)),
         Head::Ext { kind, len } => value.ext() == Some((kind, payload(bytes, len))),
-        Head::Arr(n) => value.items().map(|items| items.count()) == Some(n as usize),
-        Head::Map(n) => value.pairs().map(|pairs| pairs.count()) == Some(n as usize),
+        Head::Arr(n) => count_items(value) == Some(n),
+        Head::Map(n) => count_pairs(value) == Some(n),
         _ => value.int().is_none() && value.text().is_none() && value.ext().is_none(),
     }
 }
@@ -253,7 +271,11 @@ fn assert_written(
         Head::Str(len) | Head::Bin(len) | Head::Ext { len, .. } => len,
         _ => 0,
     };
-    assert_eq!(rt; bytes.len().checked_sub(out.len()), Some(behind as usize), "{name}");
+    assert_eq!(rt;
+        bytes.len().checked_sub(out.len()),
+        Some(behind as usize),
+        "{name}"
+    );
     Ok(())
 }
 
