@@ -1,9 +1,9 @@
 -- When two outcomes agree: the answers are one, and what the second goes on to is what the first goes on to, seen through a map.
-use Rattle.std.proofs.Common.{◌≡◌, Bool, true, false, cond, Option, Some, None, refl, sym, ap, subst, ◌∙◌}
+use Rattle.std.proofs.Common.{◌≡◌, Bool, true, false, cond, Option, Some, None, refl, sym, subst}
 use Rattle.std.specs.Prelude.{option_map}
 use Rattle.fwd_model.specs.declared.answer.Answer.{Answer}
 use Rattle.fwd_model.specs.declared.fault.Refusal.{Refusal}
-use Rattle.fwd_model.specs.Outcome.{Outcome, Stays, Goes, within, Check, found, refuse_if, ◌>>=◌, ◌>>◌}
+use Rattle.fwd_model.specs.Outcome.{Outcome, Stays, Goes, within, found, refuse_if, ◌>>=◌, ◌>>◌}
 
 -- what an outcome goes on to is sane
 abbrev pub Kept : {S : Type 0} → (S → Type 0) → Outcome S → Type 0

@@ -5,7 +5,6 @@ use Rattle.std.proofs.lemmas.Bool.Decides.{nat_tests}
 use Rattle.fwd_modes.specs.Requests.{Request}
 use Rattle.fwd_match.specs.Patterns.{route}
 use Rattle.fwd_source.specs.declared.fault.SourceFault.{SourceFault}
-use Rattle.fwd_source.specs.declared.piece.Piece.{Piece}
 use Rattle.fwd_source.specs.declared.piece.Piece.TheVariants as verdict
 use Rattle.fwd_source.specs.History.{Setup, SourceHistory, IsSane as IsSaneSource, judged, is_closed, waiting, opened, hears, gives, appends, drains, shuts, told, new_pong, unsent}
 use Rattle.fwd_source.specs.Live.{live_source, judged_piece}

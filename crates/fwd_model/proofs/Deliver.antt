@@ -21,7 +21,7 @@ use Rattle.fwd_model.specs.declared.fault.Refusal.TheVariants.{Closed, NoSuch}
 use Rattle.fwd_model.specs.Outcome.{answer_of, state_of, within, found as sought, refuse_if, Goes, ◌>>=◌, ◌>>◌}
 use Rattle.fwd_model.specs.Step as steps
 use Rattle.fwd_model.specs.Step.{step}
-use Rattle.fwd_model.specs.Books.{Admission, entered_as, is_settled, is_of, is_due, due, numbers_of, acks_of, has_cell}
+use Rattle.fwd_model.specs.Books.{Admission, entered_as, is_settled, is_of, is_due, numbers_of, acks_of, has_cell}
 use Rattle.fwd_model.specs.Outputs.{OutputHistory, output_history_due}
 use Rattle.fwd_model.specs.History.{Connection, ever_at, source_at, Lane, History, opening, new_lane, with_connection, with_lane, histories}
 use Rattle.fwd_model.specs.Delivered.{reached, cells_from, whole_frame, WasAcknowledged, IsDelivered, IsTold, IsToldAmong}

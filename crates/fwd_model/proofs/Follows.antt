@@ -1,6 +1,6 @@
 -- The live part follows the history at each event of a run, and over runs: each proof has the shape of its event.
 use Rattle.std.proofs.Common.{◌≡◌, ℕ, zero, suc, ◌+◌, Bool, true, false, cond, List, [], ◌∷◌, ◌++◌, length, Option, Some, None, refl, sym, ap, subst, ◌∙◌}
-use Rattle.std.specs.Prelude.{map, option_map, is_some, not, nat_lt, ◌==◌, slice_get, replicate, filter}
+use Rattle.std.specs.Prelude.{map, option_map, not, nat_lt, slice_get, replicate}
 use Rattle.fwd_modes.specs.Requests.{Request}
 use Rattle.fwd_match.specs.Patterns.{route}
 use Rattle.fwd_source.specs.declared.origin.Origin.{Origin}
@@ -17,8 +17,7 @@ use Rattle.fwd_model.specs.declared.event.Event.{Event}
 use Rattle.fwd_model.specs.declared.event.Event.TheVariants as event
 use Rattle.fwd_model.specs.declared.event.FlushKind.{FlushKind}
 use Rattle.fwd_model.specs.declared.answer.Answer.TheVariants as answer
-use Rattle.fwd_model.specs.Chunks.{cells_at, chunk_of, has_number}
-use Rattle.fwd_model.specs.Outcome.{Outcome, Stays, Goes, answer_of, state_of, within}
+use Rattle.fwd_model.specs.Outcome.{Outcome, Stays, Goes, answer_of, state_of}
 use Rattle.fwd_model.specs.Layers.{Worker}
 use Rattle.fwd_model.specs.Books.{numbers_of, acks_of}
 use Rattle.fwd_model.specs.Step as steps
@@ -26,10 +25,10 @@ use Rattle.fwd_model.specs.Step.{step, answers, after, of_piece, first_of, chunk
 use Rattle.fwd_model.specs.Setups.{setup_of}
 use Rattle.fwd_model.specs.Chunks.{frame_of}
 use Rattle.fwd_model.specs.Replies.{is_loaded, reply_answer}
-use Rattle.fwd_model.specs.Buffers.{is_closed_by, has_no_number, live_buffer, buffer_closes}
+use Rattle.fwd_model.specs.Buffers.{is_closed_by, live_buffer, buffer_closes}
 use Rattle.fwd_model.specs.Outputs.{live_output, output_history_due}
 use Rattle.fwd_model.specs.Sessions.{SessionHistory, LiveSession, live_session, loads}
-use Rattle.fwd_model.specs.History.{Lane, History, histories, source_at, new_lane, opening, is_fresh, with_connection, with_lane, IsReached}
+use Rattle.fwd_model.specs.History.{Lane, History, histories, source_at, new_lane, opening, is_fresh, with_connection, IsReached}
 use Rattle.fwd_model.specs.Live.{LiveLane, live, live_lane, lives, last_id, is_above, live_source_at, with_live_lane, with_live_worker}
 use Rattle.fwd_model.proofs.Agree.{Agrees, Leads, stays, goes, checked, either, sought, inside}
 use Rattle.fwd_model.proofs.Places.{source_at-live}

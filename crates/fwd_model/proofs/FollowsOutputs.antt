@@ -1,5 +1,5 @@
 -- The live part follows the history at the events of outputs and workers.
-use Rattle.std.proofs.Common.{◌≡◌, ℕ, true, false, List, Option, Some, None, max, refl, sym, ap, ◌∙◌, zero-add}
+use Rattle.std.proofs.Common.{◌≡◌, ℕ, true, false, List, max, refl, sym, ap, ◌∙◌, zero-add}
 use Rattle.std.specs.Prelude.{map, filter, length, option_map, not, slice_get}
 use Rattle.std.proofs.lemmas.List.{map-set}
 use Rattle.std.proofs.lemmas.Option.{slice_get-map}

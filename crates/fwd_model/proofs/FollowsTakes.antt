@@ -5,7 +5,7 @@ use Rattle.std.specs.Prelude.{◌⊎◌, map, option_map, not, ◌&&◌, ◌||�
 use Rattle.std.proofs.lemmas.Bool.Decides.{nat_tests}
 use Rattle.fwd_model.specs.declared.cell.Cell.{Cell}
 use Rattle.fwd_model.specs.declared.cell.Carry.{Carry}
-use Rattle.fwd_model.specs.Chunks.{greatest, chunk_of, cells_at, first_tag, carry_of, is_free, is_carried, has_number, put_down, unsettled}
+use Rattle.fwd_model.specs.Chunks.{greatest, chunk_of, first_tag, carry_of, is_free, is_carried, has_number, put_down, unsettled}
 use Rattle.fwd_model.specs.Layers.{Worker}
 use Rattle.fwd_model.specs.Buffers.{free_number, chunk_at, carry_more, takes, live_buffer, buffer_free, buffer_takes}
 use Rattle.fwd_model.specs.Books.{has_cell}

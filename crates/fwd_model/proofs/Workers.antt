@@ -5,7 +5,7 @@ use Rattle.fwd_model.specs.declared.cell.Carry.{Carry}
 use Rattle.fwd_model.specs.declared.cell.Chunk.{Chunk}
 use Rattle.fwd_model.specs.Chunks.{chunk_of, carry_of}
 use Rattle.fwd_model.specs.Layers.{Worker}
-use Rattle.fwd_model.specs.Sessions.{SessionHistory, LiveSession, live_session}
+use Rattle.fwd_model.specs.Sessions.{SessionHistory, live_session}
 use Rattle.fwd_model.specs.History.{Lane, history_worker, histories}
 use Rattle.fwd_model.specs.Live as model
 

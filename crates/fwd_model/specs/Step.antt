@@ -1,6 +1,6 @@
 -- What one event does to a relay. It is said once, over any layers: the history of all that came, or what of it still
 -- matters. Each event reads from the top: its checks in their order, and then its answer and what it changes.
-use Rattle.std.specs.Prelude.{ℕ, ◌+◌, Bool, true, false, not, List, [], ◌∷◌, length, Option, Some, None, is_some, nat_lt, ◌==◌, if◌then◌else◌}
+use Rattle.std.specs.Prelude.{ℕ, ◌+◌, not, List, [], ◌∷◌, length, Option, Some, None, is_some, nat_lt, ◌==◌, if◌then◌else◌}
 use Rattle.fwd_modes.specs.Requests.{Request}
 use Rattle.fwd_match.specs.Patterns.{route}
 use Rattle.fwd_source.specs.declared.piece.Piece.{Piece}

@@ -1,5 +1,5 @@
 -- What a request without a fault beside its entries can still come to.
-use Rattle.std.proofs.Common.{◌≡◌, List, ℕ, Option, Some, None, Ok, sym}
+use Rattle.std.proofs.Common.{◌≡◌, List, ℕ, Option, Some, None, Ok}
 use Rattle.fwd_modes.specs.Requests.Reading.{Heartbeat as heartbeat, Fails as fails}
 use Rattle.fwd_modes.specs.Readings.{judged}
 use Rattle.fwd_modes.specs.declared.asked.Asked.{Asked}
