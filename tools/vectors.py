@@ -140,20 +140,31 @@ def line(words, value):
     return f"{words}:{front.hex()} {unit.hex()} {count}" if count else f"{words}:{front.hex()}"
 
 
+def literal(text):
+    """A line of the literal, in lines of at most 100 columns: where one ends in a backslash, the next one goes on."""
+    parts = []
+    while len(text) > 97:
+        end = 96 if text[97] == " " else 97
+        parts.append(text[:end] + "\\\n")
+        text = text[end:]
+    return "".join(parts) + text + "\\n\\"
+
+
 def main():
     values = [packed(None), packed(True), packed(False)]
     for kind in (integers, floats, texts, extensions, containers, requests):
         values += kind()
-    print("//! Values as python3-msgpack spells them, written by `/usr/bin/python3 tools/vectors.py`: do not edit.")
+    print("//! Values as python3-msgpack spells them, written by `/usr/bin/python3 tools/vectors.py`: do not")
+    print("//! edit.")
     print()
-    print("/// A value a line: what the packer was given, and behind a colon its bytes in hex, a front, and where more follow, a")
-    print("/// unit and how many times it stands behind the front.")
+    print("/// A value a line: what the packer was given, and behind a colon its bytes in hex, a front, and")
+    print("/// where more follow, a unit and how many times it stands behind the front.")
     print('pub static SPELLINGS: &str = "\\')
     seen = set()
     for words, value in values:
         if value not in seen:
             seen.add(value)
-            print(line(words, value) + "\\n\\")
+            print(literal(line(words, value)))
     print('";')
 
 

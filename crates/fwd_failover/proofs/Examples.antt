@@ -1,4 +1,5 @@
--- The definitions at work: a primary and a standby, a first wait of 500 ms and a longest of 4,000 ms.
+-- The definitions at work: a primary and a standby, a first
+-- wait of 500 ms and a longest of 4,000 ms.
 use Rattle.std.proofs.Common.{◌≡◌, [], ◌∷◌, true, false, Some, None, refl}
 use Rattle.fwd_failover.specs.Waits.{wait_after}
 use Rattle.fwd_failover.specs.History.{ServersSetting, ServersHistory, Lost, Settled, opening, looked, lost, settled, losses_of}
@@ -75,7 +76,11 @@ unknown = refl
 
 -- three primaries and two standbys: each worker begins at its own place
 abbrev five : ServersSetting
-five = record { standby = true ∷ false ∷ false ∷ true ∷ false ∷ []; retry_wait = 1; retry_max = 1 }
+five = record {
+  standby = true ∷ false ∷ false ∷ true ∷ false ∷ [];
+  retry_wait = 1;
+  retry_max = 1;
+}
 
 first_worker : order_of (primaries five) (standbys five) 0 ≡ 1 ∷ 2 ∷ 4 ∷ 0 ∷ 3 ∷ []
 first_worker = refl
@@ -85,10 +90,22 @@ fifth_worker = refl
 
 -- ---- what is kept
 
-since_it_settled : losses_of 0 (Lost 0 7 ∷ Lost 1 6 ∷ Lost 0 5 ∷ Settled 0 ∷ Lost 0 3 ∷ []) ≡ 7 ∷ 5 ∷ []
+since_it_settled :
+    losses_of 0 (Lost 0 7 ∷ Lost 1 6 ∷ Lost 0 5 ∷ Settled 0 ∷ Lost 0 3 ∷ [])
+    ≡ 7 ∷ 5 ∷ []
 since_it_settled = refl
 
-kept : live_servers pair both ≡ record { primaries = 0 ∷ []; standbys = 1 ∷ []; retry_wait = 500; retry_max = 4000; losses = Some (record { count = 1; last = 1000 }) ∷ Some (record { count = 1; last = 1100 }) ∷ []; moment = 1100 }
+kept : live_servers pair both
+    ≡ record {
+      primaries = 0 ∷ [];
+      standbys = 1 ∷ [];
+      retry_wait = 500;
+      retry_max = 4000;
+      losses =
+          Some (record { count = 1; last = 1000 }) ∷ Some (record { count = 1; last = 1100 })
+          ∷ [];
+      moment = 1100;
+    }
 unfolding live_servers
 kept = refl
 

@@ -14,11 +14,13 @@ use Rattle.fwd_failover.specs.Live.{LiveServers, live_servers, tally_of, tally_m
 -- ---- a list with something for each server
 
 -- how long it is
-pub length-each : {Y : Type 0} (f : ℕ → Y) (flags : List Bool) → length (map (λ p. f p.0) (enumerate_from 0 flags)) ≡ length flags
+pub length-each : {Y : Type 0} (f : ℕ → Y) (flags : List Bool)
+    → length (map (λ p. f p.0) (enumerate_from 0 flags)) ≡ length flags
 length-each f flags = length-map (enumerate_from 0 flags) (λ (p : ℕ × Bool). f p.0) ∙ length-enumerate_from 0 flags
 
 -- what it has at a server's place
-pub get_or-each : {Y : Type 0} (f : ℕ → Y) (flags : List Bool) (i : ℕ) (d : Y) → i < length flags → get_or (map (λ p. f p.0) (enumerate_from 0 flags)) i d ≡ f i
+pub get_or-each : {Y : Type 0} (f : ℕ → Y) (flags : List Bool) (i : ℕ) (d : Y)
+    → i < length flags → get_or (map (λ p. f p.0) (enumerate_from 0 flags)) i d ≡ f i
 get_or-each f flags i d lt =
     let inside : i < length (enumerate_from 0 flags) = omega (arith, length-enumerate_from 0 flags) in
     get_or-map (λ (p : ℕ × Bool). f p.0) (enumerate_from 0 flags) i (0, true) d inside
@@ -26,7 +28,10 @@ get_or-each f flags i d lt =
     ∙ ap f (zero-add i)
 
 -- where only one server's changes
-pub each_changed : {Y : Type 0} (f g : ℕ → Y) (flags : List Bool) (server : ℕ) (y : Y) → server < length flags → g server ≡ y → ((k : ℕ) → k ≢ server → g k ≡ f k) → map (λ p. g p.0) (enumerate_from 0 flags) ≡ set (map (λ p. f p.0) (enumerate_from 0 flags)) server y
+pub each_changed : {Y : Type 0} (f g : ℕ → Y) (flags : List Bool) (server : ℕ) (y : Y)
+    → server < length flags → g server ≡ y → ((k : ℕ) → k ≢ server → g k ≡ f k)
+    → map (λ p. g p.0) (enumerate_from 0 flags)
+    ≡ set (map (λ p. f p.0) (enumerate_from 0 flags)) server y
 each_changed f g flags server y lt here there =
     let olds = map (λ (p : ℕ × Bool). f p.0) (enumerate_from 0 flags) in
     same_lists _ _ (length-each g flags ∙ sym (length-set olds server y ∙ length-each f flags)) (λ k d inside.
@@ -46,52 +51,81 @@ same n = grind (arith, nat_tests)
 other : (n k : ℕ) → k ≢ n → (n == k) ≡ false
 other n k ne = grind (arith, nat_tests)
 
-tally_of-more : (moment : ℕ) (ls : List ℕ) → tally_of (moment ∷ ls) ≡ Some (tally_more (tally_of ls) moment)
+tally_of-more : (moment : ℕ) (ls : List ℕ)
+    → tally_of (moment ∷ ls) ≡ Some (tally_more (tally_of ls) moment)
 tally_of-more moment [] = refl
 tally_of-more moment (l ∷ ls) =
     let count : min 65 (length (moment ∷ l ∷ ls)) ≡ min 65 (min 65 (length (l ∷ ls)) + 1) = omega arith in
     ap (λ n. Some (record { count = n; last = moment })) count
 
-lost_here : (server moment : ℕ) (before : List Happening) → tally_of (losses_of server (Lost server moment ∷ before)) ≡ Some (tally_more (tally_of (losses_of server before)) moment)
+lost_here : (server moment : ℕ) (before : List Happening)
+    → tally_of (losses_of server (Lost server moment ∷ before))
+    ≡ Some (tally_more (tally_of (losses_of server before)) moment)
 lost_here server moment before =
     ap (λ b. tally_of (if b then moment ∷ losses_of server before else losses_of server before)) (same server)
     ∙ tally_of-more moment (losses_of server before)
 
-lost_elsewhere : (server k moment : ℕ) (before : List Happening) → k ≢ server → tally_of (losses_of k (Lost server moment ∷ before)) ≡ tally_of (losses_of k before)
+lost_elsewhere : (server k moment : ℕ) (before : List Happening) → k ≢ server
+    → tally_of (losses_of k (Lost server moment ∷ before)) ≡ tally_of (losses_of k before)
 lost_elsewhere server k moment before ne =
     ap (λ b. tally_of (if b then moment ∷ losses_of k before else losses_of k before)) (other server k ne)
 
-settled_here : (server : ℕ) (before : List Happening) → tally_of (losses_of server (Settled server ∷ before)) ≡ None
+settled_here : (server : ℕ) (before : List Happening)
+    → tally_of (losses_of server (Settled server ∷ before)) ≡ None
 settled_here server before = ap (λ b. tally_of (if b then [] else losses_of server before)) (same server)
 
-settled_elsewhere : (server k : ℕ) (before : List Happening) → k ≢ server → tally_of (losses_of k (Settled server ∷ before)) ≡ tally_of (losses_of k before)
+settled_elsewhere : (server k : ℕ) (before : List Happening) → k ≢ server
+    → tally_of (losses_of k (Settled server ∷ before)) ≡ tally_of (losses_of k before)
 settled_elsewhere server k before ne = ap (λ b. tally_of (if b then [] else losses_of k before)) (other server k ne)
 
 -- ---- the live part of what comes next
 
 -- no server was lost before anything happened
-none_lost : (k : ℕ) (flags : List Bool) → map (λ p. tally_of (losses_of p.0 [])) (enumerate_from k flags) ≡ replicate (length flags) None
+none_lost : (k : ℕ) (flags : List Bool)
+    → map (λ p. tally_of (losses_of p.0 [])) (enumerate_from k flags)
+    ≡ replicate (length flags) None
 none_lost k [] = refl
 none_lost k (b ∷ flags) = ap (λ ts. None ∷ ts) (none_lost (k + 1) flags)
 
-pub live-opening : (s : ServersSetting) → live_servers s opening ≡ record { primaries = primaries s; standbys = standbys s; retry_wait = s.retry_wait; retry_max = s.retry_max; losses = replicate (length s.standby) None; moment = 0 }
+pub live-opening : (s : ServersSetting)
+    → live_servers s opening
+    ≡ record {
+      primaries = primaries s;
+      standbys = standbys s;
+      retry_wait = s.retry_wait;
+      retry_max = s.retry_max;
+      losses = replicate (length s.standby) None;
+      moment = 0;
+    }
 unfolding live_servers
 live-opening s = ap (λ ls. with_losses (live_servers s opening) ls 0) (none_lost 0 s.standby)
 
-pub live-looked : (s : ServersSetting) (h : ServersHistory) (now : ℕ) → live_servers s (looked h now) ≡ live_looked (live_servers s h) now
+pub live-looked : (s : ServersSetting) (h : ServersHistory) (now : ℕ)
+    → live_servers s (looked h now) ≡ live_looked (live_servers s h) now
 unfolding live_servers
 live-looked s h now = refl
 
 -- a server in the file has a place among the losses
-place_of : (s : ServersSetting) (h : ServersHistory) (server : ℕ) → length (live_servers s h).losses ≡ length s.standby
+place_of : (s : ServersSetting) (h : ServersHistory) (server : ℕ)
+    → length (live_servers s h).losses ≡ length s.standby
 unfolding live_servers
 place_of s h server = length-each (λ k. tally_of (losses_of k h.happened)) s.standby
 
-pub kept_at : (s : ServersSetting) (h : ServersHistory) (server : ℕ) → server < length s.standby → get_or (live_servers s h).losses server None ≡ tally_of (losses_of server h.happened)
+pub kept_at : (s : ServersSetting) (h : ServersHistory) (server : ℕ) → server < length s.standby
+    → get_or (live_servers s h).losses server None ≡ tally_of (losses_of server h.happened)
 unfolding live_servers
 kept_at s h server lt = get_or-each (λ k. tally_of (losses_of k h.happened)) s.standby server None lt
 
-live-lost_known : (s : ServersSetting) (h : ServersHistory) (server now : ℕ) → server < length s.standby → live_servers s (record { happened = Lost server (max h.moment now) ∷ h.happened; moment = max h.moment now }) ≡ with_losses (live_servers s h) (set (live_servers s h).losses server (Some (tally_more (get_or (live_servers s h).losses server None) (max h.moment now)))) (max h.moment now)
+live-lost_known : (s : ServersSetting) (h : ServersHistory) (server now : ℕ)
+    → server < length s.standby
+    → live_servers s (record {
+      happened = Lost server (max h.moment now) ∷ h.happened;
+      moment = max h.moment now;
+    })
+    ≡ with_losses (live_servers s h)
+    (set (live_servers s h).losses server
+    (Some (tally_more (get_or (live_servers s h).losses server None) (max h.moment now))))
+    (max h.moment now)
 unfolding live_servers
 live-lost_known s h server now lt =
     let moment = max h.moment now in
@@ -101,28 +135,36 @@ live-lost_known s h server now lt =
     ap (λ ls. with_losses (live_servers s h) ls moment)
     (each_changed (λ k. tally_of (losses_of k h.happened)) (λ k. tally_of (losses_of k (Lost server moment ∷ h.happened))) s.standby server more lt here (λ k ne. lost_elsewhere server k moment h.happened ne))
 
-live-settled_known : (s : ServersSetting) (h : ServersHistory) (server : ℕ) → server < length s.standby → live_servers s (record { happened = Settled server ∷ h.happened; moment = h.moment }) ≡ with_losses (live_servers s h) (set (live_servers s h).losses server None) h.moment
+live-settled_known : (s : ServersSetting) (h : ServersHistory) (server : ℕ)
+    → server < length s.standby
+    → live_servers s (record { happened = Settled server ∷ h.happened; moment = h.moment })
+    ≡ with_losses (live_servers s h) (set (live_servers s h).losses server None) h.moment
 unfolding live_servers
 live-settled_known s h server lt =
     ap (λ ls. with_losses (live_servers s h) ls h.moment)
     (each_changed (λ k. tally_of (losses_of k h.happened)) (λ k. tally_of (losses_of k (Settled server ∷ h.happened))) s.standby server None lt (settled_here server h.happened) (λ k ne. settled_elsewhere server k h.happened ne))
 
 -- the two sides of a choice
-on_known : (b : Bool) (s : ServersSetting) (h k : ServersHistory) (l : LiveServers) → (b ≡ true → live_servers s k ≡ l) → live_servers s (if b then k else h) ≡ (if b then l else live_servers s h)
+on_known : (b : Bool) (s : ServersSetting) (h k : ServersHistory) (l : LiveServers)
+    → (b ≡ true → live_servers s k ≡ l)
+    → live_servers s (if b then k else h) ≡ (if b then l else live_servers s h)
 on_known true s h k l e = e refl
 on_known false s h k l e = refl
 
-known_there : (s : ServersSetting) (h : ServersHistory) (server : ℕ) → nat_lt server (length s.standby) ≡ nat_lt server (length (live_servers s h).losses)
+known_there : (s : ServersSetting) (h : ServersHistory) (server : ℕ)
+    → nat_lt server (length s.standby) ≡ nat_lt server (length (live_servers s h).losses)
 known_there s h server = ap (nat_lt server) (sym (place_of s h server))
 
-pub live-lost : (s : ServersSetting) (h : ServersHistory) (server now : ℕ) → live_servers s (lost s h server now) ≡ live_lost (live_servers s h) server now
+pub live-lost : (s : ServersSetting) (h : ServersHistory) (server now : ℕ)
+    → live_servers s (lost s h server now) ≡ live_lost (live_servers s h) server now
 unfolding live_servers
 live-lost s h server now =
     let l = with_losses (live_servers s h) (set (live_servers s h).losses server (Some (tally_more (get_or (live_servers s h).losses server None) (max (live_servers s h).moment now)))) (max (live_servers s h).moment now) in
     on_known (nat_lt server (length s.standby)) s h (record { happened = Lost server (max h.moment now) ∷ h.happened; moment = max h.moment now }) l (λ e. live-lost_known s h server now (ltb-true _ _ e))
     ∙ ap (λ b. if b then l else live_servers s h) (known_there s h server)
 
-pub live-settled : (s : ServersSetting) (h : ServersHistory) (server : ℕ) → live_servers s (settled s h server) ≡ live_settled (live_servers s h) server
+pub live-settled : (s : ServersSetting) (h : ServersHistory) (server : ℕ)
+    → live_servers s (settled s h server) ≡ live_settled (live_servers s h) server
 unfolding live_servers
 live-settled s h server =
     let l = with_losses (live_servers s h) (set (live_servers s h).losses server None) (live_servers s h).moment in

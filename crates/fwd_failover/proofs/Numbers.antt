@@ -10,19 +10,28 @@ use Rattle.fwd_failover.specs.Choices.{places}
 abbrev pub places_from : ℕ → Bool → List Bool → List ℕ
 places_from k kind flags = map (λ p. p.0) (filter (λ p. beq p.1 kind) (enumerate_from k flags))
 
-one_more : (k : ℕ) (b : Bool) (passes : Bool) → map (λ (p : ℕ × Bool). p.0) (cond passes ((k, b) ∷ []) []) ≡ cond passes ((k + 0) ∷ []) []
+one_more : (k : ℕ) (b : Bool) (passes : Bool)
+    → map (λ (p : ℕ × Bool). p.0) (cond passes ((k, b) ∷ []) [])
+    ≡ cond passes ((k + 0) ∷ []) []
 one_more k b true = ap (λ n. n ∷ []) (omega arith)
 one_more k b false = refl
 
-before_more : (k : ℕ) (b passes : Bool) (xs : List (ℕ × Bool)) (ys zs : List ℕ) → map (λ (p : ℕ × Bool). p.0) xs ≡ ys ++ zs → map (λ (p : ℕ × Bool). p.0) (cond passes ((k, b) ∷ xs) xs) ≡ cond passes (k ∷ ys) ys ++ zs
+before_more : (k : ℕ) (b passes : Bool) (xs : List (ℕ × Bool)) (ys zs : List ℕ)
+    → map (λ (p : ℕ × Bool). p.0) xs ≡ ys ++ zs
+    → map (λ (p : ℕ × Bool). p.0) (cond passes ((k, b) ∷ xs) xs)
+    ≡ cond passes (k ∷ ys) ys ++ zs
 before_more k b true xs ys zs e = ap (λ ns. k ∷ ns) e
 before_more k b false xs ys zs e = e
 
-before_plain : (k : ℕ) (b passes : Bool) (xs : List (ℕ × Bool)) → cond passes (k ∷ map (λ (p : ℕ × Bool). p.0) xs) (map (λ (p : ℕ × Bool). p.0) xs) ≡ map (λ (p : ℕ × Bool). p.0) (cond passes ((k, b) ∷ xs) xs)
+before_plain : (k : ℕ) (b passes : Bool) (xs : List (ℕ × Bool))
+    → cond passes (k ∷ map (λ (p : ℕ × Bool). p.0) xs) (map (λ (p : ℕ × Bool). p.0) xs)
+    ≡ map (λ (p : ℕ × Bool). p.0) (cond passes ((k, b) ∷ xs) xs)
 before_plain k b true xs = refl
 before_plain k b false xs = refl
 
-places_from-push : (k : ℕ) (kind : Bool) (flags : List Bool) (flag : Bool) → places_from k kind (flags ++ flag ∷ []) ≡ places_from k kind flags ++ cond (beq flag kind) ((k + length flags) ∷ []) []
+places_from-push : (k : ℕ) (kind : Bool) (flags : List Bool) (flag : Bool)
+    → places_from k kind (flags ++ flag ∷ [])
+    ≡ places_from k kind flags ++ cond (beq flag kind) ((k + length flags) ∷ []) []
 places_from-push k kind [] flag = one_more k flag (beq flag kind)
 places_from-push k kind (b ∷ flags) flag =
     let rest = filter (λ (p : ℕ × Bool). beq p.1 kind) (enumerate_from (k + 1) flags) in
@@ -31,7 +40,9 @@ places_from-push k kind (b ∷ flags) flag =
     ∙ ap (λ ns. ns ++ cond (beq flag kind) ((k + suc (length flags)) ∷ []) []) (before_plain k b (beq b kind) rest)
 
 -- one server more
-pub places-take_more : (kind : Bool) (flags : List Bool) (i : ℕ) → i < length flags → places kind (take (i + 1) flags) ≡ places kind (take i flags) ++ cond (beq (get_or flags i false) kind) (i ∷ []) []
+pub places-take_more : (kind : Bool) (flags : List Bool) (i : ℕ) → i < length flags
+    → places kind (take (i + 1) flags)
+    ≡ places kind (take i flags) ++ cond (beq (get_or flags i false) kind) (i ∷ []) []
 places-take_more kind flags i lt =
     let count : 0 + length (take i flags) ≡ i = omega (arith, length-take i flags) in
     ap (places kind) (take_more flags i false lt)
@@ -39,15 +50,20 @@ places-take_more kind flags i lt =
     ∙ ap (λ n. places kind (take i flags) ++ cond (beq (get_or flags i false) kind) (n ∷ []) []) count
 
 -- of this kind, and not of it
-pub places-taken : (kind : Bool) (flags : List Bool) (i : ℕ) → i < length flags → beq (get_or flags i false) kind ≡ true → places kind (take (i + 1) flags) ≡ places kind (take i flags) ++ i ∷ []
+pub places-taken : (kind : Bool) (flags : List Bool) (i : ℕ) → i < length flags
+    → beq (get_or flags i false) kind ≡ true
+    → places kind (take (i + 1) flags) ≡ places kind (take i flags) ++ i ∷ []
 places-taken kind flags i lt e = places-take_more kind flags i lt ∙ ap (λ b. places kind (take i flags) ++ cond b (i ∷ []) []) e
 
-pub places-passed : (kind : Bool) (flags : List Bool) (i : ℕ) → i < length flags → beq (get_or flags i false) kind ≡ false → places kind (take (i + 1) flags) ≡ places kind (take i flags)
+pub places-passed : (kind : Bool) (flags : List Bool) (i : ℕ) → i < length flags
+    → beq (get_or flags i false) kind ≡ false
+    → places kind (take (i + 1) flags) ≡ places kind (take i flags)
 places-passed kind flags i lt e =
     places-take_more kind flags i lt ∙ ap (λ b. places kind (take i flags) ++ cond b (i ∷ []) []) e ∙ append-nil (places kind (take i flags))
 
 -- where a server is no standby, there is a primary
-primaries_from : (k : ℕ) (flags : List Bool) (i : ℕ) → i < length flags → get_or flags i false ≡ false → 0 < length (places_from k false flags)
+primaries_from : (k : ℕ) (flags : List Bool) (i : ℕ) → i < length flags
+    → get_or flags i false ≡ false → 0 < length (places_from k false flags)
 primaries_from k [] i lt h = absurd (omega arith)
 primaries_from k (false ∷ flags) i lt h = omega arith
 primaries_from k (true ∷ flags) zero lt h = absurd cc

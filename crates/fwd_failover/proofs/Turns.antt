@@ -5,7 +5,8 @@ use Rattle.std.proofs.lemmas.Bool.{cases_lt}
 use Rattle.std.proofs.lemmas.List.{length-append, length-take, length-drop, get_or-take, get_or-drop, get_or_append_left, get_or-append_right}
 use Rattle.fwd_failover.specs.Choices.{round_from, order_of}
 
-pub length-round : (place : ℕ) (servers : List ℕ) → place ≤ length servers → length (round_from place servers) ≡ length servers
+pub length-round : (place : ℕ) (servers : List ℕ) → place ≤ length servers
+    → length (round_from place servers) ≡ length servers
 length-round place servers le =
     omega (arith, length-append (drop place servers) (take place servers), length-drop place servers, length-take place servers)
 
@@ -15,7 +16,10 @@ remainder_on worker turn n =
     let split : worker + turn ≡ worker % n + turn + worker / n * n = omega (arith, mod-add-div' worker n) in
     ap (λ k. k % n) split ∙ add-mul-mod_self_right (worker % n + turn) (worker / n) n
 
-round_at : (place turn : ℕ) (servers : List ℕ) → place < length servers → turn < length servers → get_or (round_from place servers) turn 0 ≡ get_or servers ((place + turn) % length servers) 0
+round_at : (place turn : ℕ) (servers : List ℕ) → place < length servers
+    → turn < length servers
+    → get_or (round_from place servers) turn 0
+    ≡ get_or servers ((place + turn) % length servers) 0
 round_at place turn servers place_fits turn_fits =
     let ahead = drop place servers in
     let passed = take place servers in
@@ -36,7 +40,9 @@ round_at place turn servers place_fits turn_fits =
     ]
 
 -- the primary at the place that is the worker's number and the turn, counted round
-pub order_round : (first second : List ℕ) (worker turn : ℕ) → turn < length first → get_or (order_of first second worker) turn 0 ≡ get_or first ((worker + turn) % length first) 0
+pub order_round : (first second : List ℕ) (worker turn : ℕ) → turn < length first
+    → get_or (order_of first second worker) turn 0
+    ≡ get_or first ((worker + turn) % length first) 0
 order_round first second worker turn lt =
     let some : 0 < length first = omega arith in
     let place = worker % length first in
@@ -47,7 +53,8 @@ order_round first second worker turn lt =
     ∙ ap (λ k. get_or first k 0) (sym (remainder_on worker turn (length first)))
 
 -- and then the others, as they stand
-pub order_then : (first second : List ℕ) (worker turn : ℕ) → 0 < length first → get_or (order_of first second worker) (length first + turn) 0 ≡ get_or second turn 0
+pub order_then : (first second : List ℕ) (worker turn : ℕ) → 0 < length first
+    → get_or (order_of first second worker) (length first + turn) 0 ≡ get_or second turn 0
 order_then first second worker turn some =
     let place = worker % length first in
     let within : place < length first = mod-lt worker some in

@@ -11,9 +11,11 @@ use Rattle.fwd_failover.specs.History.{ServersSetting, Happening, losses_of}
 abbrev pub places : Bool → List Bool → List ℕ
 places kind standby = map (λ p. p.0) (filter (λ p. beq p.1 kind) (enumerate_from 0 standby))
 
+-- the numbers of the servers that are tried first: those that are no standbys
 abbrev pub primaries : ServersSetting → List ℕ
 primaries s = places false s.standby
 
+-- the numbers of the servers that are tried only behind the primaries
 abbrev pub standbys : ServersSetting → List ℕ
 standbys s = places true s.standby
 
@@ -21,20 +23,25 @@ standbys s = places true s.standby
 abbrev pub round_from : ℕ → List ℕ → List ℕ
 round_from place servers = drop place servers ++ take place servers
 
--- worker w begins with the primary at the place w modulo their number and goes once round; then come the standbys in file order
+-- worker w begins with the primary at the place w modulo their number and goes once round; then
+-- come the standbys in file order
 abbrev pub order_of : List ℕ → List ℕ → ℕ → List ℕ
 order_of first second worker = round_from (worker % length first) first ++ second
 
 -- ---- the choice
 
--- a server with these losses, the newest first, may be tried at a moment: it has none, or its wait after the newest is over
+-- a server with these losses, the newest first, may be tried at
+-- a moment: it has none, or its wait after the newest is over
 abbrev pub is_over : ServersSetting → List ℕ → ℕ → Bool
 is_over s [] moment = true
-is_over s (newest ∷ older) moment = nat_le (newest + wait_after s.retry_wait s.retry_max (length (newest ∷ older))) moment
+is_over s (newest ∷ older) moment =
+    nat_le (newest + wait_after s.retry_wait s.retry_max (length (newest ∷ older))) moment
 
+-- a server may be tried at a moment, by what was lost at it since it last settled
 abbrev pub is_usable : ServersSetting → List Happening → ℕ → ℕ → Bool
 is_usable s happened moment server = is_over s (losses_of server happened) moment
 
 -- the first in the worker's order that is usable, if there is one
 abbrev pub choice : ServersSetting → List Happening → ℕ → ℕ → Option ℕ
-choice s happened worker moment = find (is_usable s happened moment) (order_of (primaries s) (standbys s) worker)
+choice s happened worker moment =
+    find (is_usable s happened moment) (order_of (primaries s) (standbys s) worker)

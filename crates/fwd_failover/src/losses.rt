@@ -11,7 +11,8 @@ impl Losses {
     ghost use Rattle.std.specs.Prelude.{◌≡◌};
     ghost use Rattle.fwd_failover.specs.Live.{tally_more};
 
-    /// The greatest count that is told from the next one: a wait that doubled so often is past every longest wait.
+    /// The greatest count that is told from the next one: a
+    /// wait that doubled so often is past every longest wait.
     const MOST: u8 = 65;
 
     /// The losses with one more, at a moment in milliseconds.

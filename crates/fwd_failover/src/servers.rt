@@ -9,8 +9,9 @@ use crate::retry::Retry;
 use std::alloc::{AllocError, Global};
 use std::marker::Model;
 
-/// The servers of an output, by their numbers in file order from 0, and what was lost at each. Moments and waits are
-/// in milliseconds. A moment before the greatest one handed in counts as that one.
+/// The servers of an output, by their numbers in file order from 0,
+/// and what was lost at each. Moments and waits are in milliseconds.
+/// A moment before the greatest one handed in counts as that one.
 #[derive(Debug, Drop)]
 pub struct Servers {
     primaries: Vec<u16>,
@@ -26,9 +27,18 @@ impl Model for Servers {
 
     ghost Value = { LiveServers };
 
-    ghost view = { λ s. record { primaries = s.primaries.items; standbys = s.standbys.items; retry_wait = s.retry.wait; retry_max = s.retry.max; losses = s.losses.items; moment = s.moment } };
+    ghost view = { λ s. record {
+      primaries = s.primaries.items;
+      standbys = s.standbys.items;
+      retry_wait = s.retry.wait;
+      retry_max = s.retry.max;
+      losses = s.losses.items;
+      moment = s.moment;
+    } };
 
-    ghost invariant = { λ s. (0 < length s.primaries.items) × All (λ p. p < length s.losses.items) s.primaries.items × All (λ p. p < length s.losses.items) s.standbys.items };
+    ghost invariant = { λ s.
+        (0 < length s.primaries.items) × All (λ p. p < length s.losses.items) s.primaries.items
+        × All (λ p. p < length s.losses.items) s.standbys.items };
 }
 
 /// The numbers of the standbys, or of the others, in file order.
@@ -46,10 +56,10 @@ fn numbers_of(alloc: Global, standby: &[bool], kind: bool) -> Result<Vec<u16>, A
 }
 
 impl Servers {
-    /// The servers of an output before any loss, 1 to 16 and not all of them standbys. A flag for each, in file
-    /// order, says whether it is a standby. After a first loss a server waits `retry_wait` milliseconds, after each
-    /// further one twice as long, and never longer than `retry_max`. This fails only where memory is refused, and
-    /// later calls take none.
+    /// The servers of an output before any loss, 1 to 16 and not all of them standbys. A flag for
+    /// each, in file order, says whether it is a standby. After a first loss a server waits
+    /// `retry_wait` milliseconds, after each further one twice as long, and never longer than
+    /// `retry_max`. This fails only where memory is refused, and later calls take none.
     pub fn new(
         alloc: Global,
         standby: &[bool],
@@ -58,7 +68,11 @@ impl Servers {
     ) -> Result<Self, AllocError>
         requires few { length standby.now ≤ 16 }
         requires not_all_standby { Contains standby.now false }
-        ensures { IfOk result (λ servers. servers ≡ live_servers (record { standby = standby.now; retry_wait = retry_wait; retry_max = retry_max }) opening) }
+        ensures { IfOk result (λ servers.
+            servers
+            ≡ live_servers
+            (record { standby = standby.now; retry_wait = retry_wait; retry_max = retry_max })
+            opening) }
     {
         Ok(Servers {
             primaries: numbers_of(alloc, standby, false)?,
@@ -72,7 +86,8 @@ impl Servers {
         })
     }
 
-    /// How long a server waits after so many losses since it last settled a chunk, in milliseconds: 0 after none.
+    /// How long a server waits after so many losses since it
+    /// last settled a chunk, in milliseconds: 0 after none.
     pub fn wait_after(&self, losses: u64) -> u64
         ensures { result ≡ wait_after self.now.retry_wait self.now.retry_max losses }
     {
@@ -99,16 +114,20 @@ impl Servers {
             .find(|server| self.is_usable(*server))
     }
 
-    /// The server that a worker tries at a moment, if one is usable: the first usable one of the primaries, once
-    /// round from the place that is the worker's number modulo their count, and then of the standbys in file order.
+    /// The server that a worker tries at a moment, if one is usable: the first usable one of the
+    /// primaries, once round from the place that is the worker's number modulo their count, and
+    /// then of the standbys in file order.
     pub fn choose(&mut self, worker: u16, now: u64) -> Option<u16>
         ensures choice { result ≡ live_choice self.old worker (max self.old.moment now) }
         ensures after { self.new ≡ live_looked self.old now }
         ensures known { IfSome result (λ server. server < length self.old.losses) }
 
         // Said of all losses and settlings so far.
-        ensures choice_by_history { (s : ServersSetting) (h : ServersHistory) → self.old ≡ live_servers s h → result ≡ choice s h.happened worker (max h.moment now) }
-        ensures history { (s : ServersSetting) (h : ServersHistory) → self.old ≡ live_servers s h → self.new ≡ live_servers s (looked h now) }
+        ensures choice_by_history { (s : ServersSetting) (h : ServersHistory)
+            → self.old ≡ live_servers s h
+            → result ≡ choice s h.happened worker (max h.moment now) }
+        ensures history { (s : ServersSetting) (h : ServersHistory)
+            → self.old ≡ live_servers s h → self.new ≡ live_servers s (looked h now) }
     {
         self.moment = self.moment.max(now);
         let place = usize::from(worker) % self.primaries.len();
@@ -121,7 +140,9 @@ impl Servers {
     /// A server was lost at a moment, and waits from then on. An unknown server changes nothing.
     pub fn failed(&mut self, server: u16, now: u64)
         ensures after { self.new ≡ live_lost self.old server now }
-        ensures history { (s : ServersSetting) (h : ServersHistory) → self.old ≡ live_servers s h → self.new ≡ live_servers s (lost s h server now) }
+        ensures history { (s : ServersSetting) (h : ServersHistory)
+            → self.old ≡ live_servers s h
+            → self.new ≡ live_servers s (lost s h server now) }
     {
         let Some(losses) = self.losses.get_mut(usize::from(server)) else {
             return;
@@ -131,10 +152,12 @@ impl Servers {
         self.moment = moment;
     }
 
-    /// A server settled a chunk: its losses so far no longer count. An unknown server changes nothing.
+    /// A server settled a chunk: its losses so far no
+    /// longer count. An unknown server changes nothing.
     pub fn settled(&mut self, server: u16)
         ensures after { self.new ≡ live_settled self.old server }
-        ensures history { (s : ServersSetting) (h : ServersHistory) → self.old ≡ live_servers s h → self.new ≡ live_servers s (settled s h server) }
+        ensures history { (s : ServersSetting) (h : ServersHistory)
+            → self.old ≡ live_servers s h → self.new ≡ live_servers s (settled s h server) }
     {
         if let Some(losses) = self.losses.get_mut(usize::from(server)) {
             *losses = None;

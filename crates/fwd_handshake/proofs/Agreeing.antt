@@ -27,16 +27,20 @@ use Rattle.fwd_msgpack.proofs.Written.{written_elements, text_text}
 use Rattle.fwd_handshake.proofs.Written.{texts, AreShort, row-text, row-texts, row-bool}
 
 -- a digest has 128 bytes
-length-key_digest : (salt host nonce key : List ℕ) → length (key_digest salt host nonce key) ≡ 128
+length-key_digest : (salt host nonce key : List ℕ)
+    → length (key_digest salt host nonce key) ≡ 128
 unfolding sha512 digest_bytes encode_with
 length-key_digest salt host nonce key = refl
 
-length-password_digest : (auth user password : List ℕ) → length (password_digest auth user password) ≡ 128
+length-password_digest : (auth user password : List ℕ)
+    → length (password_digest auth user password) ≡ 128
 unfolding sha512 digest_bytes encode_with
 length-password_digest auth user password = refl
 
 -- PING as strs behind the head of an array
-ping_flat : (h s d u p : List ℕ) → ping_text h s d u p ≡ head_bytes (Arr 6) ++ texts (codes "PING" ∷ h ∷ s ∷ d ∷ u ∷ p ∷ [])
+ping_flat : (h s d u p : List ℕ)
+    → ping_text h s d u p
+    ≡ head_bytes (Arr 6) ++ texts (codes "PING" ∷ h ∷ s ∷ d ∷ u ∷ p ∷ [])
 unfolding ping_text
 ping_flat h s d u p = simp (append_assoc, append-nil {A = ℕ})
 
@@ -46,7 +50,8 @@ ping_word = refl
 
 -- what stands behind the word of a PING
 ping_values : (h s d u p : List ℕ) → AreShort (h ∷ s ∷ d ∷ u ∷ p ∷ [])
-    → values_behind (codes "PING") (ping_text h s d u p) ≡ Some (text h ∷ text s ∷ text d ∷ text u ∷ text p ∷ [])
+    → values_behind (codes "PING") (ping_text h s d u p)
+    ≡ Some (text h ∷ text s ∷ text d ∷ text u ∷ text p ∷ [])
 ping_values h s d u p short =
     let ws : List (List ℕ) = codes "PING" ∷ h ∷ s ∷ d ∷ u ∷ p ∷ [] in
     ap (λ (bytes : List ℕ). values_behind (codes "PING") bytes) (ping_flat h s d u p)
@@ -56,7 +61,13 @@ ping_values h s d u p short =
 
 -- what a written PING says
 ping_said : (h s d u p : List ℕ) → AreShort (h ∷ s ∷ d ∷ u ∷ p ∷ [])
-    → ping_of (ping_text h s d u p) ≡ Some (record { hostname = h; salt = s; digest = d; claim = Some (record { username = u; digest = p }) })
+    → ping_of (ping_text h s d u p)
+    ≡ Some (record {
+      hostname = h;
+      salt = s;
+      digest = d;
+      claim = Some (record { username = u; digest = p });
+    })
 ping_said h s d u p short =
     ap (λ (vs : Option (List (List ℕ))). option_and_then ping_in vs) (ping_values h s d u p short)
     ∙ rw (
@@ -78,28 +89,42 @@ both false b e = absurd (false≢true e)
 
 -- a user with the login's username and password has its password digest
 same_user : (login : Login) (auth : List ℕ) (user : User) → is_login_of login user ≡ true
-    → is_of_user auth (record { username = login.username; digest = password_digest auth login.username login.password }) user ≡ true
+    → is_of_user auth
+    (record {
+      username = login.username;
+      digest = password_digest auth login.username login.password;
+    })
+    user
+    ≡ true
 same_user login auth user e =
     let parts = both (bytes_eq user.name login.username) (bytes_eq user.password login.password) e in
     let name : user.name ≡ login.username = (bytes_eq-Decides user.name login.username).0 parts.0 in
     let password : user.password ≡ login.password = (bytes_eq-Decides user.password login.password).0 parts.1 in
     rw (name, password, same login.username, same (password_digest auth login.username login.password)) refl
 
-or_more : (a b c d : Bool) → (a ≡ true → c ≡ true) → (b ≡ true → d ≡ true) → a || b ≡ true → c || d ≡ true
+or_more : (a b c d : Bool) → (a ≡ true → c ≡ true) → (b ≡ true → d ≡ true)
+    → a || b ≡ true → c || d ≡ true
 or_more true b true d left right e = refl
 or_more true b false d left right e = absurd (false≢true (left refl))
 or_more false b true d left right e = refl
 or_more false b false d left right e = right e
 
 -- what passes one test passes a weaker one
-any_more : (p q : User → Bool) → ((u : User) → p u ≡ true → q u ≡ true) → (users : List User) → list_any p users ≡ true → list_any q users ≡ true
+any_more : (p q : User → Bool) → ((u : User) → p u ≡ true → q u ≡ true)
+    → (users : List User) → list_any p users ≡ true → list_any q users ≡ true
 any_more p q more [] e = e
 any_more p q more (user ∷ users) e =
     or_more (p user) (list_any p users) (q user) (list_any q users) (more user) (any_more p q more users) e
 
 -- the claim that a client makes is good
-claim_good : (users : List User) (login : Login) (auth : List ℕ) → lets_in users login ≡ true → 0 < length auth
-    → is_of_a_user users auth (Some (record { username = username_for login (auth_given users auth); digest = proof_for login (auth_given users auth) })) ≡ true
+claim_good : (users : List User) (login : Login) (auth : List ℕ) → lets_in users login ≡ true
+    → 0 < length auth
+    → is_of_a_user users auth
+    (Some (record {
+      username = username_for login (auth_given users auth);
+      digest = proof_for login (auth_given users auth);
+    }))
+    ≡ true
 claim_good [] login auth e lt = refl
 claim_good (user ∷ users) login [] e lt = absurd (omega arith)
 claim_good (user ∷ users) login (byte ∷ auth) e lt =
@@ -110,7 +135,8 @@ claimed : (users : List User) (claim : Claim) → lacks_claim users (Some claim)
 claimed [] claim = refl
 claimed (user ∷ users) claim = refl
 
-short_name : (login : Login) (auth : List ℕ) → length login.username + 5 < 2 ^ 32 → length (username_for login auth) + 5 < 2 ^ 32
+short_name : (login : Login) (auth : List ℕ) → length login.username + 5 < 2 ^ 32
+    → length (username_for login auth) + 5 < 2 ^ 32
 short_name login [] lt = lit≤ tt
 short_name login (byte ∷ auth) lt = lt
 
@@ -119,8 +145,11 @@ short_proof login [] = lit≤ tt
 short_proof login (byte ∷ auth) = omega (arith, length-password_digest (byte ∷ auth) login.username login.password)
 
 -- a client that knows what the server knows passes
-pub ping_passes : (login : Login) (security : Security) (nonces : Nonces) (salt key : List ℕ) → IsAgreed login security salt key → 0 < length nonces.auth
-    → ping_verdict security nonces (answering login salt nonces.nonce (auth_given security.users nonces.auth)) ≡ Pass (passing security nonces.nonce salt)
+pub ping_passes : (login : Login) (security : Security) (nonces : Nonces) (salt key : List ℕ)
+    → IsAgreed login security salt key → 0 < length nonces.auth
+    → ping_verdict security nonces
+    (answering login salt nonces.nonce (auth_given security.users nonces.auth))
+    ≡ Pass (passing security nonces.nonce salt)
 unfolding ping_verdict
 ping_passes login security nonces salt key agreed lt =
     let auth : List ℕ = auth_given security.users nonces.auth in
@@ -136,7 +165,10 @@ ping_passes login security nonces salt key agreed lt =
 
 -- ---- the client's side
 
-pong_flat : (h d : List ℕ) → pong_text true [] h d ≡ head_bytes (Arr 5) ++ (text (codes "PONG") ++ (head_bytes (Boolean true) ++ texts ([] ∷ h ∷ d ∷ [])))
+pong_flat : (h d : List ℕ)
+    → pong_text true [] h d
+    ≡ head_bytes (Arr 5)
+    ++ (text (codes "PONG") ++ (head_bytes (Boolean true) ++ texts ([] ∷ h ∷ d ∷ [])))
 unfolding pong_text
 pong_flat h d = simp (append_assoc, append-nil {A = ℕ})
 
@@ -150,7 +182,8 @@ true_bool = refl
 
 -- what stands behind the word of a PONG
 pong_values : (h d : List ℕ) → AreShort (h ∷ d ∷ [])
-    → values_behind (codes "PONG") (pong_text true [] h d) ≡ Some (head_bytes (Boolean true) ∷ text [] ∷ text h ∷ text d ∷ [])
+    → values_behind (codes "PONG") (pong_text true [] h d)
+    ≡ Some (head_bytes (Boolean true) ∷ text [] ∷ text h ∷ text d ∷ [])
 pong_values h d short =
     let ws : List (List ℕ) = [] ∷ h ∷ d ∷ [] in
     let rest : List ℕ = head_bytes (Boolean true) ++ texts ws in
@@ -168,7 +201,8 @@ pong_values h d short =
     ∙ ap (λ (b : Bool). cond b (Some (head_bytes (Boolean true) ∷ text [] ∷ text h ∷ text d ∷ [])) None) pong_word
 
 -- a server that knows what the client knows is taken
-pub pong_passes : (login : Login) (security : Security) (nonce salt key : List ℕ) → IsAgreed login security salt key
+pub pong_passes : (login : Login) (security : Security) (nonce salt key : List ℕ)
+    → IsAgreed login security salt key
     → pong_verdict login salt nonce (passing security nonce salt) ≡ pong.Pass
 unfolding pong_verdict
 pong_passes login security nonce salt key agreed =

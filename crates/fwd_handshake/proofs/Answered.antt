@@ -25,11 +25,13 @@ binary_text : (bytes : List ℕ) → length bytes < 2 ^ 32 → text_of (binary b
 binary_text bytes short = written_text (Bin (length bytes)) short tt bytes
 
 -- the auth salt as it is written, and as it is read
-auth_plain : (users : List User) (auth : List ℕ) → length (auth_value users auth) ≤ most_bytes → IsPlain (auth_value users auth)
+auth_plain : (users : List User) (auth : List ℕ) → length (auth_value users auth) ≤ most_bytes
+    → IsPlain (auth_value users auth)
 auth_plain [] auth short = text_plain [] (lit≤ tt)
 auth_plain (user ∷ users) auth short = binary_plain auth (omega (arith, short, length-append (head_bytes (Bin (length auth))) auth))
 
-auth_read : (users : List User) (auth : List ℕ) → length (auth_value users auth) ≤ most_bytes → text_of (auth_value users auth) ≡ Some (auth_given users auth)
+auth_read : (users : List User) (auth : List ℕ) → length (auth_value users auth) ≤ most_bytes
+    → text_of (auth_value users auth) ≡ Some (auth_given users auth)
 auth_read [] auth short = text_text [] (lit≤ tt)
 auth_read (user ∷ users) auth short = binary_text auth (omega (arith, short, length-append (head_bytes (Bin (length auth))) auth))
 
@@ -41,7 +43,8 @@ word_read : is_word (codes "HELO") (text (codes "HELO")) ≡ true
 unfolding head_bytes parts_of reading_of row_of named_rows
 word_read = refl
 
-module _ (users : List User) (nonce auth : List ℕ) (sized : length (helo_text users nonce auth) < 2 ^ 32) where
+module _ (users : List User) (nonce auth : List ℕ)
+    (sized : length (helo_text users nonce auth) < 2 ^ 32) where
   abbrev given : List ℕ
   given = auth_value users auth
 
@@ -57,7 +60,8 @@ module _ (users : List User) (nonce auth : List ℕ) (sized : length (helo_text 
   abbrev options : List ℕ
   options = head_bytes (Map 3) ++ concat members
 
-  helo_joined : helo_text users nonce auth ≡ head_bytes (Arr 2) ++ (text (codes "HELO") ++ (options ++ []))
+  helo_joined : helo_text users nonce auth
+      ≡ head_bytes (Arr 2) ++ (text (codes "HELO") ++ (options ++ []))
   unfolding helo_text
   helo_joined = simp (append_assoc, append-nil {A = ℕ})
 
@@ -106,7 +110,8 @@ module _ (users : List User) (nonce auth : List ℕ) (sized : length (helo_text 
   options_value : IsValue 1 options
   options_value = container_value 0 options (written_container (Map 3) (lit≤ tt) tt (IsValue 0) (concat members) refl (in_a_row (IsValue 0) members member_values))
 
-  helo_elements : elements_of (helo_text users nonce auth) ≡ Some (text (codes "HELO") ∷ options ∷ [])
+  helo_elements : elements_of (helo_text users nonce auth)
+      ≡ Some (text (codes "HELO") ∷ options ∷ [])
   helo_elements =
       ap elements_of helo_joined
       ∙ written_elements (Arr 2) (lit≤ tt) tt (text (codes "HELO") ++ (options ++ []))
@@ -142,7 +147,9 @@ module _ (users : List User) (nonce auth : List ℕ) (sized : length (helo_text 
       ∙ under
 
   -- the answer has the nonce and the auth salt that were written
-  pub helo_answered : (login : Login) (salt key : List ℕ) → login.shared_key ≡ Some key → helo_answer login salt (helo_text users nonce auth) ≡ Answers (answering login salt nonce (auth_given users auth)) nonce true
+  pub helo_answered : (login : Login) (salt key : List ℕ) → login.shared_key ≡ Some key
+      → helo_answer login salt (helo_text users nonce auth)
+      ≡ Answers (answering login salt nonce (auth_given users auth)) nonce true
   unfolding helo_answer
   helo_answered login salt key has =
       ap (λ k. helo_judged login salt (heard_helo k (helo_text users nonce auth))) has ∙ ap (helo_judged login salt) helo_said

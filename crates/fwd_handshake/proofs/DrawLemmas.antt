@@ -24,12 +24,14 @@ unfolding word_bytes first_words
 filled g = refl
 
 -- sixteen bytes
-pub one_fill : (g h : ChaCha) (bytes : List ℕ) → (bytes, h) ≡ fill_via_u32 (next_word double_rounds) 16 g
+pub one_fill : (g h : ChaCha) (bytes : List ℕ)
+    → (bytes, h) ≡ fill_via_u32 (next_word double_rounds) 16 g
     → (bytes ≡ drawn 0 4 g) × (h ≡ moved 4 g)
 one_fill g h bytes e = (ap (λ (p : List ℕ × ChaCha). p.0) e ∙ filled g, ap (λ (p : List ℕ × ChaCha). p.1) e ∙ fill_moves g)
 
 -- what the next four words are after four words
-drawn_later : (g : ChaCha) → drawn 0 4 (fill_via_u32 (next_word double_rounds) 16 g).1 ≡ drawn 4 4 g
+drawn_later : (g : ChaCha)
+    → drawn 0 4 (fill_via_u32 (next_word double_rounds) 16 g).1 ≡ drawn 4 4 g
 unfolding word_bytes first_words
 drawn_later g = refl
 
@@ -38,8 +40,10 @@ moved_twice : (g : ChaCha) → moved 4 (moved 4 g) ≡ moved 8 g
 moved_twice g = ap (λ (n : ℕ). record g { word_pos = n }) (rw (mod-add-mod (g.word_pos + 4) (2 ^ 68) 4) (ap (λ (n : ℕ). n % 2 ^ 68) (omega arith)))
 
 -- sixteen bytes more
-pub second_fill : (g h k : ChaCha) (first bytes : List ℕ) → (first, h) ≡ fill_via_u32 (next_word double_rounds) 16 g
-    → (bytes, k) ≡ fill_via_u32 (next_word double_rounds) 16 h → (bytes ≡ drawn 4 4 g) × (k ≡ moved 8 g)
+pub second_fill : (g h k : ChaCha) (first bytes : List ℕ)
+    → (first, h) ≡ fill_via_u32 (next_word double_rounds) 16 g
+    → (bytes, k) ≡ fill_via_u32 (next_word double_rounds) 16 h
+    → (bytes ≡ drawn 4 4 g) × (k ≡ moved 8 g)
 second_fill g h k first bytes e f =
     let after : h ≡ (fill_via_u32 (next_word double_rounds) 16 g).1 = ap (λ (p : List ℕ × ChaCha). p.1) e in
     let now = one_fill h k bytes f in (

@@ -25,28 +25,37 @@ ping : ping_text (codes "h") (codes "s") (codes "d") (codes "u") (codes "p") ≡
 unfolding ping_text head_bytes
 ping = refl
 
-pong : pong_text true [] (codes "h") (codes "d") ≡ 0x95 ∷ 0xa4 ∷ codes "PONG" ++ 0xc3 ∷ 0xa0 ∷ 0xa1 ∷ 0x68 ∷ 0xa1 ∷ 0x64 ∷ []
+pong : pong_text true [] (codes "h") (codes "d")
+    ≡ 0x95 ∷ 0xa4 ∷ codes "PONG" ++ 0xc3 ∷ 0xa0 ∷ 0xa1 ∷ 0x68 ∷ 0xa1 ∷ 0x64 ∷ []
 unfolding pong_text head_bytes
 pong = refl
 
 -- a PONG that denies has no hostname and no digest
-denied : denying KeyMismatch ≡ 0x95 ∷ 0xa4 ∷ codes "PONG" ++ 0xc2 ∷ 0xb3 ∷ codes "shared_key mismatch" ++ 0xa0 ∷ 0xa0 ∷ []
+denied : denying KeyMismatch
+    ≡ 0x95 ∷ 0xa4 ∷ codes "PONG" ++ 0xc2 ∷ 0xb3 ∷ codes "shared_key mismatch"
+    ++ 0xa0 ∷ 0xa0 ∷ []
 unfolding pong_text head_bytes
 denied = refl
 
-denied_user : denying UserMismatch ≡ 0x95 ∷ 0xa4 ∷ codes "PONG" ++ 0xc2 ∷ 0xba ∷ codes "username/password mismatch" ++ 0xa0 ∷ 0xa0 ∷ []
+denied_user : denying UserMismatch
+    ≡ 0x95 ∷ 0xa4 ∷ codes "PONG" ++ 0xc2 ∷ 0xba ∷ codes "username/password mismatch"
+    ++ 0xa0 ∷ 0xa0 ∷ []
 unfolding pong_text head_bytes
 denied_user = refl
 
 -- PING, hostname "h", salt "s" as a bin and digest "d", with these bytes behind them
 abbrev says : List ℕ → List ℕ
-says rest = 0x96 ∷ 0xa4 ∷ codes "PING" ++ 0xa1 ∷ 0x68 ∷ 0xc4 ∷ 0x01 ∷ 0x73 ∷ 0xa1 ∷ 0x64 ∷ rest
+says rest =
+    0x96 ∷ 0xa4 ∷ codes "PING"
+    ++ 0xa1 ∷ 0x68 ∷ 0xc4 ∷ 0x01 ∷ 0x73 ∷ 0xa1 ∷ 0x64 ∷ rest
 
 abbrev said : Option Claim → Option Ping
-said claim = Some (record { hostname = codes "h"; salt = codes "s"; digest = codes "d"; claim = claim })
+said claim =
+    Some (record { hostname = codes "h"; salt = codes "s"; digest = codes "d"; claim = claim })
 
 -- the user "u" with the password digest "p"
-read_ping : ping_of (says (0xa1 ∷ 0x75 ∷ 0xa1 ∷ 0x70 ∷ [])) ≡ said (Some (record { username = codes "u"; digest = codes "p" }))
+read_ping : ping_of (says (0xa1 ∷ 0x75 ∷ 0xa1 ∷ 0x70 ∷ []))
+    ≡ said (Some (record { username = codes "u"; digest = codes "p" }))
 unfolding parts_of row_of_values split_of first_of fault_at item_begun payload_ended reading_of row_of named_rows
 read_ping = refl
 
@@ -56,12 +65,19 @@ unfolding parts_of row_of_values split_of first_of fault_at item_begun payload_e
 no_claim = refl
 
 -- five are too few
-too_few : ping_of (0x95 ∷ 0xa4 ∷ codes "PING" ++ 0xa1 ∷ 0x68 ∷ 0xa1 ∷ 0x73 ∷ 0xa1 ∷ 0x64 ∷ 0xa0 ∷ []) ≡ None
+too_few :
+    ping_of
+    (0x95 ∷ 0xa4 ∷ codes "PING"
+    ++ 0xa1 ∷ 0x68 ∷ 0xa1 ∷ 0x73 ∷ 0xa1 ∷ 0x64 ∷ 0xa0 ∷ [])
+    ≡ None
 unfolding parts_of row_of_values split_of first_of fault_at item_begun payload_ended reading_of row_of named_rows
 too_few = refl
 
 -- the word is a str
-bin_word : ping_of (0x96 ∷ 0xc4 ∷ 0x04 ∷ codes "PING" ++ 0xa0 ∷ 0xa0 ∷ 0xa0 ∷ 0xa0 ∷ 0xa0 ∷ []) ≡ None
+bin_word :
+    ping_of
+    (0x96 ∷ 0xc4 ∷ 0x04 ∷ codes "PING" ++ 0xa0 ∷ 0xa0 ∷ 0xa0 ∷ 0xa0 ∷ 0xa0 ∷ [])
+    ≡ None
 unfolding parts_of row_of_values split_of first_of fault_at item_begun payload_ended reading_of row_of named_rows
 bin_word = refl
 
@@ -82,7 +98,8 @@ abbrev greeted : List ℕ → List ℕ → Bool → Option Helo
 greeted nonce auth keepalive = Some (record { nonce = nonce; auth = auth; keepalive = keepalive })
 
 -- a nonce is enough
-only_nonce : helo_of (greets 0x81 (nonce_key ++ 0xc4 ∷ 0x01 ∷ 0x6e ∷ [])) ≡ greeted (0x6e ∷ []) [] true
+only_nonce : helo_of (greets 0x81 (nonce_key ++ 0xc4 ∷ 0x01 ∷ 0x6e ∷ []))
+    ≡ greeted (0x6e ∷ []) [] true
 unfolding parts_of row_of_values split_of first_of fault_at item_begun payload_ended reading_of row_of named_rows
 only_nonce = refl
 
@@ -91,21 +108,25 @@ unfolding parts_of row_of_values split_of first_of fault_at item_begun payload_e
 no_nonce = refl
 
 -- of a nonce that is given twice the last counts
-nonce_twice : helo_of (greets 0x82 (nonce_key ++ 0x05 ∷ nonce_key ++ 0xa1 ∷ 0x6e ∷ [])) ≡ greeted (0x6e ∷ []) [] true
+nonce_twice : helo_of (greets 0x82 (nonce_key ++ 0x05 ∷ nonce_key ++ 0xa1 ∷ 0x6e ∷ []))
+    ≡ greeted (0x6e ∷ []) [] true
 unfolding parts_of row_of_values split_of first_of fault_at item_begun payload_ended reading_of row_of named_rows
 nonce_twice = refl
 
 -- an auth salt that is nil counts as empty
-nil_auth : helo_of (greets 0x82 (nonce_key ++ 0xa0 ∷ auth_key ++ 0xc0 ∷ [])) ≡ greeted [] [] true
+nil_auth : helo_of (greets 0x82 (nonce_key ++ 0xa0 ∷ auth_key ++ 0xc0 ∷ []))
+    ≡ greeted [] [] true
 unfolding parts_of row_of_values split_of first_of fault_at item_begun payload_ended reading_of row_of named_rows
 nil_auth = refl
 
-closing : helo_of (greets 0x82 (nonce_key ++ 0xa0 ∷ keepalive_key ++ 0xc2 ∷ [])) ≡ greeted [] [] false
+closing : helo_of (greets 0x82 (nonce_key ++ 0xa0 ∷ keepalive_key ++ 0xc2 ∷ []))
+    ≡ greeted [] [] false
 unfolding parts_of row_of_values split_of first_of fault_at item_begun payload_ended reading_of row_of named_rows
 closing = refl
 
 -- a keepalive that is no bool counts as true
-nil_keepalive : helo_of (greets 0x82 (nonce_key ++ 0xa0 ∷ keepalive_key ++ 0xc0 ∷ [])) ≡ greeted [] [] true
+nil_keepalive : helo_of (greets 0x82 (nonce_key ++ 0xa0 ∷ keepalive_key ++ 0xc0 ∷ []))
+    ≡ greeted [] [] true
 unfolding parts_of row_of_values split_of first_of fault_at item_begun payload_ended reading_of row_of named_rows
 nil_keepalive = refl
 
@@ -117,5 +138,6 @@ no_key salt host nonce digest = refl
 no_users : (auth : List ℕ) (claim : Option Claim) → is_of_a_user [] auth claim ≡ true
 no_users auth claim = refl
 
-unclaimed : (auth : List ℕ) (user : User) (users : List User) → lacks_claim (user ∷ users) None ≡ true
+unclaimed : (auth : List ℕ) (user : User) (users : List User)
+    → lacks_claim (user ∷ users) None ≡ true
 unclaimed auth user users = refl

@@ -11,7 +11,12 @@ use Rattle.fwd_msgpack.specs.Values.{IsPlain}
 use Rattle.fwd_msgpack.proofs.Rows.{row_of_nothing}
 use Rattle.fwd_msgpack.proofs.Written.{value_first, written_plain, plain_value, text_plain}
 
-by_width : (a b c : Bool) (n : ℕ) → length (cond a ((0xa0 + n) ∷ []) (cond b (0xd9 ∷ n ∷ []) (cond c (0xda ∷ to_be_bytes w16 n) (0xdb ∷ to_be_bytes w32 n)))) ≤ 5
+by_width : (a b c : Bool) (n : ℕ)
+    → length
+    (cond a ((0xa0 + n) ∷ [])
+    (cond b (0xd9 ∷ n ∷ [])
+    (cond c (0xda ∷ to_be_bytes w16 n) (0xdb ∷ to_be_bytes w32 n))))
+    ≤ 5
 by_width true b c n = lit≤ tt
 by_width false true c n = lit≤ tt
 by_width false false true n = lit≤ tt
@@ -31,12 +36,15 @@ bool_size true = refl
 bool_size false = refl
 
 -- a written bool stands first in a row
-pub row-bool : (flag : Bool) (rest : List ℕ) → row_of_values (head_bytes (Boolean flag) ++ rest) ≡ head_bytes (Boolean flag) ∷ row_of_values rest
+pub row-bool : (flag : Bool) (rest : List ℕ)
+    → row_of_values (head_bytes (Boolean flag) ++ rest)
+    ≡ head_bytes (Boolean flag) ∷ row_of_values rest
 row-bool flag rest =
     value_first 0 (head_bytes (Boolean flag)) rest (plain_value 0 (head_bytes (Boolean flag)) (bool_plain flag)) (omega arith) (omega (arith, bool_size flag))
 
 -- a written str stands first in a row
-pub row-text : (w rest : List ℕ) → length w + 5 < 2 ^ 32 → row_of_values (text w ++ rest) ≡ text w ∷ row_of_values rest
+pub row-text : (w rest : List ℕ) → length w + 5 < 2 ^ 32
+    → row_of_values (text w ++ rest) ≡ text w ∷ row_of_values rest
 row-text w rest lt =
     value_first 0 (text w) rest (plain_value 0 (text w) (text_plain w (omega (arith, lt)))) (omega arith)
     (omega (arith, lt, str_head (length w), length-append (head_bytes (Str (length w))) w))

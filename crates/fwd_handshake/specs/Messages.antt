@@ -1,5 +1,5 @@
--- The messages of a handshake, byte for byte (Forward Protocol Specification v1, "Handshake Messages"). Every head is the
--- shortest.
+-- The messages of a handshake, byte for byte (Forward Protocol Specification v1, "Handshake
+-- Messages"). Every head is the shortest.
 use Rattle.std.specs.Prelude.{ℕ, Bool, true, false, List, [], ◌∷◌, ◌++◌, length, codes}
 use Rattle.fwd_msgpack.specs.declared.head.Head.TheVariants.{Bool as Boolean, Bin, Arr, Map}
 use Rattle.fwd_msgpack.specs.Heads.{head_bytes}
@@ -28,12 +28,14 @@ helo_text users nonce auth =
 -- PING: ["PING", hostname, salt, key digest, username, password digest]
 unfoldable pub ping_text : (hostname salt digest username password : List ℕ) → List ℕ
 ping_text hostname salt digest username password =
-    head_bytes (Arr 6) ++ text (codes "PING") ++ text hostname ++ text salt ++ text digest ++ text username ++ text password
+    head_bytes (Arr 6) ++ text (codes "PING") ++ text hostname ++ text salt ++ text digest
+    ++ text username ++ text password
 
 -- PONG: ["PONG", whether the client is let in, reason, hostname, key digest]
 unfoldable pub pong_text : Bool → (reason hostname digest : List ℕ) → List ℕ
 pong_text passed reason hostname digest =
-    head_bytes (Arr 5) ++ text (codes "PONG") ++ head_bytes (Boolean passed) ++ text reason ++ text hostname ++ text digest
+    head_bytes (Arr 5) ++ text (codes "PONG") ++ head_bytes (Boolean passed) ++ text reason
+    ++ text hostname ++ text digest
 
 -- why a PING is denied, in PONG's words
 abbrev pub reason : Denial → List ℕ

@@ -1,11 +1,12 @@
--- What the values of a handshake's messages say. Texts are taken as str or bin, but for the word that names a message,
--- which is a str.
+-- What the values of a handshake's messages say. Texts are taken as str or bin, but for the word
+-- that names a message, which is a str.
 use Rattle.std.specs.Prelude.{ℕ, Bool, true, false, ◌&&◌, List, [], ◌∷◌, Option, Some, None, option_and_then, if◌then◌else◌}
 use Rattle.fwd_msgpack.specs.declared.head.Head.{Head}
 use Rattle.fwd_msgpack.specs.declared.head.Head.TheVariants.{Bool as Boolean, Str}
 use Rattle.fwd_msgpack.specs.Scans.{text_of, head_of, elements_of}
 use Rattle.fwd_msgpack.specs.Texts.{is_text, last_under}
 
+-- the head of a str
 abbrev pub is_str_head : Option Head → Bool
 is_str_head (Some (Str len)) = true
 is_str_head _ = false
@@ -14,6 +15,7 @@ is_str_head _ = false
 abbrev pub is_word : List ℕ → List ℕ → Bool
 is_word word bytes = is_str_head (head_of bytes) && is_text word bytes
 
+-- the bool that a head is (MessagePack specification, "bool format family")
 abbrev pub bool_in : Option Head → Option Bool
 bool_in (Some (Boolean flag)) = Some flag
 bool_in _ = None

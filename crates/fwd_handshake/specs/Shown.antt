@@ -9,19 +9,37 @@ use Rattle.fwd_handshake.specs.declared.helo.Helo.{Helo}
 use Rattle.fwd_handshake.specs.declared.salt.Salt.{Salt}
 use Rattle.fwd_handshake.specs.Verdicts as said
 
+-- what a claim says
 abbrev pub claim_shown : Claim → said.Claim
 claim_shown claim = record { username = claim.username.now; digest = claim.digest.now }
 
+-- what a PING says
 abbrev pub ping_shown : Ping → said.Ping
 ping_shown ping =
-    record { hostname = ping.hostname.now; salt = ping.salt.now; digest = ping.digest.now; claim = option_map claim_shown ping.claim }
+    record {
+      hostname = ping.hostname.now;
+      salt = ping.salt.now;
+      digest = ping.digest.now;
+      claim = option_map claim_shown ping.claim;
+    }
 
+-- what a HELO says
 abbrev pub helo_shown : Helo → said.Helo
-helo_shown helo = record { nonce = helo.nonce.now; auth = helo.auth.now; keepalive = helo.keepalive }
+helo_shown helo = record {
+  nonce = helo.nonce.now;
+  auth = helo.auth.now;
+  keepalive = helo.keepalive;
+}
 
+-- a PONG's values, as their bytes
 abbrev pub pong_shown : Pong → said.Pong
 pong_shown pong =
-    record { passed = bytes_of pong.passed; reason = bytes_of pong.reason; host = bytes_of pong.host; digest = bytes_of pong.digest }
+    record {
+      passed = bytes_of pong.passed;
+      reason = bytes_of pong.reason;
+      host = bytes_of pong.host;
+      digest = bytes_of pong.digest;
+    }
 
 -- the bytes of a salt
 abbrev pub salt_bytes : Salt → List ℕ

@@ -1,4 +1,5 @@
-//! What either side of a handshake knows before it begins. None of it is printed, since it holds secrets.
+//! What either side of a handshake knows before it begins.
+//! None of it is printed, since it holds secrets.
 
 ghost use Rattle.std.specs.Prelude.{◌<◌, ◌^◌, length};
 
@@ -30,7 +31,8 @@ pub struct Security {
 pub struct Login {
     /// The client's hostname, of less than 2^32 bytes.
     pub hostname: Bytes,
-    /// The key that both sides know. Without one there is no handshake: no HELO is answered, and no PONG is good.
+    /// The key that both sides know. Without one there is no
+    /// handshake: no HELO is answered, and no PONG is good.
     pub shared_key: Option<Bytes>,
     /// The username that is sent where the server asks for one, of less than 2^32 bytes.
     pub username: Bytes,

@@ -1,4 +1,5 @@
-//! The digests that a handshake compares (Forward Protocol Specification v1, "Handshake Messages"; FIPS 180-4, SHA-512).
+//! The digests that a handshake compares (Forward Protocol
+//! Specification v1, "Handshake Messages"; FIPS 180-4, SHA-512).
 
 ghost use Rattle.std.specs.Prelude.{◌≡◌, [], unwrap_or};
 ghost use Rattle.hex.specs.Hex.{encode_lower};
@@ -17,8 +18,9 @@ fn hex_text(bytes: &[u8; 64]) -> [u8; 128]
     text
 }
 
-/// The digest that proves a shared key: the lower-case hexadecimal digits of the SHA-512 of salt, hostname, nonce and
-/// key, joined. A PING's has the client's hostname, a PONG's the server's. It takes no memory.
+/// The digest that proves a shared key: the lower-case hexadecimal digits
+/// of the SHA-512 of salt, hostname, nonce and key, joined. A PING's has
+/// the client's hostname, a PONG's the server's. It takes no memory.
 pub fn key_digest(salt: &[u8], host: &[u8], nonce: &[u8], key: &[u8]) -> [u8; 128]
     ensures { result ≡ key_digest salt.now host.now nonce.now key.now }
 {
@@ -30,8 +32,8 @@ pub fn key_digest(salt: &[u8], host: &[u8], nonce: &[u8], key: &[u8]) -> [u8; 12
     hex_text(&hasher.finalize())
 }
 
-/// The digest that proves a password: the lower-case hexadecimal digits of the SHA-512 of the auth salt, the username
-/// and the password, joined. It takes no memory.
+/// The digest that proves a password: the lower-case hexadecimal digits of the SHA-512 of the auth
+/// salt, the username and the password, joined. It takes no memory.
 pub fn password_digest(auth: &[u8], user: &[u8], password: &[u8]) -> [u8; 128]
     ensures { result ≡ password_digest auth.now user.now password.now }
 {

@@ -1,4 +1,5 @@
-//! HELO, as a server writes it and a client answers it (Forward Protocol Specification v1, "Handshake Messages").
+//! HELO, as a server writes it and a client answers it
+//! (Forward Protocol Specification v1, "Handshake Messages").
 
 ghost use Rattle.std.specs.Prelude.{◌≡◌, ◌++◌, ◌<◌, ◌^◌, [], length, codes, option_and_then, IfOk, IsOk};
 ghost use Rattle.std.specs.Option.{option_map};
@@ -39,7 +40,8 @@ fn write_binary(out: &mut Vec<u8>, bytes: &[u8]) -> Result<(), AllocError>
 
 /// Appends the auth salt, which is the empty str where no users are set.
 fn write_auth(out: &mut Vec<u8>, security: &Security, auth: &[u8; 16]) -> Result<(), AllocError>
-    ensures { IfOk result (λ _. out.new.items ≡ out.old.items ++ auth_value security.now.users auth.now) }
+    ensures { IfOk result (λ _.
+        out.new.items ≡ out.old.items ++ auth_value security.now.users auth.now) }
 {
     if security.users.is_empty() {
         write_text(out, b"")
@@ -48,11 +50,13 @@ fn write_auth(out: &mut Vec<u8>, security: &Security, auth: &[u8; 16]) -> Result
     }
 }
 
-/// The HELO of a connection (Forward Protocol Specification v1, "Handshake Messages", "HELO"): its nonce, its auth salt
-/// where users are set, and that the connection is kept. The only error is want of memory.
+/// The HELO of a connection (Forward Protocol Specification v1, "Handshake
+/// Messages", "HELO"): its nonce, its auth salt where users are set, and
+/// that the connection is kept. The only error is want of memory.
 #[tactic(auto, unfolding(crate::specs::Messages::helo_text))]
 pub fn write_helo(alloc: Global, security: &Security, nonces: &Nonces) -> Result<Bytes, AllocError>
-    ensures { IfOk result (λ helo. helo ≡ helo_text security.now.users nonces.now.nonce nonces.now.auth) }
+    ensures { IfOk result (λ helo.
+        helo ≡ helo_text security.now.users nonces.now.nonce nonces.now.auth) }
 {
     let mut out = Vec::new(alloc);
     write_head(&mut out, Head::Arr(2))?;
@@ -95,7 +99,8 @@ fn helo_of<'a>(value: Value<'a>) -> Option<Helo<'a>>
 
 /// What a HELO says to this client, if the value is one and the client has a shared key.
 fn heard_helo<'a>(login: &Login, value: Value<'a>) -> Option<Helo<'a>>
-    ensures { option_map helo_shown result ≡ heard_helo login.now.shared_key (bytes_of value.entry) }
+    ensures { option_map helo_shown result
+        ≡ heard_helo login.now.shared_key (bytes_of value.entry) }
 {
     match login.shared_key {
         Some(_) => helo_of(value),
@@ -105,7 +110,10 @@ fn heard_helo<'a>(login: &Login, value: Value<'a>) -> Option<Helo<'a>>
 
 /// Appends the username and the password digest, both empty where the server gives no auth salt.
 fn write_claim(out: &mut Vec<u8>, login: &Login, auth: &[u8]) -> Result<(), AllocError>
-    ensures { IfOk result (λ _. out.new.items ≡ out.old.items ++ text (username_for login.now auth.now) ++ text (proof_for login.now auth.now)) }
+    ensures { IfOk result (λ _.
+        out.new.items
+        ≡ out.old.items ++ text (username_for login.now auth.now)
+        ++ text (proof_for login.now auth.now)) }
 {
     if auth.is_empty() {
         write_text(out, b"")?;
@@ -128,7 +136,8 @@ fn write_ping(
     nonce: &[u8],
     auth: &[u8],
 ) -> Result<Bytes, AllocError>
-    ensures { IfOk result (λ ping. ping ≡ answering login.now (salt_bytes salt.entry) nonce.now auth.now) }
+    ensures { IfOk result (λ ping.
+        ping ≡ answering login.now (salt_bytes salt.entry) nonce.now auth.now) }
 {
     let host = login.hostname.as_slice();
     let salt = salt.bytes();
@@ -145,10 +154,11 @@ fn write_ping(
     Ok(Bytes::from_vec(out))
 }
 
-/// What a value is that the next hop sent at first, and the PING that answers it. The first case that holds counts: no
-/// HELO, or a login without a shared key, which has no handshake; a HELO, whose `auth` counts as empty where it is no str and no bin, and whose `keepalive` as true where it is no
-/// bool (Forward Protocol Specification v1, "Handshake Messages", "HELO" and "PING"). The only error is want of
-/// memory, and `NotHelo` takes none.
+/// What a value is that the next hop sent at first, and the PING that answers it. The first case
+/// that holds counts: no HELO, or a login without a shared key, which has no handshake; a HELO,
+/// whose `auth` counts as empty where it is no str and no bin, and whose `keepalive` as true where
+/// it is no bool (Forward Protocol Specification v1, "Handshake Messages", "HELO" and "PING"). The
+/// only error is want of memory, and `NotHelo` takes none.
 #[tactic(auto, unfolding(crate::specs::Verdicts::helo_answer))]
 pub fn answer_helo(
     alloc: Global,
@@ -156,8 +166,10 @@ pub fn answer_helo(
     login: &Login,
     salt: Salt<'_>,
 ) -> Result<HeloAnswer, AllocError>
-    ensures answer { IfOk result (λ answer. answer ≡ helo_answer login.now (salt_bytes salt.entry) (bytes_of value.entry)) }
-    ensures other { helo_answer login.now (salt_bytes salt.entry) (bytes_of value.entry) ≡ NotHelo → IsOk result }
+    ensures answer { IfOk result (λ answer.
+        answer ≡ helo_answer login.now (salt_bytes salt.entry) (bytes_of value.entry)) }
+    ensures other { helo_answer login.now (salt_bytes salt.entry) (bytes_of value.entry) ≡ NotHelo
+        → IsOk result }
 {
     let Some(helo) = heard_helo(login, value) else {
         return Ok(HeloAnswer::NotHelo);

@@ -1,4 +1,5 @@
-//! The handshake of the Forward Protocol: HELO, PING and PONG (Forward Protocol Specification v1, "Handshake Messages").
+//! The handshake of the Forward Protocol: HELO, PING and PONG
+//! (Forward Protocol Specification v1, "Handshake Messages").
 #![tactic(auto)]
 
 mod credentials;
@@ -21,6 +22,3 @@ pub use ping::judge_ping;
 pub use pong::judge_pong;
 pub use salt::Salt;
 pub use verdict::{Denial, HeloAnswer, PingVerdict, PongVerdict};
-
-#[cfg(test)]
-mod tests;

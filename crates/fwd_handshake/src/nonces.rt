@@ -16,8 +16,8 @@ pub struct Nonces {
 }
 
 impl Nonces {
-    /// Both from the generator's next eight words, each word little-endian: `nonce` from the first four, `auth` from
-    /// the others. It takes no memory.
+    /// Both from the generator's next eight words, each word little-endian: `nonce` from the first
+    /// four, `auth` from the others. It takes no memory.
     pub fn draw(rng: &mut ChaCha20Rng) -> Nonces
         ensures nonce { result.nonce ≡ drawn 0 4 rng.old }
         ensures auth { result.auth ≡ drawn 4 4 rng.old }
@@ -31,8 +31,8 @@ impl Nonces {
     }
 }
 
-/// A client's salt: the lower-case hexadecimal digits of sixteen bytes, which are the generator's next four words, each
-/// little-endian. It takes no memory.
+/// A client's salt: the lower-case hexadecimal digits of sixteen bytes, which are the generator's
+/// next four words, each little-endian. It takes no memory.
 pub fn draw_salt(rng: &mut ChaCha20Rng) -> [u8; 32]
     ensures salt { result ≡ hex_drawn 0 4 rng.old }
     ensures moved { rng.new ≡ moved 4 rng.old }

@@ -36,7 +36,8 @@ struct Ping<'a> {
 
 /// The claim of two values, where both are str or bin.
 fn claim_of<'a>(username: Value<'a>, digest: Value<'a>) -> Option<Claim<'a>>
-    ensures { option_map claim_shown result ≡ claim_in (text_of (bytes_of username.entry)) (text_of (bytes_of digest.entry)) }
+    ensures { option_map claim_shown result
+        ≡ claim_in (text_of (bytes_of username.entry)) (text_of (bytes_of digest.entry)) }
 {
     Some(Claim {
         username: username.text()?,
@@ -127,10 +128,11 @@ fn passing(
     write_pong(alloc, true, b"", host, &digest)
 }
 
-/// What a value is that a source sent after HELO, and the PONG that answers it. The first case that holds counts: no
-/// PING; a key digest that is not the shared key's; a username and password digest that are not one user's, where users
-/// are set; a good PING (Forward Protocol Specification v1, "Handshake Messages", "PING" and "PONG"). The only error is want of
-/// memory, and `NotPing` takes none.
+/// What a value is that a source sent after HELO, and the PONG that answers it.
+/// The first case that holds counts: no PING; a key digest that is not the shared
+/// key's; a username and password digest that are not one user's, where users are
+/// set; a good PING (Forward Protocol Specification v1, "Handshake Messages",
+/// "PING" and "PONG"). The only error is want of memory, and `NotPing` takes none.
 #[tactic(auto, unfolding(crate::specs::Verdicts::ping_verdict))]
 pub fn judge_ping(
     alloc: Global,
@@ -138,8 +140,10 @@ pub fn judge_ping(
     security: &Security,
     nonces: &Nonces,
 ) -> Result<PingVerdict, AllocError>
-    ensures verdict { IfOk result (λ verdict. verdict ≡ ping_verdict security.now nonces.now (bytes_of value.entry)) }
-    ensures other { ping_verdict security.now nonces.now (bytes_of value.entry) ≡ NotPing → IsOk result }
+    ensures verdict { IfOk result (λ verdict.
+        verdict ≡ ping_verdict security.now nonces.now (bytes_of value.entry)) }
+    ensures other { ping_verdict security.now nonces.now (bytes_of value.entry) ≡ NotPing
+        → IsOk result }
 {
     let Some(ping) = ping_of(value) else {
         return Ok(PingVerdict::NotPing);

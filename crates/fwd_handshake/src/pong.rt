@@ -1,4 +1,5 @@
-//! PONG, as a server writes it and a client judges it (Forward Protocol Specification v1, "Handshake Messages").
+//! PONG, as a server writes it and a client judges it
+//! (Forward Protocol Specification v1, "Handshake Messages").
 
 ghost use Rattle.std.specs.Prelude.{◌≡◌, ◌<◌, ◌^◌, true, Some, length, codes, option_and_then, IfOk};
 ghost use Rattle.std.specs.Option.{option_map};
@@ -51,7 +52,8 @@ struct Pong<'a> {
 
 /// The four values behind the word.
 fn pong_of<'a>(value: Value<'a>) -> Option<Pong<'a>>
-    ensures { option_map pong_shown result ≡ option_and_then four_in (values_behind (codes "PONG") (bytes_of value.entry)) }
+    ensures { option_map pong_shown result
+        ≡ option_and_then four_in (values_behind (codes "PONG") (bytes_of value.entry)) }
 {
     let mut values = values_behind(value, b"PONG")?;
     let passed = values.next()?;
@@ -72,7 +74,8 @@ fn pong_of<'a>(value: Value<'a>) -> Option<Pong<'a>>
 /// What a PONG is that lets the client in.
 fn judge_host(pong: Pong<'_>, login: &Login, salt: &[u8], nonce: &[u8]) -> PongVerdict
     ensures { let said = pong_shown pong.entry in
-        result ≡ pong_with login.now salt.now nonce.now (Some true) (text_of said.reason) (text_of said.host) (text_of said.digest) }
+        result ≡ pong_with login.now salt.now nonce.now (Some true)
+        (text_of said.reason) (text_of said.host) (text_of said.digest) }
 {
     match (pong.reason.text(), pong.host.text(), pong.digest.text()) {
         (Some(_), Some(host), Some(digest)) => {
@@ -86,9 +89,10 @@ fn judge_host(pong: Pong<'_>, login: &Login, salt: &[u8], nonce: &[u8]) -> PongV
     }
 }
 
-/// What a value is that the next hop sent after PING, which had this salt and answered this nonce. The first case that
-/// holds counts: no PONG; one that refuses; one whose key digest is not the shared key's for the server's hostname; a
-/// good PONG (Forward Protocol Specification v1, "Handshake Messages", "PONG"). It takes no memory.
+/// What a value is that the next hop sent after PING, which had this salt and answered this nonce.
+/// The first case that holds counts: no PONG; one that refuses; one whose key digest is not the
+/// shared key's for the server's hostname; a good PONG (Forward Protocol Specification v1,
+/// "Handshake Messages", "PONG"). It takes no memory.
 #[tactic(auto, unfolding(crate::specs::Verdicts::pong_verdict))]
 pub fn judge_pong(value: Value<'_>, login: &Login, salt: &[u8], nonce: &[u8]) -> PongVerdict
     ensures { result ≡ pong_verdict login.now salt.now nonce.now (bytes_of value.entry) }

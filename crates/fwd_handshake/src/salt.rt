@@ -2,7 +2,8 @@
 
 ghost use Rattle.std.specs.Prelude.{◌≡◌, ◌<◌, ◌^◌, length};
 
-/// A client's salt, borrowed: less than 2^32 bytes, since a str has no longer spelling. What `draw_salt` gives always is one.
+/// A client's salt, borrowed: less than 2^32 bytes, since a str has no longer spelling. What
+/// `draw_salt` gives always is one.
 #[derive(Clone, Copy, Debug)]
 pub struct Salt<'a> {
     bytes: &'a [u8],

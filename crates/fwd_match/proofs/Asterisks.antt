@@ -30,21 +30,24 @@ good_parts front [] = false
 good_parts front (part ∷ more) = good_rest front part && list_all is_good_part more
 
 -- a second asterisk, and nothing behind it
-star_behind : (byte next : ℕ) → is_asterisk byte ≡ true → is_asterisk next ≡ is_good_part (byte ∷ next ∷ [])
+star_behind : (byte next : ℕ) → is_asterisk byte ≡ true
+    → is_asterisk next ≡ is_good_part (byte ∷ next ∷ [])
 star_behind byte next e = rw e (second (is_asterisk next))
   where
     second : (star : Bool) → star ≡ (star && true) || not (true || (star || false))
     second true = refl
     second false = refl
 
-stars_behind : (byte next other : ℕ) (more : List ℕ) → is_asterisk byte ≡ true → false ≡ is_good_part (byte ∷ next ∷ other ∷ more)
+stars_behind : (byte next other : ℕ) (more : List ℕ) → is_asterisk byte ≡ true
+    → false ≡ is_good_part (byte ∷ next ∷ other ∷ more)
 stars_behind byte next other more e = rw e (third (is_asterisk next))
   where
     third : (star : Bool) → false ≡ (star && false) || false
     third true = refl
     third false = refl
 
-at_star : (byte : ℕ) (front : Front) (part : List ℕ) → is_asterisk byte ≡ true → good_rest (starred front) part ≡ good_rest front (byte ∷ part)
+at_star : (byte : ℕ) (front : Front) (part : List ℕ) → is_asterisk byte ≡ true
+    → good_rest (starred front) part ≡ good_rest front (byte ∷ part)
 at_star byte Nothing [] e = rw e refl
 at_star byte Nothing (next ∷ []) e = star_behind byte next e
 at_star byte Nothing (next ∷ other ∷ more) e = stars_behind byte next other more e
@@ -54,7 +57,8 @@ at_star byte Stars part e = refl
 at_star byte Plain part e = rw e refl
 at_star byte Bad part e = refl
 
-at_letter : (byte : ℕ) (front : Front) (part : List ℕ) → is_asterisk byte ≡ false → good_rest (lettered front) part ≡ good_rest front (byte ∷ part)
+at_letter : (byte : ℕ) (front : Front) (part : List ℕ) → is_asterisk byte ≡ false
+    → good_rest (lettered front) part ≡ good_rest front (byte ∷ part)
 at_letter byte Nothing part e = rw e refl
 at_letter byte Star [] e = sym e
 at_letter byte Star (next ∷ more) e = refl
@@ -62,7 +66,8 @@ at_letter byte Stars part e = refl
 at_letter byte Plain part e = rw e refl
 at_letter byte Bad part e = refl
 
-at_dot : (front : Front) (part : List ℕ) (more : List (List ℕ)) → good_parts (dotted front) (part ∷ more) ≡ good_parts front ([] ∷ part ∷ more)
+at_dot : (front : Front) (part : List ℕ) (more : List (List ℕ))
+    → good_parts (dotted front) (part ∷ more) ≡ good_parts front ([] ∷ part ∷ more)
 at_dot Nothing part more = refl
 at_dot Star part more = refl
 at_dot Stars part more = refl
@@ -70,7 +75,8 @@ at_dot Plain part more = refl
 at_dot Bad part more = refl
 
 -- one byte more, by what it is
-one_step : (dot star : Bool) (byte : ℕ) (front : Front) (part : List ℕ) (more : List (List ℕ)) → is_asterisk byte ≡ star →
+one_step : (dot star : Bool) (byte : ℕ) (front : Front) (part : List ℕ) (more : List (List ℕ))
+    → is_asterisk byte ≡ star →
     good_parts (cond dot (dotted front) (cond star (starred front) (lettered front))) (part ∷ more)
     ≡ good_parts front (cond dot ([] ∷ part ∷ more) ((byte ∷ part) ∷ more))
 one_step true star byte front part more e = at_dot front part more
@@ -90,12 +96,14 @@ at_end Stars = refl
 at_end Plain = refl
 at_end Bad = refl
 
-fine_parts : (front : Front) (word : List ℕ) → is_fine (further front word) ≡ good_parts front (parts word)
+fine_parts : (front : Front) (word : List ℕ)
+    → is_fine (further front word) ≡ good_parts front (parts word)
 fine_parts front [] = at_end front
 fine_parts front (byte ∷ word) =
     fine_parts (one_further front byte) word ∙ parts_step byte front (parts word) (omega (arith, length-slice_split is_dot word))
 
-good_front : (fields : List (List ℕ)) → 0 < length fields → good_parts Nothing fields ≡ list_all is_good_part fields
+good_front : (fields : List (List ℕ)) → 0 < length fields
+    → good_parts Nothing fields ≡ list_all is_good_part fields
 good_front [] some = absurd (omega arith)
 good_front (part ∷ more) some = refl
 
@@ -104,16 +112,19 @@ fine_word : (word : List ℕ) → has_good_stars word ≡ is_fine (further Nothi
 fine_word word =
     stars_start word ∙ sym (good_front (parts word) (omega (arith, length-slice_split is_dot word))) ∙ sym (fine_parts Nothing word)
 
-same_all : {A : Type 0} (p q : A → Bool) (xs : List A) → ((x : A) → p x ≡ q x) → list_all p xs ≡ list_all q xs
+same_all : {A : Type 0} (p q : A → Bool) (xs : List A) → ((x : A) → p x ≡ q x)
+    → list_all p xs ≡ list_all q xs
 same_all p q [] same = refl
 same_all p q (x ∷ xs) same = rw (same x, same_all p q xs same) refl
 
-all_flat : {A B : Type 0} (p : B → Bool) (f : A → List B) (xs : List A) → list_all p (flat_map f xs) ≡ list_all (λ x. list_all p (f x)) xs
+all_flat : {A B : Type 0} (p : B → Bool) (f : A → List B) (xs : List A)
+    → list_all p (flat_map f xs) ≡ list_all (λ x. list_all p (f x)) xs
 all_flat p f [] = refl
 all_flat p f (x ∷ xs) = list_all-append p (f x) (flat_map f xs) ∙ ap (λ (b : Bool). list_all p (f x) && b) (all_flat p f xs)
 
 -- one choice behind each text
-one_choice : (choice : List (List ℕ)) (more : List (List (List ℕ))) (texts : List (List ℕ)) →
+one_choice : (choice : List (List ℕ)) (more : List (List (List ℕ))) (texts : List (List ℕ))
+    →
     list_all (λ text. all_fine (choice ∷ more) (further Nothing text)) texts
     ≡ list_all (λ text. all_fine more (further Nothing text)) (each_with texts choice)
 one_choice choice more texts =
@@ -134,7 +145,9 @@ and_true true = refl
 and_true false = refl
 
 -- all the words that a word stands for have good stars where each way through its choices ends well
-pub fine_spellings : (word : List ℕ) → list_all has_good_stars (spellings word) ≡ all_fine (choices false (slice_split is_brace word)) Nothing
+pub fine_spellings : (word : List ℕ)
+    → list_all has_good_stars (spellings word)
+    ≡ all_fine (choices false (slice_split is_brace word)) Nothing
 fine_spellings word =
     ap (list_all has_good_stars) (spellings_start word ([] ∷ []) refl)
     ∙ sym (fine_spelled (choices false (slice_split is_brace word)) ([] ∷ []))
@@ -155,7 +168,8 @@ regrouped true false true d = refl
 regrouped true false false d = refl
 regrouped false b c d = refl
 
-one_front : (a b t rest left right : Bool) → rest ≡ (left && right) → ((not (a || b) || t) && rest) ≡ (((not a || t) && left) && ((not b || t) && right))
+one_front : (a b t rest left right : Bool) → rest ≡ (left && right)
+    → ((not (a || b) || t) && rest) ≡ (((not a || t) && left) && ((not b || t) && right))
 one_front a b t rest left right e = rw (e, pass_or a b t) (regrouped (not a || t) (not b || t) left right)
 
 -- both of two sets of fronts
@@ -170,11 +184,14 @@ pass_and : (a s t : Bool) → (not a || (s && t)) ≡ ((not a || s) && (not a ||
 pass_and true s t = refl
 pass_and false s t = refl
 
-one_test : (a s t rest left right : Bool) → rest ≡ (left && right) → ((not a || (s && t)) && rest) ≡ (((not a || s) && left) && ((not a || t) && right))
+one_test : (a s t rest left right : Bool) → rest ≡ (left && right)
+    → ((not a || (s && t)) && rest) ≡ (((not a || s) && left) && ((not a || t) && right))
 one_test a s t rest left right e = rw (e, pass_and a s t) (regrouped (not a || s) (not a || t) left right)
 
 -- both of two tests
-pub both_tests : (f : Fronts) (test other : Front → Bool) → each_front f (λ front. test front && other front) ≡ (each_front f test && each_front f other)
+pub both_tests : (f : Fronts) (test other : Front → Bool)
+    → each_front f (λ front. test front && other front)
+    ≡ (each_front f test && each_front f other)
 both_tests f test other =
     one_test f.nothing (test Nothing) (other Nothing) _ _ _ (one_test f.star (test Star) (other Star) _ _ _
     (one_test f.stars (test Stars) (other Stars) _ _ _ (one_test f.plain (test Plain) (other Plain) _ _ _ (pass_and f.bad (test Bad) (other Bad)))))
@@ -196,7 +213,10 @@ abbrev behind_all : (Front → Bool) → List (List ℕ) → Front → Bool
 behind_all test fields front = list_all (λ bytes. test (further front bytes)) fields
 
 -- one alternative more
-pub alternative_more : (self fronts behind both : Fronts) (test : Front → Bool) (text : List ℕ) (all fields more : List (List ℕ)) →
+pub alternative_more :
+    (self fronts behind both : Fronts) (test : Front → Bool) (text : List ℕ)
+    (all fields more : List (List ℕ))
+    →
     each_front self (behind_all test all) ≡ (each_front fronts test && each_front self (behind_all test fields)) →
     fields ≡ text ∷ more →
     each_front behind test ≡ each_front self (λ front. test (further front text)) →

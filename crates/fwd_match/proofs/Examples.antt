@@ -14,7 +14,9 @@ parts_of_nothing = refl
 words_of_a_text : words (codes "  a b,c ") ≡ codes "a" ∷ codes "b,c" ∷ []
 words_of_a_text = refl
 
-expands : spellings (codes "x.{b,c.d,}.{e,f}") ≡ codes "x.b.e" ∷ codes "x.b.f" ∷ codes "x.c.d.e" ∷ codes "x.c.d.f" ∷ codes "x..e" ∷ codes "x..f" ∷ []
+expands : spellings (codes "x.{b,c.d,}.{e,f}")
+    ≡ codes "x.b.e" ∷ codes "x.b.f" ∷ codes "x.c.d.e" ∷ codes "x.c.d.f" ∷ codes "x..e"
+    ∷ codes "x..f" ∷ []
 unfolding spellings
 expands = refl
 
@@ -78,7 +80,8 @@ either_word : pattern_matches (codes "a" ∷ codes "b" ∷ []) (codes "b") ≡ t
 unfolding pattern_matches matches
 either_word = refl
 
-second_output : route ((codes "a.*" ∷ []) ∷ (codes "a.**" ∷ []) ∷ []) (codes "a.b.c") ≡ Some 1
+second_output : route ((codes "a.*" ∷ []) ∷ (codes "a.**" ∷ []) ∷ []) (codes "a.b.c")
+    ≡ Some 1
 unfolding route pattern_matches matches
 second_output = refl
 

@@ -9,6 +9,7 @@ pairs_from false braces = in_pairs braces
 pairs_from true [] = false
 pairs_from true (first ∷ more) = is_closing first && in_pairs more
 
-pub braces_start : (word : List ℕ) → has_good_braces word ≡ pairs_from false (filter is_brace word)
+pub braces_start : (word : List ℕ)
+    → has_good_braces word ≡ pairs_from false (filter is_brace word)
 unfolding has_good_braces
 braces_start word = refl

@@ -5,6 +5,7 @@ use Rattle.fwd_match.specs.Patterns.{is_blank, is_dot, is_comma, is_brace}
 use Rattle.fwd_match.specs.declared.fields.Mark.{Mark}
 use Rattle.fwd_match.specs.declared.fields.Mark.TheVariants.{Blank, Dot, Brace, Comma}
 
+-- a byte is one of these marks; a comma is one only inside braces
 abbrev pub marks : Mark → ℕ → Bool
 marks Blank byte = is_blank byte
 marks Dot byte = is_dot byte

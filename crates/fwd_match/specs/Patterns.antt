@@ -3,28 +3,37 @@ use Rattle.std.specs.Prelude.{ℕ, ◌==◌, Bool, true, false, not, ◌&&◌, �
 use Rattle.std.specs.List.{slice_split, flat_map, list_all, list_any}
 use Rattle.std.specs.Str.{bytes_eq}
 
--- the bytes that cut a text: blanks between words, dots between parts, braces and the commas in them
+-- ---- the bytes that cut a text: blanks, dots, braces and the commas in them
+
+-- a blank, which stands between words: a space or a tab
 abbrev pub is_blank : ℕ → Bool
 is_blank byte = (byte == 32) || (byte == 9)
 
+-- a dot, which stands between parts
 abbrev pub is_dot : ℕ → Bool
 is_dot byte = byte == 46
 
+-- a comma, which stands between the texts inside braces
 abbrev pub is_comma : ℕ → Bool
 is_comma byte = byte == 44
 
+-- a brace that opens
 abbrev pub is_opening : ℕ → Bool
 is_opening byte = byte == 123
 
+-- a brace that closes
 abbrev pub is_closing : ℕ → Bool
 is_closing byte = byte == 125
 
+-- a brace of either kind
 abbrev pub is_brace : ℕ → Bool
 is_brace byte = is_opening byte || is_closing byte
 
+-- an asterisk
 abbrev pub is_asterisk : ℕ → Bool
 is_asterisk byte = byte == 42
 
+-- a text that is not empty
 abbrev pub is_something : List ℕ → Bool
 is_something text = not (length text == 0)
 
@@ -38,6 +47,7 @@ in_pairs [] = true
 in_pairs (first ∷ []) = false
 in_pairs (first ∷ second ∷ more) = is_opening first && (is_closing second && in_pairs more)
 
+-- no brace of a word is nested, unclosed or unopened
 unfoldable pub has_good_braces : List ℕ → Bool
 has_good_braces word = in_pairs (filter is_brace word)
 
@@ -83,6 +93,7 @@ is_stars part = bytes_eq part (42 ∷ 42 ∷ [])
 abbrev pub is_good_part : List ℕ → Bool
 is_good_part part = is_star part || (is_stars part || not (list_any is_asterisk part))
 
+-- each part of a word has no `*`, or is `*` or `**`
 unfoldable pub has_good_stars : List ℕ → Bool
 has_good_stars word = list_all is_good_part (parts word)
 
@@ -104,7 +115,8 @@ one_part wanted test (part ∷ more) = fits wanted part && test more
 unfoldable pub matches : List (List ℕ) → List (List ℕ) → Bool
 matches [] [] = true
 matches [] (part ∷ more) = false
-matches (wanted ∷ word) tag = if is_stars wanted then some_suffix (matches word) tag else one_part wanted (matches word) tag
+matches (wanted ∷ word) tag =
+    if is_stars wanted then some_suffix (matches word) tag else one_part wanted (matches word) tag
 
 -- whether one of the expanded words matches the tag
 unfoldable pub pattern_matches : List (List ℕ) → List ℕ → Bool

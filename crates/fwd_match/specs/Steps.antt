@@ -7,14 +7,16 @@ use Rattle.fwd_match.specs.declared.matching.Place.{Place}
 use Rattle.fwd_match.specs.declared.matching.Step.{Step}
 use Rattle.fwd_match.specs.declared.matching.Step.TheVariants.{Ends, Fits, Stars, Differs}
 
--- the parts that are left of the word and of the tag
+-- the parts that are left of the word
 abbrev pub word_left : Place → List (List ℕ)
 word_left at = fields_left is_dot (option_copied at.word)
 
+-- the parts that are left of the tag
 abbrev pub tag_left : Place → List (List ℕ)
 tag_left at = fields_left is_dot (option_copied at.tag)
 
--- one part is taken from both, and the word behind it is found in some suffix wherever all of it was
+-- one part is taken from both, and the word behind it is
+-- found in some suffix wherever all of it was
 pub record TakesOne (word tag word' tag' : List (List ℕ)) : Type 0 where
   pub same : matches word tag ≡ matches word' tag'
   pub shorter_word : length word ≡ length word' + 1
@@ -28,6 +30,8 @@ pub record TakesStars (word tag word' tag' : List (List ℕ)) : Type 0 where
   pub tag_stays : tag' ≡ tag
   pub later : some_suffix (matches word) tag ≡ true → matches word tag ≡ true
 
+-- a step says the truth of a place: it matches, or differs,
+-- or one part or a `**` is taken to come to the next place
 abbrev pub IsStep : Place → Step → Type 0
 IsStep at Ends = matches (word_left at) (tag_left at) ≡ true
 IsStep at (Fits next) = TakesOne (word_left at) (tag_left at) (word_left next) (tag_left next)
@@ -37,4 +41,6 @@ IsStep at Differs = matches (word_left at) (tag_left at) ≡ false
 -- one part is taken from the tag
 abbrev pub IsLater : Place → Option Place → Type 0
 IsLater at None = tag_left at ≡ []
-IsLater at (Some next) = (part : List ℕ) × ((tag_left at ≡ part ∷ tag_left next) × (word_left next ≡ word_left at))
+IsLater at (Some next) =
+    (part : List ℕ)
+    × ((tag_left at ≡ part ∷ tag_left next) × (word_left next ≡ word_left at))

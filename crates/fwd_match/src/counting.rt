@@ -11,7 +11,8 @@ const WORD_LIMIT: usize = 64;
 /// How many texts there are with an alternative behind each of so many, if these are at most 64.
 fn count_behind(texts: usize, text: &[u8], inside: bool) -> Option<usize>
     requires { texts ≤ 64 }
-    ensures some { IfSome result (λ count. count ≡ texts * length (alternatives inside text.now)) }
+    ensures some { IfSome result (λ count.
+        count ≡ texts * length (alternatives inside text.now)) }
     ensures bound { IfSome result (λ count. count ≤ 64) }
     ensures none { IfNone result (64 < texts * length (alternatives inside text.now)) }
 {

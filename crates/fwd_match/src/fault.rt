@@ -7,7 +7,8 @@ use std::alloc::{AllocError, AllocFailed};
 use std::error::Error;
 use std::fmt;
 
-/// Why a text is no pattern. Of several faults the first in this order decides: no word, braces, number of words, stars.
+/// Why a text is no pattern. Of several faults the first in
+/// this order decides: no word, braces, number of words, stars.
 #[derive(Clone, Copy, Debug, PartialEq, Eq)]
 pub enum PatternFault {
     /// Memory ran out.

@@ -39,7 +39,8 @@ fn place_of(bytes: &[u8], mark: Mark) -> Option<usize>
 
 /// The first field of a text, and what stands behind the mark that ends it.
 pub fn first_field(bytes: &[u8], mark: Mark) -> (&[u8], Option<&[u8]>)
-    ensures fields { slice_split (marks mark) bytes.now ≡ result.0.now ∷ fields_left (marks mark) (option_copied result.1) }
+    ensures fields { slice_split (marks mark) bytes.now
+        ≡ result.0.now ∷ fields_left (marks mark) (option_copied result.1) }
     ensures smaller { size_left (option_copied result.1) ≤ length bytes.now }
 {
     match place_of(bytes, mark) {

@@ -1,4 +1,5 @@
-//! Match patterns and routes: which output an event goes to, by its tag (Fluentd's documentation on match patterns).
+//! Match patterns and routes: which output an event goes to,
+//! by its tag (Fluentd's documentation on match patterns).
 #![tactic(auto)]
 
 mod braces;
@@ -15,6 +16,3 @@ mod text;
 pub use fault::PatternFault;
 pub use pattern::Pattern;
 pub use routes::Routes;
-
-#[cfg(test)]
-mod tests;

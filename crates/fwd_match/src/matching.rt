@@ -77,9 +77,10 @@ fn one_later<'a>(at: Place<'a>) -> Option<Place<'a>>
     }
 }
 
-/// Whether a word matches a tag. Only the last `**` is ever tried again, one part further each time: what an earlier
-/// one took need not be given back. So no part of the word is compared twice with the same part of the tag, and there
-/// are at most (parts of the word) times (parts of the tag) comparisons.
+/// Whether a word matches a tag. Only the last `**` is ever tried again, one
+/// part further each time: what an earlier one took need not be given back. So
+/// no part of the word is compared twice with the same part of the tag, and
+/// there are at most (parts of the word) times (parts of the tag) comparisons.
 pub fn word_matches(word: &[u8], tag: &[u8]) -> bool
     ensures { result ≡ patterns.matches (patterns.parts word.now) (patterns.parts tag.now) }
 {

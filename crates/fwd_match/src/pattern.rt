@@ -17,9 +17,10 @@ use crate::text::Text;
 use std::alloc::Global;
 use std::marker::Model;
 
-/// A match pattern (Fluentd's documentation on match patterns): words separated by spaces or tabs, of which one has to
-/// match. A word is split at dots into parts; `*` matches one part, `**` zero or more, any other part itself, and
-/// `{X,Y}` stands for one word with `X` and one with `Y`. Contracts see it as the list of its expanded words.
+/// A match pattern (Fluentd's documentation on match patterns): words separated by spaces or tabs,
+/// of which one has to match. A word is split at dots into parts; `*` matches one part, `**` zero
+/// or more, any other part itself, and `{X,Y}` stands for one word with `X` and one with `Y`.
+/// Contracts see it as the list of its expanded words.
 #[derive(Debug, Drop)]
 pub struct Pattern {
     words: Vec<Text>,
@@ -34,13 +35,16 @@ impl Model for Pattern {
 }
 
 impl Pattern {
-    /// Reads the text of a pattern, or answers its first fault in the order Empty, BadBrace, TooMany, BadStar. All
-    /// faults are found before any memory is taken, so want of memory (Memory) is answered only of a text that is a
-    /// pattern, and no more than 64 words are ever held.
+    /// Reads the text of a pattern, or answers its first fault in the order
+    /// Empty, BadBrace, TooMany, BadStar. All faults are found before any
+    /// memory is taken, so want of memory (Memory) is answered only of a
+    /// text that is a pattern, and no more than 64 words are ever held.
     pub fn read(alloc: Global, text: &str) -> Result<Self, PatternFault>
         ensures ok { IfOk result (λ pattern. verdict text.now ≡ Good pattern) }
-        ensures fault { IfErr result (λ fault. fault ≢ PatternFault.Memory → verdict text.now ≡ Bad fault) }
-        ensures refused { (fault : PatternFault) → verdict text.now ≡ Bad fault → result ≡ Err fault }
+        ensures fault { IfErr result (λ fault.
+            fault ≢ PatternFault.Memory → verdict text.now ≡ Bad fault) }
+        ensures refused { (fault : PatternFault) → verdict text.now ≡ Bad fault
+            → result ≡ Err fault }
     {
         let text = text.as_bytes();
         judge(text)?;
@@ -48,8 +52,9 @@ impl Pattern {
         Ok(Pattern { words })
     }
 
-    /// Whether one of the words matches the tag. It takes no memory, and per word it makes at most (parts of the word)
-    /// times (parts of the tag) comparisons: only the last `**` is ever tried again, one part further each time.
+    /// Whether one of the words matches the tag. It takes no memory, and per word it makes at most
+    /// (parts of the word) times (parts of the tag) comparisons: only the last `**` is ever tried
+    /// again, one part further each time.
     #[tactic(auto, unfolding(crate::specs::Patterns::pattern_matches))]
     pub fn matches(&self, tag: &[u8]) -> bool
         ensures { result ≡ patterns.pattern_matches self.now tag.now }
@@ -77,7 +82,9 @@ fn judge(text: &[u8]) -> Result<(), PatternFault>
 
 /// Whether the words of a text are good as they stand, before their braces are expanded.
 fn check_words(text: &[u8]) -> Result<(), PatternFault>
-    ensures ok { IfOk result (λ _. (length (patterns.words text.now) ≢ 0) × (list_all patterns.has_good_braces (patterns.words text.now) ≡ true)) }
+    ensures ok { IfOk result (λ _.
+        (length (patterns.words text.now) ≢ 0)
+        × (list_all patterns.has_good_braces (patterns.words text.now) ≡ true)) }
     ensures fault { IfErr result (λ fault. verdict text.now ≡ Bad fault) }
 {
     let mut found = false;

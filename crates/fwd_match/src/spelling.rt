@@ -15,7 +15,9 @@ fn put_each(
     text: &[u8],
     inside: bool,
 ) -> Result<(), AllocError>
-    ensures { OnOk result (out.new.items ≡ out.old.items ++ map (λ more. front.now ++ more) (alternatives inside text.now)) }
+    ensures { OnOk result
+        (out.new.items
+        ≡ out.old.items ++ map (λ more. front.now ++ more) (alternatives inside text.now)) }
 {
     let mut rest = Some(text);
     while let Some(bytes) = rest {
@@ -33,7 +35,8 @@ fn extended(
     text: &[u8],
     inside: bool,
 ) -> Result<Vec<Text>, AllocError>
-    ensures { IfOk result (λ out. out.items ≡ each_with texts.now (alternatives inside text.now)) }
+    ensures { IfOk result (λ out.
+        out.items ≡ each_with texts.now (alternatives inside text.now)) }
 {
     let mut out = Vec::new(alloc);
     for front in texts {

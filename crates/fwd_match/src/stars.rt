@@ -44,7 +44,9 @@ impl Fronts {
 
     /// The fronts of the texts with one byte more.
     fn after(self, byte: u8) -> Fronts
-        ensures { (test : Front → Bool) → each_front result test ≡ each_front self (λ front. test (one_further front byte)) }
+        ensures { (test : Front → Bool)
+            → each_front result test
+            ≡ each_front self (λ front. test (one_further front byte)) }
     {
         if byte == b'.' {
             Fronts {
@@ -70,7 +72,8 @@ impl Fronts {
 
     /// The fronts of these texts and of others.
     fn or(self, other: Fronts) -> Fronts
-        ensures { (test : Front → Bool) → each_front result test ≡ (each_front self test && each_front other test) }
+        ensures { (test : Front → Bool)
+            → each_front result test ≡ (each_front self test && each_front other test) }
     {
         Fronts {
             nothing: self.nothing | other.nothing,
@@ -83,7 +86,9 @@ impl Fronts {
 
     /// The fronts of the texts with these bytes behind them.
     fn behind(self, bytes: &[u8]) -> Fronts
-        ensures { (test : Front → Bool) → each_front result test ≡ each_front self (λ front. test (further front bytes.now)) }
+        ensures { (test : Front → Bool)
+            → each_front result test
+            ≡ each_front self (λ front. test (further front bytes.now)) }
     {
         let mut fronts = self;
         for byte in bytes {
@@ -95,7 +100,8 @@ impl Fronts {
     /// The fronts of the texts with an alternative behind them.
     fn behind_each(self, text: &[u8], inside: bool) -> Fronts
         ensures { (test : Front → Bool) →
-            each_front result test ≡ each_front self (λ front. list_all (λ bytes. test (further front bytes)) (alternatives inside text.now)) }
+            each_front result test ≡ each_front self (λ front.
+            list_all (λ bytes. test (further front bytes)) (alternatives inside text.now)) }
     {
         let mut fronts = NONE;
         let mut rest = Some(text);

@@ -13,7 +13,8 @@ use Rattle.fwd_modes.specs.Entries.{entry_of, before, entries_of, values_to_the_
 abbrev pub behind : List (List ℕ) → Option (List (List ℕ)) → Option (List (List ℕ))
 behind front others = option_map (λ entries. front ++ entries) others
 
-pub behind-more : (front : List (List ℕ)) (entry : List ℕ) (others : Option (List (List ℕ))) → behind (front ++ entry ∷ []) others ≡ behind front (before (Some entry) others)
+pub behind-more : (front : List (List ℕ)) (entry : List ℕ) (others : Option (List (List ℕ)))
+    → behind (front ++ entry ∷ []) others ≡ behind front (before (Some entry) others)
 behind-more front entry None = refl
 behind-more front entry (Some entries) = ap Some (append_assoc front (entry ∷ []) entries)
 
@@ -29,7 +30,8 @@ before-none others = refl
 
 -- ---- ends
 
-pub length-concat-push : (xs : List (List ℕ)) (x : List ℕ) → length (concat (xs ++ x ∷ [])) ≡ length (concat xs) + length x
+pub length-concat-push : (xs : List (List ℕ)) (x : List ℕ)
+    → length (concat (xs ++ x ∷ [])) ≡ length (concat xs) + length x
 length-concat-push [] x = omega (arith, length-append x [])
 length-concat-push (y ∷ xs) x = omega (arith, length-append y (concat (xs ++ x ∷ [])), length-append y (concat xs), length-concat-push xs x)
 
@@ -37,18 +39,22 @@ concat-push : (xs : List (List ℕ)) (x : List ℕ) → concat (xs ++ x ∷ []) 
 concat-push [] x = append-nil x
 concat-push (y ∷ xs) x = ap (λ zs. y ++ zs) (concat-push xs x) ∙ sym (append_assoc y (concat xs) x)
 
-pub length_ends : (place : ℕ) (entries : List (List ℕ)) → length (ends_from place entries) ≡ length entries
+pub length_ends : (place : ℕ) (entries : List (List ℕ))
+    → length (ends_from place entries) ≡ length entries
 length_ends place [] = refl
 length_ends place (e ∷ entries) = ap suc (length_ends (place + length e) entries)
 
 -- what is joined and cut at its own ends is what it was
-cut_joined : (place : ℕ) (entries : List (List ℕ)) → cut_at place (ends_from place entries) (concat entries) ≡ entries
+cut_joined : (place : ℕ) (entries : List (List ℕ))
+    → cut_at place (ends_from place entries) (concat entries) ≡ entries
 cut_joined place [] = refl
 cut_joined place (e ∷ entries) =
     let long : (place + length e) - place ≡ length e = omega arith in
     rw (long, take_at e (concat entries) (length e) refl, drop_at e (concat entries) (length e) refl) (ap (λ es. e ∷ es) (cut_joined (place + length e) entries))
 
-ends_push : (place : ℕ) (entries : List (List ℕ)) (e : List ℕ) → ends_from place (entries ++ e ∷ []) ≡ ends_from place entries ++ (place + length (concat entries) + length e) ∷ []
+ends_push : (place : ℕ) (entries : List (List ℕ)) (e : List ℕ)
+    → ends_from place (entries ++ e ∷ [])
+    ≡ ends_from place entries ++ (place + length (concat entries) + length e) ∷ []
 ends_push place [] e = ap (λ n. n ∷ []) (omega arith)
 ends_push place (x ∷ entries) e =
     let whole : length (concat (x ∷ entries)) ≡ length x + length (concat entries) = length-append x (concat entries) in
@@ -56,7 +62,9 @@ ends_push place (x ∷ entries) e =
     ap (λ ns. (place + length x) ∷ ns) (ends_push (place + length x) entries e ∙ ap (λ n. ends_from (place + length x) entries ++ n ∷ []) last)
 
 -- one entry more, and its end
-pub cut_push : (ends bytes e : List ℕ) → AreCut 0 ends bytes → cut_at 0 (ends ++ (length bytes + length e) ∷ []) (bytes ++ e) ≡ cut_at 0 ends bytes ++ e ∷ []
+pub cut_push : (ends bytes e : List ℕ) → AreCut 0 ends bytes
+    → cut_at 0 (ends ++ (length bytes + length e) ∷ []) (bytes ++ e)
+    ≡ cut_at 0 ends bytes ++ e ∷ []
 cut_push ends bytes e cut =
     let entries = cut_at 0 ends bytes in
     let last : length (concat entries) ≡ length bytes = ap length cut.joined in
@@ -65,7 +73,8 @@ cut_push ends bytes e cut =
     ap (λ ns. cut_at 0 ns (bytes ++ e)) (sym all) ∙ ap (λ bs. cut_at 0 (ends_from 0 (entries ++ e ∷ [])) (bs ++ e)) (sym cut.joined)
     ∙ ap (λ bs. cut_at 0 (ends_from 0 (entries ++ e ∷ [])) bs) (sym (concat-push entries e)) ∙ cut_joined 0 (entries ++ e ∷ [])
 
-pub AreCut-push : (ends bytes e : List ℕ) → AreCut 0 ends bytes → AreCut 0 (ends ++ (length bytes + length e) ∷ []) (bytes ++ e)
+pub AreCut-push : (ends bytes e : List ℕ) → AreCut 0 ends bytes
+    → AreCut 0 (ends ++ (length bytes + length e) ∷ []) (bytes ++ e)
 AreCut-push ends bytes e cut =
     let entries = cut_at 0 ends bytes in
     let last : length (concat entries) ≡ length bytes = ap length cut.joined in
@@ -82,11 +91,14 @@ take_front xs ys = take_at xs ys (length xs) refl
 
 -- the values of a row by what it begins with
 abbrev packed_by : (deep : ℕ) → List ℕ → Verdict → Option (List (List ℕ))
-packed_by deep bytes (Whole n) = before (entry_of (take n bytes)) (packed_entries deep (drop n bytes))
+packed_by deep bytes (Whole n) =
+    before (entry_of (take n bytes)) (packed_entries deep (drop n bytes))
 packed_by deep bytes Short = None
 packed_by deep bytes (Bad fault) = None
 
-to_the_end-front : (value : List ℕ) (split : Split) → option_and_then entries_of (values_to_the_end (with_front (value ∷ []) split)) ≡ before (entry_of value) (option_and_then entries_of (values_to_the_end split))
+to_the_end-front : (value : List ℕ) (split : Split)
+    → option_and_then entries_of (values_to_the_end (with_front (value ∷ []) split))
+    ≡ before (entry_of value) (option_and_then entries_of (values_to_the_end split))
 to_the_end-front value (Open values []) = refl
 to_the_end-front value (Open values (b ∷ rest)) = by_entry (entry_of value)
   where
@@ -99,51 +111,68 @@ to_the_end-front value (Broken values fault) = by_entry (entry_of value)
     by_entry None = refl
     by_entry (Some e) = refl
 
-split_short : (deep : ℕ) (bytes : List ℕ) → first_of most_bytes deep bytes ≡ Short → split_of most_bytes deep bytes ≡ Open [] bytes
+split_short : (deep : ℕ) (bytes : List ℕ) → first_of most_bytes deep bytes ≡ Short
+    → split_of most_bytes deep bytes ≡ Open [] bytes
 unfolding split_of
 split_short deep bytes e = told_first most_bytes deep [] bytes ∙ ap (by_first most_bytes deep [] bytes) e
 
-split_bad : (deep : ℕ) (bytes : List ℕ) (fault : ScanFault) → first_of most_bytes deep bytes ≡ Bad fault → split_of most_bytes deep bytes ≡ Broken [] fault
+split_bad : (deep : ℕ) (bytes : List ℕ) (fault : ScanFault)
+    → first_of most_bytes deep bytes ≡ Bad fault
+    → split_of most_bytes deep bytes ≡ Broken [] fault
 unfolding split_of
 split_bad deep bytes fault e = told_first most_bytes deep [] bytes ∙ ap (by_first most_bytes deep [] bytes) e
 
 -- packed bytes begin with an entry, or are none
-pub packed_by_front : (deep : ℕ) (bytes : List ℕ) → 0 < length bytes → packed_entries deep bytes ≡ packed_by deep bytes (first_of most_bytes deep bytes)
+pub packed_by_front : (deep : ℕ) (bytes : List ℕ) → 0 < length bytes
+    → packed_entries deep bytes ≡ packed_by deep bytes (first_of most_bytes deep bytes)
 unfolding packed_entries
 packed_by_front deep bytes some = by_verdict (first_of most_bytes deep bytes) refl
   where
-    by_verdict : (v : Verdict) → first_of most_bytes deep bytes ≡ v → option_and_then entries_of (values_to_the_end (split_of most_bytes deep bytes)) ≡ packed_by deep bytes v
+    by_verdict : (v : Verdict) → first_of most_bytes deep bytes ≡ v
+        → option_and_then entries_of (values_to_the_end (split_of most_bytes deep bytes))
+        ≡ packed_by deep bytes v
     by_verdict (Whole n) e =
         ap (λ s. option_and_then entries_of (values_to_the_end s)) (split_first most_bytes deep bytes n e) ∙ to_the_end-front (take n bytes) (split_of most_bytes deep (drop n bytes))
     by_verdict Short e = ap (λ s. option_and_then entries_of (values_to_the_end s)) (split_short deep bytes e) ∙ unfinished bytes some
       where
-        unfinished : (rest : List ℕ) → 0 < length rest → option_and_then entries_of (values_to_the_end (Open [] rest)) ≡ None
+        unfinished : (rest : List ℕ) → 0 < length rest
+            → option_and_then entries_of (values_to_the_end (Open [] rest)) ≡ None
         unfinished [] more = absurd (omega arith)
         unfinished (b ∷ rest) more = refl
     by_verdict (Bad fault) e = ap (λ s. option_and_then entries_of (values_to_the_end s)) (split_bad deep bytes fault e)
 
-no_entry : (o : Option (List ℕ)) (others : Option (List (List ℕ))) → o ≡ None → before o others ≡ None
+no_entry : (o : Option (List ℕ)) (others : Option (List (List ℕ))) → o ≡ None
+    → before o others ≡ None
 no_entry None others e = refl
 no_entry (Some entry) others e = absurd cc
 
-pub packed_nothing : (deep : ℕ) (bytes : List ℕ) → length bytes ≡ 0 → packed_entries deep bytes ≡ Some []
+pub packed_nothing : (deep : ℕ) (bytes : List ℕ) → length bytes ≡ 0
+    → packed_entries deep bytes ≡ Some []
 unfolding packed_entries split_of
 packed_nothing deep [] e = refl
 packed_nothing deep (b ∷ bytes) e = absurd (omega arith)
 
 -- a row that begins with no whole value
-pub packed_not_whole : (deep : ℕ) (bytes : List ℕ) (v : Verdict) → 0 < length bytes → first_of most_bytes deep bytes ≡ v → ((n : ℕ) → v ≡ Whole n → ⊥) → packed_entries deep bytes ≡ None
+pub packed_not_whole : (deep : ℕ) (bytes : List ℕ) (v : Verdict) → 0 < length bytes
+    → first_of most_bytes deep bytes ≡ v → ((n : ℕ) → v ≡ Whole n → ⊥)
+    → packed_entries deep bytes ≡ None
 packed_not_whole deep bytes v some e none = packed_by_front deep bytes some ∙ ap (packed_by deep bytes) e ∙ by_verdict v none
   where
-    by_verdict : (w : Verdict) → ((n : ℕ) → w ≡ Whole n → ⊥) → packed_by deep bytes w ≡ None
+    by_verdict : (w : Verdict) → ((n : ℕ) → w ≡ Whole n → ⊥)
+        → packed_by deep bytes w ≡ None
     by_verdict (Whole n) not = absurd (not n refl)
     by_verdict Short not = refl
     by_verdict (Bad fault) not = refl
 
 -- a row that begins with a value
-pub packed_whole : (deep : ℕ) (bytes : List ℕ) (n : ℕ) → 0 < length bytes → first_of most_bytes deep bytes ≡ Whole n → packed_entries deep bytes ≡ before (entry_of (take n bytes)) (packed_entries deep (drop n bytes))
+pub packed_whole : (deep : ℕ) (bytes : List ℕ) (n : ℕ) → 0 < length bytes
+    → first_of most_bytes deep bytes ≡ Whole n
+    → packed_entries deep bytes
+    ≡ before (entry_of (take n bytes)) (packed_entries deep (drop n bytes))
 packed_whole deep bytes n some e = packed_by_front deep bytes some ∙ ap (packed_by deep bytes) e
 
 -- a row that begins with a value that is no entry
-pub packed_no_entry : (deep : ℕ) (bytes : List ℕ) (n : ℕ) → 0 < length bytes → first_of most_bytes deep bytes ≡ Whole n → entry_of (take n bytes) ≡ None → packed_entries deep bytes ≡ None
+pub packed_no_entry : (deep : ℕ) (bytes : List ℕ) (n : ℕ) → 0 < length bytes
+    → first_of most_bytes deep bytes ≡ Whole n → entry_of (take n bytes) ≡ None
+    → packed_entries deep bytes ≡ None
 packed_no_entry deep bytes n some e none = packed_whole deep bytes n some e ∙ no_entry (entry_of (take n bytes)) (packed_entries deep (drop n bytes)) none

@@ -18,13 +18,15 @@ use Rattle.fwd_modes.specs.Options.{option_pairs, unless_nil, chunk_under, chunk
 use Rattle.fwd_modes.specs.declared.fault.InputFault.TheVariants.{BadTag, BadOption, Compressed, BadEntry}
 use Rattle.fwd_modes.specs.Requests.{Request, Heartbeat, Asks, Parts, mode_by, with_option, parts_by, parts_in, tag_of, first_fault, asked, unless_fault, of_parts, request_of}
 
-five_parts : (a b c d e : List ℕ) → a ++ b ++ c ++ d ++ e ≡ a ++ (b ++ (c ++ (d ++ (e ++ []))))
+five_parts : (a b c d e : List ℕ)
+    → a ++ b ++ c ++ d ++ e ≡ a ++ (b ++ (c ++ (d ++ (e ++ []))))
 five_parts a b c d e =
     append_assoc (a ++ b ++ c) d e ∙ append_assoc (a ++ b) c (d ++ e) ∙ append_assoc a b (c ++ (d ++ e)) ∙ ap (λ xs. a ++ (b ++ (c ++ (d ++ xs)))) (sym (append-nil e))
 
 -- ---- the option
 
-module _ (count : ℕ) (name : List ℕ) (small : count < 2 ^ 64) (short : length name ≤ 256) (sized : length (frame_option count name) ≤ most_bytes) where
+module _ (count : ℕ) (name : List ℕ) (small : count < 2 ^ 64) (short : length name ≤ 256)
+    (sized : length (frame_option count name) ≤ most_bytes) where
   fits : length name < 2 ^ 32
   fits = omega (arith, short)
 
@@ -91,33 +93,43 @@ module _ (count : ℕ) (name : List ℕ) (small : count < 2 ^ 64) (short : lengt
 
 -- ---- entries
 
-kept_values : (deep : ℕ) (entries : List (List ℕ)) → AllByRecursion (IsKept deep) entries → AllByRecursion (IsValue deep) entries
+kept_values : (deep : ℕ) (entries : List (List ℕ)) → AllByRecursion (IsKept deep) entries
+    → AllByRecursion (IsValue deep) entries
 kept_values deep [] each = tt
 kept_values deep (e ∷ entries) each = (each.0.value, kept_values deep entries each.1)
 
-kept_entries : (deep : ℕ) (entries : List (List ℕ)) → AllByRecursion (IsKept deep) entries → entries_of entries ≡ Some entries
+kept_entries : (deep : ℕ) (entries : List (List ℕ)) → AllByRecursion (IsKept deep) entries
+    → entries_of entries ≡ Some entries
 kept_entries deep [] each = refl
 kept_entries deep (e ∷ entries) each = rw (each.0.kept, kept_entries deep entries each.1) refl
 
-kept_count : (deep : ℕ) (entries : List (List ℕ)) → AllByRecursion (IsKept deep) entries → length entries ≤ length (concat entries)
+kept_count : (deep : ℕ) (entries : List (List ℕ)) → AllByRecursion (IsKept deep) entries
+    → length entries ≤ length (concat entries)
 kept_count deep [] each = omega arith
 kept_count deep (e ∷ entries) each = omega (arith, value_some deep e each.0.value, length-append e (concat entries), kept_count deep entries each.1)
 
-packed_back : (deep : ℕ) (entries : List (List ℕ)) → AllByRecursion (IsKept deep) entries → length (concat entries) ≤ most_bytes → packed_entries deep (concat entries) ≡ Some entries
+packed_back : (deep : ℕ) (entries : List (List ℕ)) → AllByRecursion (IsKept deep) entries
+    → length (concat entries) ≤ most_bytes
+    → packed_entries deep (concat entries) ≡ Some entries
 unfolding packed_entries
 packed_back deep entries each short =
     ap (λ s. option_and_then entries_of (values_to_the_end s)) (values_split most_bytes deep deep entries (kept_values deep entries each) (omega arith) short) ∙ kept_entries deep entries each
 
 -- ---- the frame
 
-asks_if : (parts : Parts) → is_none (tag_of parts.tag) ≡ false → is_bad_option parts.option ≡ false → is_compressed parts.option ≡ false → is_none parts.entries ≡ false → of_parts (Some parts) ≡ Asks (asked parts)
+asks_if : (parts : Parts) → is_none (tag_of parts.tag) ≡ false
+    → is_bad_option parts.option ≡ false → is_compressed parts.option ≡ false
+    → is_none parts.entries ≡ false → of_parts (Some parts) ≡ Asks (asked parts)
 asks_if parts a b c d =
     ap (λ t. unless_fault (first_fault ((t, BadTag) ∷ (is_bad_option parts.option, BadOption) ∷ (is_compressed parts.option, Compressed) ∷ (is_none parts.entries, BadEntry) ∷ [])) parts) a
     ∙ ap (λ t. unless_fault (first_fault ((false, BadTag) ∷ (t, BadOption) ∷ (is_compressed parts.option, Compressed) ∷ (is_none parts.entries, BadEntry) ∷ [])) parts) b
     ∙ ap (λ t. unless_fault (first_fault ((false, BadTag) ∷ (false, BadOption) ∷ (t, Compressed) ∷ (is_none parts.entries, BadEntry) ∷ [])) parts) c
     ∙ ap (λ t. unless_fault (first_fault ((false, BadTag) ∷ (false, BadOption) ∷ (false, Compressed) ∷ (t, BadEntry) ∷ [])) parts) d
 
-module _ (deep : ℕ) (tag : List ℕ) (entries : List (List ℕ)) (name : List ℕ) (tag_short : length tag ≤ 1024) (name_short : length name ≤ 256) (each : AllByRecursion (IsKept deep) entries) (sized : length (chunk_frame tag entries name) ≤ most_bytes) where
+module _ (deep : ℕ) (tag : List ℕ) (entries : List (List ℕ)) (name : List ℕ)
+    (tag_short : length tag ≤ 1024) (name_short : length name ≤ 256)
+    (each : AllByRecursion (IsKept deep) entries)
+    (sized : length (chunk_frame tag entries name) ≤ most_bytes) where
   abbrev packed : List ℕ
   packed = concat entries
 
@@ -192,13 +204,15 @@ module _ (deep : ℕ) (tag : List ℕ) (entries : List (List ℕ)) (name : List 
   tag_good : is_none (tag_of (text tag)) ≡ false
   tag_good = ap (λ t. is_none (fitting_text 1024 t)) (text_text tag tag_fits) ∙ ap (λ b. is_none (cond b (Some tag) None)) (le-leb (length tag) 1024 tag_short)
 
-  frame_asked : asked frame_parts ≡ record { tag = tag; entries = entries; chunk = Some (text name) }
+  frame_asked : asked frame_parts
+      ≡ record { tag = tag; entries = entries; chunk = Some (text name) }
   frame_asked =
       ap (λ t. record { tag = unwrap_or t []; entries = entries; chunk = chunk_of (Some option) }) (text_text tag tag_fits)
       ∙ ap (λ c. record { tag = tag; entries = entries; chunk = c }) (option_chunk count name sizes.of_count name_short sizes.of_option)
 
   -- a frame asks for what it was written from
-  pub frame_reads_back : request_of deep (chunk_frame tag entries name) ≡ Asks (record { tag = tag; entries = entries; chunk = Some (text name) })
+  pub frame_reads_back : request_of deep (chunk_frame tag entries name)
+      ≡ Asks (record { tag = tag; entries = entries; chunk = Some (text name) })
   unfolding request_of
   frame_reads_back =
       ap (λ h. cond (is_nil_head h) Heartbeat (of_parts (option_and_then (parts_in deep) (elements_of (chunk_frame tag entries name))))) frame_head
@@ -211,7 +225,8 @@ module _ (deep : ℕ) (tag : List ℕ) (entries : List (List ℕ)) (name : List 
 abbrev pub asked_by : Frame → Request
 asked_by frame = record { tag = frame.tag; entries = frame.entries; chunk = Some (text frame.name) }
 
-pub back : (deep : ℕ) (frame : Frame) → IsFrame deep frame → request_of deep (chunk_frame frame.tag frame.entries frame.name) ≡ Asks (asked_by frame)
+pub back : (deep : ℕ) (frame : Frame) → IsFrame deep frame
+    → request_of deep (chunk_frame frame.tag frame.entries frame.name) ≡ Asks (asked_by frame)
 back deep frame is = frame_reads_back deep frame.tag frame.entries frame.name is.tag is.name is.entries (omega (arith, is.size))
 
 pub asks_same : (r s : Request) → Asks r ≡ Asks s → r ≡ s
@@ -220,14 +235,20 @@ asks_same r s e = cc
 pub some_same : {A : Type 0} (x y : A) → Some x ≡ Some y → x ≡ y
 some_same x y e = cc
 
-pub only : (deep : ℕ) (frame : Frame) (r : Request) (value : List ℕ) → IsFrame deep frame → request_of deep value ≡ Asks r → value ≡ chunk_frame frame.tag frame.entries frame.name → r ≡ asked_by frame
+pub only : (deep : ℕ) (frame : Frame) (r : Request) (value : List ℕ) → IsFrame deep frame
+    → request_of deep value ≡ Asks r
+    → value ≡ chunk_frame frame.tag frame.entries frame.name → r ≡ asked_by frame
 only deep frame r value is e same = asks_same r (asked_by frame) (sym e ∙ ap (request_of deep) same ∙ back deep frame is)
 
 -- the text of a name tells the name
-name_same : (name other : List ℕ) → length name ≤ 256 → length other ≤ 256 → text name ≡ text other → name ≡ other
+name_same : (name other : List ℕ) → length name ≤ 256 → length other ≤ 256
+    → text name ≡ text other → name ≡ other
 name_same name other short small e = some_same name other (sym (text_text name (omega (arith, short))) ∙ ap text_of e ∙ text_text other (omega (arith, small)))
 
-pub differ : (deep : ℕ) (frame other : Frame) → IsFrame deep frame → IsFrame deep other → chunk_frame frame.tag frame.entries frame.name ≡ chunk_frame other.tag other.entries other.name → frame ≡ other
+pub differ : (deep : ℕ) (frame other : Frame) → IsFrame deep frame → IsFrame deep other
+    → chunk_frame frame.tag frame.entries frame.name
+    ≡ chunk_frame other.tag other.entries other.name
+    → frame ≡ other
 differ deep frame other is are e =
     let same = asks_same (asked_by frame) (asked_by other) (sym (back deep frame is) ∙ ap (request_of deep) e ∙ back deep other are) in
     let tags : frame.tag ≡ other.tag = ap (λ (r : Request). r.tag) same in

@@ -7,10 +7,12 @@ use Rattle.fwd_modes.specs.declared.fault.InputFault.{InputFault}
 use Rattle.fwd_modes.specs.declared.fault.InputFault.TheVariants.{BadEntry}
 
 -- no other fault than that of an entry
-pub only_bad_entry : (entries : Option (List (List ℕ))) (asked : Asked) (fault : InputFault) → judged entries (Ok asked) ≡ fails fault → fault ≡ BadEntry
+pub only_bad_entry : (entries : Option (List (List ℕ))) (asked : Asked) (fault : InputFault)
+    → judged entries (Ok asked) ≡ fails fault → fault ≡ BadEntry
 only_bad_entry None asked fault e = cc
 only_bad_entry (Some entries) asked fault e = absurd cc
 
-pub no_heartbeat : (entries : Option (List (List ℕ))) (asked : Asked) → judged entries (Ok asked) ≡ heartbeat → ⊥
+pub no_heartbeat : (entries : Option (List (List ℕ))) (asked : Asked)
+    → judged entries (Ok asked) ≡ heartbeat → ⊥
 no_heartbeat None asked e = cc
 no_heartbeat (Some entries) asked e = cc

@@ -13,7 +13,8 @@ use Rattle.fwd_msgpack.specs.Scans.{parts_of, parts_read, text_in, text_of}
 -- a row of at most four bytes behind the first, or one of no text
 abbrev IsSmall : Option Row → Type 0
 IsSmall None = Unit {0}
-IsSmall (Some row) = (row.more ≤ 4) ⊎ ((bytes body : List ℕ) → text_in (row.spells bytes) body ≡ None)
+IsSmall (Some row) =
+    (row.more ≤ 4) ⊎ ((bytes body : List ℕ) → text_in (row.spells bytes) body ≡ None)
 
 abbrev AreSmall : List (Option Row) → Type 0
 AreSmall [] = Unit {0}
@@ -129,7 +130,14 @@ small : (first : ℕ) → IsSmall (row_of first)
 unfolding row_of
 small first = by_tests (ltb first 0x80) (ltb first 0x90) (ltb first 0xa0) (ltb first 0xc0) (ltb first 0xe0)
   where
-    by_tests : (a b c d e : Bool) → IsSmall (cond a (fixed (Int false first)) (cond b (fixed (Map (first - 0x80))) (cond c (fixed (Arr (first - 0x90))) (cond d (fixed (Str (first - 0xa0))) (cond e (get_or named_rows (first - 0xc0) None) (fixed (Int true (256 - first))))))))
+    by_tests : (a b c d e : Bool)
+        → IsSmall
+        (cond a (fixed (Int false first))
+        (cond b (fixed (Map (first - 0x80)))
+        (cond c (fixed (Arr (first - 0x90)))
+        (cond d (fixed (Str (first - 0xa0)))
+        (cond e (get_or named_rows (first - 0xc0) None)
+        (fixed (Int true (256 - first))))))))
     by_tests true b c d e = inl (omega arith)
     by_tests false true c d e = inl (omega arith)
     by_tests false false true d e = inl (omega arith)
@@ -149,26 +157,41 @@ text_is (Map n) body text e = absurd cc
 text_is (Ext kind len) body text e = absurd cc
 
 abbrev text_read : HeadRead → List ℕ → Option (List ℕ)
-text_read read bytes = option_and_then (λ (parts : Head × List ℕ). text_in parts.0 parts.1) (parts_read read bytes)
+text_read read bytes =
+    option_and_then (λ (parts : Head × List ℕ). text_in parts.0 parts.1) (parts_read read bytes)
 
-row_text : (first : ℕ) (rest text : List ℕ) (row : Option Row) → IsSmall row → Some text ≡ text_read (row_reading row rest) (first ∷ rest) → length (first ∷ rest) ≤ length text + 5
+row_text : (first : ℕ) (rest text : List ℕ) (row : Option Row) → IsSmall row
+    → Some text ≡ text_read (row_reading row rest) (first ∷ rest)
+    → length (first ∷ rest) ≤ length text + 5
 row_text first rest text None s e = absurd cc
 row_text first rest text (Some row) s e = by_test (ltb (length rest) row.more) e
   where
-    whole : (head : Head) → (row.more ≤ 4) ⊎ (text_in head (drop (row.more + 1) (first ∷ rest)) ≡ None) → Some text ≡ text_in head (drop (row.more + 1) (first ∷ rest)) → length (first ∷ rest) ≤ length text + 5
+    whole : (head : Head)
+        → (row.more ≤ 4) ⊎ (text_in head (drop (row.more + 1) (first ∷ rest)) ≡ None)
+        → Some text ≡ text_in head (drop (row.more + 1) (first ∷ rest))
+        → length (first ∷ rest) ≤ length text + 5
     whole head (inl few) f = omega (arith, ap length (text_is head (drop (row.more + 1) (first ∷ rest)) text f), length-drop (row.more + 1) (first ∷ rest))
     whole head (inr none) f = absurd cc
 
-    at_row : (row.more ≤ 4) ⊎ ((bytes body : List ℕ) → text_in (row.spells bytes) body ≡ None) → (row.more ≤ 4) ⊎ (text_in (row.spells (take row.more rest)) (drop (row.more + 1) (first ∷ rest)) ≡ None)
+    at_row :
+        (row.more ≤ 4) ⊎ ((bytes body : List ℕ) → text_in (row.spells bytes) body ≡ None)
+        → (row.more ≤ 4)
+        ⊎ (text_in (row.spells (take row.more rest)) (drop (row.more + 1) (first ∷ rest))
+        ≡ None)
     at_row (inl few) = inl few
     at_row (inr none) = inr (none (take row.more rest) (drop (row.more + 1) (first ∷ rest)))
 
-    by_test : (b : Bool) → Some text ≡ text_read (cond b Short (Whole (row.spells (take row.more rest)) (row.more + 1))) (first ∷ rest) → length (first ∷ rest) ≤ length text + 5
+    by_test : (b : Bool)
+        → Some text
+        ≡ text_read (cond b Short (Whole (row.spells (take row.more rest)) (row.more + 1)))
+        (first ∷ rest)
+        → length (first ∷ rest) ≤ length text + 5
     by_test true f = absurd cc
     by_test false f = whole (row.spells (take row.more rest)) (at_row s) f
 
 -- a str or a bin is at most five bytes longer than its payload
-pub length-text_of : (bytes text : List ℕ) → Some text ≡ text_of bytes → length bytes ≤ length text + 5
+pub length-text_of : (bytes text : List ℕ) → Some text ≡ text_of bytes
+    → length bytes ≤ length text + 5
 unfolding parts_of reading_of
 length-text_of [] text e = omega arith
 length-text_of (first ∷ rest) text e = row_text first rest text (row_of first) (small first) e

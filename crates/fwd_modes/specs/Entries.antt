@@ -1,4 +1,5 @@
--- Entries (Forward Protocol Specification v1, "Message Modes"): what is one, how it is kept, and where many of them stand.
+-- Entries (Forward Protocol Specification v1, "Message Modes"):
+-- what is one, how it is kept, and where many of them stand.
 use Rattle.std.specs.Prelude.{◌≡◌, ℕ, ◌+◌, ◌-◌, ◌&&◌, List, [], ◌∷◌, ◌++◌, length, take, drop, Option, Some, None, option_and_then, if◌then◌else◌}
 use Rattle.std.specs.List.{concat}
 use Rattle.std.specs.Option.{option_map}
@@ -43,14 +44,17 @@ values_to_the_end (Broken values fault) = None
 unfoldable pub listed_entries : List ℕ → Option (List (List ℕ))
 listed_entries bytes = option_and_then entries_of (elements_of bytes)
 
--- Packed bytes: whole entries one after the other to the last byte, each at most deep deep from its own array.
+-- Packed bytes: whole entries one after the other to the
+-- last byte, each at most deep deep from its own array.
 unfoldable pub packed_entries : (deep : ℕ) → List ℕ → Option (List (List ℕ))
-packed_entries deep packed = option_and_then entries_of (values_to_the_end (split_of most_bytes deep packed))
+packed_entries deep packed =
+    option_and_then entries_of (values_to_the_end (split_of most_bytes deep packed))
 
 -- where the entries end that stand one after the other from a place on, in bytes
 abbrev pub ends_from : ℕ → List (List ℕ) → List ℕ
 ends_from place [] = []
-ends_from place (entry ∷ entries) = (place + length entry) ∷ ends_from (place + length entry) entries
+ends_from place (entry ∷ entries) =
+    (place + length entry) ∷ ends_from (place + length entry) entries
 
 -- where each entry ends, in bytes from the front of the first
 abbrev pub ends_of : List (List ℕ) → List ℕ
@@ -59,7 +63,8 @@ ends_of entries = ends_from 0 entries
 -- the bytes from a place on, cut at these ends
 abbrev pub cut_at : (place : ℕ) (ends bytes : List ℕ) → List (List ℕ)
 cut_at place [] bytes = []
-cut_at place (end ∷ ends) bytes = take (end - place) bytes ∷ cut_at end ends (drop (end - place) bytes)
+cut_at place (end ∷ ends) bytes =
+    take (end - place) bytes ∷ cut_at end ends (drop (end - place) bytes)
 
 -- the bytes from a place on have these ends, and nothing behind the last
 pub record AreCut (place : ℕ) (ends bytes : List ℕ) : Type 0 where

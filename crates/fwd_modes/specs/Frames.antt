@@ -12,19 +12,23 @@ use Rattle.fwd_msgpack.specs.Texts.{text}
 use Rattle.fwd_msgpack.specs.Values.{IsValue}
 use Rattle.fwd_modes.specs.Entries.{entry_of}
 
--- the name of a chunk: the Base64 of six bytes for the run, two for the output, eight for the number
+-- the name of a chunk: the Base64 of six bytes for the run,
+-- two for the output, eight for the number
 unfoldable pub chunk_name : List ℕ → ℕ → ℕ → List ℕ
-chunk_name run output number = encode_of standard (run ++ to_be_bytes w16 output ++ to_be_bytes w64 number)
+chunk_name run output number =
+    encode_of standard (run ++ to_be_bytes w16 output ++ to_be_bytes w64 number)
 
 -- how many entries a frame has, and its name: {"size": count, "chunk": name}
 abbrev pub frame_option : ℕ → List ℕ → List ℕ
 frame_option count name =
-    head_bytes (Map 2) ++ text (codes "size") ++ head_bytes (Int false count) ++ text (codes "chunk") ++ text name
+    head_bytes (Map 2) ++ text (codes "size") ++ head_bytes (Int false count)
+    ++ text (codes "chunk") ++ text name
 
 -- a frame: [tag, packed entries, option]
 abbrev pub packed_frame : List ℕ → List ℕ → ℕ → List ℕ → List ℕ
 packed_frame tag packed count name =
-    head_bytes (Arr 3) ++ text tag ++ head_bytes (Bin (length packed)) ++ packed ++ frame_option count name
+    head_bytes (Arr 3) ++ text tag ++ head_bytes (Bin (length packed)) ++ packed
+    ++ frame_option count name
 
 -- the frame of a chunk: its entries one after the other
 unfoldable pub chunk_frame : List ℕ → List (List ℕ) → List ℕ → List ℕ
@@ -41,8 +45,8 @@ pub record Frame : Type 0 where
   pub entries : List (List ℕ)
   pub name : List ℕ
 
--- The frame of a chunk within the limits of a request: a tag of at most 1,024 bytes and a name of at most 256, kept entries,
--- and less than 2^32 bytes in all.
+-- The frame of a chunk within the limits of a request: a tag of at most 1,024 bytes and a name of
+-- at most 256, kept entries, and less than 2^32 bytes in all.
 pub record IsFrame (deep : ℕ) (frame : Frame) : Type 0 where
   pub tag : length frame.tag ≤ 1024
   pub name : length frame.name ≤ 256

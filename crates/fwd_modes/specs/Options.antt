@@ -1,10 +1,12 @@
--- The option of a request (Forward Protocol Specification v1, "Option"): its chunk, and its faults. Other keys say nothing.
+-- The option of a request (Forward Protocol Specification v1,
+-- "Option"): its chunk, and its faults. Other keys say nothing.
 use Rattle.std.specs.Prelude.{ℕ, Bool, true, false, ◌||◌, List, [], Option, Some, None, is_none, codes, option_and_then, if◌then◌else◌}
 use Rattle.fwd_msgpack.specs.Scans.{pairs_of}
 use Rattle.fwd_msgpack.specs.Texts.{is_text, last_under}
 use Rattle.fwd_modes.specs.Kinds.{is_nil, text_within}
 
--- The pairs of an option. One that is left out or nil has none, and what is neither a map nor nil is no option.
+-- The pairs of an option. One that is left out or nil has
+-- none, and what is neither a map nor nil is no option.
 abbrev pub option_pairs : Option (List ℕ) → Option (List (List ℕ × List ℕ))
 option_pairs None = Some []
 option_pairs (Some bytes) = if is_nil bytes then Some [] else pairs_of bytes
@@ -26,6 +28,7 @@ abbrev pub is_bad_chunk : Option (List ℕ) → Bool
 is_bad_chunk None = false
 is_bad_chunk (Some bytes) = is_none (text_within 256 bytes)
 
+-- there are no pairs, or their chunk is a bad one
 abbrev pub are_bad_pairs : Option (List (List ℕ × List ℕ)) → Bool
 are_bad_pairs None = true
 are_bad_pairs (Some pairs) = is_bad_chunk (chunk_under pairs)
@@ -41,4 +44,5 @@ is_compression (Some bytes) = is_text (codes "gzip") bytes || is_text (codes "zs
 
 -- the last `compressed` names a compression
 abbrev pub is_compressed : Option (List ℕ) → Bool
-is_compressed option = is_compression (option_and_then (last_under (codes "compressed")) (option_pairs option))
+is_compressed option =
+    is_compression (option_and_then (last_under (codes "compressed")) (option_pairs option))

@@ -17,6 +17,7 @@ use Rattle.fwd_modes.specs.declared.asked.Asked.{Asked}
 use Rattle.fwd_modes.specs.declared.fault.InputFault.TheVariants.{BadEntry}
 use Rattle.fwd_modes.specs.Entries.{kept_entry, cut_at, listed_entries}
 
+-- what a reading says
 abbrev pub shown : Reading → requests.Reading
 shown Heartbeat = heartbeat
 shown (Asks batch) = asks batch
@@ -39,11 +40,16 @@ entries_given deep (Packed packed) = unpacked deep (bytes_of packed)
 -- the parts of a request
 abbrev pub parts_shown : (deep : ℕ) → Parts → requests.Parts
 parts_shown deep p =
-    record { tag = bytes_of p.tag; entries = entries_given deep p.entries; option = option_map bytes_of p.option }
+    record {
+      tag = bytes_of p.tag;
+      entries = entries_given deep p.entries;
+      option = option_map bytes_of p.option;
+    }
 
 -- what was judged: the tag and the chunk, with entries beside them
 abbrev pub with_entries : List (List ℕ) → Asked → requests.Reading
-with_entries entries asked = asks (record { tag = asked.tag.now; entries = entries; chunk = option_copied asked.chunk })
+with_entries entries asked =
+    asks (record { tag = asked.tag.now; entries = entries; chunk = option_copied asked.chunk })
 
 -- what stands beside the entries, which decides where they are good
 abbrev pub judged : Option (List (List ℕ)) → Result Asked InputFault → requests.Reading

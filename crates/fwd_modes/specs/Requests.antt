@@ -10,7 +10,8 @@ use Rattle.fwd_modes.specs.Kinds.{is_nil, text_within}
 use Rattle.fwd_modes.specs.Entries.{kept_if, listed_entries, packed_entries}
 use Rattle.fwd_modes.specs.Options.{is_bad_option, is_compressed, chunk_of}
 
--- what a source asks for: its tag, the entries as they are kept, and the value that its acknowledgement is to carry
+-- what a source asks for: its tag, the entries as they are
+-- kept, and the value that its acknowledgement is to carry
 pub record Request : Type 0 where
   pub tag : List ℕ
   pub entries : List (List ℕ)
@@ -22,8 +23,8 @@ pub data Reading : Type 0 where
   Asks : (r : Request) → Reading
   Fails : (f : InputFault) → Reading
 
--- A request by its parts: the tag's value, the entries as they are kept if each is one, and the option's value if it is
--- there.
+-- A request by its parts: the tag's value, the entries as they are kept if each is one, and the
+-- option's value if it is there.
 pub record Parts : Type 0 where
   pub tag : List ℕ
   pub entries : Option (List (List ℕ))
@@ -35,8 +36,9 @@ pub data Mode : Type 0 where
   Forward : Mode
   PackedForward : Mode
 
--- The second element tells the mode: an integer or an extension is the time of a Message, an array has the entries of
--- Forward mode, and a str or a bin those of PackedForward mode. No other kind stands there.
+-- The second element tells the mode: an integer or an extension is the
+-- time of a Message, an array has the entries of Forward mode, and a
+-- str or a bin those of PackedForward mode. No other kind stands there.
 abbrev pub mode_by : Option Head → Option Mode
 mode_by (Some (Int neg mag)) = Some Message
 mode_by (Some (Ext kind len)) = Some Message
@@ -45,6 +47,7 @@ mode_by (Some (Str len)) = Some PackedForward
 mode_by (Some (Bin len)) = Some PackedForward
 mode_by _ = None
 
+-- the one entry of a Message, if it is one
 abbrev pub one_entry : Option (List ℕ) → Option (List (List ℕ))
 one_entry entry = option_map (λ e. e ∷ []) entry
 
@@ -53,9 +56,11 @@ abbrev pub unpacked : (deep : ℕ) → List ℕ → Option (List (List ℕ))
 unpacked deep bytes = option_and_then (packed_entries deep) (text_of bytes)
 
 -- the rest of a request behind its entries is an option, or nothing
-abbrev pub with_option : (tag : List ℕ) → Option (List (List ℕ)) → List (List ℕ) → Option Parts
+abbrev pub with_option : (tag : List ℕ) → Option (List (List ℕ)) → List (List ℕ)
+    → Option Parts
 with_option tag entries [] = Some (record { tag = tag; entries = entries; option = None })
-with_option tag entries (option ∷ []) = Some (record { tag = tag; entries = entries; option = Some option })
+with_option tag entries (option ∷ []) =
+    Some (record { tag = tag; entries = entries; option = Some option })
 with_option tag entries _ = None
 
 -- a Message has its record behind its time
@@ -64,7 +69,8 @@ message tag time (entry ∷ others) = with_option tag (one_entry (kept_if time e
 message tag time [] = None
 
 -- the parts by the mode
-abbrev pub parts_by : (deep : ℕ) → Option Mode → (tag second : List ℕ) → List (List ℕ) → Option Parts
+abbrev pub parts_by : (deep : ℕ) → Option Mode → (tag second : List ℕ) → List (List ℕ)
+    → Option Parts
 parts_by deep None tag second others = None
 parts_by deep (Some Message) tag time others = message tag time others
 parts_by deep (Some Forward) tag entries others = with_option tag (listed_entries entries) others
@@ -72,7 +78,8 @@ parts_by deep (Some PackedForward) tag packed others = with_option tag (unpacked
 
 -- the parts of an array, if it has the shape of a request
 abbrev pub parts_in : (deep : ℕ) → List (List ℕ) → Option Parts
-parts_in deep (tag ∷ second ∷ others) = parts_by deep (mode_by (head_of second)) tag second others
+parts_in deep (tag ∷ second ∷ others) =
+    parts_by deep (mode_by (head_of second)) tag second others
 parts_in deep _ = None
 
 -- a tag is a str or a bin of at most 1,024 bytes
@@ -94,8 +101,13 @@ first_fault faults = option_map (λ f. f.1) (find (λ f. f.0) faults)
 
 -- what parts without a fault ask for
 abbrev pub asked : Parts → Request
-asked parts = record { tag = unwrap_or (text_of parts.tag) []; entries = unwrap_or parts.entries []; chunk = chunk_of parts.option }
+asked parts = record {
+  tag = unwrap_or (text_of parts.tag) [];
+  entries = unwrap_or parts.entries [];
+  chunk = chunk_of parts.option;
+}
 
+-- the fault, or what the parts ask for where there is none
 abbrev pub unless_fault : Option InputFault → Parts → Reading
 unless_fault (Some fault) parts = Fails fault
 unless_fault None parts = Asks (asked parts)
@@ -105,7 +117,10 @@ abbrev pub of_parts : Option Parts → Reading
 of_parts None = Fails BadShape
 of_parts (Some parts) = unless_fault (first_fault (faults_of parts)) parts
 
--- What a whole value says: nil is a heartbeat, and everything else is a request or has a first fault. Packed entries are at
--- most deep deep.
+-- What a whole value says: nil is a heartbeat, and everything else is a request or has a first
+-- fault. Packed entries are at most deep deep.
 unfoldable pub request_of : (deep : ℕ) → List ℕ → Reading
-request_of deep bytes = if is_nil bytes then Heartbeat else of_parts (option_and_then (parts_in deep) (elements_of bytes))
+request_of deep bytes =
+    if is_nil bytes
+    then Heartbeat
+    else of_parts (option_and_then (parts_in deep) (elements_of bytes))

@@ -13,7 +13,10 @@ pub record Moment : Type 0 where
 abbrev pub event_time_in : ℤ × List ℕ → Option Moment
 event_time_in (kind, body) =
     if int_eq kind (pos 0) && (length body == 8)
-    then Some (record { sec = from_be_bytes w32 (take 4 body); nanos = from_be_bytes w32 (drop 4 body) })
+    then Some (record {
+      sec = from_be_bytes w32 (take 4 body);
+      nanos = from_be_bytes w32 (drop 4 body);
+    })
     else None
 
 -- the EventTime that a whole value is, however its head is spelled

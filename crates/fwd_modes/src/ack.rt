@@ -8,8 +8,8 @@ ghost use Rattle.fwd_modes.specs.Acks.{ack_text, ack_name};
 use fwd_msgpack::{Head, Value, write_head, write_text};
 use std::alloc::{AllocError, Global};
 
-/// A value acknowledges nothing: it is no map, or its last `ack` is no str and no bin, or it has none. This is
-/// refusal 17.
+/// A value acknowledges nothing: it is no map, or its last `ack`
+/// is no str and no bin, or it has none. This is refusal 17.
 #[derive(Clone, Copy, Debug, PartialEq, Eq)]
 pub struct NoAck;
 

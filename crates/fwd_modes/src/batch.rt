@@ -10,8 +10,8 @@ use smallvec::SmallVec;
 use std::alloc::{AllocError, Global};
 use std::marker::Model;
 
-/// A request of a source: a tag, the entries as they are kept (`92`, the time's bytes, the record's bytes), and the
-/// value that the acknowledgement is to carry, if there is one.
+/// A request of a source: a tag, the entries as they are kept (`92`, the time's bytes, the record's
+/// bytes), and the value that the acknowledgement is to carry, if there is one.
 #[derive(Debug, Drop)]
 pub struct Batch {
     tag: SmallVec<u8, 32>,
@@ -25,7 +25,11 @@ impl Model for Batch {
 
     ghost Value = { Request };
 
-    ghost view = { λ b. record { tag = b.tag.items; entries = b.entries; chunk = option_map (λ c. c.items) b.chunk } };
+    ghost view = { λ b. record {
+      tag = b.tag.items;
+      entries = b.entries;
+      chunk = option_map (λ c. c.items) b.chunk;
+    } };
 
     ghost use Rattle.std.specs.Prelude.{◌<◌, ◌≤◌, ◌^◌, length};
     ghost use Rattle.std.specs.List.{concat};
@@ -46,7 +50,9 @@ impl Batch {
     ) -> Result<Self, AllocError>
         requires tag_fits { length tag.now ≤ 1024 }
         requires chunk_fits { ForSome chunk (λ bytes. length bytes.now ≤ 261) }
-        ensures { IfOk result (λ b. b ≡ record { tag = tag.now; entries = entries; chunk = option_copied chunk.entry }) }
+        ensures { IfOk result (λ b.
+            b
+            ≡ record { tag = tag.now; entries = entries; chunk = option_copied chunk.entry }) }
     {
         let chunk = match chunk {
             Some(bytes) => Some(SmallVec::from_slice(alloc, bytes)?),

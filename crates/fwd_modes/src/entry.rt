@@ -23,8 +23,11 @@ impl<'a> Entry<'a> {
     /// A time and a record, if they are a time and a map.
     pub(crate) fn new(time: Value<'a>, fields: Value<'a>) -> Option<Entry<'a>>
         requires { 1 + length (bytes_of time) + length (bytes_of fields) < 2 ^ 32 }
-        ensures value { option_map kept result ≡ kept_if (bytes_of time.entry) (bytes_of fields.entry) }
-        ensures same { IfSome result (λ e. length e.time.now + length e.fields.now ≡ length (bytes_of time.entry) + length (bytes_of fields.entry)) }
+        ensures value { option_map kept result
+            ≡ kept_if (bytes_of time.entry) (bytes_of fields.entry) }
+        ensures same { IfSome result (λ e.
+            length e.time.now + length e.fields.now
+            ≡ length (bytes_of time.entry) + length (bytes_of fields.entry)) }
     {
         if !is_time(time) || !is_map(fields) {
             return None;
@@ -39,7 +42,8 @@ impl<'a> Entry<'a> {
     #[tactic(auto, unfolding(crate::specs::Entries::entry_of))]
     pub(crate) fn read(value: Value<'a>) -> Option<Entry<'a>>
         ensures value { option_map kept result ≡ entry_of (bytes_of value.entry) }
-        ensures fits { IfSome result (λ e. 1 + length e.time.now + length e.fields.now ≤ length (bytes_of value.entry)) }
+        ensures fits { IfSome result (λ e.
+            1 + length e.time.now + length e.fields.now ≤ length (bytes_of value.entry)) }
     {
         let mut members = value.items()?;
         let time = members.next()?;

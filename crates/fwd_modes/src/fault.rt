@@ -1,5 +1,5 @@
-/// Why a whole value is no request. The first whose condition holds decides, in the order of the checks:
-/// shape, tag, option, compression, entries.
+/// Why a whole value is no request. The first whose condition holds decides, in the order of the
+/// checks: shape, tag, option, compression, entries.
 #[derive(Clone, Copy, Debug, PartialEq, Eq)]
 pub enum InputFault {
     /// No array, or one of another length or with another kind in its second place.
@@ -8,7 +8,8 @@ pub enum InputFault {
     BadTag = 5,
     /// An entry is no array of a time and a map.
     BadEntry = 6,
-    /// The option is neither a map nor nil, or its `chunk` is no text of at most 256 bytes and no nil.
+    /// The option is neither a map nor nil, or its `chunk`
+    /// is no text of at most 256 bytes and no nil.
     BadOption = 7,
     /// The option names a compression that this relay does not read.
     Compressed = 8,

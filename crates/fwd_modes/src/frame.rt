@@ -1,4 +1,5 @@
-//! What the relay writes to the next hop (Forward Protocol Specification v1, "PackedForward Mode" and "Option").
+//! What the relay writes to the next hop (Forward Protocol
+//! Specification v1, "PackedForward Mode" and "Option").
 
 ghost use Rattle.std.specs.Prelude.{◌≡◌, ◌+◌, ◌^◌, ◌<◌, ◌++◌, [], length, is_ok, if◌then◌else◌, IfOk};
 ghost use Rattle.std.specs.Int.{w16, w64, to_be_bytes};
@@ -29,8 +30,8 @@ fn name_bytes(run: &[u8; 6], output: u16, number: u64) -> [u8; 16]
     [a, b, c, d, e, f, g, h, i, j, k, l, m, n, o, p]
 }
 
-/// The name of a chunk: the Base64 (RFC 4648, section 4) of the run's six bytes, the output's number and the
-/// chunk's number, big-endian.
+/// The name of a chunk: the Base64 (RFC 4648, section 4) of the run's six bytes, the output's
+/// number and the chunk's number, big-endian.
 #[tactic(auto, unfolding(crate::specs::Frames::chunk_name))]
 pub fn chunk_name(run: &[u8; 6], output: u16, number: u64) -> [u8; 24]
     ensures { result ≡ chunk_name run.now output number }
@@ -66,7 +67,8 @@ pub fn write_chunk(
     requires tag_fits { length tag.now < 2 ^ 32 }
     requires packed_fits { length packed.now < 2 ^ 32 }
     requires name_fits { length name.now < 2 ^ 32 }
-    ensures { IfOk result (λ frame. frame.items ≡ packed_frame tag.now packed.now count name.now) }
+    ensures { IfOk result (λ frame.
+        frame.items ≡ packed_frame tag.now packed.now count name.now) }
 {
     let mut out = Vec::new(alloc);
     write_head(&mut out, Head::Arr(3))?;

@@ -26,7 +26,8 @@ impl Model for Kept {
 
     ghost view = { λ k. cut_at 0 k.ends.items k.bytes.items };
 
-    ghost invariant = { λ k. AreCut 0 k.ends.items k.bytes.items × (length k.bytes.items < 2 ^ 32) };
+    ghost invariant = { λ k.
+        AreCut 0 k.ends.items k.bytes.items × (length k.bytes.items < 2 ^ 32) };
 }
 
 /// Adds an entry to the bytes, or changes nothing.

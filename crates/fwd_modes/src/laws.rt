@@ -10,25 +10,42 @@ ghost use Rattle.fwd_modes.specs.Requests.{Request, Asks, request_of};
 
 /// A frame is one value, two containers deep.
 pub fn frame_is_value()
-    ensures { (deep : ℕ) (frame : Frame) → IsFrame deep frame → IsValue 2 (chunk_frame frame.tag frame.entries frame.name) }
+    ensures { (deep : ℕ) (frame : Frame) → IsFrame deep frame
+        → IsValue 2 (chunk_frame frame.tag frame.entries frame.name) }
 {}
 
 /// A frame is a request for the tag, the entries and the name that it was written from.
 pub fn frame_reads_back()
-    ensures { (deep : ℕ) (frame : Frame) → IsFrame deep frame → request_of deep (chunk_frame frame.tag frame.entries frame.name) ≡ Asks (record { tag = frame.tag; entries = frame.entries; chunk = Some (text frame.name) }) }
+    ensures { (deep : ℕ) (frame : Frame) → IsFrame deep frame
+        → request_of deep (chunk_frame frame.tag frame.entries frame.name)
+        ≡ Asks (record {
+          tag = frame.tag;
+          entries = frame.entries;
+          chunk = Some (text frame.name);
+        }) }
 {}
 
 /// Frames of another tag, other entries or another name have other bytes.
 pub fn frames_differ()
-    ensures { (deep : ℕ) (frame other : Frame) → IsFrame deep frame → IsFrame deep other → chunk_frame frame.tag frame.entries frame.name ≡ chunk_frame other.tag other.entries other.name → frame ≡ other }
+    ensures { (deep : ℕ) (frame other : Frame) → IsFrame deep frame → IsFrame deep other
+        → chunk_frame frame.tag frame.entries frame.name
+        ≡ chunk_frame other.tag other.entries other.name
+        → frame ≡ other }
 {}
 
-/// A value that asks for another tag, other entries or another name than a frame has other bytes, however it is spelled.
+/// A value that asks for another tag, other entries or another
+/// name than a frame has other bytes, however it is spelled.
 pub fn only_its_frame()
-    ensures { (deep : ℕ) (frame : Frame) (r : Request) (value : List ℕ) → IsFrame deep frame → request_of deep value ≡ Asks r → value ≡ chunk_frame frame.tag frame.entries frame.name → r ≡ record { tag = frame.tag; entries = frame.entries; chunk = Some (text frame.name) } }
+    ensures { (deep : ℕ) (frame : Frame) (r : Request) (value : List ℕ) → IsFrame deep frame
+        → request_of deep value ≡ Asks r
+        → value ≡ chunk_frame frame.tag frame.entries frame.name
+        → r
+        ≡ record { tag = frame.tag; entries = frame.entries; chunk = Some (text frame.name) } }
 {}
 
-/// The entries that a whole value asks for are each kept as it stands, and at most 64 deep: they can stand in a frame.
+/// The entries that a whole value asks for are each kept as
+/// it stands, and at most 64 deep: they can stand in a frame.
 pub fn entries_are_kept()
-    ensures { (deep : ℕ) (bytes : List ℕ) (r : Request) → deep ≤ most_deep → IsWhole bytes → request_of deep bytes ≡ Asks r → AllByRecursion (IsKept most_deep) r.entries }
+    ensures { (deep : ℕ) (bytes : List ℕ) (r : Request) → deep ≤ most_deep → IsWhole bytes
+        → request_of deep bytes ≡ Asks r → AllByRecursion (IsKept most_deep) r.entries }
 {}

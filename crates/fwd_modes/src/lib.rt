@@ -1,4 +1,5 @@
-//! Requests of the Forward Protocol as values, and the frames and acknowledgements that answer them.
+//! Requests of the Forward Protocol as values, and the
+//! frames and acknowledgements that answer them.
 #![tactic(auto)]
 
 mod ack;
@@ -25,6 +26,3 @@ pub use frame::{chunk_name, write_chunk};
 pub use laws::{entries_are_kept, frame_is_value, frame_reads_back, frames_differ, only_its_frame};
 pub use request::{Reading, read_request};
 pub use time::EventTime;
-
-#[cfg(test)]
-mod tests;

@@ -1,4 +1,5 @@
-//! The entries of a request that has many (Forward Protocol Specification v1, "Forward Mode" and "PackedForward Mode").
+//! The entries of a request that has many (Forward Protocol
+//! Specification v1, "Forward Mode" and "PackedForward Mode").
 
 ghost use Rattle.std.specs.Prelude.{◌≡◌, ◌<◌, ◌≤◌, ◌^◌, length, IfOk};
 ghost use Rattle.fwd_msgpack.specs.Values.{bytes_of};

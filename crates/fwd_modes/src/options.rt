@@ -67,7 +67,8 @@ pub(crate) fn read_option<'a>(option: Option<Value<'a>>) -> Result<Said<'a>, Inp
     ensures compressed { let given = option_map bytes_of option.entry in
         IfOk result (λ said. said.compressed ≡ is_compressed given) }
     ensures err { let given = option_map bytes_of option.entry in
-        IfErr result (λ fault. (is_bad_option given ≡ true) × (fault ≡ InputFault.BadOption)) }
+        IfErr result (λ fault.
+        (is_bad_option given ≡ true) × (fault ≡ InputFault.BadOption)) }
 {
     let Some(option) = option else {
         return Ok(NOTHING);

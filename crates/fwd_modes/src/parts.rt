@@ -30,9 +30,12 @@ pub(crate) struct Parts<'a> {
 }
 
 impl<'a> Parts<'a> {
-    /// The parts of an array by the kind of its second value, or nothing where it has another shape.
+    /// The parts of an array by the kind of its second
+    /// value, or nothing where it has another shape.
     pub(crate) fn of(value: Value<'a>) -> Option<Parts<'a>>
-        ensures { (deep : ℕ) → option_map (parts_shown deep) result ≡ option_and_then (parts_in deep) (elements_of (bytes_of value.entry)) }
+        ensures { (deep : ℕ)
+            → option_map (parts_shown deep) result
+            ≡ option_and_then (parts_in deep) (elements_of (bytes_of value.entry)) }
     {
         let mut members = value.items()?;
         let tag = members.next()?;

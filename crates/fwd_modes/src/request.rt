@@ -36,7 +36,9 @@ pub enum Reading {
 
 /// What stands beside the entries, or the first fault there in the order tag, option, compression.
 fn judge(parts: Parts<'_>) -> Result<Asked<'_>, InputFault>
-    ensures { (deep : ℕ) → judged (entries_given deep parts.entry.entries) result ≡ of_parts (Some (parts_shown deep parts.entry)) }
+    ensures { (deep : ℕ)
+        → judged (entries_given deep parts.entry.entries) result
+        ≡ of_parts (Some (parts_shown deep parts.entry)) }
 {
     let Some(tag) = text_within(parts.tag, TAG_LIMIT) else {
         return Err(InputFault::BadTag);
@@ -86,7 +88,8 @@ fn read_asked(
     depth: u8,
 ) -> Result<Reading, AllocError>
     requires { depth ≤ 64 }
-    ensures { IfOk result (λ r. shown r ≡ judged (entries_given depth given.entry) (Ok asked.entry)) }
+    ensures { IfOk result (λ r.
+        shown r ≡ judged (entries_given depth given.entry) (Ok asked.entry)) }
 {
     match read_entries(alloc, given, depth)? {
         Some(kept) => Ok(Reading::Asks(Batch::new(alloc, asked.tag, kept, asked.chunk)?)),
@@ -94,16 +97,19 @@ fn read_asked(
     }
 }
 
-/// What a whole value says: a heartbeat, a request, or the first fault in the order shape, tag, option, compression,
-/// entry. Packed entries are at most as deep as the limits say, each counted from its own array; the limits' bytes are
-/// those of the value, and have been looked at when it was cut. Memory is taken only for entries: a heartbeat and the
-/// faults of shape, tag, option and compression are never answered as want of memory.
+/// What a whole value says: a heartbeat, a request, or the first fault in the order shape, tag,
+/// option, compression, entry. Packed entries are at most as deep as the limits say, each counted
+/// from its own array; the limits' bytes are those of the value, and have been looked at when it
+/// was cut. Memory is taken only for entries: a heartbeat and the faults of shape, tag, option and
+/// compression are never answered as want of memory.
 #[tactic(auto, unfolding(crate::specs::Requests::request_of))]
 pub fn read_request(alloc: Global, value: Value<'_>, limits: Limits) -> Result<Reading, AllocError>
     ensures value { IfOk result (λ r. shown r ≡ request_of limits.depth (bytes_of value.entry)) }
-    ensures skipped { request_of limits.depth (bytes_of value.entry) ≡ heartbeat → result ≡ Ok Reading.Heartbeat }
+    ensures skipped { request_of limits.depth (bytes_of value.entry) ≡ heartbeat
+        → result ≡ Ok Reading.Heartbeat }
     ensures refused { (fault : InputFault) → fault ≢ InputFault.BadEntry
-        → request_of limits.depth (bytes_of value.entry) ≡ fails fault → result ≡ Ok (Reading.Fails fault) }
+        → request_of limits.depth (bytes_of value.entry) ≡ fails fault
+        → result ≡ Ok (Reading.Fails fault) }
 {
     if is_nil(value) {
         return Ok(Reading::Heartbeat);

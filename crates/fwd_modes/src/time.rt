@@ -34,7 +34,8 @@ fn u32_of(bytes: &[u8]) -> u32
 }
 
 impl EventTime {
-    /// The time that a value is, or nothing where it is no EventTime. Any number of nanoseconds is taken.
+    /// The time that a value is, or nothing where it is no
+    /// EventTime. Any number of nanoseconds is taken.
     pub fn read(value: Value<'_>) -> Option<EventTime>
         ensures { result ≡ event_time_of (bytes_of value.entry) }
     {

@@ -17,13 +17,16 @@ use Rattle.fwd_msgpack.proofs.Sound.{shut-members, opened-payload}
 
 -- ---- heads
 
-reading_prefix : (first : ℕ) (row : Row) (front more : List ℕ) → row_of first ≡ Some row → length front ≡ row.more → reading_of (first ∷ (front ++ more)) ≡ read.Whole (row.spells front) (row.more + 1)
+reading_prefix : (first : ℕ) (row : Row) (front more : List ℕ) → row_of first ≡ Some row
+    → length front ≡ row.more
+    → reading_of (first ∷ (front ++ more)) ≡ read.Whole (row.spells front) (row.more + 1)
 unfolding reading_of
 reading_prefix first row front more e len =
     rw (e, le-ltb (length (front ++ more)) row.more (omega (arith, length-append front more)), take_at front more row.more len) refl
 
 -- a head reads as itself whatever follows
-pub head_more : (head : Head) (front more : List ℕ) → AreHead head front → reading_of (front ++ more) ≡ read.Whole head (length front)
+pub head_more : (head : Head) (front more : List ℕ) → AreHead head front
+    → reading_of (front ++ more) ≡ read.Whole head (length front)
 head_more head front more h =
     let r = Reads-from front head (length front) h in
     let parts : front ++ more ≡ r.first ∷ (r.front ++ (r.after ++ more)) = ap (λ (xs : List ℕ). xs ++ more) r.parts ∙ ap (λ (xs : List ℕ). r.first ∷ xs) (append_assoc r.front r.after more) in
@@ -35,7 +38,8 @@ head_some head front h = (read_within front head (length front) h).0
 
 -- ---- values have bytes
 
-front_some : (bytes front body : List ℕ) (head : Head) → bytes ≡ front ++ body → AreHead head front → 0 < length bytes
+front_some : (bytes front body : List ℕ) (head : Head) → bytes ≡ front ++ body
+    → AreHead head front → 0 < length bytes
 front_some bytes front body head parts h =
     let some = head_some head front h in
     omega (arith, ap length parts, length-append front body)
@@ -45,7 +49,8 @@ unfolding IsValue
 value_some zero bytes v = front_some bytes v.front v.body v.head v.parts v.spelled
 value_some (suc deep) bytes v = ⊎_elim (λ (p : IsPlain bytes). front_some bytes p.front p.body p.head p.parts p.spelled) (λ (c : IsContainer (IsValue deep) bytes). front_some bytes c.front c.body c.head c.parts c.spelled) v
 
-count_le : (P : List ℕ → Type 0) → ((own : List ℕ) → P own → 0 < length own) → (n : ℕ) (bytes : List ℕ) → InARow P n bytes → n ≤ length bytes
+count_le : (P : List ℕ → Type 0) → ((own : List ℕ) → P own → 0 < length own)
+    → (n : ℕ) (bytes : List ℕ) → InARow P n bytes → n ≤ length bytes
 unfolding InARow
 count_le P some zero bytes row = omega arith
 count_le P some (suc n) bytes row =
@@ -57,8 +62,11 @@ count_le P some (suc n) bytes row =
 
 -- Inside these containers a scan goes over each P in one step, if it is at most deep deep.
 abbrev pub GoesOver : (deep : ℕ) → (List ℕ → Type 0) → Type 0
-GoesOver deep P = (own : List ℕ) → P own → (limit most used : ℕ) (stack rest : List ℕ) → deep + length stack ≤ most → used + length own + sum stack ≤ limit
-    → scanned limit most (Going used stack (InHead [])) (own ++ rest) ≡ scanned limit most (value_ended (used + length own) stack) rest
+GoesOver deep P =
+    (own : List ℕ) → P own → (limit most used : ℕ) (stack rest : List ℕ)
+    → deep + length stack ≤ most → used + length own + sum stack ≤ limit
+    → scanned limit most (Going used stack (InHead [])) (own ++ rest)
+    ≡ scanned limit most (value_ended (used + length own) stack) rest
 
 not_both : {A : Type 0} (b : Bool) → b ≡ false → b ≡ true → A
 not_both b f t = absurd cc
@@ -80,9 +88,13 @@ over_plain deep own p limit most used stack rest shallow fits =
     ∙ ap (λ (k : ℕ). scanned limit most (value_ended k stack) (drop (payload p.head) (drop n (own ++ rest)))) place
     ∙ ap (λ (xs : List ℕ). scanned limit most (value_ended (used + length own) stack) xs) after
 
-over_row : (deep : ℕ) (P : List ℕ → Type 0) → GoesOver deep P → ((own : List ℕ) → P own → 0 < length own) → (lacking : ℕ) (body : List ℕ) → InARow P (suc lacking) body
-    → (limit most used : ℕ) (stack rest : List ℕ) → deep + suc (length stack) ≤ most → used + length body + sum stack ≤ limit
-    → scanned limit most (Going used (lacking ∷ stack) (InHead [])) (body ++ rest) ≡ scanned limit most (value_ended (used + length body) stack) rest
+over_row : (deep : ℕ) (P : List ℕ → Type 0) → GoesOver deep P
+    → ((own : List ℕ) → P own → 0 < length own) → (lacking : ℕ) (body : List ℕ)
+    → InARow P (suc lacking) body
+    → (limit most used : ℕ) (stack rest : List ℕ) → deep + suc (length stack) ≤ most
+    → used + length body + sum stack ≤ limit
+    → scanned limit most (Going used (lacking ∷ stack) (InHead [])) (body ++ rest)
+    ≡ scanned limit most (value_ended (used + length body) stack) rest
 unfolding InARow
 over_row deep P over some zero body row limit most used stack rest shallow fits =
     let first = row.0 in
@@ -112,9 +124,13 @@ over_row deep P over some (suc lacking) body row limit most used stack rest shal
     ∙ ap (λ (k : ℕ). scanned limit most (value_ended k stack) rest) place
 
 -- the members of a container, if there are any
-over_members : (deep : ℕ) (P : List ℕ → Type 0) → GoesOver deep P → ((own : List ℕ) → P own → 0 < length own) → (head : Head) (m : ℕ) → members head ≡ m → (body : List ℕ) → InARow P m body
-    → (limit most used : ℕ) (stack rest : List ℕ) → deep + suc (length stack) ≤ most → used + length body + sum stack ≤ limit
-    → scanned limit most (payload_ended used stack head) (body ++ rest) ≡ scanned limit most (value_ended (used + length body) stack) rest
+over_members : (deep : ℕ) (P : List ℕ → Type 0) → GoesOver deep P
+    → ((own : List ℕ) → P own → 0 < length own) → (head : Head) (m : ℕ)
+    → members head ≡ m → (body : List ℕ) → InARow P m body
+    → (limit most used : ℕ) (stack rest : List ℕ) → deep + suc (length stack) ≤ most
+    → used + length body + sum stack ≤ limit
+    → scanned limit most (payload_ended used stack head) (body ++ rest)
+    ≡ scanned limit most (value_ended (used + length body) stack) rest
 unfolding InARow
 over_members deep P over some head zero k body row limit most used stack rest shallow fits =
     let none = ap length row in
@@ -128,7 +144,8 @@ over_members deep P over some head (suc m) k body row limit most used stack rest
     ∙ ap (λ (i : ℕ). scanned limit most (Going used (i ∷ stack) (InHead [])) (body ++ rest)) lacking
     ∙ over_row deep P over some m body row limit most used stack rest shallow fits
 
-over_container : (deep : ℕ) (P : List ℕ → Type 0) → GoesOver deep P → ((own : List ℕ) → P own → 0 < length own) → GoesOver (suc deep) (IsContainer P)
+over_container : (deep : ℕ) (P : List ℕ → Type 0) → GoesOver deep P
+    → ((own : List ℕ) → P own → 0 < length own) → GoesOver (suc deep) (IsContainer P)
 over_container deep P over some own c limit most used stack rest shallow fits =
     let n = length c.front in
     let len : length own ≡ n + length c.body = ap length c.parts ∙ length-append c.front c.body in
@@ -163,35 +180,45 @@ module _ (limit deep limit' deep' : ℕ) (longer : limit ≤ limit') (deeper : d
   abbrev pub Same : State → State → Type 0
   Same narrow wide = (narrow ≡ wide) ⊎ ((fault : ScanFault) × (narrow ≡ Failed fault))
 
-  found : (used : ℕ) (stack : List ℕ) (head : Head) (o : Option ScanFault) → fault_at limit deep used stack head ≡ o → Same (unless_faulty o (item_begun used stack head)) (head_found limit' deep' used stack head)
+  found : (used : ℕ) (stack : List ℕ) (head : Head) (o : Option ScanFault)
+      → fault_at limit deep used stack head ≡ o
+      → Same (unless_faulty o (item_begun used stack head))
+      (head_found limit' deep' used stack head)
   found used stack head (Some fault) e = inr (fault, refl)
   found used stack head None e =
       let good = IsGood-from limit deep used stack head e in
       let wide : IsGood limit' deep' used stack head = record { shallow = λ opened. omega (arith, good.shallow opened); fits = omega (arith, good.fits) } in
       inl (ap (λ (o : Option ScanFault). unless_faulty o (item_begun used stack head)) (sym (IsGood-none limit' deep' used stack head wide)))
 
-  heard : (used : ℕ) (stack front : List ℕ) (r : HeadRead) → Same (head_heard limit deep used stack front r) (head_heard limit' deep' used stack front r)
+  heard : (used : ℕ) (stack front : List ℕ) (r : HeadRead)
+      → Same (head_heard limit deep used stack front r)
+      (head_heard limit' deep' used stack front r)
   heard used stack front read.Short = inl refl
   heard used stack front read.Reserved = inl refl
   heard used stack front (read.Whole head n) = found used stack head (fault_at limit deep used stack head) refl
 
-  one_byte : (state : State) (b : ℕ) → Same (scan_byte limit deep state b) (scan_byte limit' deep' state b)
+  one_byte : (state : State) (b : ℕ)
+      → Same (scan_byte limit deep state b) (scan_byte limit' deep' state b)
   one_byte (Going used stack (InHead pending)) b = heard (used + 1) stack (pending ++ b ∷ []) (reading_of (pending ++ b ∷ []))
   one_byte (Going used stack (InPayload left)) b = inl refl
   one_byte (Ended used) b = inl refl
   one_byte (Failed fault) b = inl refl
 
-  pub widened : (state : State) (bytes : List ℕ) → Same (scanned limit deep state bytes) (scanned limit' deep' state bytes)
+  pub widened : (state : State) (bytes : List ℕ)
+      → Same (scanned limit deep state bytes) (scanned limit' deep' state bytes)
   widened state [] = inl refl
   widened state (b ∷ bytes) =
       ⊎_elim (λ (e : scan_byte limit deep state b ≡ scan_byte limit' deep' state b). subst (λ (s : State). Same (scanned limit deep (scan_byte limit deep state b) bytes) (scanned limit' deep' s bytes)) e (widened (scan_byte limit deep state b) bytes))
       (λ (f : (fault : ScanFault) × (scan_byte limit deep state b ≡ Failed fault)). inr (f.0, ap (λ (s : State). scanned limit deep s bytes) f.1 ∙ scanned-Failed limit deep f.0 bytes)) (one_byte state b)
 
   -- while the narrower scan goes on, the wider one is in the same state
-  pub same_going : (state : State) (bytes : List ℕ) (used : ℕ) (stack : List ℕ) (item : Item) → scanned limit deep state bytes ≡ Going used stack item → scanned limit' deep' state bytes ≡ Going used stack item
+  pub same_going : (state : State) (bytes : List ℕ) (used : ℕ) (stack : List ℕ) (item : Item)
+      → scanned limit deep state bytes ≡ Going used stack item
+      → scanned limit' deep' state bytes ≡ Going used stack item
   same_going state bytes used stack item e =
       ⊎_elim (λ (s : scanned limit deep state bytes ≡ scanned limit' deep' state bytes). sym s ∙ e)
       (λ (f : (fault : ScanFault) × (scanned limit deep state bytes ≡ Failed fault)). no_fault (scanned limit deep state bytes) (scanned limit' deep' state bytes) f.0 f.1 e) (widened state bytes)
     where
-      no_fault : (s t : State) (fault : ScanFault) → s ≡ Failed fault → s ≡ Going used stack item → t ≡ Going used stack item
+      no_fault : (s t : State) (fault : ScanFault) → s ≡ Failed fault
+          → s ≡ Going used stack item → t ≡ Going used stack item
       no_fault s t fault a b = absurd cc

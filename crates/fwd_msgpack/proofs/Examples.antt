@@ -29,15 +29,18 @@ longest : first_of 16777216 64 (0xdb ∷ 0x00 ∷ 0xff ∷ 0xff ∷ 0xfb ∷ [])
 unfolding first_of fault_at item_begun payload_ended reading_of row_of named_rows
 longest = refl
 
-stream : split_of 100 64 (0xc0 ∷ 0x91 ∷ 0x05 ∷ 0xa2 ∷ 0x61 ∷ []) ≡ Open ((0xc0 ∷ []) ∷ (0x91 ∷ 0x05 ∷ []) ∷ []) (0xa2 ∷ 0x61 ∷ [])
+stream : split_of 100 64 (0xc0 ∷ 0x91 ∷ 0x05 ∷ 0xa2 ∷ 0x61 ∷ [])
+    ≡ Open ((0xc0 ∷ []) ∷ (0x91 ∷ 0x05 ∷ []) ∷ []) (0xa2 ∷ 0x61 ∷ [])
 unfolding split_of first_of fault_at item_begun payload_ended reading_of row_of named_rows
 stream = refl
 
-elements : elements_of (0x92 ∷ 0x91 ∷ 0x05 ∷ 0xa1 ∷ 0x61 ∷ []) ≡ Some ((0x91 ∷ 0x05 ∷ []) ∷ (0xa1 ∷ 0x61 ∷ []) ∷ [])
+elements : elements_of (0x92 ∷ 0x91 ∷ 0x05 ∷ 0xa1 ∷ 0x61 ∷ [])
+    ≡ Some ((0x91 ∷ 0x05 ∷ []) ∷ (0xa1 ∷ 0x61 ∷ []) ∷ [])
 unfolding parts_of row_of_values split_of first_of fault_at item_begun payload_ended reading_of row_of named_rows
 elements = refl
 
-pairs : pairs_of (0x81 ∷ 0xa1 ∷ 0x61 ∷ 0x05 ∷ []) ≡ Some ((0xa1 ∷ 0x61 ∷ [], 0x05 ∷ []) ∷ [])
+pairs : pairs_of (0x81 ∷ 0xa1 ∷ 0x61 ∷ 0x05 ∷ [])
+    ≡ Some ((0xa1 ∷ 0x61 ∷ [], 0x05 ∷ []) ∷ [])
 unfolding parts_of row_of_values split_of first_of fault_at item_begun payload_ended reading_of row_of named_rows
 pairs = refl
 

@@ -1,4 +1,5 @@
--- Behind a head within the limits, zeros for its payload and a nil for each value owed complete the value.
+-- Behind a head within the limits, zeros for its payload
+-- and a nil for each value owed complete the value.
 use Rattle.std.proofs.Common.{◌≡◌, ℕ, zero, suc, ◌+◌, ◌-◌, ◌<◌, ◌≤◌, Bool, cond, List, [], ◌∷◌, ◌++◌, length, sum, replicate, Option, Some, None, refl, sym, ap, ◌∙◌, arith, ⊎_elim, zero-add, add-zero}
 use Rattle.std.proofs.lemmas.Bool.{lt-ltb, le-ltb, cases_lt}
 use Rattle.std.proofs.lemmas.List.{length-append, length-replicate, drop_at, get_or_append_left, get_or_past}
@@ -42,7 +43,8 @@ after_none [] e = refl
 after_none (zero ∷ stack) e = omega (arith, after_none stack e, sum-cons 0 stack)
 after_none (suc n ∷ stack) e = absurd cc
 
-after_some : (stack next : List ℕ) → after_value stack ≡ Some next → suc (sum next) ≡ sum stack
+after_some : (stack next : List ℕ) → after_value stack ≡ Some next
+    → suc (sum next) ≡ sum stack
 after_some [] next e = absurd cc
 after_some (zero ∷ stack) next e = omega (arith, after_some stack next e, sum-cons 0 stack)
 after_some (suc n ∷ stack) next e =
@@ -60,14 +62,18 @@ unfolding item_begun payload_ended
 nil_begun used stack = refl
 
 -- a nil is a value
-nil_scanned : (limit most used : ℕ) (stack rest : List ℕ) → used + 1 + sum stack ≤ limit → scanned limit most (Going used stack (InHead [])) (0xc0 ∷ rest) ≡ scanned limit most (value_ended (used + 1) stack) rest
+nil_scanned : (limit most used : ℕ) (stack rest : List ℕ) → used + 1 + sum stack ≤ limit
+    → scanned limit most (Going used stack (InHead [])) (0xc0 ∷ rest)
+    ≡ scanned limit most (value_ended (used + 1) stack) rest
 nil_scanned limit most used stack rest fits =
     let good : IsGood limit most (used + 1) stack Nil = record { shallow = λ opened. absurd cc; fits = omega arith } in
     ap (λ (r : HeadRead). scanned limit most (head_heard limit most (used + 1) stack (0xc0 ∷ []) r) rest) nil_read
     ∙ ap (λ (o : Option ScanFault). scanned limit most (unless_faulty o (item_begun (used + 1) stack Nil)) rest) (IsGood-none limit most (used + 1) stack Nil good)
     ∙ ap (λ (s : State). scanned limit most s rest) (nil_begun (used + 1) stack)
 
-finish_by : (limit most : ℕ) (n : ℕ) (used : ℕ) (stack : List ℕ) (o : Option (List ℕ)) → after_value stack ≡ o → sum stack ≡ n → used + n ≤ limit → scanned limit most (goes_on used o) (replicate n 0xc0) ≡ Ended (used + n)
+finish_by : (limit most : ℕ) (n : ℕ) (used : ℕ) (stack : List ℕ) (o : Option (List ℕ))
+    → after_value stack ≡ o → sum stack ≡ n → used + n ≤ limit
+    → scanned limit most (goes_on used o) (replicate n 0xc0) ≡ Ended (used + n)
 finish_by limit most zero used stack None e size fits = ap Ended (sym (add-zero used))
 finish_by limit most (suc n) used stack None e size fits = absurd (omega (arith, after_none stack e))
 finish_by limit most zero used stack (Some next) e size fits = absurd (omega (arith, after_some stack next e))
@@ -78,10 +84,15 @@ finish_by limit most (suc n) used stack (Some next) e size fits =
     ∙ finish_by limit most n (used + 1) next (after_value next) refl less (omega arith) ∙ ap Ended place
 
 -- nils for the values that the open containers lack
-finish : (limit most used : ℕ) (stack : List ℕ) → used + sum stack ≤ limit → scanned limit most (value_ended used stack) (replicate (sum stack) 0xc0) ≡ Ended (used + sum stack)
+finish : (limit most used : ℕ) (stack : List ℕ) → used + sum stack ≤ limit
+    → scanned limit most (value_ended used stack) (replicate (sum stack) 0xc0)
+    ≡ Ended (used + sum stack)
 finish limit most used stack fits = finish_by limit most (sum stack) used stack (after_value stack) refl refl fits
 
-fill_members : (limit most used : ℕ) (stack : List ℕ) (head : Head) (m : ℕ) → members head ≡ m → used + (m + sum stack) ≤ limit → scanned limit most (payload_ended used stack head) (replicate (m + sum stack) 0xc0) ≡ Ended (used + (m + sum stack))
+fill_members : (limit most used : ℕ) (stack : List ℕ) (head : Head) (m : ℕ)
+    → members head ≡ m → used + (m + sum stack) ≤ limit
+    → scanned limit most (payload_ended used stack head) (replicate (m + sum stack) 0xc0)
+    ≡ Ended (used + (m + sum stack))
 fill_members limit most used stack head zero e fits =
     let size : 0 + sum stack ≡ sum stack = zero-add (sum stack) in
     ap (λ (n : ℕ). scanned limit most (payload_ended used stack head) (replicate n 0xc0)) size
@@ -102,7 +113,8 @@ fill_members limit most used stack head (suc m) e fits =
 abbrev pub filling : List ℕ → Head → List ℕ
 filling stack head = replicate (payload head) 0 ++ replicate (members head + sum stack) 0xc0
 
-pub length-filling : (stack : List ℕ) (head : Head) → length (filling stack head) ≡ payload head + members head + sum stack
+pub length-filling : (stack : List ℕ) (head : Head)
+    → length (filling stack head) ≡ payload head + members head + sum stack
 length-filling stack head =
     length-append (replicate (payload head) 0) (replicate (members head + sum stack) 0xc0)
     ∙ omega (arith, length-replicate {A = ℕ} (payload head) 0, length-replicate {A = ℕ} (members head + sum stack) 0xc0)
@@ -110,8 +122,11 @@ length-filling stack head =
 pub AreBytes-filling : (stack : List ℕ) (head : Head) → AreBytes (filling stack head)
 AreBytes-filling stack head = AreBytes-append (replicate (payload head) 0) (replicate (members head + sum stack) 0xc0) (AreBytes-replicate (payload head) 0 (omega arith)) (AreBytes-replicate (members head + sum stack) 0xc0 (omega arith))
 
-fill_payload : (limit most used : ℕ) (stack : List ℕ) (head : Head) (p : ℕ) → payload head ≡ p → used + (p + (members head + sum stack)) ≤ limit
-    → scanned limit most (item_begun used stack head) (replicate p 0 ++ replicate (members head + sum stack) 0xc0) ≡ Ended (used + (p + (members head + sum stack)))
+fill_payload : (limit most used : ℕ) (stack : List ℕ) (head : Head) (p : ℕ)
+    → payload head ≡ p → used + (p + (members head + sum stack)) ≤ limit
+    → scanned limit most (item_begun used stack head)
+    (replicate p 0 ++ replicate (members head + sum stack) 0xc0)
+    ≡ Ended (used + (p + (members head + sum stack)))
 unfolding item_begun
 fill_payload limit most used stack head zero e fits =
     let size : 0 + (members head + sum stack) ≡ members head + sum stack = zero-add (members head + sum stack) in
@@ -131,8 +146,10 @@ fill_payload limit most used stack head (suc p) e fits =
     ∙ fill_members limit most (used + suc p) stack head (members head) refl (omega arith) ∙ ap Ended place
 
 -- the filling completes the value
-pub filled : (limit most used : ℕ) (stack : List ℕ) (head : Head) → used + (payload head + members head + sum stack) ≤ limit
-    → scanned limit most (item_begun used stack head) (filling stack head) ≡ Ended (used + length (filling stack head))
+pub filled : (limit most used : ℕ) (stack : List ℕ) (head : Head)
+    → used + (payload head + members head + sum stack) ≤ limit
+    → scanned limit most (item_begun used stack head) (filling stack head)
+    ≡ Ended (used + length (filling stack head))
 filled limit most used stack head fits =
     let size = length-filling stack head in
     let place : used + (payload head + (members head + sum stack)) ≡ used + length (filling stack head) = omega arith in

@@ -16,29 +16,35 @@ use Rattle.fwd_msgpack.specs.Scans.{Verdict, Short, Bad, InHead, InPayload, Stat
 abbrev pub scanned : (limit deep : ℕ) → State → List ℕ → State
 scanned limit deep state bytes = fold (scan_byte limit deep) state bytes
 
-pub scanned-Failed : (limit deep : ℕ) (fault : ScanFault) (bytes : List ℕ) → scanned limit deep (Failed fault) bytes ≡ Failed fault
+pub scanned-Failed : (limit deep : ℕ) (fault : ScanFault) (bytes : List ℕ)
+    → scanned limit deep (Failed fault) bytes ≡ Failed fault
 scanned-Failed limit deep fault [] = refl
 scanned-Failed limit deep fault (b ∷ bytes) = scanned-Failed limit deep fault bytes
 
-pub scanned-Ended : (limit deep used : ℕ) (bytes : List ℕ) → scanned limit deep (Ended used) bytes ≡ Ended used
+pub scanned-Ended : (limit deep used : ℕ) (bytes : List ℕ)
+    → scanned limit deep (Ended used) bytes ≡ Ended used
 scanned-Ended limit deep used [] = refl
 scanned-Ended limit deep used (b ∷ bytes) = scanned-Ended limit deep used bytes
 
 -- the verdict behind used bytes, at the start of an item inside these containers
 abbrev pub answer : (limit deep used : ℕ) → List ℕ → List ℕ → Verdict
-answer limit deep used stack bytes = verdict_of (scanned limit deep (Going used stack (InHead [])) bytes)
+answer limit deep used stack bytes =
+    verdict_of (scanned limit deep (Going used stack (InHead [])) bytes)
 
 -- ---- a payload
 
-pub payload-short : (limit deep used : ℕ) (stack : List ℕ) (left : ℕ) (bytes : List ℕ) → length bytes < left
+pub payload-short : (limit deep used : ℕ) (stack : List ℕ) (left : ℕ) (bytes : List ℕ)
+    → length bytes < left
     → verdict_of (scanned limit deep (Going used stack (InPayload left)) bytes) ≡ Short
 payload-short limit deep used stack left [] lt = refl
 payload-short limit deep used stack left (b ∷ bytes) lt =
     let more : ltb 1 left ≡ true = lt-ltb 1 left (omega arith) in
     rw more (payload-short limit deep (used + 1) stack (left - 1) bytes (omega arith))
 
-pub payload-whole : (limit deep used : ℕ) (stack : List ℕ) (left : ℕ) (bytes : List ℕ) → suc left ≤ length bytes
-    → scanned limit deep (Going used stack (InPayload (suc left))) bytes ≡ scanned limit deep (value_ended (used + suc left) stack) (drop (suc left) bytes)
+pub payload-whole : (limit deep used : ℕ) (stack : List ℕ) (left : ℕ) (bytes : List ℕ)
+    → suc left ≤ length bytes
+    → scanned limit deep (Going used stack (InPayload (suc left))) bytes
+    ≡ scanned limit deep (value_ended (used + suc left) stack) (drop (suc left) bytes)
 payload-whole limit deep used stack left [] le = absurd (omega arith)
 payload-whole limit deep used stack zero (b ∷ bytes) le = refl
 payload-whole limit deep used stack (suc left) (b ∷ bytes) le =
@@ -48,7 +54,8 @@ payload-whole limit deep used stack (suc left) (b ∷ bytes) le =
 
 -- ---- a head
 
-pub row_within : (row : Option Row) (rest : List ℕ) → IsWithin (suc (length rest)) (row_reading row rest)
+pub row_within : (row : Option Row) (rest : List ℕ)
+    → IsWithin (suc (length rest)) (row_reading row rest)
 row_within None rest = tt
 row_within (Some row) rest =
     cond_both (ltb (length rest) row.more) read.Short (read.Whole (row.spells (take row.more rest)) (row.more + 1)) (λ (r : HeadRead). IsWithin (suc (length rest)) r)
@@ -72,21 +79,28 @@ pub record Reads (bytes : List ℕ) (head : Head) (used : ℕ) : Type 0 where
   pub head_is : head ≡ row.spells front
   pub used_is : used ≡ row.more + 1
 
-pub reading_full : (first : ℕ) (row : Row) (front : List ℕ) → row_of first ≡ Some row → length front ≡ row.more → reading_of (first ∷ front) ≡ read.Whole (row.spells front) (row.more + 1)
+pub reading_full : (first : ℕ) (row : Row) (front : List ℕ) → row_of first ≡ Some row
+    → length front ≡ row.more
+    → reading_of (first ∷ front) ≡ read.Whole (row.spells front) (row.more + 1)
 unfolding reading_of
 reading_full first row front e len =
     rw (e, le-ltb (length front) row.more (omega arith), take_all row.more front (omega arith)) refl
 
-pub reading_short : (first : ℕ) (row : Row) (front : List ℕ) → row_of first ≡ Some row → length front < row.more → reading_of (first ∷ front) ≡ read.Short
+pub reading_short : (first : ℕ) (row : Row) (front : List ℕ) → row_of first ≡ Some row
+    → length front < row.more → reading_of (first ∷ front) ≡ read.Short
 unfolding reading_of
 reading_short first row front e lt = rw (e, lt-ltb (length front) row.more lt) refl
 
-whole_read : (row : Row) (rest : List ℕ) (b : Bool) (head : Head) (used : ℕ) → cond b read.Short (read.Whole (row.spells (take row.more rest)) (row.more + 1)) ≡ read.Whole head used
+whole_read : (row : Row) (rest : List ℕ) (b : Bool) (head : Head) (used : ℕ)
+    → cond b read.Short (read.Whole (row.spells (take row.more rest)) (row.more + 1))
+    ≡ read.Whole head used
     → (b ≡ false) × (row.spells (take row.more rest) ≡ head) × (row.more + 1 ≡ used)
 whole_read row rest true head used e = absurd cc
 whole_read row rest false head used e = (refl, cc, cc)
 
-Reads-by_row : (first : ℕ) (rest : List ℕ) (o : Option Row) (head : Head) (used : ℕ) → row_of first ≡ o → row_reading o rest ≡ read.Whole head used → Reads (first ∷ rest) head used
+Reads-by_row : (first : ℕ) (rest : List ℕ) (o : Option Row) (head : Head) (used : ℕ)
+    → row_of first ≡ o → row_reading o rest ≡ read.Whole head used
+    → Reads (first ∷ rest) head used
 Reads-by_row first rest None head used e h = absurd cc
 Reads-by_row first rest (Some row) head used e h =
     let w = whole_read row rest (ltb (length rest) row.more) head used h in
@@ -103,15 +117,21 @@ Reads-by_row first rest (Some row) head used e h =
       used_is = sym w.2;
     }
 
-pub Reads-from : (bytes : List ℕ) (head : Head) (used : ℕ) → reading_of bytes ≡ read.Whole head used → Reads bytes head used
+pub Reads-from : (bytes : List ℕ) (head : Head) (used : ℕ)
+    → reading_of bytes ≡ read.Whole head used → Reads bytes head used
 unfolding reading_of
 Reads-from [] head used h = absurd cc
 Reads-from (first ∷ rest) head used h = Reads-by_row first rest (row_of first) head used refl h
 
 -- the bytes behind the first one complete the head
-pub front_scanned : (limit deep used : ℕ) (stack : List ℕ) (first : ℕ) (row : Row) (seen : List ℕ) (b : ℕ) (front after : List ℕ) → row_of first ≡ Some row → length seen + suc (length front) ≡ row.more
+pub front_scanned :
+    (limit deep used : ℕ) (stack : List ℕ) (first : ℕ) (row : Row) (seen : List ℕ) (b : ℕ)
+    (front after : List ℕ)
+    → row_of first ≡ Some row → length seen + suc (length front) ≡ row.more
     → scanned limit deep (Going used stack (InHead (first ∷ seen))) (b ∷ (front ++ after))
-    ≡ scanned limit deep (head_found limit deep (used + suc (length front)) stack (row.spells (seen ++ b ∷ front))) after
+    ≡ scanned limit deep
+    (head_found limit deep (used + suc (length front)) stack (row.spells (seen ++ b ∷ front)))
+    after
 front_scanned limit deep used stack first row seen b [] after e len =
     ap (λ (r : HeadRead). scanned limit deep (head_heard limit deep (used + 1) stack (first ∷ (seen ++ b ∷ [])) r) after) (reading_full first row (seen ++ b ∷ []) e (length-append seen (b ∷ []) ∙ len))
 front_scanned limit deep used stack first row seen b (c ∷ front) after e len =
@@ -124,7 +144,9 @@ front_scanned limit deep used stack first row seen b (c ∷ front) after e len =
     ∙ ap (λ (xs : List ℕ). scanned limit deep (head_found limit deep (used + suc (suc (length front))) stack (row.spells xs)) after) (append_assoc seen (b ∷ []) (c ∷ front))
 
 -- less than a head is short
-pub front_short : (limit deep used : ℕ) (stack : List ℕ) (first : ℕ) (row : Row) (seen bytes : List ℕ) → row_of first ≡ Some row → length seen + length bytes < row.more
+pub front_short :
+    (limit deep used : ℕ) (stack : List ℕ) (first : ℕ) (row : Row) (seen bytes : List ℕ)
+    → row_of first ≡ Some row → length seen + length bytes < row.more
     → verdict_of (scanned limit deep (Going used stack (InHead (first ∷ seen))) bytes) ≡ Short
 front_short limit deep used stack first row seen [] e lt = refl
 front_short limit deep used stack first row seen (b ∷ bytes) e lt =
@@ -133,8 +155,12 @@ front_short limit deep used stack first row seen (b ∷ bytes) e lt =
     ∙ front_short limit deep (used + 1) stack first row (seen ++ b ∷ []) bytes e (omega (arith, length-append seen (b ∷ [])))
 
 -- the first byte, and the rest of its head
-first_scanned : (limit deep used : ℕ) (stack : List ℕ) (first : ℕ) (row : Row) (front after : List ℕ) → row_of first ≡ Some row → length front ≡ row.more
-    → scanned limit deep (Going used stack (InHead [])) (first ∷ (front ++ after)) ≡ scanned limit deep (head_found limit deep (used + (row.more + 1)) stack (row.spells front)) after
+first_scanned :
+    (limit deep used : ℕ) (stack : List ℕ) (first : ℕ) (row : Row) (front after : List ℕ)
+    → row_of first ≡ Some row → length front ≡ row.more
+    → scanned limit deep (Going used stack (InHead [])) (first ∷ (front ++ after))
+    ≡ scanned limit deep (head_found limit deep (used + (row.more + 1)) stack (row.spells front))
+    after
 first_scanned limit deep used stack first row [] after e len =
     let count : used + 1 ≡ used + (row.more + 1) = omega arith in
     ap (λ (r : HeadRead). scanned limit deep (head_heard limit deep (used + 1) stack (first ∷ []) r) after) (reading_full first row [] e len)
@@ -146,8 +172,11 @@ first_scanned limit deep used stack first row (b ∷ front) after e len =
     ∙ ap (λ (n : ℕ). scanned limit deep (head_found limit deep n stack (row.spells (b ∷ front))) after) count
 
 -- a scan over a whole head
-pub head_scanned : (limit deep used : ℕ) (stack : List ℕ) (bytes : List ℕ) (head : Head) (n : ℕ) → reading_of bytes ≡ read.Whole head n
-    → scanned limit deep (Going used stack (InHead [])) bytes ≡ scanned limit deep (head_found limit deep (used + n) stack head) (drop n bytes)
+pub head_scanned :
+    (limit deep used : ℕ) (stack : List ℕ) (bytes : List ℕ) (head : Head) (n : ℕ)
+    → reading_of bytes ≡ read.Whole head n
+    → scanned limit deep (Going used stack (InHead [])) bytes
+    ≡ scanned limit deep (head_found limit deep (used + n) stack head) (drop n bytes)
 head_scanned limit deep used stack bytes head n h =
     let r = Reads-from bytes head n h in
     let behind : drop n bytes ≡ r.after = ap (λ (k : ℕ). drop k bytes) r.used_is ∙ ap (λ (xs : List ℕ). drop (r.row.more + 1) xs) r.parts ∙ drop_at (r.first ∷ r.front) r.after (r.row.more + 1) (omega (arith, r.len)) in
@@ -157,11 +186,14 @@ head_scanned limit deep used stack bytes head n h =
     ∙ ap (λ (hd : Head). scanned limit deep (head_found limit deep (used + n) stack hd) r.after) (sym r.head_is)
     ∙ ap (λ (xs : List ℕ). scanned limit deep (head_found limit deep (used + n) stack head) xs) (sym behind)
 
-short_read : (b : Bool) (head : Head) (used : ℕ) → cond b read.Short (read.Whole head used) ≡ read.Short → b ≡ true
+short_read : (b : Bool) (head : Head) (used : ℕ)
+    → cond b read.Short (read.Whole head used) ≡ read.Short → b ≡ true
 short_read true head used e = refl
 short_read false head used e = absurd cc
 
-first_short : (limit deep used : ℕ) (stack : List ℕ) (first : ℕ) (rest : List ℕ) (o : Option Row) → row_of first ≡ o → row_reading o rest ≡ read.Short
+first_short :
+    (limit deep used : ℕ) (stack : List ℕ) (first : ℕ) (rest : List ℕ) (o : Option Row)
+    → row_of first ≡ o → row_reading o rest ≡ read.Short
     → answer limit deep used stack (first ∷ rest) ≡ Short
 first_short limit deep used stack first rest None e h = absurd cc
 first_short limit deep used stack first rest (Some row) e h =
@@ -169,16 +201,20 @@ first_short limit deep used stack first rest (Some row) e h =
     ap (λ (r : HeadRead). verdict_of (scanned limit deep (head_heard limit deep (used + 1) stack (first ∷ []) r) rest)) (reading_short first row [] e (omega arith))
     ∙ front_short limit deep (used + 1) stack first row [] rest e (omega arith)
 
-pub answer_short : (limit deep used : ℕ) (stack : List ℕ) (bytes : List ℕ) → reading_of bytes ≡ read.Short → answer limit deep used stack bytes ≡ Short
+pub answer_short : (limit deep used : ℕ) (stack : List ℕ) (bytes : List ℕ)
+    → reading_of bytes ≡ read.Short → answer limit deep used stack bytes ≡ Short
 unfolding reading_of
 answer_short limit deep used stack [] h = refl
 answer_short limit deep used stack (first ∷ rest) h = first_short limit deep used stack first rest (row_of first) refl h
 
-not_reserved : (b : Bool) (head : Head) (used : ℕ) → cond b read.Short (read.Whole head used) ≡ read.Reserved → ⊥
+not_reserved : (b : Bool) (head : Head) (used : ℕ)
+    → cond b read.Short (read.Whole head used) ≡ read.Reserved → ⊥
 not_reserved true head used e = cc
 not_reserved false head used e = cc
 
-first_reserved : (limit deep used : ℕ) (stack : List ℕ) (first : ℕ) (rest : List ℕ) (o : Option Row) → row_of first ≡ o → row_reading o rest ≡ read.Reserved
+first_reserved :
+    (limit deep used : ℕ) (stack : List ℕ) (first : ℕ) (rest : List ℕ) (o : Option Row)
+    → row_of first ≡ o → row_reading o rest ≡ read.Reserved
     → answer limit deep used stack (first ∷ rest) ≡ Bad Reserved
 unfolding reading_of
 first_reserved limit deep used stack first rest None e h =
@@ -186,7 +222,8 @@ first_reserved limit deep used stack first rest None e h =
     ∙ ap verdict_of (scanned-Failed limit deep Reserved rest)
 first_reserved limit deep used stack first rest (Some row) e h = absurd (not_reserved (ltb (length rest) row.more) (row.spells (take row.more rest)) (row.more + 1) h)
 
-pub answer_reserved : (limit deep used : ℕ) (stack : List ℕ) (bytes : List ℕ) → reading_of bytes ≡ read.Reserved → answer limit deep used stack bytes ≡ Bad Reserved
+pub answer_reserved : (limit deep used : ℕ) (stack : List ℕ) (bytes : List ℕ)
+    → reading_of bytes ≡ read.Reserved → answer limit deep used stack bytes ≡ Bad Reserved
 unfolding reading_of
 answer_reserved limit deep used stack [] h = absurd cc
 answer_reserved limit deep used stack (first ∷ rest) h = first_reserved limit deep used stack first rest (row_of first) refl h
@@ -194,8 +231,12 @@ answer_reserved limit deep used stack (first ∷ rest) h = first_reserved limit 
 -- ---- an item
 
 -- a head that is faulty
-pub answer_fault : (limit deep used : ℕ) (stack : List ℕ) (bytes : List ℕ) (head : Head) (n : ℕ) (fault : ScanFault) → reading_of bytes ≡ read.Whole head n
-    → fault_at limit deep (used + n) stack head ≡ Some fault → answer limit deep used stack bytes ≡ Bad fault
+pub answer_fault :
+    (limit deep used : ℕ) (stack : List ℕ) (bytes : List ℕ) (head : Head) (n : ℕ)
+    (fault : ScanFault)
+    → reading_of bytes ≡ read.Whole head n
+    → fault_at limit deep (used + n) stack head ≡ Some fault
+    → answer limit deep used stack bytes ≡ Bad fault
 answer_fault limit deep used stack bytes head n fault h bad =
     ap verdict_of (head_scanned limit deep used stack bytes head n h
     ∙ ap (λ (o : Option ScanFault). scanned limit deep (unless_faulty o (item_begun (used + n) stack head)) (drop n bytes)) bad
@@ -213,16 +254,21 @@ payload_shut (Arr n) lt = absurd (omega arith)
 payload_shut (Map n) lt = absurd (omega arith)
 payload_shut (Ext kind len) lt = refl
 
-pub ended_shut : (used : ℕ) (stack : List ℕ) (head : Head) → ltb 0 (members head) ≡ false → payload_ended used stack head ≡ value_ended used stack
+pub ended_shut : (used : ℕ) (stack : List ℕ) (head : Head) → ltb 0 (members head) ≡ false
+    → payload_ended used stack head ≡ value_ended used stack
 unfolding payload_ended
 ended_shut used stack head shut = rw shut refl
 
-pub ended_opened : (used : ℕ) (stack : List ℕ) (head : Head) → ltb 0 (members head) ≡ true → payload_ended used stack head ≡ Going used ((members head - 1) ∷ stack) (InHead [])
+pub ended_opened : (used : ℕ) (stack : List ℕ) (head : Head) → ltb 0 (members head) ≡ true
+    → payload_ended used stack head ≡ Going used ((members head - 1) ∷ stack) (InHead [])
 unfolding payload_ended
 ended_opened used stack head opened = rw opened refl
 
-payload_scanned : (limit deep used : ℕ) (stack : List ℕ) (head : Head) (left : ℕ) (bytes : List ℕ) → payload head ≡ left → left ≤ length bytes
-    → scanned limit deep (item_begun used stack head) bytes ≡ scanned limit deep (payload_ended (used + left) stack head) (drop left bytes)
+payload_scanned :
+    (limit deep used : ℕ) (stack : List ℕ) (head : Head) (left : ℕ) (bytes : List ℕ)
+    → payload head ≡ left → left ≤ length bytes
+    → scanned limit deep (item_begun used stack head) bytes
+    ≡ scanned limit deep (payload_ended (used + left) stack head) (drop left bytes)
 unfolding item_begun
 payload_scanned limit deep used stack head zero bytes e le =
     ap (λ (b : Bool). scanned limit deep (cond b (Going used stack (InPayload (payload head))) (payload_ended used stack head)) bytes) (le-ltb 0 (payload head) (omega arith))
@@ -235,17 +281,25 @@ payload_scanned limit deep used stack head (suc left) bytes e le =
     ∙ ap (λ (s : State). scanned limit deep s (drop (suc left) bytes)) (sym ended)
 
 -- a whole item
-pub item_scanned : (limit deep used : ℕ) (stack : List ℕ) (bytes : List ℕ) (head : Head) (n : ℕ) → reading_of bytes ≡ read.Whole head n
-    → fault_at limit deep (used + n) stack head ≡ None → payload head ≤ length (drop n bytes)
-    → scanned limit deep (Going used stack (InHead [])) bytes ≡ scanned limit deep (payload_ended (used + n + payload head) stack head) (drop (payload head) (drop n bytes))
+pub item_scanned :
+    (limit deep used : ℕ) (stack : List ℕ) (bytes : List ℕ) (head : Head) (n : ℕ)
+    → reading_of bytes ≡ read.Whole head n
+    → fault_at limit deep (used + n) stack head ≡ None
+    → payload head ≤ length (drop n bytes)
+    → scanned limit deep (Going used stack (InHead [])) bytes
+    ≡ scanned limit deep (payload_ended (used + n + payload head) stack head)
+    (drop (payload head) (drop n bytes))
 item_scanned limit deep used stack bytes head n h good le =
     head_scanned limit deep used stack bytes head n h
     ∙ ap (λ (o : Option ScanFault). scanned limit deep (unless_faulty o (item_begun (used + n) stack head)) (drop n bytes)) good
     ∙ payload_scanned limit deep (used + n) stack head (payload head) (drop n bytes) refl le
 
 -- an item whose payload stops
-pub answer_payload : (limit deep used : ℕ) (stack : List ℕ) (bytes : List ℕ) (head : Head) (n : ℕ) → reading_of bytes ≡ read.Whole head n
-    → fault_at limit deep (used + n) stack head ≡ None → length (drop n bytes) < payload head → answer limit deep used stack bytes ≡ Short
+pub answer_payload :
+    (limit deep used : ℕ) (stack : List ℕ) (bytes : List ℕ) (head : Head) (n : ℕ)
+    → reading_of bytes ≡ read.Whole head n
+    → fault_at limit deep (used + n) stack head ≡ None → length (drop n bytes) < payload head
+    → answer limit deep used stack bytes ≡ Short
 unfolding item_begun
 answer_payload limit deep used stack bytes head n h good lt =
     ap verdict_of (head_scanned limit deep used stack bytes head n h

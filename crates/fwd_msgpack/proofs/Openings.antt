@@ -28,7 +28,10 @@ pub record Opens (limit deep : ℕ) (front : List ℕ) : Type 0 where
 
 module _ (limit deep : ℕ) where
   -- behind a head within the limits
-  pub opens_here : (front stack : List ℕ) (head : Head) → AreBytes front → here limit deep front ≡ item_begun (length front) stack head → length front + (payload head + members head + sum stack) ≤ limit → Opens limit deep front
+  pub opens_here : (front stack : List ℕ) (head : Head) → AreBytes front
+      → here limit deep front ≡ item_begun (length front) stack head
+      → length front + (payload head + members head + sum stack) ≤ limit
+      → Opens limit deep front
   opens_here front stack head bytes e fits =
       let rest = filling stack head in
       let size = length-filling stack head in
@@ -47,25 +50,47 @@ module _ (limit deep : ℕ) where
   -- behind these bytes a scan is at the start of an item
   record Past (used : ℕ) (stack bytes rest : List ℕ) : Type 0 where
     stack' : List ℕ
-    same : scanned limit deep (Going used stack (InHead [])) (bytes ++ rest) ≡ scanned limit deep (Going (used + length bytes) stack' (InHead [])) rest
+    same : scanned limit deep (Going used stack (InHead [])) (bytes ++ rest)
+        ≡ scanned limit deep (Going (used + length bytes) stack' (InHead [])) rest
 
-  past_end : (used used' : ℕ) (stack stack0 bytes rest : List ℕ) (o : Option (List ℕ)) (u : ℕ) (s : List ℕ) (it : Item) → used' ≡ used + length bytes → scanned limit deep (Going used stack (InHead [])) (bytes ++ rest) ≡ scanned limit deep (goes_on used' o) rest
-      → scanned limit deep (Going used stack (InHead [])) (bytes ++ rest) ≡ Going u s it → Past used stack bytes rest
+  past_end :
+      (used used' : ℕ) (stack stack0 bytes rest : List ℕ) (o : Option (List ℕ)) (u : ℕ)
+      (s : List ℕ) (it : Item)
+      → used' ≡ used + length bytes
+      → scanned limit deep (Going used stack (InHead [])) (bytes ++ rest)
+      ≡ scanned limit deep (goes_on used' o) rest
+      → scanned limit deep (Going used stack (InHead [])) (bytes ++ rest) ≡ Going u s it
+      → Past used stack bytes rest
   past_end used used' stack stack0 bytes rest None u s it place e g =
       let ended = e ∙ scanned-Ended limit deep used' rest in
       absurd cc
   past_end used used' stack stack0 bytes rest (Some next) u s it place e g = record { stack' = next; same = e ∙ ap (λ (k : ℕ). scanned limit deep (Going k next (InHead [])) rest) place }
 
-  past_payload : (used used' : ℕ) (stack bytes rest : List ℕ) (head : Head) (u : ℕ) (s : List ℕ) (it : Item) → used' ≡ used + length bytes → scanned limit deep (Going used stack (InHead [])) (bytes ++ rest) ≡ scanned limit deep (payload_ended used' stack head) rest
-      → scanned limit deep (Going used stack (InHead [])) (bytes ++ rest) ≡ Going u s it → Past used stack bytes rest
+  past_payload :
+      (used used' : ℕ) (stack bytes rest : List ℕ) (head : Head) (u : ℕ) (s : List ℕ)
+      (it : Item)
+      → used' ≡ used + length bytes
+      → scanned limit deep (Going used stack (InHead [])) (bytes ++ rest)
+      ≡ scanned limit deep (payload_ended used' stack head) rest
+      → scanned limit deep (Going used stack (InHead [])) (bytes ++ rest) ≡ Going u s it
+      → Past used stack bytes rest
   unfolding payload_ended
   past_payload used used' stack bytes rest head u s it place e g = by_test (ltb 0 (members head)) e
     where
-      by_test : (t : Bool) → scanned limit deep (Going used stack (InHead [])) (bytes ++ rest) ≡ scanned limit deep (cond t (Going used' ((members head - 1) ∷ stack) (InHead [])) (value_ended used' stack)) rest → Past used stack bytes rest
+      by_test : (t : Bool)
+          → scanned limit deep (Going used stack (InHead [])) (bytes ++ rest)
+          ≡ scanned limit deep
+          (cond t (Going used' ((members head - 1) ∷ stack) (InHead []))
+          (value_ended used' stack))
+          rest
+          → Past used stack bytes rest
       by_test true e' = record { stack' = (members head - 1) ∷ stack; same = e' ∙ ap (λ (k : ℕ). scanned limit deep (Going k ((members head - 1) ∷ stack) (InHead [])) rest) place }
       by_test false e' = past_end used used' stack stack bytes rest (after_value stack) u s it place e' g
 
-  past_item : (used : ℕ) (stack item rest : List ℕ) (u : ℕ) (s : List ℕ) (it : Item) → IsItem item → scanned limit deep (Going used stack (InHead [])) (item ++ rest) ≡ Going u s it → Past used stack item rest
+  past_item : (used : ℕ) (stack item rest : List ℕ) (u : ℕ) (s : List ℕ) (it : Item)
+      → IsItem item
+      → scanned limit deep (Going used stack (InHead [])) (item ++ rest) ≡ Going u s it
+      → Past used stack item rest
   past_item used stack item rest u s it is g = by_fault (fault_at limit deep (used + n) stack is.head) refl
     where
       n : ℕ
@@ -80,7 +105,8 @@ module _ (limit deep : ℕ) where
       behind : drop n (item ++ rest) ≡ is.body ++ rest
       behind = ap (λ (xs : List ℕ). drop n xs) whole ∙ drop_at is.front (is.body ++ rest) n refl
 
-      by_fault : (o : Option ScanFault) → fault_at limit deep (used + n) stack is.head ≡ o → Past used stack item rest
+      by_fault : (o : Option ScanFault) → fault_at limit deep (used + n) stack is.head ≡ o
+          → Past used stack item rest
       by_fault (Some fault) f =
           let failed = head_scanned limit deep used stack (item ++ rest) is.head n reading ∙ ap (λ (o : Option ScanFault). scanned limit deep (unless_faulty o (item_begun (used + n) stack is.head)) (drop n (item ++ rest))) f ∙ scanned-Failed limit deep fault (drop n (item ++ rest)) in
           absurd cc
@@ -91,7 +117,13 @@ module _ (limit deep : ℕ) where
           past_payload used (used + n + payload is.head) stack item rest is.head u s it place
           (item_scanned limit deep used stack (item ++ rest) is.head n reading f le ∙ ap (λ (xs : List ℕ). scanned limit deep (payload_ended (used + n + payload is.head) stack is.head) xs) after) g
 
-  past_items : (items : List (List ℕ)) (used : ℕ) (stack rest : List ℕ) (u : ℕ) (s : List ℕ) (it : Item) → AllByRecursion IsItem items → scanned limit deep (Going used stack (InHead [])) (flat_map (λ x. x) items ++ rest) ≡ Going u s it → Past used stack (flat_map (λ x. x) items) rest
+  past_items :
+      (items : List (List ℕ)) (used : ℕ) (stack rest : List ℕ) (u : ℕ) (s : List ℕ)
+      (it : Item)
+      → AllByRecursion IsItem items
+      → scanned limit deep (Going used stack (InHead [])) (flat_map (λ x. x) items ++ rest)
+      ≡ Going u s it
+      → Past used stack (flat_map (λ x. x) items) rest
   past_items [] used stack rest u s it each g = record { stack' = stack; same = ap (λ (k : ℕ). scanned limit deep (Going k stack (InHead [])) rest) (sym (add-zero used)) }
   past_items (item ∷ items) used stack rest u s it each g =
       let others = flat_map (λ x. x) items in
@@ -110,19 +142,25 @@ module _ (limit deep : ℕ) where
   unfolding reading_of row_of named_rows
   reserved_read = refl
 
-  judged_by : (front last : List ℕ) (stack : List ℕ) (head : Head) (o : Option ScanFault) → AreBytes front → Goes limit deep front → fault_at limit deep (length front) stack head ≡ o → here limit deep front ≡ unless_faulty o (item_begun (length front) stack head) → Opens limit deep front
+  judged_by : (front last : List ℕ) (stack : List ℕ) (head : Head) (o : Option ScanFault)
+      → AreBytes front → Goes limit deep front
+      → fault_at limit deep (length front) stack head ≡ o
+      → here limit deep front ≡ unless_faulty o (item_begun (length front) stack head)
+      → Opens limit deep front
   judged_by front last stack head (Some fault) bytes g f e =
       let state = g.state in
       absurd cc
   judged_by front last stack head None bytes g f e = opens_here front stack head bytes e (IsGood-from limit deep (length front) stack head f).fits
 
-  pub judged_opens : (front : List ℕ) → AreBytes front → IsJudged front → Goes limit deep front → Opens limit deep front
+  pub judged_opens : (front : List ℕ) → AreBytes front → IsJudged front
+      → Goes limit deep front → Opens limit deep front
   judged_opens front bytes j g = ⊎_elim at_reserved at_head j.ends
     where
       whole : flat_map (λ x. x) j.items.items ++ j.last ≡ front
       whole = ap (λ (xs : List ℕ). xs ++ j.last) j.items.joined ∙ sym j.parts
 
-      state : scanned limit deep start (flat_map (λ x. x) j.items.items ++ j.last) ≡ Going g.used g.stack g.item
+      state : scanned limit deep start (flat_map (λ x. x) j.items.items ++ j.last)
+          ≡ Going g.used g.stack g.item
       state = ap (here limit deep) whole ∙ g.state
 
       past : Past 0 [] (flat_map (λ x. x) j.items.items) j.last
@@ -131,7 +169,8 @@ module _ (limit deep : ℕ) where
       before : ℕ
       before = 0 + length (flat_map (λ x. x) j.items.items)
 
-      behind : here limit deep front ≡ scanned limit deep (Going before past.stack' (InHead [])) j.last
+      behind : here limit deep front
+          ≡ scanned limit deep (Going before past.stack' (InHead [])) j.last
       behind = ap (here limit deep) (sym whole) ∙ past.same
 
       at_reserved : j.last ≡ 0xc1 ∷ [] → Opens limit deep front
@@ -152,7 +191,8 @@ module _ (limit deep : ℕ) where
           judged_by front j.last past.stack' h.0 (fault_at limit deep (length front) past.stack' h.0) bytes g refl found
 
   -- it is not faulty
-  pub not_faulty : (front : List ℕ) (fault : ScanFault) → AreBytes front → IsJudged front → Goes limit deep front → HasFault limit deep front fault → ⊥
+  pub not_faulty : (front : List ℕ) (fault : ScanFault) → AreBytes front → IsJudged front
+      → Goes limit deep front → HasFault limit deep front fault → ⊥
   not_faulty front Reserved bytes j g h =
       let o = judged_opens front bytes j g in
       h deep (o.value, (o.begins, o.is))
@@ -165,12 +205,15 @@ module _ (limit deep : ℕ) where
       omega (arith, long, o.fits)
 
   -- a value that a scan takes whole
-  pub value_ended_here : (any limit' deep' : ℕ) (value : List ℕ) → IsValue any value → length value ≤ limit' → any ≤ deep' → here limit' deep' value ≡ Ended (length value)
+  pub value_ended_here : (any limit' deep' : ℕ) (value : List ℕ) → IsValue any value
+      → length value ≤ limit' → any ≤ deep'
+      → here limit' deep' value ≡ Ended (length value)
   value_ended_here any limit' deep' value is fits shallow =
       ap (here limit' deep') (sym (append-nil value)) ∙ over_value any value is limit' deep' 0 [] [] (omega arith) (omega arith) ∙ ap Ended (zero-add (length value))
 
   -- no value of any depth has ended where a scan goes on
-  pub no_value : (front : List ℕ) (any : ℕ) → Goes limit deep front → IsValue any front → ⊥
+  pub no_value : (front : List ℕ) (any : ℕ) → Goes limit deep front → IsValue any front
+      → ⊥
   no_value front any g is =
       let going = same_going limit deep (limit + length front) (deep + any) (omega arith) (omega arith) start front g.used g.stack g.item g.state in
       let ended = value_ended_here any (limit + length front) (deep + any) front is (omega arith) (omega arith) in

@@ -18,10 +18,13 @@ len_whole (Whole m) n e = cc
 len_whole Short n e = absurd cc
 len_whole (Bad fault) n e = absurd cc
 
-pub whole_first : (bytes : List ℕ) → IsWhole bytes → first_of most_bytes most_deep bytes ≡ Whole (length bytes)
+pub whole_first : (bytes : List ℕ) → IsWhole bytes
+    → first_of most_bytes most_deep bytes ≡ Whole (length bytes)
 whole_first bytes whole = len_whole (first_of most_bytes most_deep bytes) (length bytes) whole
 
-whole_read : (bytes : List ℕ) (r : HeadRead) → reading_of bytes ≡ r → first_of most_bytes most_deep bytes ≡ Whole (length bytes) → (head : Head) × ((n : ℕ) × (r ≡ read.Whole head n))
+whole_read : (bytes : List ℕ) (r : HeadRead) → reading_of bytes ≡ r
+    → first_of most_bytes most_deep bytes ≡ Whole (length bytes)
+    → (head : Head) × ((n : ℕ) × (r ≡ read.Whole head n))
 unfolding first_of
 whole_read bytes (read.Whole head n) h e = (head, (n, refl))
 whole_read bytes read.Short h e =
@@ -32,10 +35,12 @@ whole_read bytes read.Reserved h e =
     absurd cc
 
 -- a whole value begins with a head
-pub whole_head : (bytes : List ℕ) → IsWhole bytes → (head : Head) × ((n : ℕ) × (reading_of bytes ≡ read.Whole head n))
+pub whole_head : (bytes : List ℕ) → IsWhole bytes
+    → (head : Head) × ((n : ℕ) × (reading_of bytes ≡ read.Whole head n))
 whole_head bytes whole = whole_read bytes (reading_of bytes) refl (whole_first bytes whole)
 
-pub read_within : (bytes : List ℕ) (head : Head) (n : ℕ) → reading_of bytes ≡ read.Whole head n → IsWithin (length bytes) (read.Whole head n)
+pub read_within : (bytes : List ℕ) (head : Head) (n : ℕ)
+    → reading_of bytes ≡ read.Whole head n → IsWithin (length bytes) (read.Whole head n)
 read_within bytes head n h = subst (λ (r : HeadRead). IsWithin (length bytes) r) h (reading_within bytes)
 
 -- ---- rows
@@ -51,7 +56,9 @@ RowOf-nothing [] e = record { row = refl; count_is = refl }
 RowOf-nothing (b ∷ bytes) e = absurd (omega arith)
 
 -- a value, and a row behind it
-RowOf-more : (own others : List ℕ) (count : ℕ) → first_of most_bytes most_deep own ≡ Whole (length own) → RowOf count others → RowOf (suc count) (own ++ others)
+RowOf-more : (own others : List ℕ) (count : ℕ)
+    → first_of most_bytes most_deep own ≡ Whole (length own) → RowOf count others
+    → RowOf (suc count) (own ++ others)
 unfolding first_of row_of_values
 RowOf-more own others count e rows =
     let state = state_whole (scanned most_bytes most_deep start own) (length own) e in
@@ -68,7 +75,9 @@ RowOf-more own others count e rows =
     }
 
 -- what stands in a container that lacks so many members after the one in progress
-rows_in : (lacking : ℕ) (v : ℕ) (bytes : List ℕ) (n : ℕ) → n ≡ v + length bytes → scanned most_bytes most_deep (Going v (lacking ∷ []) (InHead [])) bytes ≡ Ended n → RowOf (suc lacking) bytes
+rows_in : (lacking : ℕ) (v : ℕ) (bytes : List ℕ) (n : ℕ) → n ≡ v + length bytes
+    → scanned most_bytes most_deep (Going v (lacking ∷ []) (InHead [])) bytes ≡ Ended n
+    → RowOf (suc lacking) bytes
 unfolding first_of
 rows_in zero v bytes n size e =
     let s = solo most_bytes most_deep most_bytes most_deep (0 ∷ []) (omega arith) (omega arith) v 0 [] (InHead []) bytes n (omega arith) e in
@@ -84,8 +93,11 @@ rows_in (suc lacking) v bytes n size e =
     subst (λ (xs : List ℕ). RowOf (suc (suc lacking)) xs) (sym s.parts) (RowOf-more s.own s.others (suc lacking) own (rows_in lacking (v + length s.own) s.others n rest s.after))
 
 -- behind the head of a container
-behind_head : (bytes : List ℕ) (head : Head) (n : ℕ) (o : Option ScanFault) (m : ℕ) → payload head ≡ 0 → members head ≡ m → n ≤ length bytes
-    → scanned most_bytes most_deep (unless_faulty o (item_begun n [] head)) (drop n bytes) ≡ Ended (length bytes) → RowOf m (drop n bytes)
+behind_head : (bytes : List ℕ) (head : Head) (n : ℕ) (o : Option ScanFault) (m : ℕ)
+    → payload head ≡ 0 → members head ≡ m → n ≤ length bytes
+    → scanned most_bytes most_deep (unless_faulty o (item_begun n [] head)) (drop n bytes)
+    ≡ Ended (length bytes)
+    → RowOf m (drop n bytes)
 unfolding item_begun
 behind_head bytes head n (Some fault) m p k le e =
     let failed = scanned-Failed most_bytes most_deep fault (drop n bytes) in
@@ -103,7 +115,9 @@ behind_head bytes head n None (suc m) p k le e =
     rows_in m n (drop n bytes) (length bytes) (omega (arith, length-drop n bytes)) going
 
 -- the members of a whole value that is an array or a map
-pub whole_row : (bytes : List ℕ) (head : Head) (n : ℕ) → IsWhole bytes → reading_of bytes ≡ read.Whole head n → payload head ≡ 0 → RowOf (members head) (drop n bytes)
+pub whole_row : (bytes : List ℕ) (head : Head) (n : ℕ) → IsWhole bytes
+    → reading_of bytes ≡ read.Whole head n → payload head ≡ 0
+    → RowOf (members head) (drop n bytes)
 unfolding first_of
 whole_row bytes head n whole h p =
     let state = state_whole (scanned most_bytes most_deep start bytes) (length bytes) (whole_first bytes whole) in
@@ -115,7 +129,9 @@ whole_row bytes head n whole h p =
 some_is : {A : Type 0} (x y : A) → Some x ≡ Some y → x ≡ y
 some_is x y e = cc
 
-parts_by : (bytes : List ℕ) (r : HeadRead) (head : Head) (body : List ℕ) → reading_of bytes ≡ r → IsWhole bytes → parts_read r bytes ≡ Some (head, body) → payload head ≡ 0 → RowOf (members head) body
+parts_by : (bytes : List ℕ) (r : HeadRead) (head : Head) (body : List ℕ)
+    → reading_of bytes ≡ r → IsWhole bytes → parts_read r bytes ≡ Some (head, body)
+    → payload head ≡ 0 → RowOf (members head) body
 parts_by bytes (read.Whole head' n) head body h whole e p =
     let both : (head', drop n bytes) ≡ (head, body) = some_is (head', drop n bytes) (head, body) e in
     let same : head' ≡ head = ap (λ (x : Head × List ℕ). x.0) both in
@@ -124,19 +140,22 @@ parts_by bytes read.Short head body h whole e p = absurd cc
 parts_by bytes read.Reserved head body h whole e p = absurd cc
 
 -- what stands behind the head of a whole value that is an array or a map
-pub parts_row : (bytes : List ℕ) (head : Head) (body : List ℕ) → IsWhole bytes → parts_of bytes ≡ Some (head, body) → payload head ≡ 0 → RowOf (members head) body
+pub parts_row : (bytes : List ℕ) (head : Head) (body : List ℕ) → IsWhole bytes
+    → parts_of bytes ≡ Some (head, body) → payload head ≡ 0 → RowOf (members head) body
 unfolding parts_of
 parts_row bytes head body whole e p = parts_by bytes (reading_of bytes) head body refl whole e p
 
 -- a row of no values has no bytes
-nothing_left : (bytes : List ℕ) → IsRow bytes → length (row_of_values bytes) ≡ 0 → (n : ℕ) → length bytes ≡ n → length bytes ≡ 0
+nothing_left : (bytes : List ℕ) → IsRow bytes → length (row_of_values bytes) ≡ 0
+    → (n : ℕ) → length bytes ≡ n → length bytes ≡ 0
 nothing_left bytes row none zero e = e
 nothing_left bytes row none (suc n) e =
     let starts = row_starts bytes row (omega arith) in
     let split = Nonempty-from bytes starts.0 row starts.1 in
     absurd (omega (arith, ap length split.values))
 
-some_by : (bytes : List ℕ) (n : ℕ) → length bytes ≡ n → 0 < length (row_of_values bytes) → 0 < length bytes
+some_by : (bytes : List ℕ) (n : ℕ) → length bytes ≡ n → 0 < length (row_of_values bytes)
+    → 0 < length bytes
 some_by bytes zero e lt = absurd (omega (arith, ap length (row_of_nothing bytes e)))
 some_by bytes (suc n) e lt = omega arith
 
@@ -145,7 +164,8 @@ pub some_row : (bytes : List ℕ) → 0 < length (row_of_values bytes) → 0 < l
 some_row bytes lt = some_by bytes (length bytes) refl lt
 
 -- the only value of a row is the whole row
-pub last_first : (bytes : List ℕ) → IsRow bytes → 1 ≡ length (row_of_values bytes) → first_of most_bytes most_deep bytes ≡ Whole (length bytes)
+pub last_first : (bytes : List ℕ) → IsRow bytes → 1 ≡ length (row_of_values bytes)
+    → first_of most_bytes most_deep bytes ≡ Whole (length bytes)
 last_first bytes row one =
     let some : 0 < length bytes = some_row bytes (omega arith) in
     let starts = row_starts bytes row some in

@@ -22,18 +22,22 @@ pub record ReadsPlain (bytes : List ℕ) (size : ℕ) : Type 0 where
   pub len : n + payload head ≡ size
   pub shut : opens head ≡ false
 
-by_opening : (head : Head) (n size : ℕ) (b : Bool) → opens head ≡ b → cond b None (Some (n + payload head)) ≡ Some size → (opens head ≡ false) × (n + payload head ≡ size)
+by_opening : (head : Head) (n size : ℕ) (b : Bool) → opens head ≡ b
+    → cond b None (Some (n + payload head)) ≡ Some size
+    → (opens head ≡ false) × (n + payload head ≡ size)
 by_opening head n size true e h = absurd cc
 by_opening head n size false e h = (e, cc)
 
-plain_by : (bytes : List ℕ) (size : ℕ) (r : HeadRead) → r ≡ reading_of bytes → plain_len r ≡ Some size → ReadsPlain bytes size
+plain_by : (bytes : List ℕ) (size : ℕ) (r : HeadRead) → r ≡ reading_of bytes
+    → plain_len r ≡ Some size → ReadsPlain bytes size
 plain_by bytes size read.Short e h = absurd cc
 plain_by bytes size read.Reserved e h = absurd cc
 plain_by bytes size (read.Whole head n) e h =
     let w = by_opening head n size (opens head) refl h in
     record { head = head; n = n; reads = e; len = w.1; shut = w.0 }
 
-pub ReadsPlain-from : (bytes : List ℕ) (size : ℕ) → plain_len (reading_of bytes) ≡ Some size → ReadsPlain bytes size
+pub ReadsPlain-from : (bytes : List ℕ) (size : ℕ) → plain_len (reading_of bytes) ≡ Some size
+    → ReadsPlain bytes size
 ReadsPlain-from bytes size h = plain_by bytes size (reading_of bytes) refl h
 
 pub no_members : (head : Head) → opens head ≡ false → members head ≤ 0
@@ -51,14 +55,19 @@ not_both : (head : Head) → opens head ≡ false → opens head ≡ true → �
 not_both head e f = cc
 
 -- what opens nothing is good where there is room for it
-pub shut_good : (limit deep used : ℕ) (stack : List ℕ) (head : Head) → opens head ≡ false → used + payload head + sum stack ≤ limit → fault_at limit deep used stack head ≡ None
+pub shut_good : (limit deep used : ℕ) (stack : List ℕ) (head : Head) → opens head ≡ false
+    → used + payload head + sum stack ≤ limit → fault_at limit deep used stack head ≡ None
 shut_good limit deep used stack head shut fits =
     let none = no_members head shut in
     IsGood-none limit deep used stack head (record { shallow = λ o. absurd (not_both head shut o); fits = omega arith })
 
 -- a scan over a plain item in a container that lacks more
-one_member : (limit deep from lacking : ℕ) (stack bytes : List ℕ) (size : ℕ) → ReadsPlain bytes size → size ≤ length bytes → 0 < lacking → from + size + (lacking + sum stack) ≤ limit
-    → scanned limit deep (Going from (lacking ∷ stack) (InHead [])) bytes ≡ scanned limit deep (Going (from + size) ((lacking - 1) ∷ stack) (InHead [])) (drop size bytes)
+one_member : (limit deep from lacking : ℕ) (stack bytes : List ℕ) (size : ℕ)
+    → ReadsPlain bytes size → size ≤ length bytes → 0 < lacking
+    → from + size + (lacking + sum stack) ≤ limit
+    → scanned limit deep (Going from (lacking ∷ stack) (InHead [])) bytes
+    ≡ scanned limit deep (Going (from + size) ((lacking - 1) ∷ stack) (InHead []))
+    (drop size bytes)
 one_member limit deep from lacking stack bytes size p le lt fits =
     let len = p.len in
     let total = sum-cons lacking stack in
@@ -81,7 +90,8 @@ members_none bytes limit deep from lacking stack most fits =
     ∙ ap (λ (k : ℕ). scanned limit deep (Going (from + 0) (k ∷ stack) (InHead [])) bytes) all
 
 -- one item more
-pub members_more : (bytes : List ℕ) (items used size : ℕ) → AreMembers bytes items used → plain_len (reading_of (drop used bytes)) ≡ Some size → used + size ≤ length bytes
+pub members_more : (bytes : List ℕ) (items used size : ℕ) → AreMembers bytes items used
+    → plain_len (reading_of (drop used bytes)) ≡ Some size → used + size ≤ length bytes
     → AreMembers bytes (items + 1) (used + size)
 members_more bytes items used size before plain le limit deep from lacking stack most fits =
     let p = ReadsPlain-from (drop used bytes) size plain in
@@ -94,7 +104,9 @@ members_more bytes items used size before plain le limit deep from lacking stack
     ∙ ap (λ (k : ℕ). scanned limit deep (Going k ((lacking - (items + 1)) ∷ stack) (InHead [])) (drop (used + size) bytes)) at
 
 -- members of a front are members of all
-pub members_within : (bytes : List ℕ) (room items used : ℕ) → AreMembers (take room bytes) items used → used ≤ room → room ≤ length bytes → AreMembers bytes items used
+pub members_within : (bytes : List ℕ) (room items used : ℕ)
+    → AreMembers (take room bytes) items used → used ≤ room → room ≤ length bytes
+    → AreMembers bytes items used
 members_within bytes room items used front le inside limit deep from lacking stack most fits =
     let all : take room bytes ++ drop room bytes ≡ bytes = take-append-drop room bytes in
     let short : used ≤ length (take room bytes) = omega (arith, length-take room bytes) in
@@ -121,7 +133,9 @@ passed_none bytes =
       same = subst (λ (k : ℕ). AreMembers bytes 0 k) zero_len (members_none bytes);
     }
 
-behind_more : (bytes rest : List ℕ) (items size : ℕ) → Passed bytes rest items → plain_len (reading_of rest) ≡ Some size → size ≤ length rest → Passed bytes (drop size rest) (items + 1)
+behind_more : (bytes rest : List ℕ) (items size : ℕ) → Passed bytes rest items
+    → plain_len (reading_of rest) ≡ Some size → size ≤ length rest
+    → Passed bytes (drop size rest) (items + 1)
 behind_more bytes rest items size p plain le =
     let used = length bytes - length rest in
     let len = length-drop size rest in
@@ -136,6 +150,8 @@ behind_more bytes rest items size p plain le =
     }
 
 -- one more is passed
-pub passed_more : (bytes rest : List ℕ) (items size : ℕ) → Passed bytes rest items → plain_len (reading_of rest) ≡ Some size → size ≤ length rest → Passed bytes (take (length rest - size) (drop size rest)) (items + 1)
+pub passed_more : (bytes rest : List ℕ) (items size : ℕ) → Passed bytes rest items
+    → plain_len (reading_of rest) ≡ Some size → size ≤ length rest
+    → Passed bytes (take (length rest - size) (drop size rest)) (items + 1)
 passed_more bytes rest items size p plain le =
     subst (λ (xs : List ℕ). Passed bytes xs (items + 1)) (sym (take_rest rest size)) (behind_more bytes rest items size p plain le)

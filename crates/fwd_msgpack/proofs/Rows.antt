@@ -25,11 +25,15 @@ pop used [] = ends refl
 pop used (zero ∷ stack) = pop used stack
 pop used (suc n ∷ stack) = goes (n ∷ stack) (InHead []) refl
 
-behind_payload : (used : ℕ) (stack : List ℕ) (head : Head) → Step used (payload_ended used stack head)
+behind_payload : (used : ℕ) (stack : List ℕ) (head : Head)
+    → Step used (payload_ended used stack head)
 unfolding payload_ended
 behind_payload used stack head = by_test (ltb 0 (members head))
   where
-    by_test : (b : Bool) → Step used (cond b (Going used ((members head - 1) ∷ stack) (InHead [])) (value_ended used stack))
+    by_test : (b : Bool)
+        → Step used
+        (cond b (Going used ((members head - 1) ∷ stack) (InHead []))
+        (value_ended used stack))
     by_test true = goes ((members head - 1) ∷ stack) (InHead []) refl
     by_test false = pop used stack
 
@@ -37,24 +41,31 @@ begun : (used : ℕ) (stack : List ℕ) (head : Head) → Step used (item_begun 
 unfolding item_begun
 begun used stack head = by_test (ltb 0 (payload head))
   where
-    by_test : (b : Bool) → Step used (cond b (Going used stack (InPayload (payload head))) (payload_ended used stack head))
+    by_test : (b : Bool)
+        → Step used
+        (cond b (Going used stack (InPayload (payload head))) (payload_ended used stack head))
     by_test true = goes stack (InPayload (payload head)) refl
     by_test false = behind_payload used stack head
 
-found : (used : ℕ) (stack : List ℕ) (head : Head) (o : Option ScanFault) → Step used (unless_faulty o (item_begun used stack head))
+found : (used : ℕ) (stack : List ℕ) (head : Head) (o : Option ScanFault)
+    → Step used (unless_faulty o (item_begun used stack head))
 found used stack head (Some fault) = fails fault refl
 found used stack head None = begun used stack head
 
-heard : (limit deep used : ℕ) (stack front : List ℕ) (r : HeadRead) → Step used (head_heard limit deep used stack front r)
+heard : (limit deep used : ℕ) (stack front : List ℕ) (r : HeadRead)
+    → Step used (head_heard limit deep used stack front r)
 heard limit deep used stack front read.Short = goes stack (InHead front) refl
 heard limit deep used stack front read.Reserved = fails Reserved refl
 heard limit deep used stack front (read.Whole head n) = found used stack head (fault_at limit deep used stack head)
 
-pub one_byte : (limit deep used : ℕ) (stack : List ℕ) (item : Item) (b : ℕ) → Step (used + 1) (scan_item limit deep used stack item b)
+pub one_byte : (limit deep used : ℕ) (stack : List ℕ) (item : Item) (b : ℕ)
+    → Step (used + 1) (scan_item limit deep used stack item b)
 one_byte limit deep used stack (InHead pending) b = heard limit deep (used + 1) stack (pending ++ b ∷ []) (reading_of (pending ++ b ∷ []))
 one_byte limit deep used stack (InPayload left) b = by_test (ltb 1 left)
   where
-    by_test : (c : Bool) → Step (used + 1) (cond c (Going (used + 1) stack (InPayload (left - 1))) (value_ended (used + 1) stack))
+    by_test : (c : Bool)
+        → Step (used + 1)
+        (cond c (Going (used + 1) stack (InPayload (left - 1))) (value_ended (used + 1) stack))
     by_test true = goes stack (InPayload (left - 1)) refl
     by_test false = pop (used + 1) stack
 
@@ -66,18 +77,24 @@ told limit deep split bytes = fold (hear_byte limit deep) split bytes
 
 -- a stream by the verdict on its front
 abbrev pub by_first : (limit deep : ℕ) → List (List ℕ) → List ℕ → Verdict → Split
-by_first limit deep values bytes (Whole n) = told limit deep (Open (values ++ take n bytes ∷ []) []) (drop n bytes)
+by_first limit deep values bytes (Whole n) =
+    told limit deep (Open (values ++ take n bytes ∷ []) []) (drop n bytes)
 by_first limit deep values bytes Short = Open values bytes
 by_first limit deep values bytes (Bad fault) = Broken values fault
 
-pub told-Broken : (limit deep : ℕ) (values : List (List ℕ)) (fault : ScanFault) (bytes : List ℕ) → told limit deep (Broken values fault) bytes ≡ Broken values fault
+pub told-Broken :
+    (limit deep : ℕ) (values : List (List ℕ)) (fault : ScanFault) (bytes : List ℕ)
+    → told limit deep (Broken values fault) bytes ≡ Broken values fault
 told-Broken limit deep values fault [] = refl
 told-Broken limit deep values fault (b ∷ bytes) = told-Broken limit deep values fault bytes
 
 module _ (limit deep : ℕ) (values : List (List ℕ)) where
   -- seen has come of the first value, and more follows
-  pub told_here : (seen more : List ℕ) (stack : List ℕ) (item : Item) → scanned limit deep start seen ≡ Going (length seen) stack item
-      → told limit deep (Open values seen) more ≡ by_first limit deep values (seen ++ more) (verdict_of (scanned limit deep start (seen ++ more)))
+  pub told_here : (seen more : List ℕ) (stack : List ℕ) (item : Item)
+      → scanned limit deep start seen ≡ Going (length seen) stack item
+      → told limit deep (Open values seen) more
+      ≡ by_first limit deep values (seen ++ more)
+      (verdict_of (scanned limit deep start (seen ++ more)))
   unfolding first_of
   told_here seen [] stack item e =
       let state : scanned limit deep start (seen ++ []) ≡ Going (length seen) stack item = ap (λ (xs : List ℕ). scanned limit deep start xs) (append-nil seen) ∙ e in
@@ -86,7 +103,8 @@ module _ (limit deep : ℕ) (values : List (List ℕ)) where
       by_step (one_byte limit deep (length seen) stack item b)
       (λ stack' item' e'. told_here (seen ++ b ∷ []) more stack' item' e')
     where
-      next : scanned limit deep start (seen ++ b ∷ []) ≡ scan_item limit deep (length seen) stack item b
+      next : scanned limit deep start (seen ++ b ∷ [])
+          ≡ scan_item limit deep (length seen) stack item b
       next = scanned-append limit deep start seen (b ∷ []) ∙ ap (λ (s : State). scanned limit deep s (b ∷ [])) e
 
       regroup : (seen ++ b ∷ []) ++ more ≡ seen ++ b ∷ more
@@ -95,12 +113,20 @@ module _ (limit deep : ℕ) (values : List (List ℕ)) where
       size : length (seen ++ b ∷ []) ≡ length seen + 1
       size = length-append seen (b ∷ [])
 
-      whole : scanned limit deep start (seen ++ b ∷ more) ≡ scanned limit deep (scan_item limit deep (length seen) stack item b) more
+      whole : scanned limit deep start (seen ++ b ∷ more)
+          ≡ scanned limit deep (scan_item limit deep (length seen) stack item b) more
       whole = ap (λ (xs : List ℕ). scanned limit deep start xs) (sym regroup) ∙ scanned-append limit deep start (seen ++ b ∷ []) more ∙ ap (λ (s : State). scanned limit deep s more) next
 
       by_step : Step (length seen + 1) (scan_item limit deep (length seen) stack item b)
-          → ((stack' : List ℕ) (item' : Item) → scanned limit deep start (seen ++ b ∷ []) ≡ Going (length (seen ++ b ∷ [])) stack' item' → told limit deep (Open values (seen ++ b ∷ [])) more ≡ by_first limit deep values ((seen ++ b ∷ []) ++ more) (verdict_of (scanned limit deep start ((seen ++ b ∷ []) ++ more))))
-          → told limit deep (Open values seen) (b ∷ more) ≡ by_first limit deep values (seen ++ b ∷ more) (verdict_of (scanned limit deep start (seen ++ b ∷ more)))
+          → ((stack' : List ℕ) (item' : Item)
+          → scanned limit deep start (seen ++ b ∷ [])
+          ≡ Going (length (seen ++ b ∷ [])) stack' item'
+          → told limit deep (Open values (seen ++ b ∷ [])) more
+          ≡ by_first limit deep values ((seen ++ b ∷ []) ++ more)
+          (verdict_of (scanned limit deep start ((seen ++ b ∷ []) ++ more))))
+          → told limit deep (Open values seen) (b ∷ more)
+          ≡ by_first limit deep values (seen ++ b ∷ more)
+          (verdict_of (scanned limit deep start (seen ++ b ∷ more)))
       by_step (goes stack' item' p) ih =
           ap (λ (s : State). told limit deep (judged values (seen ++ b ∷ []) (verdict_of s)) more) (next ∙ p)
           ∙ ih stack' item' (next ∙ p ∙ ap (λ (n : ℕ). Going n stack' item') (sym size))
@@ -120,22 +146,29 @@ module _ (limit deep : ℕ) (values : List (List ℕ)) where
           ∙ ap (λ (s : State). by_first limit deep values (seen ++ b ∷ more) (verdict_of s)) (sym state)
 
   -- behind a value the stream goes on with the next one
-  pub told_first : (bytes : List ℕ) → told limit deep (Open values []) bytes ≡ by_first limit deep values bytes (first_of limit deep bytes)
+  pub told_first : (bytes : List ℕ)
+      → told limit deep (Open values []) bytes
+      ≡ by_first limit deep values bytes (first_of limit deep bytes)
   unfolding first_of
   told_first bytes = told_here [] bytes [] (InHead []) refl
 
 -- ---- values in front
 
-judged_front : (front values : List (List ℕ)) (rest : List ℕ) (v : Verdict) → judged (front ++ values) rest v ≡ with_front front (judged values rest v)
+judged_front : (front values : List (List ℕ)) (rest : List ℕ) (v : Verdict)
+    → judged (front ++ values) rest v ≡ with_front front (judged values rest v)
 judged_front front values rest (Whole n) = ap (λ (xs : List (List ℕ)). Open xs []) (append_assoc front values (rest ∷ []))
 judged_front front values rest Short = refl
 judged_front front values rest (Bad fault) = refl
 
-hear_front : (limit deep : ℕ) (front : List (List ℕ)) (split : Split) (b : ℕ) → hear_byte limit deep (with_front front split) b ≡ with_front front (hear_byte limit deep split b)
+hear_front : (limit deep : ℕ) (front : List (List ℕ)) (split : Split) (b : ℕ)
+    → hear_byte limit deep (with_front front split) b
+    ≡ with_front front (hear_byte limit deep split b)
 hear_front limit deep front (Open values rest) b = judged_front front values (rest ++ b ∷ []) (first_of limit deep (rest ++ b ∷ []))
 hear_front limit deep front (Broken values fault) b = refl
 
-pub told_front : (limit deep : ℕ) (front : List (List ℕ)) (split : Split) (bytes : List ℕ) → told limit deep (with_front front split) bytes ≡ with_front front (told limit deep split bytes)
+pub told_front : (limit deep : ℕ) (front : List (List ℕ)) (split : Split) (bytes : List ℕ)
+    → told limit deep (with_front front split) bytes
+    ≡ with_front front (told limit deep split bytes)
 told_front limit deep front split [] = refl
 told_front limit deep front split (b ∷ bytes) =
     ap (λ (s : Split). told limit deep s bytes) (hear_front limit deep front split b) ∙ told_front limit deep front (hear_byte limit deep split b) bytes
@@ -147,20 +180,26 @@ pub record Nonempty (bytes : List ℕ) (n : ℕ) : Type 0 where
   pub rest : IsRow (drop n bytes)
   pub values : row_of_values bytes ≡ take n bytes ∷ row_of_values (drop n bytes)
 
-pub split_first : (limit deep : ℕ) (bytes : List ℕ) (n : ℕ) → first_of limit deep bytes ≡ Whole n → split_of limit deep bytes ≡ with_front (take n bytes ∷ []) (split_of limit deep (drop n bytes))
+pub split_first : (limit deep : ℕ) (bytes : List ℕ) (n : ℕ)
+    → first_of limit deep bytes ≡ Whole n
+    → split_of limit deep bytes
+    ≡ with_front (take n bytes ∷ []) (split_of limit deep (drop n bytes))
 unfolding split_of
 split_first limit deep bytes n e =
     told_first limit deep [] bytes ∙ ap (λ (v : Verdict). by_first limit deep [] bytes v) e ∙ told_front limit deep (take n bytes ∷ []) (Open [] []) (drop n bytes)
 
-pub rest_front : (front : List (List ℕ)) (split : Split) → rest_of (with_front front split) ≡ rest_of split
+pub rest_front : (front : List (List ℕ)) (split : Split)
+    → rest_of (with_front front split) ≡ rest_of split
 rest_front front (Open values rest) = refl
 rest_front front (Broken values fault) = refl
 
-pub values_front : (front : List (List ℕ)) (split : Split) → values_of (with_front front split) ≡ front ++ values_of split
+pub values_front : (front : List (List ℕ)) (split : Split)
+    → values_of (with_front front split) ≡ front ++ values_of split
 values_front front (Open values rest) = refl
 values_front front (Broken values fault) = refl
 
-pub Nonempty-from : (bytes : List ℕ) (n : ℕ) → IsRow bytes → first_of most_bytes most_deep bytes ≡ Whole n → Nonempty bytes n
+pub Nonempty-from : (bytes : List ℕ) (n : ℕ) → IsRow bytes
+    → first_of most_bytes most_deep bytes ≡ Whole n → Nonempty bytes n
 unfolding row_of_values
 Nonempty-from bytes n row e =
     let split = split_first most_bytes most_deep bytes n e in
@@ -174,7 +213,8 @@ some_none : {A : Type 0} (x y : A) → Some x ≡ Some y → x ≡ y
 some_none x y e = cc
 
 -- a row begins with a value, if it has any bytes
-starts_by : (bytes : List ℕ) (v : Verdict) → first_of most_bytes most_deep bytes ≡ v → IsRow bytes → 0 < length bytes → (n : ℕ) × (v ≡ Whole n)
+starts_by : (bytes : List ℕ) (v : Verdict) → first_of most_bytes most_deep bytes ≡ v
+    → IsRow bytes → 0 < length bytes → (n : ℕ) × (v ≡ Whole n)
 unfolding split_of
 starts_by bytes (Whole n) e row lt = (n, refl)
 starts_by bytes Short e row lt =
@@ -186,7 +226,8 @@ starts_by bytes (Bad fault) e row lt =
     let both = ap rest_of (sym split) ∙ row in
     absurd cc
 
-pub row_starts : (bytes : List ℕ) → IsRow bytes → 0 < length bytes → (n : ℕ) × (first_of most_bytes most_deep bytes ≡ Whole n)
+pub row_starts : (bytes : List ℕ) → IsRow bytes → 0 < length bytes
+    → (n : ℕ) × (first_of most_bytes most_deep bytes ≡ Whole n)
 row_starts bytes row lt = starts_by bytes (first_of most_bytes most_deep bytes) refl row lt
 
 pub row_of_nothing : (bytes : List ℕ) → length bytes ≡ 0 → row_of_values bytes ≡ []
@@ -198,15 +239,20 @@ row_of_nothing (b ∷ bytes) e = absurd (omega arith)
 
 -- the bytes behind the last value are less than one
 abbrev Runs : (limit deep : ℕ) → Split → Type 0
-Runs limit deep (Open values rest) = (stack : List ℕ) × ((item : Item) × (scanned limit deep start rest ≡ Going (length rest) stack item))
+Runs limit deep (Open values rest) =
+    (stack : List ℕ)
+    × ((item : Item) × (scanned limit deep start rest ≡ Going (length rest) stack item))
 Runs limit deep (Broken values fault) = Unit {0}
 
-runs_judged : (limit deep : ℕ) (values : List (List ℕ)) (rest : List ℕ) (state : State) → Step (length rest) state → scanned limit deep start rest ≡ state → Runs limit deep (judged values rest (verdict_of state))
+runs_judged : (limit deep : ℕ) (values : List (List ℕ)) (rest : List ℕ) (state : State)
+    → Step (length rest) state → scanned limit deep start rest ≡ state
+    → Runs limit deep (judged values rest (verdict_of state))
 runs_judged limit deep values rest state (goes stack item p) e = subst (λ (s : State). Runs limit deep (judged values rest (verdict_of s))) (sym p) (stack, (item, e ∙ p))
 runs_judged limit deep values rest state (ends p) e = subst (λ (s : State). Runs limit deep (judged values rest (verdict_of s))) (sym p) ([], (InHead [], refl))
 runs_judged limit deep values rest state (fails fault p) e = subst (λ (s : State). Runs limit deep (judged values rest (verdict_of s))) (sym p) tt
 
-runs_byte : (limit deep : ℕ) (split : Split) (b : ℕ) → Runs limit deep split → Runs limit deep (hear_byte limit deep split b)
+runs_byte : (limit deep : ℕ) (split : Split) (b : ℕ) → Runs limit deep split
+    → Runs limit deep (hear_byte limit deep split b)
 unfolding first_of
 runs_byte limit deep (Open values rest) b r =
     let state : scanned limit deep start (rest ++ b ∷ []) ≡ scan_item limit deep (length rest) r.0 r.1.0 b = scanned-append limit deep start rest (b ∷ []) ∙ ap (λ (s : State). scanned limit deep s (b ∷ [])) r.1.1 in
@@ -215,11 +261,13 @@ runs_byte limit deep (Open values rest) b r =
     subst (λ (s : State). Runs limit deep (judged values (rest ++ b ∷ []) (verdict_of s))) (sym state) (runs_judged limit deep values (rest ++ b ∷ []) (scan_item limit deep (length rest) r.0 r.1.0 b) step state)
 runs_byte limit deep (Broken values fault) b r = tt
 
-runs : (limit deep : ℕ) (split : Split) (bytes : List ℕ) → Runs limit deep split → Runs limit deep (told limit deep split bytes)
+runs : (limit deep : ℕ) (split : Split) (bytes : List ℕ) → Runs limit deep split
+    → Runs limit deep (told limit deep split bytes)
 runs limit deep split [] r = r
 runs limit deep split (b ∷ bytes) r = runs limit deep (hear_byte limit deep split b) bytes (runs_byte limit deep split b r)
 
-told_more : (limit deep : ℕ) (split : Split) (more : List ℕ) → Runs limit deep split → told limit deep split more ≡ continued limit deep split more
+told_more : (limit deep : ℕ) (split : Split) (more : List ℕ) → Runs limit deep split
+    → told limit deep split more ≡ continued limit deep split more
 unfolding split_of first_of
 told_more limit deep (Open values rest) more r =
     let alone : told limit deep (Open [] rest) more ≡ told limit deep (Open [] []) (rest ++ more) = told_here limit deep [] rest more r.0 r.1.0 r.1.1 ∙ sym (told_first limit deep [] (rest ++ more)) in
@@ -228,7 +276,9 @@ told_more limit deep (Open values rest) more r =
 told_more limit deep (Broken values fault) more r = told-Broken limit deep values fault more
 
 -- a stream goes on from its rest
-pub split_append : (limit deep : ℕ) (bytes more : List ℕ) → split_of limit deep (bytes ++ more) ≡ continued limit deep (split_of limit deep bytes) more
+pub split_append : (limit deep : ℕ) (bytes more : List ℕ)
+    → split_of limit deep (bytes ++ more)
+    ≡ continued limit deep (split_of limit deep bytes) more
 unfolding split_of
 split_append limit deep bytes more =
     fold-append (hear_byte limit deep) (Open [] []) bytes more ∙ told_more limit deep (told limit deep (Open [] []) bytes) more (runs limit deep (Open [] []) bytes ([], (InHead [], refl)))

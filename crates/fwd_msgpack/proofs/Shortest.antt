@@ -13,11 +13,13 @@ use Rattle.fwd_msgpack.proofs.Fillings.{AreBytes-front}
 
 -- ---- lengths by size
 
-at_most : (b : Bool) (x y : List ℕ) (k : ℕ) → length x ≤ k → length y ≤ k → length (cond b x y) ≤ k
+at_most : (b : Bool) (x y : List ℕ) (k : ℕ) → length x ≤ k → length y ≤ k
+    → length (cond b x y) ≤ k
 at_most true x y k p q = p
 at_most false x y k p q = q
 
-taken : (b : Bool) (x y : List ℕ) (k : ℕ) → b ≡ true → length x ≤ k → length (cond b x y) ≤ k
+taken : (b : Bool) (x y : List ℕ) (k : ℕ) → b ≡ true → length x ≤ k
+    → length (cond b x y) ≤ k
 taken true x y k e p = p
 taken false x y k e p = absurd cc
 
@@ -90,7 +92,8 @@ map_3 n lt = at_most (ltb n 0x10) _ _ 3 (omega arith) (taken (ltb n 0x1_0000) _ 
 map_5 : (n : ℕ) → length (map_bytes n) ≤ 5
 map_5 n = at_most (ltb n 0x10) _ _ 5 (omega arith) (at_most (ltb n 0x1_0000) _ _ 5 (omega arith) (omega arith))
 
-ext_sizes : (n k : ℕ) → 1 ≤ k → length (ext_sized_bytes n) ≤ k → length (ext_len_bytes n) ≤ k
+ext_sizes : (n k : ℕ) → 1 ≤ k → length (ext_sized_bytes n) ≤ k
+    → length (ext_len_bytes n) ≤ k
 ext_sizes n k one sized =
     at_most (eqb n 1) _ _ k (omega arith) (at_most (eqb n 2) _ _ k (omega arith) (at_most (eqb n 4) _ _ k (omega arith) (at_most (eqb n 8) _ _ k (omega arith) (at_most (eqb n 16) _ _ k (omega arith) sized))))
 
@@ -103,20 +106,27 @@ ext_3 n lt = ext_sizes n 3 (omega arith) (at_most (ltb n 0x100) _ _ 3 (omega ari
 ext_5 : (n : ℕ) → length (ext_len_bytes n) ≤ 5
 ext_5 n = ext_sizes n 5 (omega arith) (at_most (ltb n 0x100) _ _ 5 (omega arith) (at_most (ltb n 0x1_0000) _ _ 5 (omega arith) (omega arith)))
 
-with_type : (bytes : List ℕ) (k b : ℕ) → length bytes ≤ k → length (bytes ++ b ∷ []) ≤ k + 1
+with_type : (bytes : List ℕ) (k b : ℕ) → length bytes ≤ k
+    → length (bytes ++ b ∷ []) ≤ k + 1
 with_type bytes k b le = omega (arith, length-append bytes (b ∷ []))
 
 -- ---- rows
 
 -- what a row spells is written in no more bytes
 abbrev IsFine : Row → Type 0
-IsFine row = (front : List ℕ) → length front ≡ row.more → AreBytes front → length (head_bytes (row.spells front)) ≤ row.more + 1
+IsFine row =
+    (front : List ℕ) → length front ≡ row.more → AreBytes front
+    → length (head_bytes (row.spells front)) ≤ row.more + 1
 
-signed_fine : (half n k : ℕ) → n < 2 * half → ((m : ℕ) → m < half → length (unsigned_bytes m) ≤ k) → ((m : ℕ) → m ≤ half → length (negative_bytes m) ≤ k) → length (head_bytes (twos_complement half n)) ≤ k
+signed_fine : (half n k : ℕ) → n < 2 * half
+    → ((m : ℕ) → m < half → length (unsigned_bytes m) ≤ k)
+    → ((m : ℕ) → m ≤ half → length (negative_bytes m) ≤ k)
+    → length (head_bytes (twos_complement half n)) ≤ k
 unfolding head_bytes
 signed_fine half n k fits low high = by_test (ltb n half) refl
   where
-    by_test : (b : Bool) → ltb n half ≡ b → length (head_bytes (cond b (Int false n) (Int true (2 * half - n)))) ≤ k
+    by_test : (b : Bool) → ltb n half ≡ b
+        → length (head_bytes (cond b (Int false n) (Int true (2 * half - n)))) ≤ k
     by_test true e = low n (ltb-true n half e)
     by_test false e =
         let le = ltb-false n half e in
@@ -130,7 +140,8 @@ AllFine (Some row ∷ rows) = IsFine row × AllFine rows
 some_is : (x y : Row) → Some x ≡ Some y → x ≡ y
 some_is x y e = cc
 
-fine_at : (rows : List (Option Row)) (i : ℕ) (row : Row) → AllFine rows → get_or rows i None ≡ Some row → IsFine row
+fine_at : (rows : List (Option Row)) (i : ℕ) (row : Row) → AllFine rows
+    → get_or rows i None ≡ Some row → IsFine row
 fine_at [] i row all e = absurd cc
 fine_at (None ∷ rows) zero row all e = absurd cc
 fine_at (None ∷ rows) (suc i) row all e = fine_at rows i row all e
@@ -246,11 +257,15 @@ named_fine = (
   ),
 )
 
-fixed_fine : (b : Bool) (row : Row) (made : Row) (o : Option Row) → cond b (Some made) o ≡ Some row → (b ≡ true → IsFine made) → (b ≡ false → o ≡ Some row → IsFine row) → IsFine row
+fixed_fine : (b : Bool) (row : Row) (made : Row) (o : Option Row)
+    → cond b (Some made) o ≡ Some row → (b ≡ true → IsFine made)
+    → (b ≡ false → o ≡ Some row → IsFine row) → IsFine row
 fixed_fine true row made o e p q = subst IsFine (some_is made row e) (p refl)
 fixed_fine false row made o e p q = q refl e
 
-named_or : (b : Bool) (row : Row) (made : Row) (o : Option Row) → cond b o (Some made) ≡ Some row → (o ≡ Some row → IsFine row) → (b ≡ false → IsFine made) → IsFine row
+named_or : (b : Bool) (row : Row) (made : Row) (o : Option Row)
+    → cond b o (Some made) ≡ Some row → (o ≡ Some row → IsFine row)
+    → (b ≡ false → IsFine made) → IsFine row
 named_or true row made o e p q = p e
 named_or false row made o e p q = subst IsFine (some_is made row e) (q refl)
 
@@ -264,7 +279,8 @@ row_fine first row byte e =
     named_or (ltb first 0xe0) row _ _ e3 (λ e4. fine_at named_rows (first - 0xc0) row named_fine e4) (λ f front len are. let le = ltb-false first 0xe0 f in negative_1 (256 - first) (omega arith))))))
 
 -- no spelling of a head is shorter than the one that is written
-pub shortest : (bytes : List ℕ) (head : Head) (n : ℕ) → AreBytes bytes → reading_of bytes ≡ read.Whole head n → length (head_bytes head) ≤ n
+pub shortest : (bytes : List ℕ) (head : Head) (n : ℕ) → AreBytes bytes
+    → reading_of bytes ≡ read.Whole head n → length (head_bytes head) ≤ n
 shortest bytes head n are h =
     let r = Reads-from bytes head n h in
     let whole = subst AreBytes r.parts are in

@@ -12,26 +12,33 @@ use Rattle.fwd_msgpack.specs.Plain.{plain_len}
 
 -- an item of this row has just this size, or the size is 0 and says nothing
 abbrev Tells : Option Row → ℕ → Type 0
-Tells row size = (rest : List ℕ) → 0 < size → size ≤ length rest + 1 → plain_len (row_reading row rest) ≡ Some size
+Tells row size =
+    (rest : List ℕ) → 0 < size → size ≤ length rest + 1
+    → plain_len (row_reading row rest) ≡ Some size
 
 untold : (found : Option Row) → Tells found 0
 untold found rest lt le = absurd (omega arith)
 
-whole : (row : Row) (size : ℕ) → row.more < size → ((bytes : List ℕ) → plain_len (Whole (row.spells bytes) (row.more + 1)) ≡ Some size) → Tells (Some row) size
+whole : (row : Row) (size : ℕ) → row.more < size
+    → ((bytes : List ℕ) → plain_len (Whole (row.spells bytes) (row.more + 1)) ≡ Some size)
+    → Tells (Some row) size
 whole row size more same rest lt le =
     ap (λ (b : Bool). plain_len (cond b Short (Whole (row.spells (take row.more rest)) (row.more + 1)))) (le-ltb (length rest) row.more (omega (arith, more, le)))
     ∙ same (take row.more rest)
 
-fixed_told : (head : Head) (size : ℕ) → plain_len (Whole head 1) ≡ Some size → 0 < size → Tells (fixed head) size
+fixed_told : (head : Head) (size : ℕ) → plain_len (Whole head 1) ≡ Some size → 0 < size
+    → Tells (fixed head) size
 fixed_told head size e pos = whole (record { more = 0; spells = λ _. head }) size pos (λ bytes. e)
 
 unsigned_told : (w : Width) → Tells (unsigned w) (byte_len w + 1)
 unsigned_told w = whole (record { more = byte_len w; spells = λ bytes. Int false (from_be_bytes w bytes) }) (byte_len w + 1) (omega arith) (λ bytes. ap Some (add-zero (byte_len w + 1)))
 
-complement_len : (half n used : ℕ) → plain_len (Whole (twos_complement half n) used) ≡ Some used
+complement_len : (half n used : ℕ)
+    → plain_len (Whole (twos_complement half n) used) ≡ Some used
 complement_len half n used = by_test (ltb n half)
   where
-    by_test : (b : Bool) → plain_len (Whole (cond b (Int false n) (Int true (2 * half - n))) used) ≡ Some used
+    by_test : (b : Bool)
+        → plain_len (Whole (cond b (Int false n) (Int true (2 * half - n))) used) ≡ Some used
     by_test true = ap Some (add-zero used)
     by_test false = ap Some (add-zero used)
 
@@ -51,7 +58,8 @@ AllTell [] sizes = sizes ≡ []
 AllTell (row ∷ rows) [] = Unit {0}
 AllTell (row ∷ rows) (size ∷ sizes) = Tells row size × AllTell rows sizes
 
-told_at : (rows : List (Option Row)) (sizes : List ℕ) (i : ℕ) → AllTell rows sizes → Tells (get_or rows i None) (get_or sizes i 0)
+told_at : (rows : List (Option Row)) (sizes : List ℕ) (i : ℕ) → AllTell rows sizes
+    → Tells (get_or rows i None) (get_or sizes i 0)
 told_at [] sizes i all = subst (λ (xs : List ℕ). Tells None (get_or xs i 0)) (sym all) (untold None)
 told_at (row ∷ rows) [] i all = untold (get_or (row ∷ rows) i None)
 told_at (row ∷ rows) (size ∷ sizes) zero all = all.0
@@ -63,13 +71,25 @@ named_told = (fixed_told Nil 1 refl (lit≤ tt), (untold None, (fixed_told (Bool
 
 -- what the table of heads says of a first byte
 abbrev size_in : ℕ → ℕ
-size_in first = cond (ltb first 0x80) 1 (cond (ltb first 0x90) 0 (cond (ltb first 0xa0) 0 (cond (ltb first 0xc0) (first - 0xa0 + 1) (cond (ltb first 0xe0) (get_or named_sizes (first - 0xc0) 0) 1))))
+size_in first =
+    cond (ltb first 0x80) 1
+    (cond (ltb first 0x90) 0
+    (cond (ltb first 0xa0) 0
+    (cond (ltb first 0xc0) (first - 0xa0 + 1)
+    (cond (ltb first 0xe0) (get_or named_sizes (first - 0xc0) 0) 1))))
 
 told : (first : ℕ) → Tells (row_of first) (size_in first)
 unfolding row_of
 told first = by_tests (ltb first 0x80) (ltb first 0x90) (ltb first 0xa0) (ltb first 0xc0) (ltb first 0xe0)
   where
-    by_tests : (a b c d e : Bool) → Tells (cond a (fixed (Int false first)) (cond b (fixed (Map (first - 0x80))) (cond c (fixed (Arr (first - 0x90))) (cond d (fixed (Str (first - 0xa0))) (cond e (get_or named_rows (first - 0xc0) None) (fixed (Int true (256 - first))))))))
+    by_tests : (a b c d e : Bool)
+        → Tells
+        (cond a (fixed (Int false first))
+        (cond b (fixed (Map (first - 0x80)))
+        (cond c (fixed (Arr (first - 0x90)))
+        (cond d (fixed (Str (first - 0xa0)))
+        (cond e (get_or named_rows (first - 0xc0) None)
+        (fixed (Int true (256 - first))))))))
         (cond a 1 (cond b 0 (cond c 0 (cond d (first - 0xa0 + 1) (cond e (get_or named_sizes (first - 0xc0) 0) 1)))))
     by_tests true b c d e = fixed_told (Int false first) 1 refl (lit≤ tt)
     by_tests false true c d e = untold (fixed (Map (first - 0x80)))
@@ -87,7 +107,8 @@ both : (a b : Bool) → a && b ≡ true → (a ≡ true) × (b ≡ true)
 both true b e = (refl, e)
 both false b e = absurd (false≢true e)
 
-size_at : (first : ℕ) (sizes : List ℕ) (i : ℕ) → are_sizes first sizes ≡ true → i < length sizes → get_or sizes i 0 ≡ size_in (first + i)
+size_at : (first : ℕ) (sizes : List ℕ) (i : ℕ) → are_sizes first sizes ≡ true
+    → i < length sizes → get_or sizes i 0 ≡ size_in (first + i)
 size_at first [] i all lt = absurd (omega arith)
 size_at first (size ∷ sizes) zero all lt = eqb-true size (size_in first) (both (size == size_in first) (are_sizes (suc first) sizes) all).0 ∙ ap size_in (sym (add-zero first))
 size_at first (size ∷ sizes) (suc i) all lt =
@@ -95,8 +116,10 @@ size_at first (size ∷ sizes) (suc i) all lt =
     size_at (suc first) sizes i (both (size == size_in first) (are_sizes (suc first) sizes) all).1 (omega (arith, lt)) ∙ ap size_in on
 
 -- the size that stands in the table is that of the item
-pub size_told : (first place size : ℕ) → place ≡ first → size ≡ get_or SIZES place 0 → first < 256
-    → (rest : List ℕ) → 0 < size → size ≤ length rest + 1 → plain_len (reading_of (first ∷ rest)) ≡ Some size
+pub size_told : (first place size : ℕ) → place ≡ first → size ≡ get_or SIZES place 0
+    → first < 256
+    → (rest : List ℕ) → 0 < size → size ≤ length rest + 1
+    → plain_len (reading_of (first ∷ rest)) ≡ Some size
 unfolding reading_of named_sizes
 size_told first place size same is small rest lt le =
     let found : size ≡ size_in first = is ∙ size_at 0 SIZES place refl (omega (arith, same)) ∙ ap size_in (zero-add place ∙ same) in
@@ -104,7 +127,8 @@ size_told first place size same is small rest lt le =
 
 -- a text's size is how far its first byte lies behind that of the empty one
 pub text_told : (first size : ℕ) → size ≡ first - 0xa0 + 1 → 0xa0 ≤ first → first < 0xc0
-    → (rest : List ℕ) → 0 < size → size ≤ length rest + 1 → plain_len (reading_of (first ∷ rest)) ≡ Some size
+    → (rest : List ℕ) → 0 < size → size ≤ length rest + 1
+    → plain_len (reading_of (first ∷ rest)) ≡ Some size
 unfolding reading_of
 text_told first size is low high rest lt le =
     let found : size ≡ size_in first = is ∙ rw (le-ltb first 0x80 (omega (arith, low)), le-ltb first 0x90 (omega (arith, low)), le-ltb first 0xa0 low, lt-ltb first 0xc0 high) refl in

@@ -16,7 +16,8 @@ use Rattle.fwd_msgpack.proofs.Parts.{read_within}
 use Rattle.fwd_msgpack.proofs.Solo.{solo}
 
 -- a head at the front is a head by itself
-pub front_alone : (bytes : List ℕ) (head : Head) (n : ℕ) → reading_of bytes ≡ read.Whole head n → AreHead head (take n bytes)
+pub front_alone : (bytes : List ℕ) (head : Head) (n : ℕ)
+    → reading_of bytes ≡ read.Whole head n → AreHead head (take n bytes)
 front_alone bytes head n h =
     let r = Reads-from bytes head n h in
     let size : suc (length r.front) ≡ n = omega (arith, r.len, r.used_is) in
@@ -47,8 +48,11 @@ opened-payload (Map n) e = refl
 opened-payload (Ext kind len) e = absurd cc
 
 -- values in a row, in a container that lacks so many after the one in progress
-pub in_row : (limit deep : ℕ) (P : List ℕ → Type 0) → ((own : List ℕ) → scanned limit deep start own ≡ Ended (length own) → P own)
-    → (lacking v : ℕ) (bytes : List ℕ) (n : ℕ) → n ≡ v + length bytes → scanned limit (suc deep) (Going v (lacking ∷ []) (InHead [])) bytes ≡ Ended n → InARow P (suc lacking) bytes
+pub in_row : (limit deep : ℕ) (P : List ℕ → Type 0)
+    → ((own : List ℕ) → scanned limit deep start own ≡ Ended (length own) → P own)
+    → (lacking v : ℕ) (bytes : List ℕ) (n : ℕ) → n ≡ v + length bytes
+    → scanned limit (suc deep) (Going v (lacking ∷ []) (InHead [])) bytes ≡ Ended n
+    → InARow P (suc lacking) bytes
 unfolding InARow
 in_row limit deep P each zero v bytes n size e =
     let s = solo limit (suc deep) limit deep (0 ∷ []) (omega arith) (omega arith) v 0 [] (InHead []) bytes n (omega arith) e in
@@ -68,16 +72,22 @@ record Opening (limit deep : ℕ) (bytes : List ℕ) : Type 0 where
   is : reading_of bytes ≡ read.Whole head n
   good : IsGood limit deep n [] head
   size : n + payload head ≤ length bytes
-  after : scanned limit deep (payload_ended (n + payload head) [] head) (drop (payload head) (drop n bytes)) ≡ Ended (length bytes)
+  after :
+      scanned limit deep (payload_ended (n + payload head) [] head)
+      (drop (payload head) (drop n bytes))
+      ≡ Ended (length bytes)
 
-not_short : (limit deep : ℕ) (bytes : List ℕ) (head : Head) (n : ℕ) → reading_of bytes ≡ read.Whole head n → fault_at limit deep n [] head ≡ None
-    → scanned limit deep start bytes ≡ Ended (length bytes) → length (drop n bytes) < payload head → ⊥
+not_short : (limit deep : ℕ) (bytes : List ℕ) (head : Head) (n : ℕ)
+    → reading_of bytes ≡ read.Whole head n → fault_at limit deep n [] head ≡ None
+    → scanned limit deep start bytes ≡ Ended (length bytes)
+    → length (drop n bytes) < payload head → ⊥
 not_short limit deep bytes head n h f e lt =
     let short = answer_payload limit deep 0 [] bytes head n h (ap (λ (k : ℕ). fault_at limit deep k [] head) (zero-add n) ∙ f) lt in
     let whole = ap verdict_of e in
     cc
 
-opening_by : (limit deep : ℕ) (bytes : List ℕ) (head : Head) (n : ℕ) (o : Option ScanFault) → reading_of bytes ≡ read.Whole head n → fault_at limit deep n [] head ≡ o
+opening_by : (limit deep : ℕ) (bytes : List ℕ) (head : Head) (n : ℕ) (o : Option ScanFault)
+    → reading_of bytes ≡ read.Whole head n → fault_at limit deep n [] head ≡ o
     → scanned limit deep start bytes ≡ Ended (length bytes) → Opening limit deep bytes
 opening_by limit deep bytes head n (Some fault) h f e =
     let bad = answer_fault limit deep 0 [] bytes head n fault h (ap (λ (k : ℕ). fault_at limit deep k [] head) (zero-add n) ∙ f) in
@@ -97,7 +107,8 @@ opening_by limit deep bytes head n None h f e =
       }
     ]
 
-opening : (limit deep : ℕ) (bytes : List ℕ) (r : HeadRead) → reading_of bytes ≡ r → scanned limit deep start bytes ≡ Ended (length bytes) → Opening limit deep bytes
+opening : (limit deep : ℕ) (bytes : List ℕ) (r : HeadRead) → reading_of bytes ≡ r
+    → scanned limit deep start bytes ≡ Ended (length bytes) → Opening limit deep bytes
 opening limit deep bytes (read.Whole head n) h e = opening_by limit deep bytes head n (fault_at limit deep n [] head) h refl e
 opening limit deep bytes read.Short h e =
     let short = answer_short limit deep 0 [] bytes h in
@@ -108,7 +119,8 @@ opening limit deep bytes read.Reserved h e =
     let whole = ap verdict_of e in
     absurd cc
 
-plain : (limit deep : ℕ) (bytes : List ℕ) (o : Opening limit deep bytes) → opens o.head ≡ false → IsPlain bytes
+plain : (limit deep : ℕ) (bytes : List ℕ) (o : Opening limit deep bytes)
+    → opens o.head ≡ false → IsPlain bytes
 plain limit deep bytes o shut =
     let closed = ended_shut (o.n + payload o.head) [] o.head (le-ltb 0 (members o.head) (omega (arith, shut-members o.head shut))) in
     let ended : Ended (o.n + payload o.head) ≡ Ended (length bytes) =
@@ -124,8 +136,11 @@ plain limit deep bytes o shut =
       len = omega (arith, length-drop o.n bytes);
     }
 
-row_behind : (limit deep : ℕ) (P : List ℕ → Type 0) → ((own : List ℕ) → scanned limit deep start own ≡ Ended (length own) → P own)
-    → (head : Head) (n m : ℕ) (body : List ℕ) (len : ℕ) → members head ≡ m → len ≡ n + length body → scanned limit (suc deep) (payload_ended n [] head) body ≡ Ended len → InARow P m body
+row_behind : (limit deep : ℕ) (P : List ℕ → Type 0)
+    → ((own : List ℕ) → scanned limit deep start own ≡ Ended (length own) → P own)
+    → (head : Head) (n m : ℕ) (body : List ℕ) (len : ℕ) → members head ≡ m
+    → len ≡ n + length body
+    → scanned limit (suc deep) (payload_ended n [] head) body ≡ Ended len → InARow P m body
 unfolding InARow
 row_behind limit deep P each head n zero body len k size e =
     let closed = ended_shut n [] head (le-ltb 0 (members head) (omega arith)) in
@@ -138,8 +153,10 @@ row_behind limit deep P each head n (suc m) body len k size e =
     ap (λ (i : ℕ). scanned limit (suc deep) (Going n (i ∷ []) (InHead [])) body) (sym lacking) ∙ ap (λ (s : State). scanned limit (suc deep) s body) (sym (ended_opened n [] head (lt-ltb 0 (members head) (omega arith)))) ∙ e in
     in_row limit deep P each m n body len size going
 
-container : (limit deep : ℕ) (P : List ℕ → Type 0) → ((own : List ℕ) → scanned limit deep start own ≡ Ended (length own) → P own)
-    → (bytes : List ℕ) (o : Opening limit (suc deep) bytes) → opens o.head ≡ true → IsContainer P bytes
+container : (limit deep : ℕ) (P : List ℕ → Type 0)
+    → ((own : List ℕ) → scanned limit deep start own ≡ Ended (length own) → P own)
+    → (bytes : List ℕ) (o : Opening limit (suc deep) bytes) → opens o.head ≡ true
+    → IsContainer P bytes
 container limit deep P each bytes o opened =
     let none : payload o.head ≡ 0 = opened-payload o.head opened in
     let size : length bytes ≡ o.n + length (drop o.n bytes) = omega (arith, length-drop o.n bytes, o.size) in
@@ -157,7 +174,8 @@ container limit deep P each bytes o opened =
     }
 
 -- what a scan takes for one value is one
-pub sound : (limit deep : ℕ) (bytes : List ℕ) → scanned limit deep start bytes ≡ Ended (length bytes) → IsValue deep bytes
+pub sound : (limit deep : ℕ) (bytes : List ℕ)
+    → scanned limit deep start bytes ≡ Ended (length bytes) → IsValue deep bytes
 unfolding IsValue
 sound limit zero bytes e =
     let o = opening limit zero bytes (reading_of bytes) refl e in

@@ -12,27 +12,33 @@ use Rattle.fwd_msgpack.specs.Heads.{Row, sized, fixed, extended, twos_complement
 
 -- these bytes are a whole spelling of the head
 abbrev Spells : List ℕ → Head → Type 0
-Spells bytes head = (rest : List ℕ) → reading_of (bytes ++ rest) ≡ read.Whole head (length bytes)
+Spells bytes head =
+    (rest : List ℕ) → reading_of (bytes ++ rest) ≡ read.Whole head (length bytes)
 
-spells_fixed : (first : ℕ) (head : Head) → row_of first ≡ fixed head → Spells (first ∷ []) head
+spells_fixed : (first : ℕ) (head : Head) → row_of first ≡ fixed head
+    → Spells (first ∷ []) head
 unfolding reading_of
 spells_fixed first head e rest = ap (λ (o : Option Row). row_reading o rest) e ∙ rw (le-ltb (length rest) 0 (omega arith)) refl
 
-spells_8 : (first n : ℕ) (kind : ℕ → Head) → row_of first ≡ sized w8 kind → Spells (first ∷ n ∷ []) (kind n)
+spells_8 : (first n : ℕ) (kind : ℕ → Head) → row_of first ≡ sized w8 kind
+    → Spells (first ∷ n ∷ []) (kind n)
 unfolding reading_of
 spells_8 first n kind e rest = ap (λ (o : Option Row). row_reading o (n ∷ rest)) e ∙ rw (le-ltb (suc (length rest)) 1 (omega arith)) refl
 
-spells_16 : (first n : ℕ) (kind : ℕ → Head) → row_of first ≡ sized w16 kind → n < 2 ^ 16 → Spells (first ∷ to_be_bytes w16 n) (kind n)
+spells_16 : (first n : ℕ) (kind : ℕ → Head) → row_of first ≡ sized w16 kind → n < 2 ^ 16
+    → Spells (first ∷ to_be_bytes w16 n) (kind n)
 unfolding reading_of
 spells_16 first n kind e lt rest =
     ap (λ (o : Option Row). row_reading o (to_be_bytes w16 n ++ rest)) e ∙ rw (le-ltb (suc (suc (length rest))) 2 (omega arith), from_be_bytes-to_be_bytes_2 n lt) refl
 
-spells_32 : (first n : ℕ) (kind : ℕ → Head) → row_of first ≡ sized w32 kind → n < 2 ^ 32 → Spells (first ∷ to_be_bytes w32 n) (kind n)
+spells_32 : (first n : ℕ) (kind : ℕ → Head) → row_of first ≡ sized w32 kind → n < 2 ^ 32
+    → Spells (first ∷ to_be_bytes w32 n) (kind n)
 unfolding reading_of
 spells_32 first n kind e lt rest =
     ap (λ (o : Option Row). row_reading o (to_be_bytes w32 n ++ rest)) e ∙ rw (le-ltb (suc (suc (suc (suc (length rest))))) 4 (omega arith), from_be_bytes-to_be_bytes_4 n lt) refl
 
-spells_64 : (first n : ℕ) (kind : ℕ → Head) → row_of first ≡ sized w64 kind → n < 2 ^ 64 → Spells (first ∷ to_be_bytes w64 n) (kind n)
+spells_64 : (first n : ℕ) (kind : ℕ → Head) → row_of first ≡ sized w64 kind → n < 2 ^ 64
+    → Spells (first ∷ to_be_bytes w64 n) (kind n)
 unfolding reading_of
 spells_64 first n kind e lt rest =
     ap (λ (o : Option Row). row_reading o (to_be_bytes w64 n ++ rest)) e ∙ rw (le-ltb (suc (suc (suc (suc (suc (suc (suc (suc (length rest))))))))) 8 (omega arith), from_be_bytes-to_be_bytes_8 n lt) refl
@@ -69,7 +75,8 @@ row_of-negative n ge le =
 
 -- ---- kind by kind
 
-either : (b : Bool) (x y : List ℕ) (head : Head) → (b ≡ true → Spells x head) → (b ≡ false → Spells y head) → Spells (cond b x y) head
+either : (b : Bool) (x y : List ℕ) (head : Head) → (b ≡ true → Spells x head)
+    → (b ≡ false → Spells y head) → Spells (cond b x y) head
 either b x y head p q = cond_both b x y (λ (bytes : List ℕ). Spells bytes head) p q
 
 str_back : (len : ℕ) → len < 2 ^ 32 → Spells (str_bytes len) (Str len)
@@ -111,7 +118,8 @@ unsigned_back n fits =
     spells_64 0xcf n (λ m. Int false m) refl fits))))
 
 -- what two's complement makes of minus n
-complement : (half n : ℕ) → 1 ≤ n → n ≤ half → twos_complement half (2 * half - n) ≡ Int true n
+complement : (half n : ℕ) → 1 ≤ n → n ≤ half
+    → twos_complement half (2 * half - n) ≡ Int true n
 complement half n ge le =
     let back : 2 * half - (2 * half - n) ≡ n = omega arith in
     rw (le-ltb (2 * half - n) half (omega arith), back) refl
@@ -132,30 +140,40 @@ float_back len (inr e) = subst (λ (n : ℕ). Spells (float_bytes n) (Float n)) 
 
 -- ---- extensions
 
-spells_ext : (first len : ℕ) (kind : ℤ) → FitsSigned w8 kind → row_of first ≡ extended len → Spells ((first ∷ []) ++ cast_unsigned w8 kind ∷ []) (Ext kind len)
+spells_ext : (first len : ℕ) (kind : ℤ) → FitsSigned w8 kind → row_of first ≡ extended len
+    → Spells ((first ∷ []) ++ cast_unsigned w8 kind ∷ []) (Ext kind len)
 unfolding reading_of
 spells_ext first len kind fits e rest =
     ap (λ (o : Option Row). row_reading o (cast_unsigned w8 kind ∷ rest)) e ∙ rw (le-ltb (suc (length rest)) 1 (omega arith), to_z-of_z w8 kind fits) refl
 
-spells_ext_8 : (len : ℕ) (kind : ℤ) → FitsSigned w8 kind → Spells ((0xc7 ∷ len ∷ []) ++ cast_unsigned w8 kind ∷ []) (Ext kind len)
+spells_ext_8 : (len : ℕ) (kind : ℤ) → FitsSigned w8 kind
+    → Spells ((0xc7 ∷ len ∷ []) ++ cast_unsigned w8 kind ∷ []) (Ext kind len)
 unfolding reading_of row_of named_rows
 spells_ext_8 len kind fits rest = rw (le-ltb (suc (suc (length rest))) 2 (omega arith), to_z-of_z w8 kind fits) refl
 
-spells_ext_16 : (len : ℕ) (kind : ℤ) → FitsSigned w8 kind → len < 2 ^ 16 → Spells ((0xc8 ∷ to_be_bytes w16 len) ++ cast_unsigned w8 kind ∷ []) (Ext kind len)
+spells_ext_16 : (len : ℕ) (kind : ℤ) → FitsSigned w8 kind → len < 2 ^ 16
+    → Spells ((0xc8 ∷ to_be_bytes w16 len) ++ cast_unsigned w8 kind ∷ []) (Ext kind len)
 unfolding reading_of row_of named_rows
 spells_ext_16 len kind fits lt rest = rw (le-ltb (suc (suc (suc (length rest)))) 3 (omega arith), to_z-of_z w8 kind fits, from_be_bytes-to_be_bytes_2 len lt) refl
 
-spells_ext_32 : (len : ℕ) (kind : ℤ) → FitsSigned w8 kind → len < 2 ^ 32 → Spells ((0xc9 ∷ to_be_bytes w32 len) ++ cast_unsigned w8 kind ∷ []) (Ext kind len)
+spells_ext_32 : (len : ℕ) (kind : ℤ) → FitsSigned w8 kind → len < 2 ^ 32
+    → Spells ((0xc9 ∷ to_be_bytes w32 len) ++ cast_unsigned w8 kind ∷ []) (Ext kind len)
 unfolding reading_of row_of named_rows
 spells_ext_32 len kind fits lt rest = rw (le-ltb (suc (suc (suc (suc (suc (length rest)))))) 5 (omega arith), to_z-of_z w8 kind fits, from_be_bytes-to_be_bytes_4 len lt) refl
 
-either_ext : (b : Bool) (x y : List ℕ) (kind : ℤ) (len : ℕ) → (b ≡ true → Spells (x ++ cast_unsigned w8 kind ∷ []) (Ext kind len)) → (b ≡ false → Spells (y ++ cast_unsigned w8 kind ∷ []) (Ext kind len)) → Spells (cond b x y ++ cast_unsigned w8 kind ∷ []) (Ext kind len)
+either_ext : (b : Bool) (x y : List ℕ) (kind : ℤ) (len : ℕ)
+    → (b ≡ true → Spells (x ++ cast_unsigned w8 kind ∷ []) (Ext kind len))
+    → (b ≡ false → Spells (y ++ cast_unsigned w8 kind ∷ []) (Ext kind len))
+    → Spells (cond b x y ++ cast_unsigned w8 kind ∷ []) (Ext kind len)
 either_ext b x y kind len p q = cond_both b x y (λ (bytes : List ℕ). Spells (bytes ++ cast_unsigned w8 kind ∷ []) (Ext kind len)) p q
 
-fixed_ext : (first size len : ℕ) (kind : ℤ) → FitsSigned w8 kind → row_of first ≡ extended size → eqb len size ≡ true → Spells ((first ∷ []) ++ cast_unsigned w8 kind ∷ []) (Ext kind len)
+fixed_ext : (first size len : ℕ) (kind : ℤ) → FitsSigned w8 kind
+    → row_of first ≡ extended size → eqb len size ≡ true
+    → Spells ((first ∷ []) ++ cast_unsigned w8 kind ∷ []) (Ext kind len)
 fixed_ext first size len kind fits e t = subst (λ (n : ℕ). Spells ((first ∷ []) ++ cast_unsigned w8 kind ∷ []) (Ext kind n)) (sym (eqb-true len size t)) (spells_ext first size kind fits e)
 
-ext_back : (kind : ℤ) (len : ℕ) → FitsSigned w8 kind → len < 2 ^ 32 → Spells (ext_len_bytes len ++ cast_unsigned w8 kind ∷ []) (Ext kind len)
+ext_back : (kind : ℤ) (len : ℕ) → FitsSigned w8 kind → len < 2 ^ 32
+    → Spells (ext_len_bytes len ++ cast_unsigned w8 kind ∷ []) (Ext kind len)
 unfolding row_of named_rows
 ext_back kind len fits lt =
     either_ext (eqb len 1) _ _ kind len (fixed_ext 0xd4 1 len kind fits refl) (λ _.
@@ -167,7 +185,8 @@ ext_back kind len fits lt =
     either_ext (ltb len 0x1_0000) _ _ kind len (λ t. spells_ext_16 len kind fits (ltb-true len 0x1_0000 t)) (λ _.
     spells_ext_32 len kind fits lt)))))))
 
-pub read_back : (head : Head) (rest : List ℕ) → IsHead head → IsSpelled head → reading_of (head_bytes head ++ rest) ≡ read.Whole head (length (head_bytes head))
+pub read_back : (head : Head) (rest : List ℕ) → IsHead head → IsSpelled head
+    → reading_of (head_bytes head ++ rest) ≡ read.Whole head (length (head_bytes head))
 unfolding head_bytes row_of named_rows
 read_back Nil rest fits spelled = spells_fixed 0xc0 Nil refl rest
 read_back (Boolean false) rest fits spelled = spells_fixed 0xc2 (Boolean false) refl rest

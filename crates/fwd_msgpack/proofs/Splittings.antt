@@ -19,26 +19,34 @@ use Rattle.fwd_msgpack.proofs.Fillings.{AreBytes-back}
 use Rattle.fwd_msgpack.proofs.History.{here}
 use Rattle.fwd_msgpack.proofs.Faults.{first_is, ended_bound}
 
-concat_push : (values : List (List ℕ)) (value : List ℕ) → flat_map (λ v. v) (values ++ value ∷ []) ≡ flat_map (λ v. v) values ++ value
+concat_push : (values : List (List ℕ)) (value : List ℕ)
+    → flat_map (λ v. v) (values ++ value ∷ []) ≡ flat_map (λ v. v) values ++ value
 concat_push [] value = append-nil value
 concat_push (v ∷ values) value = ap (λ (xs : List ℕ). v ++ xs) (concat_push values value) ∙ sym (append_assoc v (flat_map (λ w. w) values) value)
 
 module _ (limit deep : ℕ) where
-  all_push : (values : List (List ℕ)) (value : List ℕ) → AllByRecursion (IsWithinLimits limit deep) values → IsWithinLimits limit deep value → AllByRecursion (IsWithinLimits limit deep) (values ++ value ∷ [])
+  all_push : (values : List (List ℕ)) (value : List ℕ)
+      → AllByRecursion (IsWithinLimits limit deep) values → IsWithinLimits limit deep value
+      → AllByRecursion (IsWithinLimits limit deep) (values ++ value ∷ [])
   all_push [] value each is = (is, tt)
   all_push (v ∷ values) value each is = (each.0, all_push values value each.1 is)
 
   -- where a stream stands behind these bytes
-  record Stands (bytes : List ℕ) (values : List (List ℕ)) (rest : List ℕ) (state : State) : Type 0 where
+  record Stands (bytes : List ℕ) (values : List (List ℕ)) (rest : List ℕ) (state : State)
+      : Type 0 where
     joined : flat_map (λ v. v) values ++ rest ≡ bytes
     each : AllByRecursion (IsWithinLimits limit deep) values
     at : here limit deep rest ≡ state
 
   abbrev IsAt : List ℕ → Split → Type 0
-  IsAt bytes (Open values rest) = (stack : List ℕ) × ((item : Item) × Stands bytes values rest (Going (length rest) stack item))
+  IsAt bytes (Open values rest) =
+      (stack : List ℕ)
+      × ((item : Item) × Stands bytes values rest (Going (length rest) stack item))
   IsAt bytes (Broken values fault) = (rest : List ℕ) × Stands bytes values rest (Failed fault)
 
-  at_judged : (bytes : List ℕ) (values : List (List ℕ)) (rest : List ℕ) (state : State) → Step (length rest) state → Stands bytes values rest state → IsAt bytes (judged values rest (verdict_of state))
+  at_judged : (bytes : List ℕ) (values : List (List ℕ)) (rest : List ℕ) (state : State)
+      → Step (length rest) state → Stands bytes values rest state
+      → IsAt bytes (judged values rest (verdict_of state))
   at_judged bytes values rest state (goes stack item p) s =
       subst (λ (t : State). IsAt bytes (judged values rest (verdict_of t))) (sym p) (stack, (item, record { joined = s.joined; each = s.each; at = s.at ∙ p }))
   at_judged bytes values rest state (ends p) s =
@@ -49,7 +57,8 @@ module _ (limit deep : ℕ) where
   at_judged bytes values rest state (fails fault p) s =
       subst (λ (t : State). IsAt bytes (judged values rest (verdict_of t))) (sym p) (rest, record { joined = s.joined; each = s.each; at = s.at ∙ p })
 
-  at_byte : (bytes : List ℕ) (split : Split) (b : ℕ) → IsAt bytes split → IsAt (bytes ++ b ∷ []) (hear_byte limit deep split b)
+  at_byte : (bytes : List ℕ) (split : Split) (b : ℕ) → IsAt bytes split
+      → IsAt (bytes ++ b ∷ []) (hear_byte limit deep split b)
   unfolding first_of
   at_byte bytes (Open values rest) b a =
       let s = a.1.1 in
@@ -69,11 +78,13 @@ module _ (limit deep : ℕ) where
         },
       )
 
-  at_end : (bytes : List ℕ) (split : Split) (more : List ℕ) → IsAt bytes split → IsAt (bytes ++ more) (told limit deep split more)
+  at_end : (bytes : List ℕ) (split : Split) (more : List ℕ) → IsAt bytes split
+      → IsAt (bytes ++ more) (told limit deep split more)
   at_end bytes split [] a = subst (λ (xs : List ℕ). IsAt xs split) (sym (append-nil bytes)) a
   at_end bytes split (b ∷ more) a = subst (λ (xs : List ℕ). IsAt xs (told limit deep (hear_byte limit deep split b) more)) (append_assoc bytes (b ∷ []) more) (at_end (bytes ++ b ∷ []) (hear_byte limit deep split b) more (at_byte bytes split b a))
 
-  stream_by : (bytes : List ℕ) (split : Split) → AreBytes bytes → IsAt bytes split → IsStream limit deep bytes split
+  stream_by : (bytes : List ℕ) (split : Split) → AreBytes bytes → IsAt bytes split
+      → IsStream limit deep bytes split
   unfolding first_of
   stream_by bytes (Open values rest) are a =
       let s = a.1.1 in
@@ -89,21 +100,27 @@ module _ (limit deep : ℕ) where
   unfolding split_of
   stream_at bytes = at_end [] (Open [] []) bytes ([], (InHead [], record { joined = refl; each = tt; at = refl }))
 
-  values_by : (bytes : List ℕ) (split : Split) → IsAt bytes split → AllByRecursion (IsWithinLimits limit deep) (values_of split)
+  values_by : (bytes : List ℕ) (split : Split) → IsAt bytes split
+      → AllByRecursion (IsWithinLimits limit deep) (values_of split)
   values_by bytes (Open values rest) a = a.1.1.each
   values_by bytes (Broken values fault) a = a.1.each
 
   -- the values of a stream are within the limits
-  pub values_within : (bytes : List ℕ) → AllByRecursion (IsWithinLimits limit deep) (values_of (split_of limit deep bytes))
+  pub values_within : (bytes : List ℕ)
+      → AllByRecursion (IsWithinLimits limit deep) (values_of (split_of limit deep bytes))
   values_within bytes = values_by bytes (split_of limit deep bytes) (stream_at bytes)
 
   -- the stream is what it is split into
-  pub stream_is : (bytes : List ℕ) → AreBytes bytes → IsStream limit deep bytes (split_of limit deep bytes)
+  pub stream_is : (bytes : List ℕ) → AreBytes bytes
+      → IsStream limit deep bytes (split_of limit deep bytes)
   stream_is bytes are = stream_by bytes (split_of limit deep bytes) are (stream_at bytes)
 
 -- ---- rows
 
-row_by : (bytes : List ℕ) (split : Split) → IsAt most_bytes most_deep bytes split → rest_of split ≡ Some [] → (flat_map (λ v. v) (values_of split) ≡ bytes) × AllByRecursion (IsWithinLimits most_bytes most_deep) (values_of split)
+row_by : (bytes : List ℕ) (split : Split) → IsAt most_bytes most_deep bytes split
+    → rest_of split ≡ Some []
+    → (flat_map (λ v. v) (values_of split) ≡ bytes)
+    × AllByRecursion (IsWithinLimits most_bytes most_deep) (values_of split)
 row_by bytes (Open values rest) a e =
     let s = a.1.1 in
     let nothing : rest ≡ [] = cc in
@@ -111,7 +128,9 @@ row_by bytes (Open values rest) a e =
 row_by bytes (Broken values fault) a e = absurd cc
 
 -- the values of a row are values, and joined they are the row
-pub row_values : (bytes : List ℕ) → IsRow bytes → (flat_map (λ v. v) (row_of_values bytes) ≡ bytes) × AllByRecursion (IsWithinLimits most_bytes most_deep) (row_of_values bytes)
+pub row_values : (bytes : List ℕ) → IsRow bytes
+    → (flat_map (λ v. v) (row_of_values bytes) ≡ bytes)
+    × AllByRecursion (IsWithinLimits most_bytes most_deep) (row_of_values bytes)
 unfolding row_of_values
 row_values bytes row = row_by bytes (split_of most_bytes most_deep bytes) (stream_at most_bytes most_deep bytes) row
 
@@ -125,7 +144,9 @@ whole_value bytes whole =
 some_is : {A : Type 0} (x y : A) → Some x ≡ Some y → x ≡ y
 some_is x y e = cc
 
-members_by : (bytes : List ℕ) (r : HeadRead) (head : Head) (body : List ℕ) → reading_of bytes ≡ r → IsWhole bytes → parts_read r bytes ≡ Some (head, body) → payload head ≡ 0 → HasMembers head bytes (row_of_values body)
+members_by : (bytes : List ℕ) (r : HeadRead) (head : Head) (body : List ℕ)
+    → reading_of bytes ≡ r → IsWhole bytes → parts_read r bytes ≡ Some (head, body)
+    → payload head ≡ 0 → HasMembers head bytes (row_of_values body)
 members_by bytes (read.Whole head' n) head body h whole e p =
     let both : (head', drop n bytes) ≡ (head, body) = some_is (head', drop n bytes) (head, body) e in
     let same : head' ≡ head = ap (λ (x : Head × List ℕ). x.0) both in
@@ -142,12 +163,16 @@ members_by bytes (read.Whole head' n) head body h whole e p =
 members_by bytes read.Short head body h whole e p = absurd cc
 members_by bytes read.Reserved head body h whole e p = absurd cc
 
-elements_by : (bytes : List ℕ) (o : Option (Head × List ℕ)) (values : List (List ℕ)) → parts_of bytes ≡ o → IsWhole bytes → option_and_then (λ parts. elements_in parts.0 parts.1) o ≡ Some values → (n : ℕ) × HasMembers (Arr n) bytes values
+elements_by : (bytes : List ℕ) (o : Option (Head × List ℕ)) (values : List (List ℕ))
+    → parts_of bytes ≡ o → IsWhole bytes
+    → option_and_then (λ parts. elements_in parts.0 parts.1) o ≡ Some values
+    → (n : ℕ) × HasMembers (Arr n) bytes values
 unfolding parts_of
 elements_by bytes None values h whole e = absurd cc
 elements_by bytes (Some parts) values h whole e = by_head parts.0 refl e
   where
-    by_head : (head : Head) → parts.0 ≡ head → elements_in head parts.1 ≡ Some values → (n : ℕ) × HasMembers (Arr n) bytes values
+    by_head : (head : Head) → parts.0 ≡ head → elements_in head parts.1 ≡ Some values
+        → (n : ℕ) × HasMembers (Arr n) bytes values
     by_head (Arr n) k e' =
         let found = members_by bytes (reading_of bytes) parts.0 parts.1 refl whole h (ap payload k) in
         (n, subst (λ (hd : Head). HasMembers hd bytes values) k (subst (HasMembers parts.0 bytes) (some_is (row_of_values parts.1) values e') found))
@@ -161,7 +186,8 @@ elements_by bytes (Some parts) values h whole e = by_head parts.0 refl e
     by_head (Ext kind len) k e' = absurd cc
 
 -- the elements of a whole value are the members of an array
-pub elements_are : (bytes : List ℕ) (values : List (List ℕ)) → IsWhole bytes → elements_of bytes ≡ Some values → (n : ℕ) × HasMembers (Arr n) bytes values
+pub elements_are : (bytes : List ℕ) (values : List (List ℕ)) → IsWhole bytes
+    → elements_of bytes ≡ Some values → (n : ℕ) × HasMembers (Arr n) bytes values
 elements_are bytes values whole e = elements_by bytes (parts_of bytes) values refl whole e
 
 -- ---- pairs
@@ -170,19 +196,24 @@ abbrev pub in_a_row : List (List ℕ × List ℕ) → List (List ℕ)
 in_a_row pairs = flat_map (λ p. p.0 ∷ p.1 ∷ []) pairs
 
 -- an even row is its pairs, one after the other
-row_pairs : (n : ℕ) (values : List (List ℕ)) → n + n ≡ length values → in_a_row (pair_up values) ≡ values
+row_pairs : (n : ℕ) (values : List (List ℕ)) → n + n ≡ length values
+    → in_a_row (pair_up values) ≡ values
 row_pairs zero [] e = refl
 row_pairs zero (v ∷ values) e = absurd (omega (arith, e))
 row_pairs (suc n) [] e = absurd (omega (arith, e))
 row_pairs (suc n) (k ∷ []) e = absurd (omega (arith, e))
 row_pairs (suc n) (k ∷ v ∷ values) e = ap (λ xs. k ∷ v ∷ xs) (row_pairs n values (omega (arith, e)))
 
-pairs_by : (bytes : List ℕ) (o : Option (Head × List ℕ)) (pairs : List (List ℕ × List ℕ)) → parts_of bytes ≡ o → IsWhole bytes → option_and_then (λ parts. pairs_in parts.0 parts.1) o ≡ Some pairs → (n : ℕ) × HasMembers (Map n) bytes (in_a_row pairs)
+pairs_by : (bytes : List ℕ) (o : Option (Head × List ℕ)) (pairs : List (List ℕ × List ℕ))
+    → parts_of bytes ≡ o → IsWhole bytes
+    → option_and_then (λ parts. pairs_in parts.0 parts.1) o ≡ Some pairs
+    → (n : ℕ) × HasMembers (Map n) bytes (in_a_row pairs)
 unfolding parts_of
 pairs_by bytes None pairs h whole e = absurd cc
 pairs_by bytes (Some parts) pairs h whole e = by_head parts.0 refl e
   where
-    by_head : (head : Head) → parts.0 ≡ head → pairs_in head parts.1 ≡ Some pairs → (n : ℕ) × HasMembers (Map n) bytes (in_a_row pairs)
+    by_head : (head : Head) → parts.0 ≡ head → pairs_in head parts.1 ≡ Some pairs
+        → (n : ℕ) × HasMembers (Map n) bytes (in_a_row pairs)
     by_head (Map n) k e' =
         let found = members_by bytes (reading_of bytes) parts.0 parts.1 refl whole h (ap payload k) in
         let count : members (Map n) ≡ length (row_of_values parts.1) = sym (ap members k) ∙ found.count in
@@ -199,5 +230,6 @@ pairs_by bytes (Some parts) pairs h whole e = by_head parts.0 refl e
     by_head (Ext kind len) k e' = absurd cc
 
 -- the pairs of a whole value, one after the other, are the members of a map
-pub pairs_are : (bytes : List ℕ) (pairs : List (List ℕ × List ℕ)) → IsWhole bytes → pairs_of bytes ≡ Some pairs → (n : ℕ) × HasMembers (Map n) bytes (in_a_row pairs)
+pub pairs_are : (bytes : List ℕ) (pairs : List (List ℕ × List ℕ)) → IsWhole bytes
+    → pairs_of bytes ≡ Some pairs → (n : ℕ) × HasMembers (Map n) bytes (in_a_row pairs)
 pairs_are bytes pairs whole e = pairs_by bytes (parts_of bytes) pairs refl whole e

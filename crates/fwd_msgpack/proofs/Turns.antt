@@ -16,51 +16,76 @@ use Rattle.fwd_msgpack.specs.Scans.{first_of, found_behind, Verdict, Whole, Shor
 use Rattle.fwd_msgpack.proofs.Fronts.{answer, scanned, answer_short, answer_reserved, answer_fault, answer_payload, item_scanned, ended_shut, ended_opened, scanned-Ended}
 
 -- the reading of the bytes from a place on
-pub reading_here : (bytes : List ℕ) (used : ℕ) (r : HeadRead) → r ≡ reading_of (take (length bytes - used) (drop used bytes)) → reading_of (drop used bytes) ≡ r
+pub reading_here : (bytes : List ℕ) (used : ℕ) (r : HeadRead)
+    → r ≡ reading_of (take (length bytes - used) (drop used bytes))
+    → reading_of (drop used bytes) ≡ r
 reading_here bytes used r e = sym (e ∙ ap reading_of (take_rest bytes used))
 
-module _ (limit deep : ℕ) (bytes : List ℕ) (used : ℕ) (stack : List ℕ) (total : Verdict) (same : answer limit deep used stack (drop used bytes) ≡ total) where
-  pub short_here : read.Short ≡ reading_of (take (length bytes - used) (drop used bytes)) → Short ≡ total
+module _ (limit deep : ℕ) (bytes : List ℕ) (used : ℕ) (stack : List ℕ) (total : Verdict)
+    (same : answer limit deep used stack (drop used bytes) ≡ total) where
+  pub short_here : read.Short ≡ reading_of (take (length bytes - used) (drop used bytes))
+      → Short ≡ total
   short_here e = sym (answer_short limit deep used stack (drop used bytes) (reading_here bytes used read.Short e)) ∙ same
 
-  pub reserved_here : read.Reserved ≡ reading_of (take (length bytes - used) (drop used bytes)) → Bad Reserved ≡ total
+  pub reserved_here : read.Reserved ≡ reading_of (take (length bytes - used) (drop used bytes))
+      → Bad Reserved ≡ total
   reserved_here e = sym (answer_reserved limit deep used stack (drop used bytes) (reading_here bytes used read.Reserved e)) ∙ same
 
-  module _ (head : Head) (n : ℕ) (e : read.Whole head n ≡ reading_of (take (length bytes - used) (drop used bytes))) where
-    pub fault_here : (fault : ScanFault) → fault_at limit deep (used + n) stack head ≡ Some fault → Bad fault ≡ total
+  module _ (head : Head) (n : ℕ)
+      (e : read.Whole head n ≡ reading_of (take (length bytes - used) (drop used bytes))) where
+    pub fault_here : (fault : ScanFault)
+        → fault_at limit deep (used + n) stack head ≡ Some fault → Bad fault ≡ total
     fault_here fault bad = sym (answer_fault limit deep used stack (drop used bytes) head n fault (reading_here bytes used (read.Whole head n) e) bad) ∙ same
 
-    pub payload_here : fault_at limit deep (used + n) stack head ≡ None → length bytes - (used + n) < payload head → Short ≡ total
+    pub payload_here : fault_at limit deep (used + n) stack head ≡ None
+        → length bytes - (used + n) < payload head → Short ≡ total
     payload_here good lt =
         let short : length (drop n (drop used bytes)) < payload head = omega (arith, length-drop n (drop used bytes), length-drop used bytes) in
         sym (answer_payload limit deep used stack (drop used bytes) head n (reading_here bytes used (read.Whole head n) e) good short) ∙ same
 
-    module _ (good : fault_at limit deep (used + n) stack head ≡ None) (le : payload head ≤ length bytes - (used + n)) where
-      item_here : scanned limit deep (Going used stack (InHead [])) (drop used bytes) ≡ scanned limit deep (payload_ended (used + n + payload head) stack head) (drop (used + n + payload head) bytes)
+    module _ (good : fault_at limit deep (used + n) stack head ≡ None)
+        (le : payload head ≤ length bytes - (used + n)) where
+      item_here : scanned limit deep (Going used stack (InHead [])) (drop used bytes)
+          ≡ scanned limit deep (payload_ended (used + n + payload head) stack head)
+          (drop (used + n + payload head) bytes)
       item_here =
           let whole : payload head ≤ length (drop n (drop used bytes)) = omega (arith, length-drop n (drop used bytes), length-drop used bytes) in
           item_scanned limit deep used stack (drop used bytes) head n (reading_here bytes used (read.Whole head n) e) good whole
           ∙ ap (λ (xs : List ℕ). scanned limit deep (payload_ended (used + n + payload head) stack head) xs) (ap (λ (ys : List ℕ). drop (payload head) ys) (drop-drop n used bytes) ∙ drop-drop (payload head) (used + n) bytes)
 
-      pub opened_here : 0 < members head → answer limit deep (used + n + payload head) ((members head - 1) ∷ stack) (drop (used + n + payload head) bytes) ≡ total
+      pub opened_here : 0 < members head
+          → answer limit deep (used + n + payload head) ((members head - 1) ∷ stack)
+          (drop (used + n + payload head) bytes)
+          ≡ total
       opened_here lt =
           ap verdict_of (sym (item_here ∙ ap (λ (s : State). scanned limit deep s (drop (used + n + payload head) bytes)) (ended_opened (used + n + payload head) stack head (lt-ltb 0 (members head) lt)))) ∙ same
 
-      ended_here : members head ≤ 0 → scanned limit deep (Going used stack (InHead [])) (drop used bytes) ≡ scanned limit deep (goes_on (used + n + payload head) (after_value stack)) (drop (used + n + payload head) bytes)
+      ended_here : members head ≤ 0
+          → scanned limit deep (Going used stack (InHead [])) (drop used bytes)
+          ≡ scanned limit deep (goes_on (used + n + payload head) (after_value stack))
+          (drop (used + n + payload head) bytes)
       ended_here le = item_here ∙ ap (λ (s : State). scanned limit deep s (drop (used + n + payload head) bytes)) (ended_shut (used + n + payload head) stack head (le-ltb 0 (members head) le))
 
-      pub next_here : members head ≤ 0 → (next : List ℕ) → after_value stack ≡ Some next → answer limit deep (used + n + payload head) next (drop (used + n + payload head) bytes) ≡ total
+      pub next_here : members head ≤ 0 → (next : List ℕ) → after_value stack ≡ Some next
+          → answer limit deep (used + n + payload head) next
+          (drop (used + n + payload head) bytes)
+          ≡ total
       next_here le next e =
           ap verdict_of (sym (ended_here le ∙ ap (λ (o : Option (List ℕ)). scanned limit deep (goes_on (used + n + payload head) o) (drop (used + n + payload head) bytes)) e)) ∙ same
 
-      pub whole_here : members head ≤ 0 → after_value stack ≡ None → Whole (used + n + payload head) ≡ total
+      pub whole_here : members head ≤ 0 → after_value stack ≡ None
+          → Whole (used + n + payload head) ≡ total
       whole_here le e =
           sym (ap verdict_of (ended_here le ∙ ap (λ (o : Option (List ℕ)). scanned limit deep (goes_on (used + n + payload head) o) (drop (used + n + payload head) bytes)) e ∙ scanned-Ended limit deep (used + n + payload head) (drop (used + n + payload head) bytes))) ∙ same
 
-module _ (limit deep : ℕ) (bytes : List ℕ) (used : ℕ) (stack : List ℕ) (total : Verdict) (same : answer limit deep used stack (drop used bytes) ≡ total)
-    (size : ℕ) (plain : plain_len (reading_of (take (length bytes - used) (drop used bytes))) ≡ Some size) (inside : used + size ≤ length bytes) (fits : used + size + sum stack ≤ limit) where
+module _ (limit deep : ℕ) (bytes : List ℕ) (used : ℕ) (stack : List ℕ) (total : Verdict)
+    (same : answer limit deep used stack (drop used bytes) ≡ total)
+    (size : ℕ)
+    (plain : plain_len (reading_of (take (length bytes - used) (drop used bytes))) ≡ Some size)
+    (inside : used + size ≤ length bytes) (fits : used + size + sum stack ≤ limit) where
   -- behind a plain item in an open container
-  pub next_plain : (next : List ℕ) → after_value stack ≡ Some next → answer limit deep (used + size) next (drop (used + size) bytes) ≡ total
+  pub next_plain : (next : List ℕ) → after_value stack ≡ Some next
+      → answer limit deep (used + size) next (drop (used + size) bytes) ≡ total
   next_plain next e =
       let p = ReadsPlain-from (take (length bytes - used) (drop used bytes)) size plain in
       let none = no_members p.head p.shut in
@@ -83,8 +108,13 @@ module _ (limit deep : ℕ) (bytes : List ℕ) (used : ℕ) (stack : List ℕ) (
       ap Whole (sym at) ∙ whole_here limit deep bytes used stack total same p.head p.n p.reads good le none e
 
 -- behind members of the innermost container
-pub behind_members : (limit deep : ℕ) (bytes : List ℕ) (used : ℕ) (stack : List ℕ) (items len : ℕ) → AreMembers (drop used bytes) items len → items ≤ innermost stack → (items ≡ 0 → len ≡ 0)
-    → used + len + sum stack ≤ limit → found_behind limit deep (used + len) (less_by items stack) bytes ≡ found_behind limit deep used stack bytes
+pub behind_members :
+    (limit deep : ℕ) (bytes : List ℕ) (used : ℕ) (stack : List ℕ) (items len : ℕ)
+    → AreMembers (drop used bytes) items len → items ≤ innermost stack
+    → (items ≡ 0 → len ≡ 0)
+    → used + len + sum stack ≤ limit
+    → found_behind limit deep (used + len) (less_by items stack) bytes
+    ≡ found_behind limit deep used stack bytes
 behind_members limit deep bytes used [] items len are most none fits =
     let zero_len = none (omega arith) in
     let at : used + len ≡ used = omega arith in
@@ -95,7 +125,9 @@ behind_members limit deep bytes used (lacking ∷ stack) items len are most none
     ∙ ap (λ (xs : List ℕ). answer limit deep (used + len) ((lacking - items) ∷ stack) xs) (drop-drop len used bytes))
 
 -- a plain item at the front is the first value
-pub plain_first : (limit deep : ℕ) (bytes : List ℕ) (size : ℕ) → plain_len (reading_of bytes) ≡ Some size → size ≤ length bytes → size ≤ limit → first_of limit deep bytes ≡ Whole size
+pub plain_first : (limit deep : ℕ) (bytes : List ℕ) (size : ℕ)
+    → plain_len (reading_of bytes) ≡ Some size → size ≤ length bytes → size ≤ limit
+    → first_of limit deep bytes ≡ Whole size
 unfolding first_of
 plain_first limit deep bytes size plain inside fits =
     let here = ap (λ (xs : List ℕ). plain_len (reading_of xs)) (take_rest bytes 0) ∙ plain in

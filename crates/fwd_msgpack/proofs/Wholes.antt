@@ -6,7 +6,8 @@ use Rattle.fwd_msgpack.specs.Scans.{Whole, State, Going, Ended, Failed, InHead, 
 use Rattle.fwd_msgpack.proofs.Fronts.{scanned, scanned-Ended}
 use Rattle.fwd_msgpack.proofs.Solo.{solo}
 
-pub scanned-append : (limit deep : ℕ) (state : State) (xs ys : List ℕ) → scanned limit deep state (xs ++ ys) ≡ scanned limit deep (scanned limit deep state xs) ys
+pub scanned-append : (limit deep : ℕ) (state : State) (xs ys : List ℕ)
+    → scanned limit deep state (xs ++ ys) ≡ scanned limit deep (scanned limit deep state xs) ys
 scanned-append limit deep state xs ys = fold-append (scan_byte limit deep) state xs ys
 
 pub state_whole : (state : State) (n : ℕ) → verdict_of state ≡ Whole n → state ≡ Ended n
@@ -21,7 +22,10 @@ pub record Front (limit deep : ℕ) (bytes : List ℕ) (n : ℕ) : Type 0 where
   pub len : length (take n bytes) ≡ n
   pub alone : first_of limit deep (take n bytes) ≡ Whole (length (take n bytes))
 
-pub Front-from : (limit deep limit' deep' : ℕ) (longer : limit ≤ limit') (deeper : deep ≤ deep') (bytes : List ℕ) (n : ℕ) → first_of limit deep bytes ≡ Whole n → Front limit' deep' bytes n
+pub Front-from :
+    (limit deep limit' deep' : ℕ) (longer : limit ≤ limit') (deeper : deep ≤ deep')
+    (bytes : List ℕ) (n : ℕ)
+    → first_of limit deep bytes ≡ Whole n → Front limit' deep' bytes n
 unfolding first_of
 Front-from limit deep limit' deep' longer deeper bytes n e =
     let s = solo limit deep limit' deep' [] longer (omega arith) 0 0 [] (InHead []) bytes n (omega arith) (state_whole (scanned limit deep start bytes) n e) in

@@ -13,23 +13,31 @@ pub record IsGood (limit deep used : ℕ) (stack : List ℕ) (head : Head) : Typ
   pub shallow : opens head ≡ true → length stack < deep
   pub fits : used + (payload head + members head + sum stack) ≤ limit
 
-good_by : (limit deep used : ℕ) (stack : List ℕ) (head : Head) (a b c : Bool) → opens head ≡ a → leb deep (length stack) ≡ b
-    → ltb limit (used + (payload head + members head + sum stack)) ≡ c → cond (a && b) (Some TooDeep) (cond c (Some TooLong) None) ≡ None → IsGood limit deep used stack head
+good_by : (limit deep used : ℕ) (stack : List ℕ) (head : Head) (a b c : Bool)
+    → opens head ≡ a → leb deep (length stack) ≡ b
+    → ltb limit (used + (payload head + members head + sum stack)) ≡ c
+    → cond (a && b) (Some TooDeep) (cond c (Some TooLong) None) ≡ None
+    → IsGood limit deep used stack head
 good_by limit deep used stack head true true c oa ob oc h = absurd cc
 good_by limit deep used stack head true false true oa ob oc h = absurd cc
 good_by limit deep used stack head true false false oa ob oc h = record { shallow = λ e. leb-false deep (length stack) ob; fits = ltb-false limit _ oc }
 good_by limit deep used stack head false b true oa ob oc h = absurd cc
 good_by limit deep used stack head false b false oa ob oc h = record { shallow = λ e. absurd cc; fits = ltb-false limit _ oc }
 
-pub IsGood-from : (limit deep used : ℕ) (stack : List ℕ) (head : Head) → fault_at limit deep used stack head ≡ None → IsGood limit deep used stack head
+pub IsGood-from : (limit deep used : ℕ) (stack : List ℕ) (head : Head)
+    → fault_at limit deep used stack head ≡ None → IsGood limit deep used stack head
 unfolding fault_at
 IsGood-from limit deep used stack head h = good_by limit deep used stack head (opens head) (leb deep (length stack)) (ltb limit (used + (payload head + members head + sum stack))) refl refl refl h
 
-none_by : (deep depth limit total : ℕ) (a : Bool) → (a ≡ true → depth < deep) → total ≤ limit → cond (a && leb deep depth) (Some TooDeep) (cond (ltb limit total) (Some TooLong) None) ≡ None
+none_by : (deep depth limit total : ℕ) (a : Bool) → (a ≡ true → depth < deep)
+    → total ≤ limit
+    → cond (a && leb deep depth) (Some TooDeep) (cond (ltb limit total) (Some TooLong) None)
+    ≡ None
 none_by deep depth limit total true shallow fits = rw (lt-leb deep depth (shallow refl), le-ltb limit total fits) refl
 none_by deep depth limit total false shallow fits = rw (le-ltb limit total fits) refl
 
-pub IsGood-none : (limit deep used : ℕ) (stack : List ℕ) (head : Head) → IsGood limit deep used stack head → fault_at limit deep used stack head ≡ None
+pub IsGood-none : (limit deep used : ℕ) (stack : List ℕ) (head : Head)
+    → IsGood limit deep used stack head → fault_at limit deep used stack head ≡ None
 unfolding fault_at
 IsGood-none limit deep used stack head good = none_by deep (length stack) limit (used + (payload head + members head + sum stack)) (opens head) good.shallow good.fits
 

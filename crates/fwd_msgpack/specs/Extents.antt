@@ -3,6 +3,7 @@ use Rattle.fwd_msgpack.specs.declared.scan.Extent.{Extent}
 use Rattle.fwd_msgpack.specs.declared.scan.Extent.TheVariants as extents
 use Rattle.fwd_msgpack.specs.Scans.{Verdict, Whole, Short, Bad}
 
+-- the verdict that an extent is
 abbrev pub verdict_shown : Extent → Verdict
 verdict_shown (extents.Whole used) = Whole used
 verdict_shown extents.Short = Short

@@ -1,4 +1,5 @@
--- The heads of MessagePack: the table of first bytes, what a front of bytes reads as, and the shortest spelling.
+-- The heads of MessagePack: the table of first bytes, what
+-- a front of bytes reads as, and the shortest spelling.
 use Rattle.std.specs.Prelude.{◌≡◌, ◌⊎◌, ℕ, ◌+◌, ◌-◌, ◌*◌, ◌^◌, ◌<◌, ◌≤◌, ◌==◌, Bool, true, false, if◌then◌else◌, nat_lt, nat_le, List, [], ◌∷◌, ◌++◌, length, take, slice_index, slice_index_or, Option, Some, None, FitsSigned}
 use Rattle.std.specs.Int.{Width, w8, w16, w32, w64, byte_len, from_be_bytes, to_be_bytes, cast_signed, cast_unsigned}
 use Rattle.fwd_msgpack.specs.declared.head.Head.{Head}
@@ -6,14 +7,18 @@ use Rattle.fwd_msgpack.specs.declared.head.Head.TheVariants.{Nil, Bool as Boolea
 use Rattle.fwd_msgpack.specs.declared.head.HeadRead.{HeadRead}
 use Rattle.fwd_msgpack.specs.declared.head.HeadRead.TheVariants.{Whole, Short, Reserved}
 
--- A row of the table of first bytes: how many bytes of the head follow the first, and the head that they spell.
+-- A row of the table of first bytes: how many bytes of the
+-- head follow the first, and the head that they spell.
 pub record Row : Type 0 where
   pub more : ℕ
   pub spells : List ℕ → Head
 
 -- the number at the front of the bytes, big-endian
 abbrev pub number_at : Width → List ℕ → Option ℕ
-number_at w bytes = if nat_lt (length bytes) (byte_len w) then None else Some (from_be_bytes w (take (byte_len w) bytes))
+number_at w bytes =
+    if nat_lt (length bytes) (byte_len w)
+    then None
+    else Some (from_be_bytes w (take (byte_len w) bytes))
 
 -- the first byte is the whole head
 abbrev pub fixed : Head → Option Row
@@ -27,20 +32,28 @@ sized w kind = Some (record { more = byte_len w; spells = λ bytes. kind (from_b
 abbrev pub unsigned : Width → Option Row
 unsigned w = sized w (λ n. Int false n)
 
--- the integer that the low half of 2 ^ bits spells as itself, and the high half as what it lacks to 2 ^ bits
+-- the integer that the low half of 2 ^ bits spells as
+-- itself, and the high half as what it lacks to 2 ^ bits
 abbrev pub twos_complement : ℕ → ℕ → Head
 twos_complement half n = if nat_lt n half then Int false n else Int true (2 * half - n)
 
+-- a number that may be negative, in twos complement
 abbrev pub signed : Width → ℕ → Option Row
 signed w half = sized w (twos_complement half)
 
 -- a type byte, which is signed
 abbrev pub extended : ℕ → Option Row
-extended len = Some (record { more = 1; spells = λ bytes. Ext (cast_signed w8 (slice_index bytes 0)) len })
+extended len =
+    Some (record { more = 1; spells = λ bytes. Ext (cast_signed w8 (slice_index bytes 0)) len })
 
 -- a length, and then a type byte
 abbrev pub sized_ext : Width → Option Row
-sized_ext w = Some (record { more = byte_len w + 1; spells = λ bytes. Ext (cast_signed w8 (slice_index bytes (byte_len w))) (from_be_bytes w bytes) })
+sized_ext w =
+    Some (record {
+      more = byte_len w + 1;
+      spells =
+          λ bytes. Ext (cast_signed w8 (slice_index bytes (byte_len w))) (from_be_bytes w bytes);
+    })
 
 -- the rows of the first bytes c0 to df, in order
 unfoldable pub named_rows : List (Option Row)
@@ -50,7 +63,8 @@ named_rows =
     ∷ sized_ext w8 ∷ sized_ext w16 ∷ sized_ext w32
     ∷ fixed (Float 4) ∷ fixed (Float 8)
     ∷ unsigned w8 ∷ unsigned w16 ∷ unsigned w32 ∷ unsigned w64
-    ∷ signed w8 0x80 ∷ signed w16 0x8000 ∷ signed w32 0x8000_0000 ∷ signed w64 0x8000_0000_0000_0000
+    ∷ signed w8 0x80 ∷ signed w16 0x8000 ∷ signed w32 0x8000_0000
+    ∷ signed w64 0x8000_0000_0000_0000
     ∷ extended 1 ∷ extended 2 ∷ extended 4 ∷ extended 8 ∷ extended 16
     ∷ sized w8 Str ∷ sized w16 Str ∷ sized w32 Str
     ∷ sized w16 Arr ∷ sized w32 Arr
@@ -70,7 +84,10 @@ row_of first =
 -- what a row makes of the bytes behind the first
 abbrev pub row_reading : Option Row → List ℕ → HeadRead
 row_reading None rest = Reserved
-row_reading (Some row) rest = if nat_lt (length rest) row.more then Short else Whole (row.spells (take row.more rest)) (row.more + 1)
+row_reading (Some row) rest =
+    if nat_lt (length rest) row.more
+    then Short
+    else Whole (row.spells (take row.more rest)) (row.more + 1)
 
 -- the head at the front of the bytes, read through the table, and how many bytes it takes
 unfoldable pub reading_of : List ℕ → HeadRead
@@ -119,6 +136,7 @@ IsSpelled (Int true mag) = (1 ≤ mag) × (mag ≤ 2 ^ 63)
 IsSpelled (Float len) = (len ≡ 4) ⊎ (len ≡ 8)
 IsSpelled _ = Unit {0}
 
+-- a number that is not negative (MessagePack specification, "int format family")
 abbrev pub unsigned_bytes : ℕ → List ℕ
 unsigned_bytes n =
     if nat_lt n 0x80 then n ∷ []
@@ -136,9 +154,11 @@ negative_bytes n =
     else if nat_le n 0x8000_0000 then 0xd2 ∷ to_be_bytes w32 (0x1_0000_0000 - n)
     else 0xd3 ∷ to_be_bytes w64 (0x1_0000_0000_0000_0000 - n)
 
+-- the head of a float of 4 or 8 bytes ("float format family")
 abbrev pub float_bytes : ℕ → List ℕ
 float_bytes len = (if len == 4 then 0xca else 0xcb) ∷ []
 
+-- the head of a str of so many bytes ("str format family")
 abbrev pub str_bytes : ℕ → List ℕ
 str_bytes len =
     if nat_lt len 0x20 then (0xa0 + len) ∷ []
@@ -146,18 +166,21 @@ str_bytes len =
     else if nat_lt len 0x1_0000 then 0xda ∷ to_be_bytes w16 len
     else 0xdb ∷ to_be_bytes w32 len
 
+-- the head of a bin of so many bytes ("bin format family")
 abbrev pub bin_bytes : ℕ → List ℕ
 bin_bytes len =
     if nat_lt len 0x100 then 0xc4 ∷ len ∷ []
     else if nat_lt len 0x1_0000 then 0xc5 ∷ to_be_bytes w16 len
     else 0xc6 ∷ to_be_bytes w32 len
 
+-- the head of an array of so many members ("array format family")
 abbrev pub arr_bytes : ℕ → List ℕ
 arr_bytes n =
     if nat_lt n 0x10 then (0x90 + n) ∷ []
     else if nat_lt n 0x1_0000 then 0xdc ∷ to_be_bytes w16 n
     else 0xdd ∷ to_be_bytes w32 n
 
+-- the head of a map of so many pairs ("map format family")
 abbrev pub map_bytes : ℕ → List ℕ
 map_bytes n =
     if nat_lt n 0x10 then (0x80 + n) ∷ []

@@ -5,16 +5,19 @@ use Rattle.fwd_msgpack.specs.declared.head.HeadRead.TheVariants.{Whole, Short, R
 use Rattle.fwd_msgpack.specs.Heads.{payload, opens}
 use Rattle.fwd_msgpack.specs.Scans.{Going, InHead, scan_byte}
 
--- How many bytes the item takes that begins with what was read, its head and its payload: none where it is an array or a map.
+-- How many bytes the item takes that begins with what was read, its head and its payload: none
+-- where it is an array or a map.
 abbrev pub plain_len : HeadRead → Option ℕ
 plain_len (Whole head used) = if opens head then None else Some (used + payload head)
 plain_len Short = None
 plain_len Reserved = None
 
--- The first bytes are so many items that open nothing: a scan of a container that lacks as many, and is within the limit behind
--- them, goes over them, and each is one member.
+-- The first bytes are so many items that open nothing: a scan of a container that lacks as many,
+-- and is within the limit behind them, goes over them, and each is one member.
 abbrev pub AreMembers : List ℕ → (items used : ℕ) → Type 0
 AreMembers bytes items used =
-    (limit deep from lacking : ℕ) (stack : List ℕ) → items ≤ lacking → from + used + (lacking + sum stack) ≤ limit
+    (limit deep from lacking : ℕ) (stack : List ℕ) → items ≤ lacking
+    → from + used + (lacking + sum stack) ≤ limit
     → fold (scan_byte limit deep) (Going from (lacking ∷ stack) (InHead [])) bytes
-    ≡ fold (scan_byte limit deep) (Going (from + used) ((lacking - items) ∷ stack) (InHead [])) (drop used bytes)
+    ≡ fold (scan_byte limit deep) (Going (from + used) ((lacking - items) ∷ stack) (InHead []))
+    (drop used bytes)

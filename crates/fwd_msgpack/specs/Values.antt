@@ -26,7 +26,9 @@ pub record IsPlain (bytes : List ℕ) : Type 0 where
 -- the bytes are n parts one after the other, each of which is a P
 unfoldable pub InARow : (List ℕ → Type 0) → ℕ → List ℕ → Type 0
 InARow P zero bytes = bytes ≡ []
-InARow P (suc n) bytes = (first : List ℕ) × ((rest : List ℕ) × ((bytes ≡ first ++ rest) × P first × InARow P n rest))
+InARow P (suc n) bytes =
+    (first : List ℕ)
+    × ((rest : List ℕ) × ((bytes ≡ first ++ rest) × P first × InARow P n rest))
 
 -- The bytes are an array or a map: a head, and as many members as it opens, each of which is a P.
 pub record IsContainer (P : List ℕ → Type 0) (bytes : List ℕ) : Type 0 where

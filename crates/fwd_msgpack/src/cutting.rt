@@ -8,8 +8,8 @@ use crate::limits::Limits;
 use crate::scan::{Extent, extent_of};
 use crate::value::{Cut, Value};
 
-/// The value at the front of the bytes, or the first fault (MessagePack specification, "Formats"). It takes
-/// no memory.
+/// The value at the front of the bytes, or the first fault
+/// (MessagePack specification, "Formats"). It takes no memory.
 pub fn cut(bytes: &[u8], limits: Limits) -> Cut<'_>
     ensures verdict { seen result ≡ first_of limits.bytes limits.depth bytes.now }
     ensures front { IsFront bytes.now result }

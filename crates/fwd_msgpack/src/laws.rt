@@ -13,49 +13,61 @@ ghost use Rattle.fwd_msgpack.specs.Heads.{IsHead, IsSpelled, head_bytes, reading
 /// A written head is read back whole as itself, whatever follows it.
 #[tactic(auto, using(crate::proofs::Spellings::read_back))]
 pub fn read_back()
-    ensures { (head : Head) (rest : List ℕ) → IsHead head → IsSpelled head → reading_of (head_bytes head ++ rest) ≡ read.Whole head (length (head_bytes head)) }
+    ensures { (head : Head) (rest : List ℕ) → IsHead head → IsSpelled head
+        → reading_of (head_bytes head ++ rest) ≡ read.Whole head (length (head_bytes head)) }
 {}
 
 /// No spelling of a head is shorter than the written one.
 pub fn written_is_shortest()
-    ensures { (bytes : List ℕ) (head : Head) (n : ℕ) → AreBytes bytes → reading_of bytes ≡ read.Whole head n → length (head_bytes head) ≤ n }
+    ensures { (bytes : List ℕ) (head : Head) (n : ℕ) → AreBytes bytes
+        → reading_of bytes ≡ read.Whole head n → length (head_bytes head) ≤ n }
 {}
 
 /// What a scan finds at the front of a stream is what the stream begins with.
 pub fn first_is_first()
-    ensures { (limit deep : ℕ) (bytes : List ℕ) → AreBytes bytes → IsFirst limit deep bytes (first_of limit deep bytes) }
+    ensures { (limit deep : ℕ) (bytes : List ℕ) → AreBytes bytes
+        → IsFirst limit deep bytes (first_of limit deep bytes) }
 {}
 
 /// A stream begins with one thing only.
 pub fn one_verdict()
-    ensures { (limit deep : ℕ) (bytes : List ℕ) (v w : Verdict) → AreBytes bytes → IsFirst limit deep bytes v → IsFirst limit deep bytes w → v ≡ w }
+    ensures { (limit deep : ℕ) (bytes : List ℕ) (v w : Verdict) → AreBytes bytes
+        → IsFirst limit deep bytes v → IsFirst limit deep bytes w → v ≡ w }
 {}
 
 /// No value is a proper prefix of another.
 pub fn no_prefix()
-    ensures { (deep most : ℕ) (value more : List ℕ) → IsValue deep value → IsValue most (value ++ more) → more ≡ [] }
+    ensures { (deep most : ℕ) (value more : List ℕ) → IsValue deep value
+        → IsValue most (value ++ more) → more ≡ [] }
 {}
 
-/// What a stream is split into: its values, each within the limits, and a rest that is less than one, or the
-/// first fault.
+/// What a stream is split into: its values, each within the
+/// limits, and a rest that is less than one, or the first fault.
 pub fn split_is_stream()
-    ensures { (limit deep : ℕ) (bytes : List ℕ) → AreBytes bytes → IsStream limit deep bytes (split_of limit deep bytes) }
+    ensures { (limit deep : ℕ) (bytes : List ℕ) → AreBytes bytes
+        → IsStream limit deep bytes (split_of limit deep bytes) }
 {}
 
 /// A stream in two pieces is the first one, continued: its values stay, and its rest goes on.
 pub fn split_continues()
-    ensures { (limit deep : ℕ) (bytes more : List ℕ) → split_of limit deep (bytes ++ more) ≡ continued limit deep (split_of limit deep bytes) more }
+    ensures { (limit deep : ℕ) (bytes more : List ℕ)
+        → split_of limit deep (bytes ++ more)
+        ≡ continued limit deep (split_of limit deep bytes) more }
 {}
 
-/// The elements of a whole value are the members of an array: its head, and as many values as it opens.
+/// The elements of a whole value are the members of an
+/// array: its head, and as many values as it opens.
 pub fn elements_are_members()
-    ensures { (bytes : List ℕ) (values : List (List ℕ)) → IsWhole bytes → elements_of bytes ≡ Some values → (n : ℕ) × HasMembers (Arr n) bytes values }
+    ensures { (bytes : List ℕ) (values : List (List ℕ)) → IsWhole bytes
+        → elements_of bytes ≡ Some values → (n : ℕ) × HasMembers (Arr n) bytes values }
 {}
 
-/// The pairs of a whole value are the members of a map, each key before its value: its head, and twice as many values as it
-/// has pairs.
+/// The pairs of a whole value are the members of a map, each key before its value: its head, and
+/// twice as many values as it has pairs.
 pub fn pairs_are_members()
-    ensures { (bytes : List ℕ) (pairs : List (List ℕ × List ℕ)) → IsWhole bytes → pairs_of bytes ≡ Some pairs → (n : ℕ) × HasMembers (Map n) bytes (flat_map (λ p. p.0 ∷ p.1 ∷ []) pairs) }
+    ensures { (bytes : List ℕ) (pairs : List (List ℕ × List ℕ)) → IsWhole bytes
+        → pairs_of bytes ≡ Some pairs
+        → (n : ℕ) × HasMembers (Map n) bytes (flat_map (λ p. p.0 ∷ p.1 ∷ []) pairs) }
 {}
 
 /// What is whole is a value, at most 64 deep and less than 2^32 bytes long.

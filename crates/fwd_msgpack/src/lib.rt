@@ -26,6 +26,3 @@ pub use members::{Members, Pairs};
 pub use seq::{Bytes, Seq};
 pub use value::{Cut, Value};
 pub use writing::{write_head, write_text};
-
-#[cfg(test)]
-mod tests;

@@ -40,7 +40,8 @@ impl<'a> Iterator for Members<'a> {
     }
 }
 
-/// How many bytes the first of so many values in a row takes. The last one is all that is left, and is not scanned again.
+/// How many bytes the first of so many values in a row takes.
+/// The last one is all that is left, and is not scanned again.
 #[inline(always)]
 fn first_len(row: &[u8], values: u64) -> usize
     requires row { IsRow row.now }
@@ -71,7 +72,8 @@ impl<'a> Pairs<'a> {
     ghost use Rattle.fwd_msgpack.specs.Texts.{last_under};
     ghost use Rattle.fwd_msgpack.specs.Values.{bytes_of, pairs_left};
 
-    /// The value under a key, which is a str or a bin of these bytes: of a key that is given more than once the last counts.
+    /// The value under a key, which is a str or a bin of these
+    /// bytes: of a key that is given more than once the last counts.
     pub fn last_under(self, key: &[u8]) -> Option<Value<'a>>
         ensures { option_map bytes_of result ≡ last_under key.now (pairs_left self.entry) }
     {

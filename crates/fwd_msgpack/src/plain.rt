@@ -4,9 +4,10 @@ ghost use Rattle.std.specs.Prelude.{◌≡◌, ◌≤◌, ◌<◌, ◌+◌, ◌�
 ghost use Rattle.fwd_msgpack.specs.Heads.{reading_of};
 ghost use Rattle.fwd_msgpack.specs.Plain.{plain_len, AreMembers};
 
-/// How many bytes an item takes, by its first byte, where that says it: a nil, a bool, a number, a text of up to 31 bytes, or
-/// an extension of a fixed length. Otherwise 0, which is never wrong: the item's head is then read. The table is a constant,
-/// which the proof sees, and which the compiler keeps as 256 bytes.
+/// How many bytes an item takes, by its first byte, where that says it: a nil, a
+/// bool, a number, a text of up to 31 bytes, or an extension of a fixed length.
+/// Otherwise 0, which is never wrong: the item's head is then read. The table is
+/// a constant, which the proof sees, and which the compiler keeps as 256 bytes.
 const SIZES: [u8; 256] = [
     // 00 to 7f: numbers from 0 to 127
     1, 1, 1, 1, 1, 1, 1, 1, 1, 1, 1, 1, 1, 1, 1, 1, 1, 1, 1, 1, 1, 1, 1, 1, 1, 1, 1, 1, 1, 1, 1, 1,
@@ -33,12 +34,14 @@ const SIZES: [u8; 256] = [
     1, 1, 1, 1, 1, 1, 1, 1, 1, 1, 1, 1, 1, 1, 1, 1, 1, 1, 1, 1, 1, 1, 1, 1, 1, 1, 1, 1, 1, 1, 1, 1,
 ];
 
-/// How many bytes an item takes that begins with this byte, or 0 where its head is to be read. A text's size is computed, though
-/// it stands in the table too: that takes less time than to look it up.
+/// How many bytes an item takes that begins with this byte, or 0
+/// where its head is to be read. A text's size is computed, though it
+/// stands in the table too: that takes less time than to look it up.
 #[inline(always)]
 #[tactic(auto, using(crate::proofs::Sizes::size_told, crate::proofs::Sizes::text_told))]
 fn plain_size(first: u8) -> usize
-    ensures { (rest : List ℕ) → 0 < result → result ≤ length rest + 1 → plain_len (reading_of (first ∷ rest)) ≡ Some result }
+    ensures { (rest : List ℕ) → 0 < result → result ≤ length rest + 1
+        → plain_len (reading_of (first ∷ rest)) ≡ Some result }
 {
     match first {
         0xa0..=0xbf => usize::from(first - 0xa0) + 1,
@@ -46,7 +49,8 @@ fn plain_size(first: u8) -> usize
     }
 }
 
-/// How many bytes the item at the front takes, where its first byte says it, and it has at most `room` bytes.
+/// How many bytes the item at the front takes, where its
+/// first byte says it, and it has at most `room` bytes.
 #[inline(always)]
 pub fn plain_item(bytes: &[u8], room: usize) -> Option<usize>
     requires { room ≤ length bytes.now }
@@ -63,8 +67,8 @@ pub fn plain_item(bytes: &[u8], room: usize) -> Option<usize>
     }
 }
 
-/// Goes over the items at the front whose first bytes say their sizes, at most so many. How many they are, and how many bytes
-/// they take.
+/// Goes over the items at the front whose first bytes say their sizes, at most so many. How many
+/// they are, and how many bytes they take.
 #[inline(always)]
 pub fn plain_items(bytes: &[u8], most: u32) -> (u32, usize)
     ensures members { AreMembers bytes.now result.0 result.1 }

@@ -58,13 +58,14 @@ pub fn extent_of(bytes: &[u8], limits: Limits) -> Extent
     }
 }
 
-/// Goes over the members of the innermost container whose first bytes say their sizes, but its last one. Where the next
-/// item begins.
+/// Goes over the members of the innermost container whose first bytes say their sizes, but its last
+/// one. Where the next item begins.
 #[inline(always)]
 fn skip_members(bytes: &[u8], used: usize, stack: &mut Stack, limits: Limits) -> usize
     requires inside { used ≤ length bytes.now }
     requires fits { used + sum stack.old ≤ limits.bytes }
-    ensures same { found_behind limits.bytes limits.depth result stack.new bytes.now ≡ found_behind limits.bytes limits.depth used stack.old bytes.now }
+    ensures same { found_behind limits.bytes limits.depth result stack.new bytes.now
+        ≡ found_behind limits.bytes limits.depth used stack.old bytes.now }
     ensures opened { length stack.new ≡ length stack.old }
     ensures inside { result ≤ length bytes.now }
     ensures fits { result + sum stack.new ≤ limits.bytes }
@@ -76,8 +77,8 @@ fn skip_members(bytes: &[u8], used: usize, stack: &mut Stack, limits: Limits) ->
     used + len
 }
 
-/// How many bytes an item behind the first `used` bytes may have: what there is, and what the limit leaves behind all that
-/// is owed.
+/// How many bytes an item behind the first `used` bytes may have: what there is, and what the limit
+/// leaves behind all that is owed.
 #[inline(always)]
 fn room_at(bytes: &[u8], used: usize, stack: &Stack, limits: Limits) -> usize
     requires inside { used ≤ length bytes.now }

@@ -6,7 +6,8 @@ ghost use Rattle.fwd_msgpack.specs.Stacks.{innermost, less_by};
 
 use std::marker::Model;
 
-/// The open containers, from the innermost: how many members each still lacks after the one in progress.
+/// The open containers, from the innermost: how many
+/// members each still lacks after the one in progress.
 #[derive(Drop)]
 pub struct Stack {
     lacking: [u32; 64],
@@ -55,7 +56,8 @@ impl Stack {
         self.owed
     }
 
-    /// How many members the innermost container lacks after the one in progress; 0 where none is open.
+    /// How many members the innermost container lacks after
+    /// the one in progress; 0 where none is open.
     #[inline(always)]
     pub fn innermost(&self) -> u32
         ensures { result ≡ innermost self.now }
@@ -91,8 +93,8 @@ impl Stack {
         self.owed += u64::from(lacking);
     }
 
-    /// Ends a value in the innermost container, and each container that lacks nothing then. Whether one
-    /// is left open, which goes on to its next member.
+    /// Ends a value in the innermost container, and each container that lacks nothing then. Whether
+    /// one is left open, which goes on to its next member.
     #[inline(always)]
     pub fn end_value(&mut self) -> bool
         ensures { after_value self.old ≡ (if result then Some self.new else None) }

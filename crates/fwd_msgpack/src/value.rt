@@ -8,8 +8,8 @@ use crate::fault::ScanFault;
 use crate::head::{Head, HeadRead, read_head};
 use crate::members::{Members, Pairs};
 
-/// One whole value: its bytes, borrowed. Arrays and maps nest at most 64 deep in it, and it has less than
-/// 2^32 bytes. Reading it takes no memory.
+/// One whole value: its bytes, borrowed. Arrays and maps nest at most 64 deep in it, and it has
+/// less than 2^32 bytes. Reading it takes no memory.
 #[derive(Clone, Copy, Debug)]
 pub struct Value<'a> {
     pub(crate) bytes: &'a [u8],
@@ -56,7 +56,8 @@ impl<'a> Value<'a> {
     /// The members of an array, or nothing for another kind.
     pub fn items(self) -> Option<Members<'a>>
         ensures value { option_map members_left result ≡ elements_of (bytes_of self.entry) }
-        ensures within { IfSome result (λ m. length (concat (members_left m)) < length (bytes_of self.entry)) }
+        ensures within { IfSome result (λ m.
+            length (concat (members_left m)) < length (bytes_of self.entry)) }
         ensures bound { IfSome result (λ m. length (concat (members_left m)) + 1 < 2 ^ 32) }
     {
         match self.parts() {

@@ -10,14 +10,16 @@ use std::alloc::AllocError;
 
 /// Appends a first byte and one byte.
 fn put_8(out: &mut Vec<u8>, first: u8, n: u8) -> Result<(), AllocError>
-    ensures { out.new.items ≡ (if is_ok result then out.old.items ++ first ∷ n ∷ [] else out.old.items) }
+    ensures { out.new.items
+        ≡ (if is_ok result then out.old.items ++ first ∷ n ∷ [] else out.old.items) }
 {
     out.extend_from_slice(&[first, n])
 }
 
 /// Appends a first byte and two bytes.
 fn put_16(out: &mut Vec<u8>, first: u8, n: u16) -> Result<(), AllocError>
-    ensures { out.new.items ≡ (if is_ok result then out.old.items ++ first ∷ to_be_bytes w16 n else out.old.items) }
+    ensures { out.new.items
+        ≡ (if is_ok result then out.old.items ++ first ∷ to_be_bytes w16 n else out.old.items) }
 {
     let [a, b] = n.to_be_bytes();
     out.extend_from_slice(&[first, a, b])
@@ -25,7 +27,8 @@ fn put_16(out: &mut Vec<u8>, first: u8, n: u16) -> Result<(), AllocError>
 
 /// Appends a first byte and four bytes.
 fn put_32(out: &mut Vec<u8>, first: u8, n: u32) -> Result<(), AllocError>
-    ensures { out.new.items ≡ (if is_ok result then out.old.items ++ first ∷ to_be_bytes w32 n else out.old.items) }
+    ensures { out.new.items
+        ≡ (if is_ok result then out.old.items ++ first ∷ to_be_bytes w32 n else out.old.items) }
 {
     let [a, b, c, d] = n.to_be_bytes();
     out.extend_from_slice(&[first, a, b, c, d])
@@ -33,14 +36,16 @@ fn put_32(out: &mut Vec<u8>, first: u8, n: u32) -> Result<(), AllocError>
 
 /// Appends a first byte and eight bytes.
 fn put_64(out: &mut Vec<u8>, first: u8, n: u64) -> Result<(), AllocError>
-    ensures { out.new.items ≡ (if is_ok result then out.old.items ++ first ∷ to_be_bytes w64 n else out.old.items) }
+    ensures { out.new.items
+        ≡ (if is_ok result then out.old.items ++ first ∷ to_be_bytes w64 n else out.old.items) }
 {
     let [a, b, c, d, e, f, g, h] = n.to_be_bytes();
     out.extend_from_slice(&[first, a, b, c, d, e, f, g, h])
 }
 
 fn put_unsigned(out: &mut Vec<u8>, mag: u64) -> Result<(), AllocError>
-    ensures { out.new.items ≡ (if is_ok result then out.old.items ++ unsigned_bytes mag else out.old.items) }
+    ensures { out.new.items
+        ≡ (if is_ok result then out.old.items ++ unsigned_bytes mag else out.old.items) }
 {
     if mag < 0x80 {
         out.extend_from_slice(&[mag as u8])
@@ -58,7 +63,8 @@ fn put_unsigned(out: &mut Vec<u8>, mag: u64) -> Result<(), AllocError>
 fn put_negative(out: &mut Vec<u8>, mag: u64) -> Result<(), AllocError>
     requires low { 1 ≤ mag }
     requires high { mag ≤ 2 ^ 63 }
-    ensures { out.new.items ≡ (if is_ok result then out.old.items ++ negative_bytes mag else out.old.items) }
+    ensures { out.new.items
+        ≡ (if is_ok result then out.old.items ++ negative_bytes mag else out.old.items) }
 {
     if mag <= 0x20 {
         out.extend_from_slice(&[(0x100 - mag) as u8])
@@ -74,7 +80,8 @@ fn put_negative(out: &mut Vec<u8>, mag: u64) -> Result<(), AllocError>
 }
 
 fn put_str(out: &mut Vec<u8>, len: u32) -> Result<(), AllocError>
-    ensures { out.new.items ≡ (if is_ok result then out.old.items ++ str_bytes len else out.old.items) }
+    ensures { out.new.items
+        ≡ (if is_ok result then out.old.items ++ str_bytes len else out.old.items) }
 {
     if len < 0x20 {
         out.extend_from_slice(&[0xa0 + len as u8])
@@ -88,7 +95,8 @@ fn put_str(out: &mut Vec<u8>, len: u32) -> Result<(), AllocError>
 }
 
 fn put_bin(out: &mut Vec<u8>, len: u32) -> Result<(), AllocError>
-    ensures { out.new.items ≡ (if is_ok result then out.old.items ++ bin_bytes len else out.old.items) }
+    ensures { out.new.items
+        ≡ (if is_ok result then out.old.items ++ bin_bytes len else out.old.items) }
 {
     if len < 0x100 {
         put_8(out, 0xc4, len as u8)
@@ -100,7 +108,8 @@ fn put_bin(out: &mut Vec<u8>, len: u32) -> Result<(), AllocError>
 }
 
 fn put_arr(out: &mut Vec<u8>, n: u32) -> Result<(), AllocError>
-    ensures { out.new.items ≡ (if is_ok result then out.old.items ++ arr_bytes n else out.old.items) }
+    ensures { out.new.items
+        ≡ (if is_ok result then out.old.items ++ arr_bytes n else out.old.items) }
 {
     if n < 0x10 {
         out.extend_from_slice(&[0x90 + n as u8])
@@ -112,7 +121,8 @@ fn put_arr(out: &mut Vec<u8>, n: u32) -> Result<(), AllocError>
 }
 
 fn put_map(out: &mut Vec<u8>, n: u32) -> Result<(), AllocError>
-    ensures { out.new.items ≡ (if is_ok result then out.old.items ++ map_bytes n else out.old.items) }
+    ensures { out.new.items
+        ≡ (if is_ok result then out.old.items ++ map_bytes n else out.old.items) }
 {
     if n < 0x10 {
         out.extend_from_slice(&[0x80 + n as u8])
@@ -124,7 +134,10 @@ fn put_map(out: &mut Vec<u8>, n: u32) -> Result<(), AllocError>
 }
 
 fn put_ext(out: &mut Vec<u8>, kind: u8, len: u32) -> Result<(), AllocError>
-    ensures { out.new.items ≡ (if is_ok result then out.old.items ++ (ext_len_bytes len ++ kind ∷ []) else out.old.items) }
+    ensures { out.new.items
+        ≡ (if is_ok result
+        then out.old.items ++ (ext_len_bytes len ++ kind ∷ [])
+        else out.old.items) }
 {
     match len {
         1 => out.extend_from_slice(&[0xd4, kind]),
@@ -137,7 +150,10 @@ fn put_ext(out: &mut Vec<u8>, kind: u8, len: u32) -> Result<(), AllocError>
 }
 
 fn put_long_ext(out: &mut Vec<u8>, kind: u8, len: u32) -> Result<(), AllocError>
-    ensures { out.new.items ≡ (if is_ok result then out.old.items ++ (ext_sized_bytes len ++ kind ∷ []) else out.old.items) }
+    ensures { out.new.items
+        ≡ (if is_ok result
+        then out.old.items ++ (ext_sized_bytes len ++ kind ∷ [])
+        else out.old.items) }
 {
     if len < 0x100 {
         out.extend_from_slice(&[0xc7, len as u8, kind])
@@ -150,7 +166,8 @@ fn put_long_ext(out: &mut Vec<u8>, kind: u8, len: u32) -> Result<(), AllocError>
     }
 }
 
-/// Appends the shortest spelling of a head (MessagePack specification, "Formats"). An `Err` changes nothing.
+/// Appends the shortest spelling of a head (MessagePack
+/// specification, "Formats"). An `Err` changes nothing.
 #[tactic(auto, unfolding(crate::specs::Heads::head_bytes))]
 pub fn write_head(out: &mut Vec<u8>, head: Head) -> Result<(), AllocError>
     requires { IsSpelled head }

@@ -21,10 +21,20 @@ limits = record { bytes = 16777216; depth = 64; shallow = le_refl 64 }
 
 -- a server with or without a shared key, and no users
 abbrev server : Option (List ℕ) → Security
-server key = record { hostname = codes "brown"; shared_key = key; users = []; hostname_fits = omega arith }
+server key = record {
+  hostname = codes "brown";
+  shared_key = key;
+  users = [];
+  hostname_fits = omega arith;
+}
 
 abbrev setup : Option (List ℕ) → Setup
-setup key = record { conn = 7; security = server key; nonces = record { nonce = replicate 16 0x6e; auth = replicate 16 0 }; limits = limits }
+setup key = record {
+  conn = 7;
+  security = server key;
+  nonces = record { nonce = replicate 16 0x6e; auth = replicate 16 0 };
+  limits = limits;
+}
 
 -- a Message of the tag `a`, and one of the tag `b`, and what they ask for
 abbrev a : List ℕ
@@ -34,7 +44,11 @@ abbrev b : List ℕ
 b = 0x93 ∷ 0xa1 ∷ 0x62 ∷ 0x02 ∷ 0x80 ∷ []
 
 abbrev asks : ℕ → ℕ → Request
-asks tag time = record { tag = tag ∷ []; entries = (0x92 ∷ time ∷ 0x80 ∷ []) ∷ []; chunk = None }
+asks tag time = record {
+  tag = tag ∷ [];
+  entries = (0x92 ∷ time ∷ 0x80 ∷ []) ∷ [];
+  chunk = None;
+}
 
 -- ---- without a key
 
@@ -50,7 +64,8 @@ half : piece_answer open_source (0x93 ∷ 0xa1 ∷ []) ≡ piece.Waiting 0
 unfolding judged_of request_of parts_of row_of_values split_of first_of fault_at item_begun payload_ended reading_of row_of named_rows
 half = refl
 
-whole : piece_answer (piece_next open_source (0x93 ∷ 0xa1 ∷ [])) (0x61 ∷ 0x01 ∷ 0x80 ∷ []) ≡ piece.Waiting 1
+whole : piece_answer (piece_next open_source (0x93 ∷ 0xa1 ∷ [])) (0x61 ∷ 0x01 ∷ 0x80 ∷ [])
+    ≡ piece.Waiting 1
 unfolding judged_of request_of parts_of row_of_values split_of first_of fault_at item_begun payload_ended reading_of row_of named_rows
 whole = refl
 
@@ -112,7 +127,9 @@ passed : judged_of limits (Some (λ value. ping.Pass (codes "yes"))) 0 (0xc0 ∷
 unfolding judged_of request_of parts_of row_of_values split_of first_of fault_at item_begun payload_ended reading_of row_of named_rows
 passed = refl
 
-denied : judged_of limits (Some (λ value. ping.Deny (codes "no") KeyMismatch)) 0 (0xc0 ∷ 0x90 ∷ a) ≡
+denied :
+    judged_of limits (Some (λ value. ping.Deny (codes "no") KeyMismatch)) 0 (0xc0 ∷ 0x90 ∷ a)
+    ≡
     record { requests = []; rest = []; pong = codes "no"; awaits = false; fault = Some Denied }
 unfolding judged_of request_of parts_of row_of_values split_of first_of fault_at item_begun payload_ended reading_of row_of named_rows
 denied = refl

@@ -19,8 +19,11 @@ or_false false b h = (refl, h)
 
 -- ---- the gate
 
-pub gate_step : (setup : Setup) (awaits : Bool) (n : ℕ) (bytes : List ℕ) → (judged_of setup.limits (gate_of setup awaits) n bytes).fault ≡ None
-    → gate_behind (gate_of setup awaits) (judged_of setup.limits (gate_of setup awaits) n bytes).awaits ≡ gate_of setup (judged_of setup.limits (gate_of setup awaits) n bytes).awaits
+pub gate_step : (setup : Setup) (awaits : Bool) (n : ℕ) (bytes : List ℕ)
+    → (judged_of setup.limits (gate_of setup awaits) n bytes).fault ≡ None
+    → gate_behind (gate_of setup awaits)
+    (judged_of setup.limits (gate_of setup awaits) n bytes).awaits
+    ≡ gate_of setup (judged_of setup.limits (gate_of setup awaits) n bytes).awaits
 gate_step setup true n bytes e = by (judged_of setup.limits (gate_of setup true) n bytes).awaits
   where
     by : (b : Bool) → gate_behind (gate_of setup true) b ≡ gate_of setup b
@@ -49,15 +52,18 @@ opened-sane setup = record { admits = omega arith; drains = omega arith }
 
 pub record Heard (s : SourceHistory) (bytes : List ℕ) : Type 0 where
   pub still : s.shut ≡ false
-  pub all : judged (has_heard s bytes) ≡ joined (judged s).requests (judged s).pong (judged_piece (live_source s) bytes)
-  pub waits : waiting (hears s bytes) ≡ (live_source s).waiting ++ (judged_piece (live_source s) bytes).requests
+  pub all : judged (has_heard s bytes)
+      ≡ joined (judged s).requests (judged s).pong (judged_piece (live_source s) bytes)
+  pub waits : waiting (hears s bytes)
+      ≡ (live_source s).waiting ++ (judged_piece (live_source s) bytes).requests
   pub pong : new_pong s bytes ≡ (judged_piece (live_source s) bytes).pong
 
 drop_front : (xs ys : List ℕ) → drop (length xs) (xs ++ ys) ≡ ys
 drop_front [] ys = refl
 drop_front (x ∷ xs) ys = drop_front xs ys
 
-pub heard : (s : SourceHistory) (bytes : List ℕ) → IsSane s → is_closed s ≡ false → Heard s bytes
+pub heard : (s : SourceHistory) (bytes : List ℕ) → IsSane s → is_closed s ≡ false
+    → Heard s bytes
 unfolding live_source
 heard s bytes sane not_closed =
     let parts = or_false s.shut (is_some (judged s).fault) not_closed in
@@ -82,7 +88,8 @@ heard s bytes sane not_closed =
       pong = ap (λ j. drop (length (judged s).pong) j.pong) all ∙ drop_front (judged s).pong piece.pong;
     }
 
-pub hears-live : (s : SourceHistory) (bytes : List ℕ) → IsSane s → is_closed s ≡ false → live_source (hears s bytes) ≡ source_hears (live_source s) bytes
+pub hears-live : (s : SourceHistory) (bytes : List ℕ) → IsSane s → is_closed s ≡ false
+    → live_source (hears s bytes) ≡ source_hears (live_source s) bytes
 unfolding live_source source_hears
 hears-live s bytes sane e =
     let h = heard s bytes sane e in
@@ -101,7 +108,8 @@ hears-live s bytes sane e =
       closed = h.still i || is_some (h.all i).fault;
     }
 
-pub hears-sane : (s : SourceHistory) (bytes : List ℕ) → IsSane s → is_closed s ≡ false → IsSane (hears s bytes)
+pub hears-sane : (s : SourceHistory) (bytes : List ℕ) → IsSane s → is_closed s ≡ false
+    → IsSane (hears s bytes)
 hears-sane s bytes sane e =
     let h = heard s bytes sane e in
     let longer : length (judged (has_heard s bytes)).requests ≡ length (judged s).requests + length (judged_piece (live_source s) bytes).requests =
@@ -109,24 +117,33 @@ hears-sane s bytes sane e =
     record { admits = omega (arith, longer, sane.admits); drains = omega (arith, length-append s.appended (new_pong s bytes), sane.drains) }
 
 -- the same of a piece that may come too late
-pub piece-live : (s : SourceHistory) (bytes : List ℕ) → IsSane s → live_source (piece_next s bytes) ≡ live_piece_next (live_source s) bytes
+pub piece-live : (s : SourceHistory) (bytes : List ℕ) → IsSane s
+    → live_source (piece_next s bytes) ≡ live_piece_next (live_source s) bytes
 unfolding live_source
 piece-live s bytes sane = by (is_closed s) refl
   where
-    by : (b : Bool) → is_closed s ≡ b → live_source (cond b s (hears s bytes)) ≡ cond b (live_source s) (source_hears (live_source s) bytes)
+    by : (b : Bool) → is_closed s ≡ b
+        → live_source (cond b s (hears s bytes))
+        ≡ cond b (live_source s) (source_hears (live_source s) bytes)
     by true e = refl
     by false e = hears-live s bytes sane e
 
-pub answer-live : (s : SourceHistory) (bytes : List ℕ) → IsSane s → piece_answer s bytes ≡ live_piece_answer (live_source s) bytes
+pub answer-live : (s : SourceHistory) (bytes : List ℕ) → IsSane s
+    → piece_answer s bytes ≡ live_piece_answer (live_source s) bytes
 unfolding live_source
 answer-live s bytes sane = by (is_closed s) refl
   where
-    by : (b : Bool) → is_closed s ≡ b → cond b piece.Closed (told (judged (hears s bytes)).fault (length (waiting (hears s bytes))))
-        ≡ cond b piece.Closed (told (judged_piece (live_source s) bytes).fault (length ((live_source s).waiting ++ (judged_piece (live_source s) bytes).requests)))
+    by : (b : Bool) → is_closed s ≡ b
+        → cond b piece.Closed
+        (told (judged (hears s bytes)).fault (length (waiting (hears s bytes))))
+        ≡ cond b piece.Closed
+        (told (judged_piece (live_source s) bytes).fault
+        (length ((live_source s).waiting ++ (judged_piece (live_source s) bytes).requests)))
     by true e = refl
     by false e = let h = heard s bytes sane e in λ i. told (h.all i).fault (length (h.waits i))
 
-pub pong-live : (s : SourceHistory) (bytes : List ℕ) → IsSane s → is_closed s ≡ false → new_pong s bytes ≡ (judged_piece (live_source s) bytes).pong
+pub pong-live : (s : SourceHistory) (bytes : List ℕ) → IsSane s → is_closed s ≡ false
+    → new_pong s bytes ≡ (judged_piece (live_source s) bytes).pong
 pong-live s bytes sane e = (heard s bytes sane e).pong
 
 pub piece-sane : (s : SourceHistory) (bytes : List ℕ) → IsSane s → IsSane (piece_next s bytes)
@@ -160,20 +177,25 @@ gives-live s = λ i. record {
   closed = is_closed s;
 }
   where
-    at : (b : Bool) → cond b [] (drop (s.admitted + 1) (judged s).requests) ≡ tail_of (cond b [] (drop s.admitted (judged s).requests))
+    at : (b : Bool)
+        → cond b [] (drop (s.admitted + 1) (judged s).requests)
+        ≡ tail_of (cond b [] (drop s.admitted (judged s).requests))
     at true = refl
     at false = sym (tail_of-drop s.admitted (judged s).requests)
 
-pub gives-sane : (s : SourceHistory) (r : Request) (rs : List Request) → IsSane s → waiting s ≡ r ∷ rs → IsSane (gives s)
+pub gives-sane : (s : SourceHistory) (r : Request) (rs : List Request) → IsSane s
+    → waiting s ≡ r ∷ rs → IsSane (gives s)
 gives-sane s r rs sane e = record { admits = at s.shut e; drains = sane.drains }
   where
-    at : (b : Bool) → cond b [] (drop s.admitted (judged s).requests) ≡ r ∷ rs → s.admitted + 1 ≤ length (judged s).requests
+    at : (b : Bool) → cond b [] (drop s.admitted (judged s).requests) ≡ r ∷ rs
+        → s.admitted + 1 ≤ length (judged s).requests
     at true h = absurd cc
     at false h =
         let n : length (drop s.admitted (judged s).requests) ≡ suc (length rs) = ap length h in
         omega (arith, n, length-drop s.admitted (judged s).requests)
 
-pub appends-live : (s : SourceHistory) (bytes : List ℕ) → IsSane s → s.shut ≡ false → live_source (appends s bytes) ≡ source_appends (live_source s) bytes
+pub appends-live : (s : SourceHistory) (bytes : List ℕ) → IsSane s → s.shut ≡ false
+    → live_source (appends s bytes) ≡ source_appends (live_source s) bytes
 unfolding live_source
 appends-live s bytes sane e = λ i. record {
   setup = s.setup;
@@ -186,7 +208,9 @@ appends-live s bytes sane e = λ i. record {
   closed = is_closed s;
 }
   where
-    at : (b : Bool) → b ≡ false → cond b [] (drop s.drained (s.appended ++ bytes)) ≡ cond b [] (drop s.drained s.appended) ++ bytes
+    at : (b : Bool) → b ≡ false
+        → cond b [] (drop s.drained (s.appended ++ bytes))
+        ≡ cond b [] (drop s.drained s.appended) ++ bytes
     at true h = absurd cc
     at false h = drop-append-le s.drained s.appended bytes sane.drains
 
@@ -205,7 +229,8 @@ drop_twice (suc n) m (x ∷ xs) = ap (λ k. drop k (x ∷ xs)) (suc-plus n m) �
     suc-plus : (n m : ℕ) → suc n + m ≡ suc (n + m)
     suc-plus n m = omega arith
 
-pub drains-live : (s : SourceHistory) (count : ℕ) → live_source (drains s count) ≡ source_drains (live_source s) count
+pub drains-live : (s : SourceHistory) (count : ℕ)
+    → live_source (drains s count) ≡ source_drains (live_source s) count
 unfolding live_source
 drains-live s count = λ i. record {
   setup = s.setup;
@@ -218,14 +243,18 @@ drains-live s count = λ i. record {
   closed = is_closed s;
 }
   where
-    at : (b : Bool) → cond b [] (drop (s.drained + count) s.appended) ≡ drop count (cond b [] (drop s.drained s.appended))
+    at : (b : Bool)
+        → cond b [] (drop (s.drained + count) s.appended)
+        ≡ drop count (cond b [] (drop s.drained s.appended))
     at true = sym (nothing_left count)
     at false = drop_twice s.drained count s.appended
 
-pub drains-sane : (s : SourceHistory) (count : ℕ) → IsSane s → s.shut ≡ false → count ≤ length (unsent s) → IsSane (drains s count)
+pub drains-sane : (s : SourceHistory) (count : ℕ) → IsSane s → s.shut ≡ false
+    → count ≤ length (unsent s) → IsSane (drains s count)
 drains-sane s count sane e le = record { admits = sane.admits; drains = at s.shut e le }
   where
-    at : (b : Bool) → b ≡ false → count ≤ length (cond b [] (drop s.drained s.appended)) → s.drained + count ≤ length s.appended
+    at : (b : Bool) → b ≡ false → count ≤ length (cond b [] (drop s.drained s.appended))
+        → s.drained + count ≤ length s.appended
     at true f h = absurd cc
     at false f h = omega (arith, h, length-drop s.drained s.appended, sane.drains)
 

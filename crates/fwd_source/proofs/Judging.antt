@@ -1,4 +1,5 @@
--- What more bytes of a connection say: the requests and the PONG so far stay, and the bytes of the unfinished value go on.
+-- What more bytes of a connection say: the requests and the PONG
+-- so far stay, and the bytes of the unfinished value go on.
 use Rattle.std.proofs.Common.{◌≡◌, ℕ, suc, ◌+◌, ◌^◌, Bool, true, false, cond, ltb, List, [], ◌∷◌, ◌++◌, length, take, drop, Some, None, refl, sym, ap, ◌∙◌, add-zero, arith}
 use Rattle.std.specs.Prelude.{is_some}
 use Rattle.std.proofs.lemmas.List.{append_assoc}
@@ -28,31 +29,43 @@ none_behind false = refl
 
 -- what comes behind a front that has no fault
 abbrev pub Continues : (Gate → ℕ → Judged) → Gate → ℕ → Judged → Judged → Type 0
-Continues behind gate n front all = all ≡ joined front.requests front.pong (behind (gate_behind gate front.awaits) (n + length front.requests))
+Continues behind gate n front all =
+    all
+    ≡ joined front.requests front.pong
+    (behind (gate_behind gate front.awaits) (n + length front.requests))
 
 -- ---- one value
 
 -- no PING is awaited behind it
-asked_open : (n : ℕ) (reading : Reading) (front : ℕ → Judged) → ((k : ℕ) → (front k).fault ≡ None → (front k).awaits ≡ false) → (asked n reading front).fault ≡ None → (asked n reading front).awaits ≡ false
+asked_open : (n : ℕ) (reading : Reading) (front : ℕ → Judged)
+    → ((k : ℕ) → (front k).fault ≡ None → (front k).awaits ≡ false)
+    → (asked n reading front).fault ≡ None → (asked n reading front).awaits ≡ false
 asked_open n Heartbeat front h e = h n e
 asked_open n (Asks r) front h e = counted (ltb (n + 1) (2 ^ 64)) e
   where
-    counted : (b : Bool) → (cond b (ahead r (front (n + 1))) (failed Closed)).fault ≡ None → (cond b (ahead r (front (n + 1))) (failed Closed)).awaits ≡ false
+    counted : (b : Bool) → (cond b (ahead r (front (n + 1))) (failed Closed)).fault ≡ None
+        → (cond b (ahead r (front (n + 1))) (failed Closed)).awaits ≡ false
     counted true f = h (n + 1) f
     counted false f = absurd cc
 asked_open n (Fails f) front h e = absurd cc
 
-judge_open : (deep n : ℕ) (vs : List (List ℕ)) (rest : List ℕ) → (judge deep None n vs (λ g. resting g rest)).fault ≡ None → (judge deep None n vs (λ g. resting g rest)).awaits ≡ false
+judge_open : (deep n : ℕ) (vs : List (List ℕ)) (rest : List ℕ)
+    → (judge deep None n vs (λ g. resting g rest)).fault ≡ None
+    → (judge deep None n vs (λ g. resting g rest)).awaits ≡ false
 judge_open deep n [] rest e = refl
 judge_open deep n (v ∷ vs) rest e = asked_open n (request_of deep v) (λ k. judge deep None k vs (λ g. resting g rest)) (λ k f. judge_open deep k vs rest f) e
 
-asked_joined : (n : ℕ) (reading : Reading) (front all : ℕ → Judged) (behind : Gate → ℕ → Judged)
+asked_joined : (n : ℕ) (reading : Reading) (front all : ℕ → Judged)
+    (behind : Gate → ℕ → Judged)
     → ((k : ℕ) → (front k).fault ≡ None → Continues behind None k (front k) (all k))
-    → (asked n reading front).fault ≡ None → Continues behind None n (asked n reading front) (asked n reading all)
+    → (asked n reading front).fault ≡ None
+    → Continues behind None n (asked n reading front) (asked n reading all)
 asked_joined n Heartbeat front all behind h e = h n e
 asked_joined n (Asks r) front all behind h e = counted (ltb (n + 1) (2 ^ 64)) e
   where
-    counted : (b : Bool) → (cond b (ahead r (front (n + 1))) (failed Closed)).fault ≡ None → Continues behind None n (cond b (ahead r (front (n + 1))) (failed Closed)) (cond b (ahead r (all (n + 1))) (failed Closed))
+    counted : (b : Bool) → (cond b (ahead r (front (n + 1))) (failed Closed)).fault ≡ None
+        → Continues behind None n (cond b (ahead r (front (n + 1))) (failed Closed))
+        (cond b (ahead r (all (n + 1))) (failed Closed))
     counted true f =
         let tail = h (n + 1) f in
         let count : (n + 1) + length (front (n + 1)).requests ≡ n + suc (length (front (n + 1)).requests) = omega arith in
@@ -60,9 +73,12 @@ asked_joined n (Asks r) front all behind h e = counted (ltb (n + 1) (2 ^ 64)) e
     counted false f = absurd cc
 asked_joined n (Fails f) front all behind h e = absurd cc
 
-welcome_joined : (gate : Gate) (n : ℕ) (verdict : PingVerdict) (front all : Judged) (behind : Gate → ℕ → Judged)
-    → (front.fault ≡ None → Continues behind None n front all) → (front.fault ≡ None → front.awaits ≡ false)
-    → (welcomed verdict front).fault ≡ None → Continues behind gate n (welcomed verdict front) (welcomed verdict all)
+welcome_joined : (gate : Gate) (n : ℕ) (verdict : PingVerdict) (front all : Judged)
+    (behind : Gate → ℕ → Judged)
+    → (front.fault ≡ None → Continues behind None n front all)
+    → (front.fault ≡ None → front.awaits ≡ false)
+    → (welcomed verdict front).fault ≡ None
+    → Continues behind gate n (welcomed verdict front) (welcomed verdict all)
 welcome_joined gate n (ping.Pass pong) front all behind h ends e =
     let closed = ends e in
     let gates : gate_behind None front.awaits ≡ gate_behind gate front.awaits = ap (gate_behind None) closed ∙ ap (gate_behind gate) (sym closed) in
@@ -78,14 +94,21 @@ welcome_joined gate n (ping.Pass pong) front all behind h ends e =
 welcome_joined gate n (ping.Deny pong denial) front all behind h ends e = absurd cc
 welcome_joined gate n ping.NotPing front all behind h ends e = absurd cc
 
-value_joined : (deep : ℕ) (gate : Gate) (n : ℕ) (v : List ℕ) (front all behind : Gate → ℕ → Judged)
-    → ((g : Gate) (k : ℕ) → (front g k).fault ≡ None → Continues behind g k (front g k) (all g k)) → ((k : ℕ) → (front None k).fault ≡ None → (front None k).awaits ≡ false)
-    → (value_then deep gate n v front).fault ≡ None → Continues behind gate n (value_then deep gate n v front) (value_then deep gate n v all)
+value_joined : (deep : ℕ) (gate : Gate) (n : ℕ) (v : List ℕ)
+    (front all behind : Gate → ℕ → Judged)
+    → ((g : Gate) (k : ℕ) → (front g k).fault ≡ None
+    → Continues behind g k (front g k) (all g k))
+    → ((k : ℕ) → (front None k).fault ≡ None → (front None k).awaits ≡ false)
+    → (value_then deep gate n v front).fault ≡ None
+    → Continues behind gate n (value_then deep gate n v front) (value_then deep gate n v all)
 value_joined deep None n v front all behind h ends e = asked_joined n (request_of deep v) (front None) (all None) behind (h None) e
 value_joined deep (Some verdict) n v front all behind h ends e = by (is_nil v) e
   where
-    by : (b : Bool) → (cond b (front (Some verdict) n) (welcomed (verdict v) (front None n))).fault ≡ None
-        → Continues behind (Some verdict) n (cond b (front (Some verdict) n) (welcomed (verdict v) (front None n))) (cond b (all (Some verdict) n) (welcomed (verdict v) (all None n)))
+    by : (b : Bool)
+        → (cond b (front (Some verdict) n) (welcomed (verdict v) (front None n))).fault ≡ None
+        → Continues behind (Some verdict) n
+        (cond b (front (Some verdict) n) (welcomed (verdict v) (front None n)))
+        (cond b (all (Some verdict) n) (welcomed (verdict v) (all None n)))
     by true f = h (Some verdict) n f
     by false f = welcome_joined (Some verdict) n (verdict v) (front None n) (all None n) behind (h None n) (ends n) f
 
@@ -95,8 +118,12 @@ stays : (gate : Gate) (rest : List ℕ) → gate_behind gate (resting gate rest)
 stays None rest = refl
 stays (Some verdict) rest = refl
 
-judge-append : (deep : ℕ) (gate : Gate) (vs ws : List (List ℕ)) (rest : List ℕ) (end : Gate → Judged) (n : ℕ) → (judge deep gate n vs (λ g. resting g rest)).fault ≡ None
-    → Continues (λ g k. judge deep g k ws end) gate n (judge deep gate n vs (λ g. resting g rest)) (judge deep gate n (vs ++ ws) end)
+judge-append :
+    (deep : ℕ) (gate : Gate) (vs ws : List (List ℕ)) (rest : List ℕ) (end : Gate → Judged)
+    (n : ℕ)
+    → (judge deep gate n vs (λ g. resting g rest)).fault ≡ None
+    → Continues (λ g k. judge deep g k ws end) gate n
+    (judge deep gate n vs (λ g. resting g rest)) (judge deep gate n (vs ++ ws) end)
 judge-append deep gate [] ws rest end n e = ap (λ k. judge deep gate k ws end) (sym (add-zero n)) ∙ ap (λ g. judge deep g (n + 0) ws end) (sym (stays gate rest))
 judge-append deep gate (v ∷ vs) ws rest end n e =
     value_joined deep gate n v (λ g k. judge deep g k vs (λ g. resting g rest)) (λ g k. judge deep g k (vs ++ ws) end) (λ g k. judge deep g k ws end)
@@ -104,117 +131,170 @@ judge-append deep gate (v ∷ vs) ws rest end n e =
 
 -- ---- the bytes of the unfinished value
 
-asked_rests : (n : ℕ) (reading : Reading) (front : ℕ → Judged) (rest : List ℕ) → ((k : ℕ) → (front k).fault ≡ None → (front k).rest ≡ rest) → (asked n reading front).fault ≡ None → (asked n reading front).rest ≡ rest
+asked_rests : (n : ℕ) (reading : Reading) (front : ℕ → Judged) (rest : List ℕ)
+    → ((k : ℕ) → (front k).fault ≡ None → (front k).rest ≡ rest)
+    → (asked n reading front).fault ≡ None → (asked n reading front).rest ≡ rest
 asked_rests n Heartbeat front rest h e = h n e
 asked_rests n (Asks r) front rest h e = counted (ltb (n + 1) (2 ^ 64)) e
   where
-    counted : (b : Bool) → (cond b (ahead r (front (n + 1))) (failed Closed)).fault ≡ None → (cond b (ahead r (front (n + 1))) (failed Closed)).rest ≡ rest
+    counted : (b : Bool) → (cond b (ahead r (front (n + 1))) (failed Closed)).fault ≡ None
+        → (cond b (ahead r (front (n + 1))) (failed Closed)).rest ≡ rest
     counted true f = h (n + 1) f
     counted false f = absurd cc
 asked_rests n (Fails f) front rest h e = absurd cc
 
-welcome_rests : (verdict : PingVerdict) (front : Judged) (rest : List ℕ) → (front.fault ≡ None → front.rest ≡ rest) → (welcomed verdict front).fault ≡ None → (welcomed verdict front).rest ≡ rest
+welcome_rests : (verdict : PingVerdict) (front : Judged) (rest : List ℕ)
+    → (front.fault ≡ None → front.rest ≡ rest) → (welcomed verdict front).fault ≡ None
+    → (welcomed verdict front).rest ≡ rest
 welcome_rests (ping.Pass pong) front rest h e = h e
 welcome_rests (ping.Deny pong denial) front rest h e = absurd cc
 welcome_rests ping.NotPing front rest h e = absurd cc
 
-value_rests : (deep : ℕ) (gate : Gate) (n : ℕ) (v : List ℕ) (front : Gate → ℕ → Judged) (rest : List ℕ) → ((g : Gate) (k : ℕ) → (front g k).fault ≡ None → (front g k).rest ≡ rest)
-    → (value_then deep gate n v front).fault ≡ None → (value_then deep gate n v front).rest ≡ rest
+value_rests :
+    (deep : ℕ) (gate : Gate) (n : ℕ) (v : List ℕ) (front : Gate → ℕ → Judged)
+    (rest : List ℕ)
+    → ((g : Gate) (k : ℕ) → (front g k).fault ≡ None → (front g k).rest ≡ rest)
+    → (value_then deep gate n v front).fault ≡ None
+    → (value_then deep gate n v front).rest ≡ rest
 value_rests deep None n v front rest h e = asked_rests n (request_of deep v) (front None) rest (h None) e
 value_rests deep (Some verdict) n v front rest h e = by (is_nil v) e
   where
-    by : (b : Bool) → (cond b (front (Some verdict) n) (welcomed (verdict v) (front None n))).fault ≡ None → (cond b (front (Some verdict) n) (welcomed (verdict v) (front None n))).rest ≡ rest
+    by : (b : Bool)
+        → (cond b (front (Some verdict) n) (welcomed (verdict v) (front None n))).fault ≡ None
+        → (cond b (front (Some verdict) n) (welcomed (verdict v) (front None n))).rest ≡ rest
     by true f = h (Some verdict) n f
     by false f = welcome_rests (verdict v) (front None n) rest (h None n) f
 
-rest-judge : (deep : ℕ) (gate : Gate) (vs : List (List ℕ)) (rest : List ℕ) (n : ℕ) → (judge deep gate n vs (λ g. resting g rest)).fault ≡ None → (judge deep gate n vs (λ g. resting g rest)).rest ≡ rest
+rest-judge : (deep : ℕ) (gate : Gate) (vs : List (List ℕ)) (rest : List ℕ) (n : ℕ)
+    → (judge deep gate n vs (λ g. resting g rest)).fault ≡ None
+    → (judge deep gate n vs (λ g. resting g rest)).rest ≡ rest
 rest-judge deep gate [] rest n e = refl
 rest-judge deep gate (v ∷ vs) rest n e = value_rests deep gate n v (λ g k. judge deep g k vs (λ g. resting g rest)) rest (λ g k f. rest-judge deep g vs rest k f) e
 
 -- ---- behind a fault nothing counts
 
-asked_fails : (n : ℕ) (reading : Reading) (front all : ℕ → Judged) → ((k : ℕ) → is_some (front k).fault ≡ true → all k ≡ front k) → is_some (asked n reading front).fault ≡ true → asked n reading all ≡ asked n reading front
+asked_fails : (n : ℕ) (reading : Reading) (front all : ℕ → Judged)
+    → ((k : ℕ) → is_some (front k).fault ≡ true → all k ≡ front k)
+    → is_some (asked n reading front).fault ≡ true
+    → asked n reading all ≡ asked n reading front
 asked_fails n Heartbeat front all h e = h n e
 asked_fails n (Asks r) front all h e = counted (ltb (n + 1) (2 ^ 64)) e
   where
-    counted : (b : Bool) → is_some (cond b (ahead r (front (n + 1))) (failed Closed)).fault ≡ true → cond b (ahead r (all (n + 1))) (failed Closed) ≡ cond b (ahead r (front (n + 1))) (failed Closed)
+    counted : (b : Bool)
+        → is_some (cond b (ahead r (front (n + 1))) (failed Closed)).fault ≡ true
+        → cond b (ahead r (all (n + 1))) (failed Closed)
+        ≡ cond b (ahead r (front (n + 1))) (failed Closed)
     counted true f = ap (ahead r) (h (n + 1) f)
     counted false f = refl
 asked_fails n (Fails f) front all h e = refl
 
-welcome_fails : (verdict : PingVerdict) (front all : Judged) → (is_some front.fault ≡ true → all ≡ front) → is_some (welcomed verdict front).fault ≡ true → welcomed verdict all ≡ welcomed verdict front
+welcome_fails : (verdict : PingVerdict) (front all : Judged)
+    → (is_some front.fault ≡ true → all ≡ front)
+    → is_some (welcomed verdict front).fault ≡ true
+    → welcomed verdict all ≡ welcomed verdict front
 welcome_fails (ping.Pass pong) front all h e = ap (greeted pong) (h e)
 welcome_fails (ping.Deny pong denial) front all h e = refl
 welcome_fails ping.NotPing front all h e = refl
 
-value_fails : (deep : ℕ) (gate : Gate) (n : ℕ) (v : List ℕ) (front all : Gate → ℕ → Judged) → ((g : Gate) (k : ℕ) → is_some (front g k).fault ≡ true → all g k ≡ front g k)
-    → is_some (value_then deep gate n v front).fault ≡ true → value_then deep gate n v all ≡ value_then deep gate n v front
+value_fails :
+    (deep : ℕ) (gate : Gate) (n : ℕ) (v : List ℕ) (front all : Gate → ℕ → Judged)
+    → ((g : Gate) (k : ℕ) → is_some (front g k).fault ≡ true → all g k ≡ front g k)
+    → is_some (value_then deep gate n v front).fault ≡ true
+    → value_then deep gate n v all ≡ value_then deep gate n v front
 value_fails deep None n v front all h e = asked_fails n (request_of deep v) (front None) (all None) (h None) e
 value_fails deep (Some verdict) n v front all h e = by (is_nil v) e
   where
-    by : (b : Bool) → is_some (cond b (front (Some verdict) n) (welcomed (verdict v) (front None n))).fault ≡ true → cond b (all (Some verdict) n) (welcomed (verdict v) (all None n)) ≡ cond b (front (Some verdict) n) (welcomed (verdict v) (front None n))
+    by : (b : Bool)
+        → is_some (cond b (front (Some verdict) n) (welcomed (verdict v) (front None n))).fault
+        ≡ true
+        → cond b (all (Some verdict) n) (welcomed (verdict v) (all None n))
+        ≡ cond b (front (Some verdict) n) (welcomed (verdict v) (front None n))
     by true f = h (Some verdict) n f
     by false f = welcome_fails (verdict v) (front None n) (all None n) (h None n) f
 
-judge-fails : (deep : ℕ) (gate : Gate) (vs ws : List (List ℕ)) (rest : List ℕ) (end : Gate → Judged) (n : ℕ) → is_some (judge deep gate n vs (λ g. resting g rest)).fault ≡ true
+judge-fails :
+    (deep : ℕ) (gate : Gate) (vs ws : List (List ℕ)) (rest : List ℕ) (end : Gate → Judged)
+    (n : ℕ)
+    → is_some (judge deep gate n vs (λ g. resting g rest)).fault ≡ true
     → judge deep gate n (vs ++ ws) end ≡ judge deep gate n vs (λ g. resting g rest)
 judge-fails deep gate [] ws rest end n e = absurd cc
 judge-fails deep gate (v ∷ vs) ws rest end n e =
     value_fails deep gate n v (λ g k. judge deep g k vs (λ g. resting g rest)) (λ g k. judge deep g k (vs ++ ws) end) (λ g k f. judge-fails deep g vs ws rest end k f) e
 
 -- a broken stream has a fault
-asked_broken : (n : ℕ) (reading : Reading) (front : ℕ → Judged) → ((k : ℕ) → (front k).fault ≡ None → ⊥) → (asked n reading front).fault ≡ None → ⊥
+asked_broken : (n : ℕ) (reading : Reading) (front : ℕ → Judged)
+    → ((k : ℕ) → (front k).fault ≡ None → ⊥) → (asked n reading front).fault ≡ None
+    → ⊥
 asked_broken n Heartbeat front h e = h n e
 asked_broken n (Asks r) front h e = counted (ltb (n + 1) (2 ^ 64)) e
   where
-    counted : (b : Bool) → (cond b (ahead r (front (n + 1))) (failed Closed)).fault ≡ None → ⊥
+    counted : (b : Bool) → (cond b (ahead r (front (n + 1))) (failed Closed)).fault ≡ None
+        → ⊥
     counted true f = h (n + 1) f
     counted false f = cc
 asked_broken n (Fails f) front h e = cc
 
-welcome_broken : (verdict : PingVerdict) (front : Judged) → (front.fault ≡ None → ⊥) → (welcomed verdict front).fault ≡ None → ⊥
+welcome_broken : (verdict : PingVerdict) (front : Judged) → (front.fault ≡ None → ⊥)
+    → (welcomed verdict front).fault ≡ None → ⊥
 welcome_broken (ping.Pass pong) front h e = h e
 welcome_broken (ping.Deny pong denial) front h e = cc
 welcome_broken ping.NotPing front h e = cc
 
-value_broken : (deep : ℕ) (gate : Gate) (n : ℕ) (v : List ℕ) (front : Gate → ℕ → Judged) → ((g : Gate) (k : ℕ) → (front g k).fault ≡ None → ⊥) → (value_then deep gate n v front).fault ≡ None → ⊥
+value_broken : (deep : ℕ) (gate : Gate) (n : ℕ) (v : List ℕ) (front : Gate → ℕ → Judged)
+    → ((g : Gate) (k : ℕ) → (front g k).fault ≡ None → ⊥)
+    → (value_then deep gate n v front).fault ≡ None → ⊥
 value_broken deep None n v front h e = asked_broken n (request_of deep v) (front None) (h None) e
 value_broken deep (Some verdict) n v front h e = by (is_nil v) e
   where
-    by : (b : Bool) → (cond b (front (Some verdict) n) (welcomed (verdict v) (front None n))).fault ≡ None → ⊥
+    by : (b : Bool)
+        → (cond b (front (Some verdict) n) (welcomed (verdict v) (front None n))).fault ≡ None
+        → ⊥
     by true f = h (Some verdict) n f
     by false f = welcome_broken (verdict v) (front None n) (h None n) f
 
-judge-broken : (deep : ℕ) (gate : Gate) (vs : List (List ℕ)) (fault : SourceFault) (n : ℕ) → (judge deep gate n vs (λ g. failed fault)).fault ≡ None → ⊥
+judge-broken : (deep : ℕ) (gate : Gate) (vs : List (List ℕ)) (fault : SourceFault) (n : ℕ)
+    → (judge deep gate n vs (λ g. failed fault)).fault ≡ None → ⊥
 judge-broken deep gate [] fault n e = cc
 judge-broken deep gate (v ∷ vs) fault n e = value_broken deep gate n v (λ g k. judge deep g k vs (λ g. failed fault)) (λ g k f. judge-broken deep g vs fault k f) e
 
 -- ---- streams
 
-stream_behind : (deep : ℕ) (gate : Gate) (n : ℕ) (vs : List (List ℕ)) (rest : List ℕ) (s : Split) → (judge deep gate n vs (λ g. resting g rest)).fault ≡ None
-    → Continues (λ g k. judge_stream deep g k s) gate n (judge deep gate n vs (λ g. resting g rest)) (judge_stream deep gate n (with_front vs s))
+stream_behind :
+    (deep : ℕ) (gate : Gate) (n : ℕ) (vs : List (List ℕ)) (rest : List ℕ) (s : Split)
+    → (judge deep gate n vs (λ g. resting g rest)).fault ≡ None
+    → Continues (λ g k. judge_stream deep g k s) gate n
+    (judge deep gate n vs (λ g. resting g rest)) (judge_stream deep gate n (with_front vs s))
 stream_behind deep gate n vs rest (Open ws r) e = judge-append deep gate vs ws rest (λ g. resting g r) n e
 stream_behind deep gate n vs rest (Broken ws f) e = judge-append deep gate vs ws rest (λ g. failed (Scan f)) n e
 
-stream-append : (deep : ℕ) (gate : Gate) (n : ℕ) (s t : Split) (u : List ℕ → Split) → (judge_stream deep gate n s).fault ≡ None → ((vs : List (List ℕ)) (rest : List ℕ) → s ≡ Open vs rest → t ≡ with_front vs (u rest))
-    → Continues (λ g k. judge_stream deep g k (u (judge_stream deep gate n s).rest)) gate n (judge_stream deep gate n s) (judge_stream deep gate n t)
+stream-append : (deep : ℕ) (gate : Gate) (n : ℕ) (s t : Split) (u : List ℕ → Split)
+    → (judge_stream deep gate n s).fault ≡ None
+    → ((vs : List (List ℕ)) (rest : List ℕ) → s ≡ Open vs rest
+    → t ≡ with_front vs (u rest))
+    → Continues (λ g k. judge_stream deep g k (u (judge_stream deep gate n s).rest)) gate n
+    (judge_stream deep gate n s) (judge_stream deep gate n t)
 stream-append deep gate n (Open vs rest) t u e h =
     let front = judge deep gate n vs (λ g. resting g rest) in
     ap (judge_stream deep gate n) (h vs rest refl) ∙ stream_behind deep gate n vs rest (u rest) e
     ∙ ap (λ r. joined front.requests front.pong (judge_stream deep (gate_behind gate front.awaits) (n + length front.requests) (u r))) (sym (rest-judge deep gate vs rest n e))
 stream-append deep gate n (Broken vs f) t u e h = absurd (judge-broken deep gate vs (Scan f) n e)
 
-stream_fails : (deep : ℕ) (gate : Gate) (n : ℕ) (vs : List (List ℕ)) (rest : List ℕ) (s : Split) → is_some (judge deep gate n vs (λ g. resting g rest)).fault ≡ true
+stream_fails :
+    (deep : ℕ) (gate : Gate) (n : ℕ) (vs : List (List ℕ)) (rest : List ℕ) (s : Split)
+    → is_some (judge deep gate n vs (λ g. resting g rest)).fault ≡ true
     → judge_stream deep gate n (with_front vs s) ≡ judge deep gate n vs (λ g. resting g rest)
 stream_fails deep gate n vs rest (Open ws r) e = judge-fails deep gate vs ws rest (λ g. resting g r) n e
 stream_fails deep gate n vs rest (Broken ws f) e = judge-fails deep gate vs ws rest (λ g. failed (Scan f)) n e
 
-continued_fails : (deep : ℕ) (limit : ℕ) (gate : Gate) (n : ℕ) (s : Split) (b : List ℕ) → is_some (judge_stream deep gate n s).fault ≡ true → judge_stream deep gate n (continued limit deep s b) ≡ judge_stream deep gate n s
+continued_fails : (deep : ℕ) (limit : ℕ) (gate : Gate) (n : ℕ) (s : Split) (b : List ℕ)
+    → is_some (judge_stream deep gate n s).fault ≡ true
+    → judge_stream deep gate n (continued limit deep s b) ≡ judge_stream deep gate n s
 continued_fails deep limit gate n (Open vs rest) b e = stream_fails deep gate n vs rest (split_of limit deep (rest ++ b)) e
 continued_fails deep limit gate n (Broken vs f) b e = refl
 
 -- what more bytes say, where no fault came yet
-pub judged_of-append : (limits : Limits) (gate : Gate) (n : ℕ) (a b : List ℕ) → (judged_of limits gate n a).fault ≡ None
+pub judged_of-append : (limits : Limits) (gate : Gate) (n : ℕ) (a b : List ℕ)
+    → (judged_of limits gate n a).fault ≡ None
     → judged_of limits gate n (a ++ b)
     ≡ joined (judged_of limits gate n a).requests (judged_of limits gate n a).pong
     (judged_of limits (gate_behind gate (judged_of limits gate n a).awaits) (n + length (judged_of limits gate n a).requests) ((judged_of limits gate n a).rest ++ b))
@@ -224,44 +304,58 @@ judged_of-append limits gate n a b e =
     (λ vs rest h. split_append limits.bytes limits.depth a b ∙ ap (λ s. continued limits.bytes limits.depth s b) h)
 
 -- and where one came
-pub judged_of-fails : (limits : Limits) (gate : Gate) (n : ℕ) (a b : List ℕ) → is_some (judged_of limits gate n a).fault ≡ true → judged_of limits gate n (a ++ b) ≡ judged_of limits gate n a
+pub judged_of-fails : (limits : Limits) (gate : Gate) (n : ℕ) (a b : List ℕ)
+    → is_some (judged_of limits gate n a).fault ≡ true
+    → judged_of limits gate n (a ++ b) ≡ judged_of limits gate n a
 unfolding judged_of
 judged_of-fails limits gate n a b e =
     ap (judge_stream limits.depth gate n) (split_append limits.bytes limits.depth a b) ∙ continued_fails limits.depth limits.bytes gate n (split_of limits.bytes limits.depth a) b e
 
 -- ---- by the verdict on the front
 
-stream_front : (deep : ℕ) (gate : Gate) (n : ℕ) (v : List ℕ) (s : Split) → judge_stream deep gate n (with_front (v ∷ []) s) ≡ value_then deep gate n v (λ g k. judge_stream deep g k s)
+stream_front : (deep : ℕ) (gate : Gate) (n : ℕ) (v : List ℕ) (s : Split)
+    → judge_stream deep gate n (with_front (v ∷ []) s)
+    ≡ value_then deep gate n v (λ g k. judge_stream deep g k s)
 stream_front deep gate n v (Open ws rest) = refl
 stream_front deep gate n v (Broken ws f) = refl
 
 -- a whole value at the front, and what comes after it
-pub judged_of-whole : (limits : Limits) (gate : Gate) (n : ℕ) (bytes : List ℕ) (used : ℕ) → first_of limits.bytes limits.depth bytes ≡ Whole used
-    → judged_of limits gate n bytes ≡ value_then limits.depth gate n (take used bytes) (λ g k. judged_of limits g k (drop used bytes))
+pub judged_of-whole : (limits : Limits) (gate : Gate) (n : ℕ) (bytes : List ℕ) (used : ℕ)
+    → first_of limits.bytes limits.depth bytes ≡ Whole used
+    → judged_of limits gate n bytes
+    ≡ value_then limits.depth gate n (take used bytes) (λ g k.
+    judged_of limits g k (drop used bytes))
 unfolding judged_of
 judged_of-whole limits gate n bytes used e =
     ap (judge_stream limits.depth gate n) (split_first limits.bytes limits.depth bytes used e) ∙ stream_front limits.depth gate n (take used bytes) (split_of limits.bytes limits.depth (drop used bytes))
 
 -- less than a value
-pub judged_of-short : (limits : Limits) (gate : Gate) (n : ℕ) (bytes : List ℕ) → first_of limits.bytes limits.depth bytes ≡ Short → judged_of limits gate n bytes ≡ resting gate bytes
+pub judged_of-short : (limits : Limits) (gate : Gate) (n : ℕ) (bytes : List ℕ)
+    → first_of limits.bytes limits.depth bytes ≡ Short
+    → judged_of limits gate n bytes ≡ resting gate bytes
 unfolding judged_of split_of
 judged_of-short limits gate n bytes e = ap (judge_stream limits.depth gate n) (told_first limits.bytes limits.depth [] bytes ∙ ap (by_first limits.bytes limits.depth [] bytes) e)
 
 -- no value within the limits
-pub judged_of-bad : (limits : Limits) (gate : Gate) (n : ℕ) (bytes : List ℕ) (fault : ScanFault) → first_of limits.bytes limits.depth bytes ≡ Bad fault → judged_of limits gate n bytes ≡ failed (Scan fault)
+pub judged_of-bad : (limits : Limits) (gate : Gate) (n : ℕ) (bytes : List ℕ) (fault : ScanFault)
+    → first_of limits.bytes limits.depth bytes ≡ Bad fault
+    → judged_of limits gate n bytes ≡ failed (Scan fault)
 unfolding judged_of split_of
 judged_of-bad limits gate n bytes fault e = ap (judge_stream limits.depth gate n) (told_first limits.bytes limits.depth [] bytes ∙ ap (by_first limits.bytes limits.depth [] bytes) e)
 
 -- where no PING is awaited, none is awaited behind it
-pub judged_of-open : (limits : Limits) (n : ℕ) (a : List ℕ) → (judged_of limits None n a).fault ≡ None → (judged_of limits None n a).awaits ≡ false
+pub judged_of-open : (limits : Limits) (n : ℕ) (a : List ℕ)
+    → (judged_of limits None n a).fault ≡ None → (judged_of limits None n a).awaits ≡ false
 unfolding judged_of
 judged_of-open limits n a e = by (split_of limits.bytes limits.depth a) e
   where
-    by : (s : Split) → (judge_stream limits.depth None n s).fault ≡ None → (judge_stream limits.depth None n s).awaits ≡ false
+    by : (s : Split) → (judge_stream limits.depth None n s).fault ≡ None
+        → (judge_stream limits.depth None n s).awaits ≡ false
     by (Open vs rest) f = judge_open limits.depth n vs rest f
     by (Broken vs fault) f = absurd (judge-broken limits.depth None vs (Scan fault) n f)
 
 -- before the first byte
-pub judged_of-nothing : (limits : Limits) (gate : Gate) (n : ℕ) → judged_of limits gate n [] ≡ resting gate []
+pub judged_of-nothing : (limits : Limits) (gate : Gate) (n : ℕ)
+    → judged_of limits gate n [] ≡ resting gate []
 unfolding judged_of split_of
 judged_of-nothing limits gate n = refl

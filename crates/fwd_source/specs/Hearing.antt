@@ -14,29 +14,52 @@ use Rattle.fwd_source.specs.declared.hearing.Next.TheVariants as next
 use Rattle.fwd_source.specs.declared.greeting.Greeting.{Greeting}
 use Rattle.fwd_source.specs.declared.greeting.Greeting.TheVariants as greeting
 
+-- what was heard, with its lists as lists
 abbrev pub shown : Heard → Judged
-shown h = record { requests = h.requests.items; rest = h.rest.items; pong = h.pong; awaits = h.awaits; fault = h.fault }
+shown h = record {
+  requests = h.requests.items;
+  rest = h.rest.items;
+  pong = h.pong;
+  awaits = h.awaits;
+  fault = h.fault;
+}
 
 -- what comes next says what the bytes say, at any gate and however many requests came before
 abbrev pub IsNext : Limits → List ℕ → Next → Type 0
 IsNext limits bytes (next.Value value behind) =
-    (length behind.now < length bytes) × ((gate : Gate) (n : ℕ) → judged_of limits gate n bytes ≡ value_then limits.depth gate n (bytes_of value) (λ g k. judged_of limits g k behind.now))
-IsNext limits bytes next.Unfinished = (gate : Gate) (n : ℕ) → judged_of limits gate n bytes ≡ resting gate bytes
-IsNext limits bytes (next.Fault fault) = (gate : Gate) (n : ℕ) → judged_of limits gate n bytes ≡ failed (Scan fault)
+    (length behind.now < length bytes)
+    × ((gate : Gate) (n : ℕ)
+    → judged_of limits gate n bytes
+    ≡ value_then limits.depth gate n (bytes_of value) (λ g k.
+    judged_of limits g k behind.now))
+IsNext limits bytes next.Unfinished =
+    (gate : Gate) (n : ℕ) → judged_of limits gate n bytes ≡ resting gate bytes
+IsNext limits bytes (next.Fault fault) =
+    (gate : Gate) (n : ℕ) → judged_of limits gate n bytes ≡ failed (Scan fault)
 
 -- what the value and all that follows say, with the requests before it
-abbrev pub TakesIn : List Request → List Request → ℕ → Reading → Option SourceFault → Type 0
+abbrev pub TakesIn : List Request → List Request → ℕ → Reading → Option SourceFault
+    → Type 0
 TakesIn old new count reading None =
-    (others : ℕ → Judged) → joined old [] (asked (count + length old) reading others) ≡ joined new [] (others (count + length new))
+    (others : ℕ → Judged)
+    → joined old [] (asked (count + length old) reading others)
+    ≡ joined new [] (others (count + length new))
 TakesIn old new count reading (Some fault) =
-    (others : ℕ → Judged) → joined old [] (asked (count + length old) reading others) ≡ record { requests = new; rest = []; pong = []; awaits = false; fault = Some fault }
+    (others : ℕ → Judged)
+    → joined old [] (asked (count + length old) reading others)
+    ≡ record { requests = new; rest = []; pong = []; awaits = false; fault = Some fault }
 
 -- what a greeting says of the bytes where a PING is awaited
-abbrev pub Greets : Limits → (List ℕ → PingVerdict) → ℕ → List ℕ → Greeting → Type 0
-Greets limits verdict n bytes (greeting.Passed pong behind) = judged_of limits (Some verdict) n bytes ≡ greeted pong (judged_of limits None n behind.now)
-Greets limits verdict n bytes (greeting.Ended heard) = (judged_of limits (Some verdict) n bytes ≡ shown heard) × (heard.requests.items ≡ [])
+abbrev pub Greets : Limits → (List ℕ → PingVerdict) → ℕ → List ℕ → Greeting
+    → Type 0
+Greets limits verdict n bytes (greeting.Passed pong behind) =
+    judged_of limits (Some verdict) n bytes ≡ greeted pong (judged_of limits None n behind.now)
+Greets limits verdict n bytes (greeting.Ended heard) =
+    (judged_of limits (Some verdict) n bytes ≡ shown heard) × (heard.requests.items ≡ [])
 
 -- what became of a greeting, by the verdict on the value, before these bytes
 abbrev pub Welcomes : PingVerdict → List ℕ → Greeting → Type 0
-Welcomes verdict bytes (greeting.Passed pong behind) = (verdict ≡ Pass pong) × (behind.now ≡ bytes)
-Welcomes verdict bytes (greeting.Ended heard) = ((others : Judged) → welcomed verdict others ≡ shown heard) × (heard.requests.items ≡ [])
+Welcomes verdict bytes (greeting.Passed pong behind) =
+    (verdict ≡ Pass pong) × (behind.now ≡ bytes)
+Welcomes verdict bytes (greeting.Ended heard) =
+    ((others : Judged) → welcomed verdict others ≡ shown heard) × (heard.requests.items ≡ [])

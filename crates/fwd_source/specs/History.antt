@@ -11,7 +11,8 @@ use Rattle.fwd_source.specs.declared.piece.Piece.{Piece}
 use Rattle.fwd_source.specs.declared.piece.Piece.TheVariants as piece
 use Rattle.fwd_source.specs.Judged.{Judged, Gate, judged_of}
 
--- what a connection is accepted with: its id, what it has to prove, the random bytes of its handshake, and how long and deep a value may be
+-- what a connection is accepted with: its id, what it has to prove, the random bytes of its
+-- handshake, and how long and deep a value may be
 pub record Setup : Type 0 where
   pub conn : ℕ
   pub security : Security
@@ -22,15 +23,19 @@ pub record Setup : Type 0 where
 abbrev pub gate_of : Setup → Bool → Gate
 gate_of setup awaits = if awaits then Some (ping_verdict setup.security setup.nonces) else None
 
+-- a shared key is set, so that a connection begins with a handshake
 abbrev pub is_guarded : Setup → Bool
 is_guarded setup = is_some setup.security.shared_key
 
 -- what is written first: HELO, where a shared key is set
 abbrev pub opening_text : Setup → List ℕ
 opening_text setup =
-    if is_guarded setup then helo_text setup.security.users setup.nonces.nonce setup.nonces.auth else []
+    if is_guarded setup
+    then helo_text setup.security.users setup.nonces.nonce setup.nonces.auth
+    else []
 
--- all bytes heard, how many of its requests were admitted, all bytes appended for sending, how many of them were drained, and whether it was shut with what waited dropped
+-- all bytes heard, how many of its requests were admitted, all bytes appended for sending, how many
+-- of them were drained, and whether it was shut with what waited dropped
 pub record SourceHistory : Type 0 where
   pub setup : Setup
   pub heard : List ℕ
@@ -41,7 +46,14 @@ pub record SourceHistory : Type 0 where
 
 -- before the first byte
 abbrev pub opened : Setup → SourceHistory
-opened setup = record { setup = setup; heard = []; admitted = 0; appended = opening_text setup; drained = 0; shut = false }
+opened setup = record {
+  setup = setup;
+  heard = [];
+  admitted = 0;
+  appended = opening_text setup;
+  drained = 0;
+  shut = false;
+}
 
 -- what all bytes heard say
 abbrev pub judged : SourceHistory → Judged
@@ -68,11 +80,25 @@ pub record IsSane (s : SourceHistory) : Type 0 where
 
 -- its bytes are heard
 abbrev pub has_heard : SourceHistory → List ℕ → SourceHistory
-has_heard s bytes = record { setup = s.setup; heard = s.heard ++ bytes; admitted = s.admitted; appended = s.appended; drained = s.drained; shut = s.shut }
+has_heard s bytes = record {
+  setup = s.setup;
+  heard = s.heard ++ bytes;
+  admitted = s.admitted;
+  appended = s.appended;
+  drained = s.drained;
+  shut = s.shut;
+}
 
 -- bytes are appended to what is sent
 abbrev pub appends : SourceHistory → List ℕ → SourceHistory
-appends s bytes = record { setup = s.setup; heard = s.heard; admitted = s.admitted; appended = s.appended ++ bytes; drained = s.drained; shut = s.shut }
+appends s bytes = record {
+  setup = s.setup;
+  heard = s.heard;
+  admitted = s.admitted;
+  appended = s.appended ++ bytes;
+  drained = s.drained;
+  shut = s.shut;
+}
 
 -- the PONG that a piece brings: what all bytes ask for, less what was appended before
 abbrev pub new_pong : SourceHistory → List ℕ → List ℕ
@@ -94,16 +120,39 @@ told (Some fault) count = piece.Fault fault
 -- what a piece is told: the fault of all bytes heard, or how many requests wait
 abbrev pub piece_answer : SourceHistory → List ℕ → Piece
 piece_answer s bytes =
-    if is_closed s then piece.Closed else told (judged (hears s bytes)).fault (length (waiting (hears s bytes)))
+    if is_closed s
+    then piece.Closed
+    else told (judged (hears s bytes)).fault (length (waiting (hears s bytes)))
 
 -- the first request that waits is admitted
 abbrev pub gives : SourceHistory → SourceHistory
-gives s = record { setup = s.setup; heard = s.heard; admitted = s.admitted + 1; appended = s.appended; drained = s.drained; shut = s.shut }
+gives s = record {
+  setup = s.setup;
+  heard = s.heard;
+  admitted = s.admitted + 1;
+  appended = s.appended;
+  drained = s.drained;
+  shut = s.shut;
+}
 
 -- the link took some of the bytes that wait to be sent
 abbrev pub drains : SourceHistory → ℕ → SourceHistory
-drains s count = record { setup = s.setup; heard = s.heard; admitted = s.admitted; appended = s.appended; drained = s.drained + count; shut = s.shut }
+drains s count = record {
+  setup = s.setup;
+  heard = s.heard;
+  admitted = s.admitted;
+  appended = s.appended;
+  drained = s.drained + count;
+  shut = s.shut;
+}
 
 -- what waits is dropped, and no further piece is heard
 abbrev pub shuts : SourceHistory → SourceHistory
-shuts s = record { setup = s.setup; heard = s.heard; admitted = s.admitted; appended = s.appended; drained = s.drained; shut = true }
+shuts s = record {
+  setup = s.setup;
+  heard = s.heard;
+  admitted = s.admitted;
+  appended = s.appended;
+  drained = s.drained;
+  shut = true;
+}

@@ -11,8 +11,9 @@ use Rattle.fwd_handshake.specs.declared.verdict.PingVerdict.TheVariants as ping
 use Rattle.fwd_source.specs.declared.fault.SourceFault.{SourceFault}
 use Rattle.fwd_source.specs.declared.fault.SourceFault.TheVariants.{Scan, Input, NotPing, Denied, Closed}
 
--- The requests of a stream, the bytes of an unfinished value after them, the PONG that the stream asks for (none is the
--- empty text), whether a PING is still awaited, and the leftmost fault. Behind a fault nothing counts.
+-- The requests of a stream, the bytes of an unfinished value after them, the PONG that the stream
+-- asks for (none is the empty text), whether a PING is still awaited, and the leftmost fault.
+-- Behind a fault nothing counts.
 pub record Judged : Type 0 where
   pub requests : List Request
   pub rest : List ℕ
@@ -24,24 +25,49 @@ pub record Judged : Type 0 where
 abbrev pub Gate : Type 0
 Gate = Option (List ℕ → PingVerdict)
 
+-- nothing but a fault
 abbrev pub failed : SourceFault → Judged
 failed f = record { requests = []; rest = []; pong = []; awaits = false; fault = Some f }
 
 -- nothing but the bytes of an unfinished value
 abbrev pub resting : Gate → List ℕ → Judged
-resting gate rest = record { requests = []; rest = rest; pong = []; awaits = is_some gate; fault = None }
+resting gate rest = record {
+  requests = [];
+  rest = rest;
+  pong = [];
+  awaits = is_some gate;
+  fault = None;
+}
 
 -- a request, and what comes after it
 abbrev pub ahead : Request → Judged → Judged
-ahead r j = record { requests = r ∷ j.requests; rest = j.rest; pong = j.pong; awaits = j.awaits; fault = j.fault }
+ahead r j = record {
+  requests = r ∷ j.requests;
+  rest = j.rest;
+  pong = j.pong;
+  awaits = j.awaits;
+  fault = j.fault;
+}
 
 -- a PONG, and what comes after it
 abbrev pub greeted : List ℕ → Judged → Judged
-greeted pong j = record { requests = j.requests; rest = j.rest; pong = pong ++ j.pong; awaits = j.awaits; fault = j.fault }
+greeted pong j = record {
+  requests = j.requests;
+  rest = j.rest;
+  pong = pong ++ j.pong;
+  awaits = j.awaits;
+  fault = j.fault;
+}
 
 -- what came, and what comes after it
 abbrev pub joined : List Request → List ℕ → Judged → Judged
-joined requests pong j = record { requests = requests ++ j.requests; rest = j.rest; pong = pong ++ j.pong; awaits = j.awaits; fault = j.fault }
+joined requests pong j = record {
+  requests = requests ++ j.requests;
+  rest = j.rest;
+  pong = pong ++ j.pong;
+  awaits = j.awaits;
+  fault = j.fault;
+}
 
 -- a PING, judged, and what comes after it: a denied one has its PONG, and what is no PING has none
 abbrev pub welcomed : PingVerdict → Judged → Judged
@@ -49,19 +75,23 @@ welcomed (ping.Pass pong) others = greeted pong others
 welcomed (ping.Deny pong denial) others = greeted pong (failed Denied)
 welcomed ping.NotPing others = failed NotPing
 
+-- the value is nil (MessagePack specification, "nil format")
 abbrev pub is_nil : List ℕ → Bool
 is_nil v = bytes_eq v (0xc0 ∷ [])
 
--- a request, read, and what comes after it: a heartbeat is skipped, and no request has a number past the last
+-- a request, read, and what comes after it: a heartbeat is
+-- skipped, and no request has a number past the last
 abbrev pub asked : ℕ → Reading → (ℕ → Judged) → Judged
 asked count reading others =
     elim reading [
       | Heartbeat ↦ others count
-      | Asks r ↦ if nat_lt (count + 1) (2 ^ 64) then ahead r (others (count + 1)) else failed Closed
+      | Asks r ↦
+          if nat_lt (count + 1) (2 ^ 64) then ahead r (others (count + 1)) else failed Closed
       | Fails f ↦ failed (Input f)
     ]
 
--- a value, and what comes after it. Where a PING is awaited, nil is skipped, and the first other value has to be one
+-- a value, and what comes after it. Where a PING is awaited,
+-- nil is skipped, and the first other value has to be one
 abbrev pub value_then : ℕ → Gate → ℕ → List ℕ → (Gate → ℕ → Judged) → Judged
 value_then deep None count v others = asked count (request_of deep v) (others None)
 value_then deep (Some verdict) count v others =
@@ -72,10 +102,15 @@ abbrev pub judge : ℕ → Gate → ℕ → List (List ℕ) → (Gate → Judged
 judge deep gate count [] end = end gate
 judge deep gate count (v ∷ vs) end = value_then deep gate count v (λ g k. judge deep g k vs end)
 
+-- a stream's values one after the other, and then what is behind them: an unfinished value, or
+-- the fault
 abbrev pub judge_stream : ℕ → Gate → ℕ → Split → Judged
-judge_stream deep gate count (Open values rest) = judge deep gate count values (λ g. resting g rest)
-judge_stream deep gate count (Broken values fault) = judge deep gate count values (λ g. failed (Scan fault))
+judge_stream deep gate count (Open values rest) =
+    judge deep gate count values (λ g. resting g rest)
+judge_stream deep gate count (Broken values fault) =
+    judge deep gate count values (λ g. failed (Scan fault))
 
 -- what bytes say
 unfoldable pub judged_of : Limits → Gate → ℕ → List ℕ → Judged
-judged_of limits gate count bytes = judge_stream limits.depth gate count (split_of limits.bytes limits.depth bytes)
+judged_of limits gate count bytes =
+    judge_stream limits.depth gate count (split_of limits.bytes limits.depth bytes)

@@ -10,14 +10,16 @@ pub record Sources : Type 1 where
   pub Source : Type 0
   -- whether what waits was dropped
   pub is_shut : Source → Bool
-  -- the requests that wait to be admitted, how many were admitted before them, and the bytes that wait to be sent
+  -- the requests that wait to be admitted, how many were
+  -- admitted before them, and the bytes that wait to be sent
   pub waiting : Source → List Request
   pub admitted : Source → ℕ
   pub unsent : Source → List ℕ
   -- what a piece is told, and the PONG that it brings
   pub piece_answer : Source → List ℕ → Piece
   pub pong : Source → List ℕ → List ℕ
-  -- a piece is heard; the first request that waits is given away; bytes are appended, are drained; what waits is dropped
+  -- a piece is heard; the first request that waits is given
+  -- away; bytes are appended, are drained; what waits is dropped
   pub hears : Source → List ℕ → Source
   pub gives : Source → Source
   pub appends : Source → List ℕ → Source

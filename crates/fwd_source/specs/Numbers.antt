@@ -7,11 +7,13 @@ use Rattle.fwd_modes.specs.declared.fault.InputFault.TheVariants.{BadShape, BadT
 use Rattle.fwd_source.specs.declared.fault.SourceFault.{SourceFault}
 use Rattle.fwd_source.specs.declared.fault.SourceFault.TheVariants.{Scan, Input, NotPing, Denied, Closed}
 
+-- the number of a fault of the bytes
 abbrev pub scan_number : ScanFault → ℕ
 scan_number Reserved = 1
 scan_number TooDeep = 2
 scan_number TooLong = 3
 
+-- the number of a fault of a whole value that is no request
 abbrev pub input_number : InputFault → ℕ
 input_number BadShape = 4
 input_number BadTag = 5

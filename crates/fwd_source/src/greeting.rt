@@ -22,7 +22,9 @@ pub enum Greeting<'a> {
 
 /// Nothing but nil came yet, and the bytes of an unfinished value.
 fn unfinished(alloc: Global, rest: &[u8]) -> Result<Heard, AllocError>
-    ensures { IfOk result (λ heard. shown heard ≡ record { requests = []; rest = rest.now; pong = []; awaits = true; fault = None }) }
+    ensures { IfOk result (λ heard.
+        shown heard
+        ≡ record { requests = []; rest = rest.now; pong = []; awaits = true; fault = None }) }
 {
     Ok(Heard {
         requests: Vec::new(alloc),
@@ -33,7 +35,8 @@ fn unfinished(alloc: Global, rest: &[u8]) -> Result<Heard, AllocError>
     })
 }
 
-/// What becomes of a connection by the verdict on its first value: a denied PING has its PONG, what is no PING has none.
+/// What becomes of a connection by the verdict on its first
+/// value: a denied PING has its PONG, what is no PING has none.
 fn welcome(alloc: Global, verdict: PingVerdict, behind: &[u8]) -> Greeting<'_>
     ensures { Welcomes verdict behind.now result }
 {
@@ -58,7 +61,8 @@ fn greet<'a>(
     bytes: &'a [u8],
     limits: Limits,
 ) -> Result<Greeting<'a>, AllocError>
-    ensures { IfOk result (λ greeting. (n : ℕ) → Greets limits (ping_verdict security.now nonces.now) n bytes.now greeting) }
+    ensures { IfOk result (λ greeting.
+        (n : ℕ) → Greets limits (ping_verdict security.now nonces.now) n bytes.now greeting) }
 {
     let mut rest = bytes;
     'values: loop {
@@ -79,7 +83,8 @@ fn greet<'a>(
     }
 }
 
-/// What the bytes say, on a connection of which `count` requests came before, where a PING is awaited.
+/// What the bytes say, on a connection of which `count`
+/// requests came before, where a PING is awaited.
 pub fn hear_greeting(
     alloc: Global,
     security: &Security,
@@ -89,7 +94,9 @@ pub fn hear_greeting(
     limits: Limits,
 ) -> Result<Heard, AllocError>
     requires { count < 2 ^ 64 }
-    ensures value { IfOk result (λ heard. shown heard ≡ judged_of limits (Some (ping_verdict security.now nonces.now)) count bytes.now) }
+    ensures value { IfOk result (λ heard.
+        shown heard
+        ≡ judged_of limits (Some (ping_verdict security.now nonces.now)) count bytes.now) }
     ensures room { IfOk result (λ heard. count + length heard.requests.items < 2 ^ 64) }
 {
     match greet(alloc, security, nonces, bytes, limits)? {

@@ -1,5 +1,5 @@
-//! What a connection's bytes say where no PING is awaited: its requests, the bytes of an unfinished value, and the
-//! leftmost fault.
+//! What a connection's bytes say where no PING is awaited: its requests, the bytes of an unfinished
+//! value, and the leftmost fault.
 
 ghost use Rattle.std.specs.Prelude.{◌≡◌, ◌+◌, ◌<◌, ◌^◌, [], None, Some, false, IfOk, length};
 ghost use Rattle.fwd_msgpack.specs.Values.{bytes_of};
@@ -55,7 +55,9 @@ fn take_in(
     limits: Limits,
 ) -> Result<Option<SourceFault>, AllocError>
     requires { count + length requests.old.items < 2 ^ 64 }
-    ensures value { IfOk result (λ fault. TakesIn requests.old.items requests.new.items count (request_of limits.depth (bytes_of value.entry)) fault) }
+    ensures value { IfOk result (λ fault.
+        TakesIn requests.old.items requests.new.items count
+        (request_of limits.depth (bytes_of value.entry)) fault) }
     ensures room { count + length requests.new.items < 2 ^ 64 }
 {
     match read_request(alloc, value, limits)? {
@@ -74,7 +76,14 @@ fn take_in(
 
 /// Requests, and a fault behind them.
 pub fn failed(alloc: Global, requests: Vec<Batch>, fault: SourceFault) -> Heard
-    ensures { shown result ≡ record { requests = requests.items; rest = []; pong = []; awaits = false; fault = Some fault } }
+    ensures { shown result
+        ≡ record {
+          requests = requests.items;
+          rest = [];
+          pong = [];
+          awaits = false;
+          fault = Some fault;
+        } }
 {
     Heard {
         requests,
@@ -85,7 +94,8 @@ pub fn failed(alloc: Global, requests: Vec<Batch>, fault: SourceFault) -> Heard
     }
 }
 
-/// What the bytes say, on a connection of which `count` requests came before, and that awaits no PING.
+/// What the bytes say, on a connection of which `count`
+/// requests came before, and that awaits no PING.
 pub fn hear(alloc: Global, count: u64, bytes: &[u8], limits: Limits) -> Result<Heard, AllocError>
     requires { count < 2 ^ 64 }
     ensures value { IfOk result (λ heard. shown heard ≡ judged_of limits None count bytes.now) }

@@ -1,4 +1,5 @@
-//! Laws, each the contract of a function that does nothing, or no more than the calls of which it speaks.
+//! Laws, each the contract of a function that does nothing,
+//! or no more than the calls of which it speaks.
 
 ghost use Rattle.std.specs.Prelude.{◌≡◌, ◌≤◌, ℕ, List, ◌∷◌, true, false, length, take, drop};
 ghost use Rattle.std.specs.List.{concat};
@@ -18,49 +19,72 @@ use fwd_msgpack::Bytes;
 
 /// What bytes say, by what stands at their front: a value, less than one, or a fault.
 pub fn judged_by_front()
-    ensures whole { (limits : ValueLimits) (gate : Gate) (n : ℕ) (bytes : List ℕ) (used : ℕ) → first_of limits.bytes limits.depth bytes ≡ Whole used →
-        judged_of limits gate n bytes ≡ value_then limits.depth gate n (take used bytes) (λ g k. judged_of limits g k (drop used bytes)) }
-    ensures short { (limits : ValueLimits) (gate : Gate) (n : ℕ) (bytes : List ℕ) → first_of limits.bytes limits.depth bytes ≡ Short → judged_of limits gate n bytes ≡ resting gate bytes }
-    ensures bad { (limits : ValueLimits) (gate : Gate) (n : ℕ) (bytes : List ℕ) (fault : ScanFault) → first_of limits.bytes limits.depth bytes ≡ Bad fault → judged_of limits gate n bytes ≡ failed (Scan fault) }
+    ensures whole { (limits : ValueLimits) (gate : Gate) (n : ℕ) (bytes : List ℕ) (used : ℕ)
+        → first_of limits.bytes limits.depth bytes ≡ Whole used
+        → judged_of limits gate n bytes
+        ≡ value_then limits.depth gate n (take used bytes)
+        (λ g k. judged_of limits g k (drop used bytes)) }
+    ensures short { (limits : ValueLimits) (gate : Gate) (n : ℕ) (bytes : List ℕ)
+        → first_of limits.bytes limits.depth bytes ≡ Short
+        → judged_of limits gate n bytes ≡ resting gate bytes }
+    ensures bad { (limits : ValueLimits) (gate : Gate) (n : ℕ) (bytes : List ℕ)
+        (fault : ScanFault)
+        → first_of limits.bytes limits.depth bytes ≡ Bad fault
+        → judged_of limits gate n bytes ≡ failed (Scan fault) }
 {}
 
 /// However the bytes are cut, the same source is left.
 pub fn pieces_are_one()
-    ensures { (s : LiveSource) (bytes : List ℕ) (pieces : List (List ℕ)) → live_pieces_next s (bytes ∷ pieces) ≡ live_piece_next s (concat (bytes ∷ pieces)) }
+    ensures { (s : LiveSource) (bytes : List ℕ) (pieces : List (List ℕ))
+        → live_pieces_next s (bytes ∷ pieces)
+        ≡ live_piece_next s (concat (bytes ∷ pieces)) }
 {}
 
-/// The live part is enough: what happens to a connection's history happens alike to its live part, and a piece is told the
-/// same.
+/// The live part is enough: what happens to a connection's history happens alike to its live part,
+/// and a piece is told the same.
 pub fn live_source_follows()
     ensures opened { (setup : Setup) → live_source (opened setup) ≡ opened_source setup }
-    ensures hears { (s : SourceHistory) (bytes : List ℕ) → IsSane s → is_closed s ≡ false → live_source (hears s bytes) ≡ source_hears (live_source s) bytes }
-    ensures piece { (s : SourceHistory) (bytes : List ℕ) → IsSane s → live_source (piece_next s bytes) ≡ live_piece_next (live_source s) bytes }
-    ensures answer { (s : SourceHistory) (bytes : List ℕ) → IsSane s → piece_answer s bytes ≡ live_piece_answer (live_source s) bytes }
+    ensures hears { (s : SourceHistory) (bytes : List ℕ) → IsSane s → is_closed s ≡ false
+        → live_source (hears s bytes) ≡ source_hears (live_source s) bytes }
+    ensures piece { (s : SourceHistory) (bytes : List ℕ) → IsSane s
+        → live_source (piece_next s bytes) ≡ live_piece_next (live_source s) bytes }
+    ensures answer { (s : SourceHistory) (bytes : List ℕ) → IsSane s
+        → piece_answer s bytes ≡ live_piece_answer (live_source s) bytes }
     ensures pong { (s : SourceHistory) (bytes : List ℕ) → IsSane s → is_closed s ≡ false →
         new_pong s bytes ≡ (judged_piece (live_source s) bytes).pong }
     ensures gives { (s : SourceHistory) → live_source (gives s) ≡ source_gives (live_source s) }
-    ensures appends { (s : SourceHistory) (bytes : List ℕ) → IsSane s → s.shut ≡ false → live_source (appends s bytes) ≡ source_appends (live_source s) bytes }
-    ensures drains { (s : SourceHistory) (count : ℕ) → live_source (drains s count) ≡ source_drains (live_source s) count }
+    ensures appends { (s : SourceHistory) (bytes : List ℕ) → IsSane s → s.shut ≡ false
+        → live_source (appends s bytes) ≡ source_appends (live_source s) bytes }
+    ensures drains { (s : SourceHistory) (count : ℕ)
+        → live_source (drains s count) ≡ source_drains (live_source s) count }
     ensures shuts { (s : SourceHistory) → live_source (shuts s) ≡ source_shuts (live_source s) }
 {}
 
 /// What is admitted and drained came before, at the opening and after each step.
 pub fn source_stays_sane()
     ensures opened { (setup : Setup) → IsSane (opened setup) }
-    ensures hears { (s : SourceHistory) (bytes : List ℕ) → IsSane s → is_closed s ≡ false → IsSane (hears s bytes) }
-    ensures piece { (s : SourceHistory) (bytes : List ℕ) → IsSane s → IsSane (piece_next s bytes) }
-    ensures gives { (s : SourceHistory) (r : Request) (rs : List Request) → IsSane s → waiting s ≡ r ∷ rs → IsSane (gives s) }
-    ensures appends { (s : SourceHistory) (bytes : List ℕ) → IsSane s → IsSane (appends s bytes) }
-    ensures drains { (s : SourceHistory) (count : ℕ) → IsSane s → s.shut ≡ false → count ≤ length (unsent s) → IsSane (drains s count) }
+    ensures hears { (s : SourceHistory) (bytes : List ℕ) → IsSane s → is_closed s ≡ false
+        → IsSane (hears s bytes) }
+    ensures piece { (s : SourceHistory) (bytes : List ℕ) → IsSane s
+        → IsSane (piece_next s bytes) }
+    ensures gives { (s : SourceHistory) (r : Request) (rs : List Request) → IsSane s
+        → waiting s ≡ r ∷ rs → IsSane (gives s) }
+    ensures appends { (s : SourceHistory) (bytes : List ℕ) → IsSane s
+        → IsSane (appends s bytes) }
+    ensures drains { (s : SourceHistory) (count : ℕ) → IsSane s → s.shut ≡ false
+        → count ≤ length (unsent s) → IsSane (drains s count) }
     ensures shuts { (s : SourceHistory) → IsSane s → IsSane (shuts s) }
 {}
 
-/// A fault closes the connection, and once it is closed each further piece is refused and changes nothing.
+/// A fault closes the connection, and once it is closed
+/// each further piece is refused and changes nothing.
 pub fn faults_close()
     ensures closes { (s : LiveSource) (bytes : List ℕ) (fault : SourceFault) →
         live_piece_answer s bytes ≡ Fault fault → (live_piece_next s bytes).closed ≡ true }
-    ensures refused { (s : LiveSource) (bytes : List ℕ) → s.closed ≡ true → live_piece_answer s bytes ≡ Closed }
-    ensures unchanged { (s : LiveSource) (bytes : List ℕ) → s.closed ≡ true → live_piece_next s bytes ≡ s }
+    ensures refused { (s : LiveSource) (bytes : List ℕ) → s.closed ≡ true
+        → live_piece_answer s bytes ≡ Closed }
+    ensures unchanged { (s : LiveSource) (bytes : List ℕ) → s.closed ≡ true
+        → live_piece_next s bytes ≡ s }
 {}
 
 /// Answers that together fit the room are all taken, however many they are.

@@ -1,4 +1,5 @@
-//! One connection: its bytes, the requests that they ask for, and the bytes that wait to be sent to it.
+//! One connection: its bytes, the requests that they ask
+//! for, and the bytes that wait to be sent to it.
 #![tactic(auto)]
 
 mod fault;
@@ -17,6 +18,3 @@ pub use laws::{
 pub use origin::Origin;
 pub use piece::{Piece, Told};
 pub use source::{AnswerError, Source};
-
-#[cfg(test)]
-mod tests;

@@ -12,7 +12,8 @@ pub enum Piece {
     Closed,
 }
 
-/// What a piece did, and what it put behind the bytes that wait to be sent: the PONG of a PING, or nothing.
+/// What a piece did, and what it put behind the bytes that
+/// wait to be sent: the PONG of a PING, or nothing.
 #[derive(Debug, Drop)]
 pub struct Told {
     pub piece: Piece,

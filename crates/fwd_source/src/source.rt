@@ -28,7 +28,8 @@ pub enum AnswerError {
     Memory,
 }
 
-/// A connection: its unfinished bytes, its requests that wait to be admitted, and the bytes that wait to be sent to it.
+/// A connection: its unfinished bytes, its requests that wait
+/// to be admitted, and the bytes that wait to be sent to it.
 #[derive(Drop)]
 pub struct Source {
     conn: u64,
@@ -53,7 +54,12 @@ impl Model for Source {
 
     ghost view = { λ s. record {
       live = record {
-        setup = record { conn = s.conn; security = arc_value s.security; nonces = s.nonces; limits = s.limits };
+        setup = record {
+          conn = s.conn;
+          security = arc_value s.security;
+          nonces = s.nonces;
+          limits = s.limits;
+        };
         awaits = s.awaits;
         rest = s.rest.items;
         waiting = s.waiting.items;
@@ -70,8 +76,9 @@ impl Model for Source {
 
 /// What is written first: HELO, where a shared key is set.
 fn opening(alloc: Global, security: &Security, nonces: &Nonces) -> Result<Vec<u8>, AllocError>
-    ensures { IfOk result (λ text. (setup : Setup) → setup.security ≡ security.now → setup.nonces ≡ nonces.now →
-        text.items ≡ opening_text setup) }
+    ensures { IfOk result (λ text.
+        (setup : Setup) → setup.security ≡ security.now → setup.nonces ≡ nonces.now
+        → text.items ≡ opening_text setup) }
 {
     if security.shared_key.is_none() {
         return Ok(Vec::new(alloc));
@@ -81,8 +88,8 @@ fn opening(alloc: Global, security: &Security, nonces: &Nonces) -> Result<Vec<u8
 }
 
 impl Source {
-    /// A connection before its first byte. Where a shared key is set, HELO waits to be sent. The only error is want of
-    /// memory, which gives `security` back.
+    /// A connection before its first byte. Where a shared key is set, HELO waits to be sent. The
+    /// only error is want of memory, which gives `security` back.
     pub fn new(
         alloc: Global,
         conn: u64,
@@ -160,7 +167,8 @@ impl Source {
         self.shut
     }
 
-    /// Makes room for answers of so many bytes in all. The only error is want of memory, and then nothing has changed.
+    /// Makes room for answers of so many bytes in all. The only
+    /// error is want of memory, and then nothing has changed.
     pub fn reserve(&mut self, bytes: usize) -> Result<(), AllocError>
         ensures live { self.new.live ≡ self.old.live }
         ensures ok { OnOk result (bytes ≤ self.new.room) }
@@ -171,13 +179,16 @@ impl Source {
         self.unsent.reserve(bytes)
     }
 
-    /// Puts bytes behind those that wait to be sent. A fault does not refuse them. On an error nothing has changed.
+    /// Puts bytes behind those that wait to be sent. A fault
+    /// does not refuse them. On an error nothing has changed.
     pub fn answer(&mut self, bytes: &[u8]) -> Result<(), AnswerError>
         ensures ok { OnOk result (self.new.live ≡ source_appends self.old.live bytes.now) }
         ensures room { OnOk result (self.old.room ≤ self.new.room + length bytes.now) }
         ensures closed { self.old.live.shut ≡ true → result ≡ Err AnswerError.Closed }
-        ensures closed_only_once_shut { result ≡ Err AnswerError.Closed → self.old.live.shut ≡ true }
-        ensures memory_only_without_room { result ≡ Err AnswerError.Memory → self.old.room < length bytes.now }
+        ensures closed_only_once_shut { result ≡ Err AnswerError.Closed
+            → self.old.live.shut ≡ true }
+        ensures memory_only_without_room { result ≡ Err AnswerError.Memory
+            → self.old.room < length bytes.now }
         ensures err { OnErr result (self.new ≡ self.old) }
     {
         if self.shut {
@@ -192,7 +203,8 @@ impl Source {
 
     /// The first request that waits, with its number.
     pub fn peek(&self) -> Option<(Origin, &Batch)>
-        ensures { option_map (λ asked. (asked.0, asked.1.now)) result ≡ first_waiting self.now.live self.now.live.waiting }
+        ensures { option_map (λ asked. (asked.0, asked.1.now)) result
+            ≡ first_waiting self.now.live self.now.live.waiting }
     {
         let batch = self.waiting.front()?;
         let request = self.admitted + 1;
@@ -215,8 +227,11 @@ impl Source {
 
     /// What these bytes say, of which those of the unfinished value are the first.
     fn judged(&self, alloc: Global, bytes: &[u8]) -> Result<Heard, AllocError>
-        ensures value { IfOk result (λ heard. shown heard ≡ judged_behind self.now.live bytes.now) }
-        ensures room { IfOk result (λ heard. self.now.live.admitted + length self.now.live.waiting + length heard.requests.items < 2 ^ 64) }
+        ensures value { IfOk result (λ heard.
+            shown heard ≡ judged_behind self.now.live bytes.now) }
+        ensures room { IfOk result (λ heard.
+            self.now.live.admitted + length self.now.live.waiting + length heard.requests.items
+            < 2 ^ 64) }
     {
         let count = self.admitted + self.waiting.len() as u64;
         if self.awaits {
@@ -235,8 +250,11 @@ impl Source {
 
     /// What more bytes say.
     fn hears(&self, alloc: Global, bytes: &[u8]) -> Result<Heard, AllocError>
-        ensures value { IfOk result (λ heard. shown heard ≡ judged_piece self.now.live bytes.now) }
-        ensures room { IfOk result (λ heard. self.now.live.admitted + length self.now.live.waiting + length heard.requests.items < 2 ^ 64) }
+        ensures value { IfOk result (λ heard.
+            shown heard ≡ judged_piece self.now.live bytes.now) }
+        ensures room { IfOk result (λ heard.
+            self.now.live.admitted + length self.now.live.waiting + length heard.requests.items
+            < 2 ^ 64) }
     {
         if self.rest.is_empty() {
             return self.judged(alloc, bytes);
@@ -246,16 +264,19 @@ impl Source {
         self.judged(alloc, &all)
     }
 
-    /// More bytes come. After a fault and once shut, each further piece is refused. On an error nothing has changed.
+    /// More bytes come. After a fault and once shut, each further
+    /// piece is refused. On an error nothing has changed.
     #[tactic(auto, unfolding(crate::specs::Live::source_hears))]
     pub fn piece(&mut self, alloc: Global, bytes: &[u8]) -> Result<Told, AllocError>
-        ensures answer { IfOk result (λ told. told.piece ≡ live_piece_answer self.old.live bytes.now) }
+        ensures answer { IfOk result (λ told.
+            told.piece ≡ live_piece_answer self.old.live bytes.now) }
         ensures out { IfOk result (λ told. told.out ≡ live_piece_out self.old.live bytes.now) }
         ensures live { OnOk result (self.new.live ≡ live_piece_next self.old.live bytes.now) }
         ensures closed { self.old.live.closed ≡ true → IsOk result × (self.new ≡ self.old) }
         ensures err { OnErr result (self.new.live ≡ self.old.live) }
         // What may wait to be sent without more memory is as much as before.
-        ensures room { length self.old.live.unsent + self.old.room ≤ length self.new.live.unsent + self.new.room }
+        ensures room { length self.old.live.unsent + self.old.room
+            ≤ length self.new.live.unsent + self.new.room }
     {
         if self.closed {
             return Ok(Told {

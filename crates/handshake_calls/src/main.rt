@@ -1,5 +1,5 @@
-//! Calls of fwd_handshake, a line each on standard input, and their answers on standard output. tools/handshakes.py says
-//! what the words of a line are, and computes both files anew.
+//! Calls of fwd_handshake, a line each on standard input, and their answers on standard output.
+//! tools/handshakes.py says what the words of a line are, and computes both files anew.
 #![tactic(auto)]
 
 mod calls;

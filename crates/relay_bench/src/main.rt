@@ -1,7 +1,8 @@
-//! The program: `relay_bench count|speed cut|requests TURNS [FILE]`, over a file or standard input of MessagePack.
+//! The program: `relay_bench count|speed cut|requests TURNS [FILE]`,
+//! over a file or standard input of MessagePack.
 //!
-//! It goes over the values of the stream, turn after turn, and prints what one turn found; under `speed` also how fast
-//! the fastest turn was.
+//! It goes over the values of the stream, turn after turn, and prints what one turn found; under
+//! `speed` also how fast the fastest turn was.
 #![tactic(auto)]
 
 mod measure;

@@ -65,7 +65,8 @@ pub fn read_requests(alloc: Global, values: &[Value<'_>]) -> Result<(u64, u64), 
     Ok((requests, entries))
 }
 
-/// What a turn finds, and how long the fastest one took. Where requests are measured, the values were cut beforehand.
+/// What a turn finds, and how long the fastest one took. Where
+/// requests are measured, the values were cut beforehand.
 pub fn fastest<R: Runtime + AllocGlobal>(
     rt: &R,
     words: &Words,

@@ -8,7 +8,8 @@ use Rattle.fwd_match.proofs.counting.count_behind.Given as goal
 abbrev pub invariant-loop-rest : goal.invariant-loop-rest
 invariant-loop-rest l = record {
   bound : l.count ≤ 64;
-  counted : l.texts * length (alternatives l.inside l.text) ≡ l.count + l.texts * length (fields_left (marks (Comma l.inside)) (option_copied l.rest));
+  counted : l.texts * length (alternatives l.inside l.text)
+      ≡ l.count + l.texts * length (fields_left (marks (Comma l.inside)) (option_copied l.rest));
 }
 
 abbrev pub decreases-loop-rest : goal.decreases-loop-rest

@@ -8,7 +8,8 @@ use Rattle.fwd_match.proofs.counting.count_spellings.Given as goal
 abbrev pub invariant-loop-rest : goal.invariant-loop-rest
 invariant-loop-rest l = record {
   bound : l.texts ≤ 64;
-  counted : length (spellings l.word) ≡ spelled_count l.texts (choices l.inside (fields_left is_brace (option_copied l.rest)));
+  counted : length (spellings l.word)
+      ≡ spelled_count l.texts (choices l.inside (fields_left is_brace (option_copied l.rest)));
 }
 
 abbrev pub decreases-loop-rest : goal.decreases-loop-rest

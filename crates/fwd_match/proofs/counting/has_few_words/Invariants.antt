@@ -9,7 +9,10 @@ use Rattle.fwd_match.proofs.counting.has_few_words.Given as goal
 abbrev pub invariant-loop-rest : goal.invariant-loop-rest
 invariant-loop-rest l = record {
   bound : l.count ≤ 64;
-  counted : length (expanded l.text) ≡ l.count + length (flat_map spellings (filter is_something (fields_left is_blank (option_copied l.rest))));
+  counted : length (expanded l.text)
+      ≡ l.count
+      + length
+      (flat_map spellings (filter is_something (fields_left is_blank (option_copied l.rest))));
 }
 
 abbrev pub decreases-loop-rest : goal.decreases-loop-rest

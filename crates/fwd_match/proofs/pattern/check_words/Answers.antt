@@ -7,7 +7,8 @@ use Rattle.fwd_match.specs.Marks.{fields_left}
 use Rattle.fwd_match.proofs.Verdicts.{empty_verdict, brace_verdict, word_stays, bad_word, still_some}
 use Rattle.fwd_match.proofs.pattern.check_words.Goals as goal
 
-pub returns-then-not-has_good_braces-clause-fault : goal.returns-then-not-has_good_braces-clause-fault
+pub returns-then-not-has_good_braces-clause-fault :
+    goal.returns-then-not-has_good_braces-clause-fault
 returns-then-not-has_good_braces-clause-fault c =
     let text = c.args.text.now in
     let word = c.first_field.result.0.now in

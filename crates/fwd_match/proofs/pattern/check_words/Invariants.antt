@@ -9,8 +9,11 @@ use Rattle.fwd_match.proofs.pattern.check_words.Given as goal
 abbrev pub invariant-loop-rest : goal.invariant-loop-rest
 invariant-loop-rest l = record {
   some : l.found ≡ true → length (words l.text) ≢ 0;
-  none : l.found ≡ false → length (words l.text) ≡ length (filter is_something (fields_left is_blank (option_copied l.rest)));
-  good : list_all has_good_braces (words l.text) ≡ list_all has_good_braces (filter is_something (fields_left is_blank (option_copied l.rest)));
+  none : l.found ≡ false
+      → length (words l.text)
+      ≡ length (filter is_something (fields_left is_blank (option_copied l.rest)));
+  good : list_all has_good_braces (words l.text)
+      ≡ list_all has_good_braces (filter is_something (fields_left is_blank (option_copied l.rest)));
 }
 
 abbrev pub decreases-loop-rest : goal.decreases-loop-rest

@@ -7,7 +7,10 @@ use Rattle.fwd_match.specs.Marks.{fields_left, size_left}
 use Rattle.fwd_match.proofs.spelling.expand.Given as goal
 
 abbrev pub invariant-loop-rest : goal.invariant-loop-rest
-invariant-loop-rest l = expanded l.text ≡ l.words.items ++ flat_map spellings (filter is_something (fields_left is_blank (option_copied l.rest)))
+invariant-loop-rest l =
+    expanded l.text
+    ≡ l.words.items
+    ++ flat_map spellings (filter is_something (fields_left is_blank (option_copied l.rest)))
 
 abbrev pub decreases-loop-rest : goal.decreases-loop-rest
 decreases-loop-rest l = size_left (option_copied l.rest)

@@ -9,7 +9,8 @@ use Rattle.fwd_match.proofs.stars.has_good_stars.Given as goal
 abbrev pub invariant-loop-rest : goal.invariant-loop-rest
 invariant-loop-rest l =
     list_all has_good_stars (expanded l.text)
-    ≡ list_all has_good_stars (flat_map spellings (filter is_something (fields_left is_blank (option_copied l.rest))))
+    ≡ list_all has_good_stars
+    (flat_map spellings (filter is_something (fields_left is_blank (option_copied l.rest))))
 
 abbrev pub decreases-loop-rest : goal.decreases-loop-rest
 decreases-loop-rest l = size_left (option_copied l.rest)

@@ -9,7 +9,8 @@ use Rattle.fwd_match.proofs.stars.have_good_stars.Given as goal
 abbrev pub invariant-loop-rest : goal.invariant-loop-rest
 invariant-loop-rest l =
     list_all has_good_stars (spellings l.word)
-    ≡ each_front l.fronts (all_fine (choices l.inside (fields_left is_brace (option_copied l.rest))))
+    ≡ each_front l.fronts
+    (all_fine (choices l.inside (fields_left is_brace (option_copied l.rest))))
 
 abbrev pub decreases-loop-rest : goal.decreases-loop-rest
 decreases-loop-rest l = size_left (option_copied l.rest)

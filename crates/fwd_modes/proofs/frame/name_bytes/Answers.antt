@@ -3,7 +3,10 @@ use Rattle.std.specs.Int.{w16, w64, to_be_bytes}
 use Rattle.fwd_modes.proofs.frame.name_bytes.Goals as goal
 
 -- a list of n numbers, cell by cell
-cells_of_6 : (xs : List ℕ) → length xs ≡ 6 → xs ≡ get_or xs 0 0 ∷ get_or xs 1 0 ∷ get_or xs 2 0 ∷ get_or xs 3 0 ∷ get_or xs 4 0 ∷ get_or xs 5 0 ∷ []
+cells_of_6 : (xs : List ℕ) → length xs ≡ 6
+    → xs
+    ≡ get_or xs 0 0 ∷ get_or xs 1 0 ∷ get_or xs 2 0 ∷ get_or xs 3 0 ∷ get_or xs 4 0
+    ∷ get_or xs 5 0 ∷ []
 cells_of_6 [] h = absurd (omega (arith, h))
 cells_of_6 (a ∷ []) h = absurd (omega (arith, h))
 cells_of_6 (a ∷ b ∷ []) h = absurd (omega (arith, h))

@@ -8,6 +8,7 @@ use Rattle.fwd_modes.proofs.lists.read_list.Given as goal
 -- the entries so far, and those of the members to come, are all
 abbrev pub invariant-loop-member : goal.invariant-loop-member
 invariant-loop-member l = record {
-  said : behind l.kept (entries_of (members_left l.member-iterator)) ≡ listed_entries (bytes_of l.list);
+  said : behind l.kept (entries_of (members_left l.member-iterator))
+      ≡ listed_entries (bytes_of l.list);
   fits : length (concat l.kept) + length (concat (members_left l.member-iterator)) < 2 ^ 32;
 }

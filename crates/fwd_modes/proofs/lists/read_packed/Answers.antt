@@ -13,7 +13,9 @@ use Rattle.fwd_modes.specs.Readings.{kept}
 use Rattle.fwd_modes.proofs.EntryLemmas.{behind, behind-more, behind-end, packed_not_whole, packed_no_entry, packed_whole, packed_nothing, length-concat-push}
 use Rattle.fwd_modes.proofs.lists.read_packed.Goals as goal
 
-not_cut : (r : Cut) (n : ℕ) → ((value : Value) (used : ℕ) → r ≡ cuts.Whole value used → ⊥) → seen r ≡ Whole n → ⊥
+not_cut : (r : Cut) (n : ℕ)
+    → ((value : Value) (used : ℕ) → r ≡ cuts.Whole value used → ⊥)
+    → seen r ≡ Whole n → ⊥
 not_cut r n none e = let found = seen_whole r n e in none found.0 found.1.0 found.1.1
 
 pub returns-in_default : goal.returns-in_default

@@ -8,7 +8,8 @@ invariant-loop-size l = record {
   opened : length l.stack ≤ l.limits.depth;
   owed : sum l.stack < 2 ^ 32;
   fits : l.used + sum l.stack ≤ l.limits.bytes;
-  same : found_behind l.limits.bytes l.limits.depth l.used l.stack l.bytes ≡ first_of l.limits.bytes l.limits.depth l.bytes;
+  same : found_behind l.limits.bytes l.limits.depth l.used l.stack l.bytes
+      ≡ first_of l.limits.bytes l.limits.depth l.bytes;
 }
 
 abbrev pub decreases-loop-size : goal.decreases-loop-size

@@ -6,7 +6,9 @@ use Rattle.fwd_source.proofs.greeting.greet.Given as goal
 -- what the rest says is what all of the bytes say
 abbrev pub invariant-values : goal.invariant-values
 invariant-values l = record {
-  said : (n : ℕ) → judged_of l.fn.limits (Some (ping_verdict l.fn.security l.fn.nonces)) n l.fn.bytes ≡ judged_of l.fn.limits (Some (ping_verdict l.fn.security l.fn.nonces)) n l.rest;
+  said : (n : ℕ)
+      → judged_of l.fn.limits (Some (ping_verdict l.fn.security l.fn.nonces)) n l.fn.bytes
+      ≡ judged_of l.fn.limits (Some (ping_verdict l.fn.security l.fn.nonces)) n l.rest;
 }
 
 abbrev pub decreases-values : goal.decreases-values

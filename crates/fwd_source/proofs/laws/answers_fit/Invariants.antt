@@ -7,6 +7,7 @@ use Rattle.fwd_source.proofs.laws.answers_fit.Given as goal
 abbrev pub invariant-loop-answer : goal.invariant-loop-answer
 invariant-loop-answer l = record {
   still : l.source.live.shut ≡ false;
-  all : source_appends l.source.live (concat (drop l.answer-index l.answers)) ≡ source_appends l.fn.source.live (concat l.answers);
+  all : source_appends l.source.live (concat (drop l.answer-index l.answers))
+      ≡ source_appends l.fn.source.live (concat l.answers);
   room : length (concat (drop l.answer-index l.answers)) ≤ l.source.room;
 }

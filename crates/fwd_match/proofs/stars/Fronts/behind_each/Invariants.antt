@@ -9,9 +9,12 @@ use Rattle.fwd_match.proofs.stars.Fronts.behind_each.Given as goal
 
 abbrev pub invariant-loop-rest : goal.invariant-loop-rest
 invariant-loop-rest l = (test : Front → Bool) →
-    each_front l.self (λ front. list_all (λ bytes. test (further front bytes)) (alternatives l.inside l.text))
+    each_front l.self (λ front.
+    list_all (λ bytes. test (further front bytes)) (alternatives l.inside l.text))
     ≡ (each_front l.fronts test
-    && each_front l.self (λ front. list_all (λ bytes. test (further front bytes)) (fields_left (marks (Comma l.inside)) (option_copied l.rest))))
+    && each_front l.self (λ front.
+    list_all (λ bytes. test (further front bytes))
+    (fields_left (marks (Comma l.inside)) (option_copied l.rest))))
 
 abbrev pub decreases-loop-rest : goal.decreases-loop-rest
 decreases-loop-rest l = size_left (option_copied l.rest)

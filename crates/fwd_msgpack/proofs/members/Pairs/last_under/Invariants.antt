@@ -7,4 +7,5 @@ use Rattle.fwd_msgpack.proofs.members.Pairs.last_under.Given as goal
 
 abbrev pub invariant-loop-name : goal.invariant-loop-name
 invariant-loop-name l =
-    last_or (option_map bytes_of l.last) (values_under l.key (pairs_left l.name-iterator)) ≡ last_or None (values_under l.key (pairs_left l.fn.self))
+    last_or (option_map bytes_of l.last) (values_under l.key (pairs_left l.name-iterator))
+    ≡ last_or None (values_under l.key (pairs_left l.fn.self))

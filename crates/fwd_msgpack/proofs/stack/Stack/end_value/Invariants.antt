@@ -7,7 +7,8 @@ abbrev pub invariant-loop-self : goal.invariant-loop-self
 invariant-loop-self l = record {
   most : l.self-inside.depth ≤ 64;
   owed : l.self-inside.owed ≡ sum (from_last l.self-inside.depth l.self-inside.lacking);
-  same : after_value (from_last l.self-inside.depth l.self-inside.lacking) ≡ after_value l.fn.self;
+  same : after_value (from_last l.self-inside.depth l.self-inside.lacking)
+      ≡ after_value l.fn.self;
 }
 
 abbrev pub decreases-loop-self : goal.decreases-loop-self
