@@ -26,13 +26,18 @@ acks_of-append : (qs rs : List Entered) → acks_of (qs ++ rs) ≡ acks_of qs ++
 acks_of-append qs rs = ap concat (map-append ack_of qs rs) ∙ concat-append (map ack_of qs) (map ack_of rs)
 
 -- one that is due adds its acknowledgement
-pub acks-due : (origins : List Origin) (cells : List Cell) (qs : List Entered) (q : Entered) → is_due_among origins cells q ≡ true → acks_of (due_among origins cells (qs ++ q ∷ [])) ≡ acks_of (due_among origins cells qs) ++ ack_of q
+pub acks-due : (origins : List Origin) (cells : List Cell) (qs : List Entered) (q : Entered)
+    → is_due_among origins cells q ≡ true
+    → acks_of (due_among origins cells (qs ++ q ∷ [])) ≡ acks_of (due_among origins cells qs)
+    ++ ack_of q
 acks-due origins cells qs q e =
     ap acks_of (filter-append (is_due_among origins cells) qs (q ∷ []) ∙ ap (λ b. due_among origins cells qs ++ cond b (q ∷ []) []) e)
     ∙ acks_of-append (due_among origins cells qs) (q ∷ []) ∙ ap (λ xs. acks_of (due_among origins cells qs) ++ xs) (append-nil (ack_of q))
 
 -- and another one adds nothing
-pub acks-not_due : (origins : List Origin) (cells : List Cell) (qs : List Entered) (q : Entered) → is_due_among origins cells q ≡ false → acks_of (due_among origins cells (qs ++ q ∷ [])) ≡ acks_of (due_among origins cells qs)
+pub acks-not_due : (origins : List Origin) (cells : List Cell) (qs : List Entered) (q : Entered)
+    → is_due_among origins cells q ≡ false
+    → acks_of (due_among origins cells (qs ++ q ∷ [])) ≡ acks_of (due_among origins cells qs)
 acks-not_due origins cells qs q e =
     ap acks_of (filter-append (is_due_among origins cells) qs (q ∷ []) ∙ ap (λ b. due_among origins cells qs ++ cond b (q ∷ []) []) e ∙ append-nil (due_among origins cells qs))
 
@@ -43,17 +48,20 @@ or_true true b e = refl
 or_true false b e = e
 
 -- an origin among those is of the connection
-among_is_of : (conn : ℕ) (rs : List Entered) (q : Entered) → is_among (origins_of conn rs) q.origin ≡ true → is_of conn q ≡ true
+among_is_of : (conn : ℕ) (rs : List Entered) (q : Entered)
+    → is_among (origins_of conn rs) q.origin ≡ true → is_of conn q ≡ true
 among_is_of conn [] q h = absurd cc
 among_is_of conn (r ∷ rs) q h = grind (arith, nat_tests, among_is_of conn rs q)
 
 -- each request of the connection is among them
-of_is_among : (conn : ℕ) (rs : List Entered) (i : ℕ) (q : Entered) → slice_get rs i ≡ Some q → is_of conn q ≡ true → is_among (origins_of conn rs) q.origin ≡ true
+of_is_among : (conn : ℕ) (rs : List Entered) (i : ℕ) (q : Entered) → slice_get rs i ≡ Some q
+    → is_of conn q ≡ true → is_among (origins_of conn rs) q.origin ≡ true
 of_is_among conn [] i q h e = absurd cc
 of_is_among conn (r ∷ rs) zero q h e = let same : r ≡ q = cc in grind (arith, nat_tests, same, e)
 of_is_among conn (r ∷ rs) (suc i) q h e = grind (arith, nat_tests, of_is_among conn rs i q h e)
 
-same_test : (conn : ℕ) (rs : List Entered) (i : ℕ) (q : Entered) → slice_get rs i ≡ Some q → is_among (origins_of conn rs) q.origin ≡ is_of conn q
+same_test : (conn : ℕ) (rs : List Entered) (i : ℕ) (q : Entered) → slice_get rs i ≡ Some q
+    → is_among (origins_of conn rs) q.origin ≡ is_of conn q
 same_test conn rs i q h = by (is_among (origins_of conn rs) q.origin) (is_of conn q) refl refl
   where
     by : (a b : Bool) → is_among (origins_of conn rs) q.origin ≡ a → is_of conn q ≡ b → a ≡ b
@@ -63,17 +71,22 @@ same_test conn rs i q h = by (is_among (origins_of conn rs) q.origin) (is_of con
     by false false e f = refl
 
 -- filters by tests that agree on the list are one
-filter_by : (p r : Entered → Bool) (qs : List Entered) → ((i : ℕ) (q : Entered) → slice_get qs i ≡ Some q → p q ≡ r q) → filter p qs ≡ filter r qs
+filter_by : (p r : Entered → Bool) (qs : List Entered)
+    → ((i : ℕ) (q : Entered) → slice_get qs i ≡ Some q → p q ≡ r q)
+    → filter p qs ≡ filter r qs
 filter_by p r [] same = refl
 filter_by p r (q ∷ qs) same =
     let here : p q ≡ r q = same zero q refl in
     let rest = filter_by p r qs (λ i x h. same (suc i) x h) in
     λ i. cond (here i) (q ∷ rest i) (rest i)
 
-pub due_of_conn : (conn : ℕ) (cells : List Cell) (rs : List Entered) → due_among (origins_of conn rs) cells rs ≡ book_due conn cells rs
+pub due_of_conn : (conn : ℕ) (cells : List Cell) (rs : List Entered)
+    → due_among (origins_of conn rs) cells rs ≡ book_due conn cells rs
 due_of_conn conn cells rs = filter_by (is_due_among (origins_of conn rs) cells) (book_is_due conn cells) rs (λ i q h. ap (λ b. b && none_left cells q) (same_test conn rs i q h))
 
-pub tells_of_conn : (conn : ℕ) (cells : List Cell) (rs : List Entered) → filter (λ q. not (is_due_among (origins_of conn rs) cells q)) rs ≡ book_tells conn cells rs
+pub tells_of_conn : (conn : ℕ) (cells : List Cell) (rs : List Entered)
+    → filter (λ q. not (is_due_among (origins_of conn rs) cells q)) rs
+    ≡ book_tells conn cells rs
 unfolding book_tells
 tells_of_conn conn cells rs = filter_by (λ q. not (is_due_among (origins_of conn rs) cells q)) (λ q. not (book_is_due conn cells q)) rs (λ i q h. ap (λ b. not (b && none_left cells q)) (same_test conn rs i q h))
 

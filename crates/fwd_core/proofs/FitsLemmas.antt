@@ -11,7 +11,8 @@ use Rattle.fwd_source.specs.declared.origin.Origin.{Origin}
 use Rattle.fwd_model.specs.Chunks.{greatest, cells_at, cells_of, chunk_of, first_tag}
 use Rattle.fwd_core.specs.Fits.{FitsFrame, AllFit}
 
-cells_at-append : (k : ℕ) (xs ys : List Cell) → cells_at k (xs ++ ys) ≡ cells_at k xs ++ cells_at k ys
+cells_at-append : (k : ℕ) (xs ys : List Cell)
+    → cells_at k (xs ++ ys) ≡ cells_at k xs ++ cells_at k ys
 cells_at-append k [] ys = refl
 cells_at-append k (x ∷ xs) ys = grind (arith, nat_tests, cells_at-append k xs ys)
 
@@ -43,19 +44,23 @@ module _ (tag : List ℕ) (origin : Origin) (number moment : ℕ) where
   greatest_own [] = omega arith
   greatest_own (e ∷ es) = omega (arith, greatest_own es)
 
-greatest-append_below : (xs ys : List Cell) (n : ℕ) → greatest xs ≤ n → greatest ys ≤ n → greatest (xs ++ ys) ≤ n
+greatest-append_below : (xs ys : List Cell) (n : ℕ) → greatest xs ≤ n → greatest ys ≤ n
+    → greatest (xs ++ ys) ≤ n
 greatest-append_below [] ys n p q = q
 greatest-append_below (x ∷ xs) ys n p q = omega (arith, p, greatest-append_below xs ys n (omega (arith, p)) q)
 
 -- the fact about a chunk is one about the cells of its number
-fits_from : (k : ℕ) (xs ys : List Cell) → cells_at k xs ≡ cells_at k ys → FitsFrame (chunk_of k ys) → FitsFrame (chunk_of k xs)
+fits_from : (k : ℕ) (xs ys : List Cell) → cells_at k xs ≡ cells_at k ys
+    → FitsFrame (chunk_of k ys) → FitsFrame (chunk_of k xs)
 unfolding chunk_of
 fits_from k xs ys e f = record {
   tag = subst (λ cs. length (first_tag cs) < 2 ^ 32) (sym e) f.tag;
   entries = subst (λ cs. length (concat (map (λ c. c.entry) cs)) < 2 ^ 32) (sym e) f.entries;
 }
 
-own_fits : (r : Request) (origin : Origin) (number moment : ℕ) → length r.tag < 2 ^ 32 → length (concat r.entries) < 2 ^ 32 → FitsFrame (chunk_of number (cells_of r origin number moment))
+own_fits : (r : Request) (origin : Origin) (number moment : ℕ) → length r.tag < 2 ^ 32
+    → length (concat r.entries) < 2 ^ 32
+    → FitsFrame (chunk_of number (cells_of r origin number moment))
 unfolding chunk_of
 own_fits r origin number moment small packed =
     let own = at_own r.tag origin number moment r.entries in record {
@@ -63,14 +68,17 @@ own_fits r origin number moment small packed =
       entries = subst (λ cs. length (concat (map (λ c. c.entry) cs)) < 2 ^ 32) (sym own) (subst (λ es. length (concat es) < 2 ^ 32) (sym (entries_own r.tag origin number moment r.entries)) packed);
     }
 
-pub length-cells_of : (r : Request) (origin : Origin) (number moment : ℕ) → length (cells_of r origin number moment) ≡ length r.entries
+pub length-cells_of : (r : Request) (origin : Origin) (number moment : ℕ)
+    → length (cells_of r origin number moment) ≡ length r.entries
 length-cells_of r origin number moment = length-map r.entries (λ e. record { tag = r.tag; entry = e; origin = origin; number = number; moment = moment })
 
 pub none_fit : AllFit [] 0
 unfolding chunk_of
 none_fit = record { below = omega arith; each = λ k. record { tag = omega arith; entries = omega arith } }
 
-pub entered_fit : (xs : List Cell) (r : Request) (origin : Origin) (number moment last : ℕ) → AllFit xs last → last < number → length r.tag < 2 ^ 32 → length (concat r.entries) < 2 ^ 32 → AllFit (xs ++ cells_of r origin number moment) number
+pub entered_fit : (xs : List Cell) (r : Request) (origin : Origin) (number moment last : ℕ)
+    → AllFit xs last → last < number → length r.tag < 2 ^ 32
+    → length (concat r.entries) < 2 ^ 32 → AllFit (xs ++ cells_of r origin number moment) number
 entered_fit xs r origin number moment last all lt small packed =
     let news = cells_of r origin number moment in record {
       below = greatest-append_below xs news number (omega (arith, all.below)) (greatest_own r.tag origin number moment r.entries);
@@ -82,15 +90,18 @@ entered_fit xs r origin number moment last all lt small packed =
 
 -- ---- what is left once a number is settled
 
-settled_below : (n last : ℕ) (xs : List Cell) → greatest xs ≤ last → greatest (filter (λ c. not (c.number == n)) xs) ≤ last
+settled_below : (n last : ℕ) (xs : List Cell) → greatest xs ≤ last
+    → greatest (filter (λ c. not (c.number == n)) xs) ≤ last
 settled_below n last [] le = le
 settled_below n last (x ∷ xs) le = grind (arith, nat_tests, settled_below n last xs)
 
-cells_at-settled_other : (k n : ℕ) (xs : List Cell) → k ≢ n → cells_at k (filter (λ c. not (c.number == n)) xs) ≡ cells_at k xs
+cells_at-settled_other : (k n : ℕ) (xs : List Cell) → k ≢ n
+    → cells_at k (filter (λ c. not (c.number == n)) xs) ≡ cells_at k xs
 cells_at-settled_other k n [] differ = refl
 cells_at-settled_other k n (x ∷ xs) differ = grind (arith, nat_tests, cells_at-settled_other k n xs differ)
 
-cells_at-settled_own : (n : ℕ) (xs : List Cell) → cells_at n (filter (λ c. not (c.number == n)) xs) ≡ []
+cells_at-settled_own : (n : ℕ) (xs : List Cell)
+    → cells_at n (filter (λ c. not (c.number == n)) xs) ≡ []
 cells_at-settled_own n [] = refl
 cells_at-settled_own n (x ∷ xs) = grind (arith, nat_tests, cells_at-settled_own n xs)
 
@@ -98,7 +109,8 @@ nothing_fits : (n : ℕ) → FitsFrame (chunk_of n [])
 unfolding chunk_of
 nothing_fits n = record { tag = omega arith; entries = omega arith }
 
-pub settled_fit : (xs : List Cell) (n last : ℕ) → AllFit xs last → AllFit (filter (λ c. not (c.number == n)) xs) last
+pub settled_fit : (xs : List Cell) (n last : ℕ) → AllFit xs last
+    → AllFit (filter (λ c. not (c.number == n)) xs) last
 settled_fit xs n last all = record {
   below = settled_below n last xs all.below;
   each = λ k. elim (cases_eq k n) [
@@ -107,6 +119,7 @@ settled_fit xs n last all = record {
   ];
 }
 
-pub settled_count : (n : ℕ) (xs : List Cell) → length xs ≡ length (cells_at n xs) + length (filter (λ c. not (c.number == n)) xs)
+pub settled_count : (n : ℕ) (xs : List Cell)
+    → length xs ≡ length (cells_at n xs) + length (filter (λ c. not (c.number == n)) xs)
 settled_count n [] = refl
 settled_count n (x ∷ xs) = grind (arith, nat_tests, settled_count n xs)

@@ -20,10 +20,20 @@ new_lane-live : (c : OutputConfig) → live_lane (new_lane c) ≡ new_live_lane 
 unfolding live_lane live_output live_buffer
 new_lane-live c = λ i. record { config = c; output = no_requests; workers = idle_workers 0 c.workers i }
 
-new_lanes-live : (cs : List OutputConfig) → map live_lane (map new_lane cs) ≡ map new_live_lane cs
+new_lanes-live : (cs : List OutputConfig)
+    → map live_lane (map new_lane cs) ≡ map new_live_lane cs
 new_lanes-live [] = refl
 new_lanes-live (c ∷ cs) = λ i. new_lane-live c i ∷ new_lanes-live cs i
 
-pub opening-live : (config : Config) → live (opening config) ≡ record { run = config.run; routes = config.routes; security = config.security; last = None; connections = []; lanes = map new_live_lane config.outputs }
+pub opening-live : (config : Config)
+    → live (opening config)
+    ≡ record {
+      run = config.run;
+      routes = config.routes;
+      security = config.security;
+      last = None;
+      connections = [];
+      lanes = map new_live_lane config.outputs;
+    }
 unfolding live opening
 opening-live config = λ i. record { run = config.run; routes = config.routes; security = config.security; last = None; connections = []; lanes = new_lanes-live config.outputs i }

@@ -11,7 +11,8 @@ use Rattle.fwd_core.specs.Places.{IsPlace}
 same_id : (a b : ℕ) → a ≡ b → eqb a b ≡ true
 same_id a b e = grind (arith, nat_tests)
 
-pub place_here : (id : ℕ) (cs : List LiveConnection) (place : ℕ) (x : LiveConnection) → place < length cs → x ≡ get_or cs place x → x.id ≡ id
+pub place_here : (id : ℕ) (cs : List LiveConnection) (place : ℕ) (x : LiveConnection)
+    → place < length cs → x ≡ get_or cs place x → x.id ≡ id
     → live_source_at id (drop place cs) ≡ live_source_at id cs
     → ((s : LiveSource) → with_live_source id s cs ≡ take place cs ++ with_live_source id s (drop place cs))
     → IsPlace id cs place

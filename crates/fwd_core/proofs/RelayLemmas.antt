@@ -13,13 +13,15 @@ use Rattle.fwd_model.specs.Step.{at_source, at_lane, at_both, at_worker}
 use Rattle.fwd_model.specs.Live.{lives}
 use Rattle.fwd_core.specs.Places.{IsPlace}
 
-pub set_same : {X : Type 0} (xs : List X) (i : ℕ) (x : X) → slice_get xs i ≡ Some x → set xs i x ≡ xs
+pub set_same : {X : Type 0} (xs : List X) (i : ℕ) (x : X) → slice_get xs i ≡ Some x
+    → set xs i x ≡ xs
 set_same [] i x h = refl
 set_same (a ∷ xs) zero x h = let e : a ≡ x = cc in ap (λ y. y ∷ xs) (sym e)
 set_same (a ∷ xs) (suc i) x h = ap (λ ys. a ∷ ys) (set_same xs i x h)
 
 -- what comes of a part, put where the part was, is what comes of the whole
-put_state : {S T : Type 0} (put : S → T) (s : S) (whole : T) (x : Outcome S) → put s ≡ whole → put (state_of s x) ≡ state_of whole (within put x)
+put_state : {S T : Type 0} (put : S → T) (s : S) (whole : T) (x : Outcome S) → put s ≡ whole
+    → put (state_of s x) ≡ state_of whole (within put x)
 put_state put s whole (Stays a) stays = stays
 put_state put s whole (Goes a t) stays = refl
 
@@ -29,18 +31,23 @@ with_source_at place c r = record { run = r.run; routes = r.routes; security = r
 abbrev pub with_both : ℕ → LiveConnection → ℕ → LiveLane → LiveRelay → LiveRelay
 with_both place c o l r = record { run = r.run; routes = r.routes; security = r.security; last = r.last; connections = slice_set r.connections place c; lanes = slice_set r.lanes o l }
 
-lane_stays : (r : LiveRelay) (o : ℕ) (l : LiveLane) → slice_get r.lanes o ≡ Some l → with_live_lane o l r ≡ r
+lane_stays : (r : LiveRelay) (o : ℕ) (l : LiveLane) → slice_get r.lanes o ≡ Some l
+    → with_live_lane o l r ≡ r
 lane_stays r o l here = λ i. record { run = r.run; routes = r.routes; security = r.security; last = r.last; connections = r.connections; lanes = set_same r.lanes o l here i }
 
-source_stays : (r : LiveRelay) (id place : ℕ) (at : IsPlace id r.connections place) → with_live_connection id at.source r ≡ r
+source_stays : (r : LiveRelay) (id place : ℕ) (at : IsPlace id r.connections place)
+    → with_live_connection id at.source r ≡ r
 source_stays r id place at = λ i. record { run = r.run; routes = r.routes; security = r.security; last = r.last; connections = (at.put at.source ∙ set_same r.connections place (record { id = id; source = at.source }) at.here) i; lanes = r.lanes }
 
 -- ---- as an output's methods meet them
 
-worker_stays : (l : LiveLane) (w : ℕ) (x : Worker LiveSession) → slice_get l.workers w ≡ Some x → with_live_worker l w x ≡ l
+worker_stays : (l : LiveLane) (w : ℕ) (x : Worker LiveSession)
+    → slice_get l.workers w ≡ Some x → with_live_worker l w x ≡ l
 worker_stays l w x here = λ i. record { config = l.config; output = l.output; workers = set_same l.workers w x here i }
 
-pub worker_done : (k l : LiveLane) (same : k ≡ l) (w place : ℕ) → place ≡ w → (x new : Worker LiveSession) → slice_get k.workers place ≡ Some x → (f : Worker LiveSession → Outcome (Worker LiveSession))
+pub worker_done : (k l : LiveLane) (same : k ≡ l) (w place : ℕ) → place ≡ w
+    → (x new : Worker LiveSession) → slice_get k.workers place ≡ Some x
+    → (f : Worker LiveSession → Outcome (Worker LiveSession))
     → new ≡ state_of x (f x) → with_live_worker k place new ≡ state_of l (at_worker lives l w f)
 worker_done k l same w place at_w x new here f e =
     let here_w : slice_get k.workers w ≡ Some x = subst (λ n. slice_get k.workers n ≡ Some x) at_w here in
@@ -87,7 +94,9 @@ module _ (R S : LiveRelay) (same : R ≡ S) where
       ∙ ap (λ x. state_of x (at_both lives x id o (f x))) same
 
 -- what stands at a place is what was read there
-pub read_place : (id : ℕ) (cs : List LiveConnection) (place : ℕ) (at : IsPlace id cs place) (c : LiveConnection) → slice_get cs place ≡ Some c → (at.source ≡ c.source) × (c.id ≡ id)
+pub read_place : (id : ℕ) (cs : List LiveConnection) (place : ℕ) (at : IsPlace id cs place)
+    (c : LiveConnection) → slice_get cs place ≡ Some c → (at.source ≡ c.source)
+    × (c.id ≡ id)
 read_place id cs place at c e =
     let both : Some (record { id = id; source = at.source }) ≡ Some c = sym at.here ∙ e in
     let one = some_is (record { id = id; source = at.source }) c both in

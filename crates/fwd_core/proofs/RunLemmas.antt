@@ -12,19 +12,27 @@ use Rattle.fwd_model.specs.Step.{step, answers as answers_to, after}
 use Rattle.fwd_model.specs.Live.{lives}
 use Rattle.fwd_core.specs.Runs.{is_memory, told, kept}
 
-live_answers-push : (r : LiveRelay) (es : List Event) (e : Event) → answers_to lives r (es ++ e ∷ []) ≡ answers_to lives r es ++ answer_of (step lives (after lives r es) e) ∷ []
+live_answers-push : (r : LiveRelay) (es : List Event) (e : Event)
+    → answers_to lives r (es ++ e ∷ []) ≡ answers_to lives r es
+    ++ answer_of (step lives (after lives r es) e) ∷ []
 live_answers-push r [] e = refl
 live_answers-push r (d ∷ es) e = ap (λ xs. answer_of (step lives r d) ∷ xs) (live_answers-push (state_of r (step lives r d)) es e)
 
-live_after-push : (r : LiveRelay) (es : List Event) (e : Event) → after lives r (es ++ e ∷ []) ≡ state_of (after lives r es) (step lives (after lives r es) e)
+live_after-push : (r : LiveRelay) (es : List Event) (e : Event)
+    → after lives r (es ++ e ∷ [])
+    ≡ state_of (after lives r es) (step lives (after lives r es) e)
 live_after-push r [] e = refl
 live_after-push r (d ∷ es) e = live_after-push (state_of r (step lives r d)) es e
 
-kept_either : (m : Bool) (d : Event) (more all end : List Event) → more ≡ all ++ end → cond m more (d ∷ more) ≡ cond m all (d ∷ all) ++ end
+kept_either : (m : Bool) (d : Event) (more all end : List Event) → more ≡ all ++ end
+    → cond m more (d ∷ more) ≡ cond m all (d ∷ all) ++ end
 kept_either true d more all end e = e
 kept_either false d more all end e = ap (λ xs. d ∷ xs) e
 
-kept-push : (es : List Event) (answers : List Answer) (e : Event) (a : Answer) → length es ≡ length answers → kept (es ++ e ∷ []) (answers ++ a ∷ []) ≡ kept es answers ++ cond (is_memory a) [] (e ∷ [])
+kept-push : (es : List Event) (answers : List Answer) (e : Event) (a : Answer)
+    → length es ≡ length answers
+    → kept (es ++ e ∷ []) (answers ++ a ∷ []) ≡ kept es answers
+    ++ cond (is_memory a) [] (e ∷ [])
 kept-push [] [] e a len = refl
 kept-push [] (b ∷ answers) e a len = absurd (omega (arith, len))
 kept-push (d ∷ es) [] e a len = absurd (omega (arith, len))
@@ -60,7 +68,8 @@ pub record Ran (r s : LiveRelay) (es : List Event) (answers : List Answer) : Typ
   pub told_is : told answers ≡ answers_to lives r (kept es answers)
   pub state_is : s ≡ after lives r (kept es answers)
 
-one_more : (r s t : LiveRelay) (es : List Event) (answers : List Answer) (e : Event) (a : Answer) → Ran r s es answers → (m : Bool) → is_memory a ≡ m
+one_more : (r s t : LiveRelay) (es : List Event) (answers : List Answer) (e : Event) (a : Answer)
+    → Ran r s es answers → (m : Bool) → is_memory a ≡ m
     → (a ≢ Memory → a ≡ answer_of (step lives s e)) → (a ≢ Memory → t ≡ state_of s (step lives s e)) → (a ≡ Memory → t ≡ s)
     → (told answers ++ cond (not m) (a ∷ []) [] ≡ answers_to lives r (kept es answers ++ cond m [] (e ∷ []))) × (t ≡ after lives r (kept es answers ++ cond m [] (e ∷ [])))
 one_more r s t es answers e a ran true is f g h = (
@@ -73,10 +82,12 @@ one_more r s t es answers e a ran false is f g h =
       g some ∙ ap (λ x. state_of x (step lives x e)) ran.state_is ∙ sym (live_after-push r (kept es answers) e),
     )
 
-told-push : (answers : List Answer) (a : Answer) → told (answers ++ a ∷ []) ≡ told answers ++ cond (not (is_memory a)) (a ∷ []) []
+told-push : (answers : List Answer) (a : Answer)
+    → told (answers ++ a ∷ []) ≡ told answers ++ cond (not (is_memory a)) (a ∷ []) []
 told-push answers a = filter-append (λ x. not (is_memory x)) answers (a ∷ [])
 
-pub ran_more : (r s t : LiveRelay) (es : List Event) (answers : List Answer) (e : Event) (a : Answer) → Ran r s es answers
+pub ran_more : (r s t : LiveRelay) (es : List Event) (answers : List Answer) (e : Event)
+    (a : Answer) → Ran r s es answers
     → (a ≢ Memory → a ≡ answer_of (step lives s e)) → (a ≢ Memory → t ≡ state_of s (step lives s e)) → (a ≡ Memory → t ≡ s) → Ran r t (es ++ e ∷ []) (answers ++ a ∷ [])
 ran_more r s t es answers e a ran f g h =
     let one = one_more r s t es answers e a ran (is_memory a) refl f g h in

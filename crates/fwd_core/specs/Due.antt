@@ -13,7 +13,8 @@ pub record Shown : Type 0 where
 
 -- the origin is one of these
 abbrev pub is_among : List Origin → Origin → Bool
-is_among origins origin = list_any (λ o. (o.conn == origin.conn) && (o.request == origin.request)) origins
+is_among origins origin =
+    list_any (λ o. (o.conn == origin.conn) && (o.request == origin.request)) origins
 
 -- the request has one of these origins, and none of its entries is left
 abbrev pub is_due_among : List Origin → List Cell → Entered → Bool

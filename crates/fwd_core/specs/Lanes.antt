@@ -8,9 +8,11 @@ use Rattle.fwd_model.specs.Live.{LiveLane}
 use Rattle.fwd_model.specs.Step.{acked}
 use Rattle.fwd_model.specs.Live.{lives}
 
+-- a worker without a chunk or a session
 abbrev pub no_work : Worker LiveSession
 no_work = record { chunk = None; session = None }
 
+-- an output before any event
 abbrev pub new_live_lane : OutputConfig → LiveLane
 new_live_lane c = record { config = c; output = no_requests; workers = replicate c.workers no_work }
 

@@ -10,4 +10,5 @@ pub record IsPlace (id : ℕ) (cs : List LiveConnection) (place : ℕ) : Type 0 
   pub source : LiveSource
   pub here : slice_get cs place ≡ Some (record { id = id; source = source })
   pub found : live_source_at id cs ≡ Some source
-  pub put : (s : LiveSource) → with_live_source id s cs ≡ slice_set cs place (record { id = id; source = s })
+  pub put : (s : LiveSource)
+      → with_live_source id s cs ≡ slice_set cs place (record { id = id; source = s })

@@ -35,7 +35,8 @@ use fwd_msgpack::{Bytes, Seq};
 use std::alloc::{AllocError, Global};
 use std::marker::Model;
 
-/// The requests that an output entered and that were not told yet, in the order in which they were entered.
+/// The requests that an output entered and that were not told yet, in the order in which they
+/// were entered.
 #[derive(Drop)]
 pub struct Book {
     requests: Vec<Entered>,
@@ -47,7 +48,11 @@ impl Model for Book {
 
     ghost Value = { Shown };
 
-    ghost view = { λ b. record { requests = b.requests.items; room = vec_capacity b.requests - vec_len b.requests } };
+    ghost view = { λ b.
+        record {
+          requests = b.requests.items;
+          room = vec_capacity b.requests - vec_len b.requests;
+        } };
 }
 
 impl Book {
@@ -96,7 +101,8 @@ impl Book {
         origins: &[Origin],
         cells: &[Cell],
     ) -> Result<Seq<u64>, AllocError>
-        ensures { IfOk result (λ numbers. numbers ≡ numbers_of (due_among origins.now cells.now self.now.requests)) }
+        ensures { IfOk result (λ numbers.
+            numbers ≡ numbers_of (due_among origins.now cells.now self.now.requests)) }
     {
         due_numbers(alloc, origins, cells, &self.requests)
     }
@@ -108,14 +114,16 @@ impl Book {
         origins: &[Origin],
         cells: &[Cell],
     ) -> Result<Bytes, AllocError>
-        ensures { IfOk result (λ out. out ≡ acks_of (due_among origins.now cells.now self.now.requests)) }
+        ensures { IfOk result (λ out.
+            out ≡ acks_of (due_among origins.now cells.now self.now.requests)) }
     {
         due_acks(alloc, origins, cells, &self.requests)
     }
 
     /// The requests of these origins whose entries are all settled leave the book.
     pub fn tell(&mut self, origins: &[Origin], cells: &[Cell])
-        ensures { self.new.requests ≡ filter (λ q. not (is_due_among origins.now cells.now q)) self.old.requests }
+        ensures { self.new.requests
+            ≡ filter (λ q. not (is_due_among origins.now cells.now q)) self.old.requests }
     {
         tell(origins, cells, &mut self.requests);
     }
@@ -158,7 +166,8 @@ fn due_numbers(
     cells: &[Cell],
     requests: &[Entered],
 ) -> Result<Seq<u64>, AllocError>
-    ensures { IfOk result (λ numbers. numbers ≡ numbers_of (due_among origins.now cells.now requests.now)) }
+    ensures { IfOk result (λ numbers.
+        numbers ≡ numbers_of (due_among origins.now cells.now requests.now)) }
 {
     let mut numbers = Seq::new(alloc);
     for request in requests {
@@ -199,14 +208,16 @@ fn due_acks(
 
 /// What is told leaves.
 fn tell(origins: &[Origin], cells: &[Cell], requests: &mut Vec<Entered>)
-    ensures { requests.new.items ≡ filter (λ q. not (is_due_among origins.now cells.now q)) requests.old.items }
+    ensures { requests.new.items
+        ≡ filter (λ q. not (is_due_among origins.now cells.now q)) requests.old.items }
 {
     requests.retain(|q| !is_due(origins, cells, q));
 }
 
 /// The runs of a request's entries, which all take an unused number.
 fn spans_of(alloc: Global, count: usize, number: u64) -> Result<Seq<Span>, AllocError>
-    ensures { (r : Request) → length r.entries ≡ count → IfOk result (λ spans. spans ≡ spans_of r number) }
+    ensures { (r : Request) → length r.entries ≡ count
+        → IfOk result (λ spans. spans ≡ spans_of r number) }
 {
     let mut spans = Seq::new(alloc);
     if count > 0 {

@@ -26,7 +26,7 @@ ghost use Rattle.fwd_model.specs.Buffers.{
   no_entries,
   buffer_is_spent,
   buffer_enters,
-  buffer_closes,
+  buffer_closing,
   buffer_flushes,
   buffer_takes,
   buffer_free,
@@ -66,7 +66,8 @@ impl Model for Buffer {
     ghost use Rattle.std.specs.Prelude.{◌≡◌, ◌+◌, length};
     ghost use Rattle.fwd_core.specs.Fits.{AllFit};
 
-    ghost invariant = { λ b. (AllFit b.cells.items b.greatest) × (b.accepted ≡ b.settled + length b.cells.items) };
+    ghost invariant = { λ b. (AllFit b.cells.items b.greatest)
+        × (b.accepted ≡ b.settled + length b.cells.items) };
 
     ghost view = { λ b. record {
       cells = b.cells.items;
@@ -95,12 +96,13 @@ impl Buffer {
         }
     }
 
-    /// The number that a request's entries take; none where a number or a count above 2^64 - 1 would be needed. A request
-    /// without entries takes none, whatever is answered.
+    /// The number that a request's entries take; none where a number or a count above 2^64 - 1
+    /// would be needed. A request without entries takes none, whatever is answered.
     pub fn number_for(&self, batch: &Batch) -> Option<u64>
         ensures room { IfSome result (λ number. buffer_is_spent self.now batch.now ≡ false) }
         ensures spent { IfNone result (buffer_is_spent self.now batch.now ≡ true) }
-        ensures next { IfSome result (λ number. 0 < length batch.now.entries → number ≡ self.now.greatest + 1) }
+        ensures next { IfSome result (λ number. 0 < length batch.now.entries
+            → number ≡ self.now.greatest + 1) }
     {
         if batch.is_empty() {
             return Some(self.greatest);
@@ -110,8 +112,9 @@ impl Buffer {
         Some(number)
     }
 
-    /// Enters a request's entries at a moment (milliseconds): they take the next unused number, and their tag's old number
-    /// is closed. A request without entries takes no number and closes none. On an error nothing has changed.
+    /// Enters a request's entries at a moment (milliseconds): they take the next unused number,
+    /// and their tag's old number is closed. A request without entries takes no number and closes
+    /// none. On an error nothing has changed.
     #[tactic(auto, unfolding(fwd_model::specs::Buffers::buffer_enters))]
     pub fn admit(
         &mut self,
@@ -166,9 +169,11 @@ impl Buffer {
         number: u64,
         moment: u64,
     ) -> Result<Parts, AllocError>
-        ensures cells { IfOk result (λ p. p.cells.items ≡ cells_of batch.now origin number moment) }
+        ensures cells { IfOk result (λ p.
+            p.cells.items ≡ cells_of batch.now origin number moment) }
         ensures opened { IfOk result (λ p. p.opened.items ≡
-            filter (λ k. not (has_entry batch.now.tag k self.now.cells)) self.now.opened ++ number ∷ []) }
+            filter (λ k. not (has_entry batch.now.tag k self.now.cells)) self.now.opened ++ number
+            ∷ []) }
         ensures tag { length batch.now.tag ≤ 1024 }
     {
         let tag = batch.tag();
@@ -181,7 +186,7 @@ impl Buffer {
     /// Closes the open numbers that a flush closes, and answers how many.
     #[tactic(auto, unfolding(fwd_model::specs::Buffers::buffer_flushes))]
     pub fn flush(&mut self, interval: u64, now: u64, kind: FlushKind) -> usize
-        ensures count { result ≡ length (filter (buffer_closes self.old interval now kind) self.old.opened) }
+        ensures count { result ≡ buffer_closing self.old interval now kind }
         ensures flushed { self.new ≡ buffer_flushes self.old interval now kind }
     {
         let moment = self.moment.max(now);
@@ -218,8 +223,8 @@ impl Buffer {
         Ok(chunk)
     }
 
-    /// The entries of a number that a server acknowledged leave, and its worker carries nothing any more. Answers how
-    /// many entries left.
+    /// The entries of a number that a server acknowledged leave, and its worker carries nothing
+    /// any more. Answers how many entries left.
     pub fn settle(&mut self, worker: u16, number: u64) -> usize
         ensures count { result ≡ length (cells_at number self.old.cells) }
         ensures settled { self.new ≡ buffer_settles self.old worker number }

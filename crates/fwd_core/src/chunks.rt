@@ -1,4 +1,5 @@
-//! What an output's entries are to it: which chunk each belongs to, which numbers are open, which are free.
+//! What an output's entries are to it: which chunk each belongs to, which numbers are open, which
+//! are free.
 
 ghost use Rattle.std.specs.Prelude.{◌≡◌, ℕ, ◌+◌, ◌++◌, ◌∷◌, [], ◌==◌, Some, filter, find, length, not, IfOk, map};
 ghost use Rattle.std.specs.Option.{option_copied};
@@ -48,7 +49,8 @@ fn open_of_others(
     tag: &[u8],
     cells: &[Cell],
 ) -> Result<Vec<u64>, AllocError>
-    ensures { IfOk result (λ numbers. numbers.items ≡ filter (λ k. not (has_entry tag.now k cells.now)) opened.now) }
+    ensures { IfOk result (λ numbers.
+        numbers.items ≡ filter (λ k. not (has_entry tag.now k cells.now)) opened.now) }
 {
     opened
         .iter()
@@ -65,7 +67,9 @@ pub fn opened_with(
     number: u64,
     cells: &[Cell],
 ) -> Result<Vec<u64>, AllocError>
-    ensures { IfOk result (λ numbers. numbers.items ≡ filter (λ k. not (has_entry tag.now k cells.now)) opened.now ++ number ∷ []) }
+    ensures { IfOk result (λ numbers.
+        numbers.items ≡ filter (λ k. not (has_entry tag.now k cells.now)) opened.now ++ number
+        ∷ []) }
 {
     let mut numbers = open_of_others(alloc, opened, tag, cells)?;
     numbers.push(number)?;
@@ -110,7 +114,8 @@ pub fn count_closing(
     moment: u64,
     cells: &[Cell],
 ) -> usize
-    ensures { result ≡ length (filter (λ k. closes kind interval moment cells.now k) opened.now) }
+    ensures { result
+        ≡ length (filter (λ k. closes kind interval moment cells.now k) opened.now) }
 {
     opened
         .iter()
@@ -120,7 +125,8 @@ pub fn count_closing(
 
 /// Closes what a flush closes.
 pub fn close(opened: &mut Vec<u64>, kind: FlushKind, interval: u64, moment: u64, cells: &[Cell])
-    ensures { opened.new.items ≡ filter (λ k. not (closes kind interval moment cells.now k)) opened.old.items }
+    ensures { opened.new.items
+        ≡ filter (λ k. not (closes kind interval moment cells.now k)) opened.old.items }
 {
     opened.retain(|k| !closes(kind, interval, moment, cells, *k));
 }
@@ -182,7 +188,8 @@ pub fn chunk_of(alloc: Global, number: u64, cells: &[Cell]) -> Result<Chunk, All
 }
 
 fn entries_at(alloc: Global, number: u64, cells: &[Cell]) -> Result<Seq<Bytes>, AllocError>
-    ensures { IfOk result (λ entries. entries ≡ map (λ c. c.entry) (cells_at number cells.now)) }
+    ensures { IfOk result (λ entries.
+        entries ≡ map (λ c. c.entry) (cells_at number cells.now)) }
 {
     let mut entries = Seq::new(alloc);
     for cell in cells {

@@ -49,7 +49,9 @@ impl Connection {
         security: &Arc<Security>,
         nonces: Nonces,
     ) -> Result<Connection, AllocError>
-        ensures { IfOk result (λ c. c ≡ new_live_connection (setup_of (arc_value security.now) id nonces.nonce nonces.auth)) }
+        ensures { IfOk result (λ c.
+            c ≡ new_live_connection
+            (setup_of (arc_value security.now) id nonces.nonce nonces.auth)) }
     {
         let security = Arc::try_clone(security)?;
         let source = Source::new(alloc, id, security, nonces, SOURCE_LIMITS)?;
@@ -66,7 +68,8 @@ impl Connection {
 
 /// The place of the connection with this id.
 pub fn place_of(id: u64, connections: &[Connection]) -> Option<usize>
-    ensures { MatchOption result (live_source_at id connections.now ≡ None) (λ place. IsPlace id connections.now place) }
+    ensures { MatchOption result (live_source_at id connections.now ≡ None) (λ place.
+        IsPlace id connections.now place) }
 {
     for place in 0..connections.len() {
         let connection = &connections[place];
@@ -88,8 +91,10 @@ pub fn leave(id: u64, connections: &mut Vec<Connection>)
 #[tactic(auto, unfolding(fwd_source::specs::Live::source_hears))]
 pub fn hear_piece(alloc: Global, source: &mut Source, bytes: &[u8]) -> Result<Answer, AllocError>
     ensures answer { IfOk result (λ a. a ≡ answer_of (piece lives source.old.live bytes.now)) }
-    ensures sure { is_free (answer_of (piece lives source.old.live bytes.now)) ≡ true → IsOk result }
-    ensures next { OnOk result (source.new.live ≡ state_of source.old.live (piece lives source.old.live bytes.now)) }
+    ensures sure { is_free (answer_of (piece lives source.old.live bytes.now)) ≡ true
+        → IsOk result }
+    ensures next { OnOk result (source.new.live
+        ≡ state_of source.old.live (piece lives source.old.live bytes.now)) }
     ensures err { OnErr result (source.new.live ≡ source.old.live) }
 {
     let told = source.piece(alloc, bytes)?;
@@ -115,7 +120,8 @@ pub fn give(source: &mut Source)
 /// A connection's link took so many of the bytes that wait to be sent.
 pub fn drain(source: &mut Source, count: u64) -> Answer
     ensures answer { result ≡ answer_of (drained lives source.old.live count) }
-    ensures next { source.new.live ≡ state_of source.old.live (drained lives source.old.live count) }
+    ensures next { source.new.live
+        ≡ state_of source.old.live (drained lives source.old.live count) }
 {
     if count > source.out().len() as u64 {
         return Answer::Refused(Refusal::NotNow);

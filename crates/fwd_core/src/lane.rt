@@ -27,8 +27,8 @@ ghost use Rattle.fwd_core.specs.Due.{due_among, is_due_among, origins_of};
 ghost use Rattle.fwd_model.specs.Books.{numbers_of, acks_of};
 ghost use Rattle.fwd_core.specs.Lanes.{no_work, new_live_lane, worker_settled, acked_in};
 ghost use Rattle.fwd_core.specs.Runs.{is_free};
-ghost use Rattle.fwd_model.specs.Outcome.{answer_of, state_of};
-ghost use Rattle.fwd_model.specs.Step.{chunk_answer, with_session, at_worker, at_session, up, take, load, wrote, heard, settle};
+ghost use Rattle.fwd_model.specs.Outcome.{answer_of, state_of, chunk_answer};
+ghost use Rattle.fwd_model.specs.Step.{with_session, at_worker, at_session, up, take, load, wrote, heard, settle};
 ghost use Rattle.fwd_model.specs.Live.{lives};
 
 use crate::output::{AdmitError, Due, OutputState};
@@ -72,7 +72,8 @@ impl Model for Lane {
 
     ghost Value = { LiveLane };
 
-    ghost view = { λ l. record { config = l.config; output = l.output; workers = l.workers.items } };
+    ghost view = { λ l.
+        record { config = l.config; output = l.output; workers = l.workers.items } };
 }
 
 /// The entries of a chunk, one after the other.
@@ -158,9 +159,12 @@ impl Worker {
         output: u16,
         now: u64,
     ) -> Result<Answer, AllocError>
-        ensures answer { IfOk result (λ a. a ≡ answer_of (load lives run.now output now self.old)) }
-        ensures sure { is_free (answer_of (load lives run.now output now self.old)) ≡ true → IsOk result }
-        ensures next { OnOk result (self.new ≡ state_of self.old (load lives run.now output now self.old)) }
+        ensures answer { IfOk result (λ a.
+            a ≡ answer_of (load lives run.now output now self.old)) }
+        ensures sure { is_free (answer_of (load lives run.now output now self.old)) ≡ true
+            → IsOk result }
+        ensures next { OnOk result (self.new
+            ≡ state_of self.old (load lives run.now output now self.old)) }
         ensures err { OnErr result (self.new ≡ self.old) }
     {
         let Some(chunk) = &self.chunk else {
@@ -183,7 +187,8 @@ impl Worker {
     /// The link took so many bytes of the worker's session.
     fn wrote(&mut self, count: u64) -> Answer
         ensures answer { result ≡ answer_of (at_session lives self.old (wrote lives count)) }
-        ensures next { self.new ≡ state_of self.old (at_session lives self.old (wrote lives count)) }
+        ensures next { self.new
+            ≡ state_of self.old (at_session lives self.old (wrote lives count)) }
     {
         let Some(session) = &mut self.session else {
             return Answer::Refused(Refusal::NotNow);
@@ -203,9 +208,14 @@ impl Worker {
         output: u16,
         bytes: &[u8],
     ) -> Result<Answer, AllocError>
-        ensures answer { IfOk result (λ a. a ≡ answer_of (at_session lives self.old (heard lives run.now output bytes.now))) }
-        ensures sure { is_free (answer_of (at_session lives self.old (heard lives run.now output bytes.now))) ≡ true → IsOk result }
-        ensures next { OnOk result (self.new ≡ state_of self.old (at_session lives self.old (heard lives run.now output bytes.now))) }
+        ensures answer { IfOk result (λ a.
+            a ≡ answer_of (at_session lives self.old (heard lives run.now output bytes.now))) }
+        ensures sure { is_free
+            (answer_of (at_session lives self.old (heard lives run.now output bytes.now))) ≡ true
+            → IsOk result }
+        ensures next { OnOk result (self.new
+            ≡ state_of self.old
+            (at_session lives self.old (heard lives run.now output bytes.now))) }
         ensures err { OnErr result (self.new ≡ self.old) }
     {
         let Some(session) = &mut self.session else {
@@ -260,10 +270,13 @@ impl Lane {
         batch: &Batch,
         now: u64,
     ) -> Result<(), AdmitError>
-        ensures ok { OnOk result (self.new ≡ with_live_output self.old (output_enters self.old.output origin batch.now now)) }
+        ensures ok { OnOk result (self.new
+            ≡ with_live_output self.old (output_enters self.old.output origin batch.now now)) }
         ensures room { OnOk result (buffer_is_spent self.old.output.buffer batch.now ≡ false) }
-        ensures spent { IsErrOf result AdmitError.NumbersSpent → buffer_is_spent self.old.output.buffer batch.now ≡ true }
-        ensures first { buffer_is_spent self.old.output.buffer batch.now ≡ true → result ≡ Err AdmitError.NumbersSpent }
+        ensures spent { IsErrOf result AdmitError.NumbersSpent
+            → buffer_is_spent self.old.output.buffer batch.now ≡ true }
+        ensures first { buffer_is_spent self.old.output.buffer batch.now ≡ true
+            → result ≡ Err AdmitError.NumbersSpent }
         ensures err { OnErr result (self.new ≡ self.old) }
     {
         self.output.admit(alloc, origin, batch, now)
@@ -279,8 +292,12 @@ impl Lane {
 
     /// A worker's session with a server begins.
     pub fn up(&mut self, alloc: Global, worker: u16, server: u16, now: u64) -> Answer
-        ensures answer { result ≡ answer_of (at_worker lives self.old worker (up lives self.old.config.servers server now)) }
-        ensures next { self.new ≡ state_of self.old (at_worker lives self.old worker (up lives self.old.config.servers server now)) }
+        ensures answer { result
+            ≡ answer_of
+            (at_worker lives self.old worker (up lives self.old.config.servers server now)) }
+        ensures next { self.new
+            ≡ state_of self.old
+            (at_worker lives self.old worker (up lives self.old.config.servers server now)) }
     {
         let place = usize::from(worker);
         if place >= self.workers.len() || server >= self.config.servers {
@@ -296,8 +313,10 @@ impl Lane {
     /// A worker takes the least free chunk. On an error nothing has changed.
     pub fn take(&mut self, alloc: Global, worker: u16, now: u64) -> Result<Answer, AllocError>
         ensures answer { IfOk result (λ a. a ≡ answer_of (take lives self.old worker now)) }
-        ensures sure { is_free (answer_of (take lives self.old worker now)) ≡ true → IsOk result }
-        ensures next { OnOk result (self.new ≡ state_of self.old (take lives self.old worker now)) }
+        ensures sure { is_free (answer_of (take lives self.old worker now)) ≡ true
+            → IsOk result }
+        ensures next { OnOk result (self.new
+            ≡ state_of self.old (take lives self.old worker now)) }
         ensures err { OnErr result (self.new ≡ self.old) }
     {
         let place = usize::from(worker);
@@ -322,9 +341,14 @@ impl Lane {
         worker: u16,
         now: u64,
     ) -> Result<Answer, AllocError>
-        ensures answer { IfOk result (λ a. a ≡ answer_of (at_worker lives self.old worker (load lives run.now output now))) }
-        ensures sure { is_free (answer_of (at_worker lives self.old worker (load lives run.now output now))) ≡ true → IsOk result }
-        ensures next { OnOk result (self.new ≡ state_of self.old (at_worker lives self.old worker (load lives run.now output now))) }
+        ensures answer { IfOk result (λ a.
+            a ≡ answer_of (at_worker lives self.old worker (load lives run.now output now))) }
+        ensures sure { is_free
+            (answer_of (at_worker lives self.old worker (load lives run.now output now))) ≡ true
+            → IsOk result }
+        ensures next { OnOk result (self.new
+            ≡ state_of self.old
+            (at_worker lives self.old worker (load lives run.now output now))) }
         ensures err { OnErr result (self.new ≡ self.old) }
     {
         let place = usize::from(worker);
@@ -336,8 +360,12 @@ impl Lane {
 
     /// The link took so many bytes of a worker's session.
     pub fn wrote(&mut self, worker: u16, count: u64) -> Answer
-        ensures answer { result ≡ answer_of (at_worker lives self.old worker (λ x. at_session lives x (wrote lives count))) }
-        ensures next { self.new ≡ state_of self.old (at_worker lives self.old worker (λ x. at_session lives x (wrote lives count))) }
+        ensures answer { result
+            ≡ answer_of (at_worker lives self.old worker (λ x.
+            at_session lives x (wrote lives count))) }
+        ensures next { self.new
+            ≡ state_of self.old (at_worker lives self.old worker (λ x.
+            at_session lives x (wrote lives count))) }
     {
         let place = usize::from(worker);
         if place >= self.workers.len() {
@@ -355,9 +383,14 @@ impl Lane {
         worker: u16,
         bytes: &[u8],
     ) -> Result<Answer, AllocError>
-        ensures answer { IfOk result (λ a. a ≡ answer_of (at_worker lives self.old worker (λ x. at_session lives x (heard lives run.now output bytes.now)))) }
-        ensures sure { is_free (answer_of (at_worker lives self.old worker (λ x. at_session lives x (heard lives run.now output bytes.now)))) ≡ true → IsOk result }
-        ensures next { OnOk result (self.new ≡ state_of self.old (at_worker lives self.old worker (λ x. at_session lives x (heard lives run.now output bytes.now)))) }
+        ensures answer { IfOk result (λ a.
+            a ≡ answer_of (at_worker lives self.old worker (λ x.
+            at_session lives x (heard lives run.now output bytes.now)))) }
+        ensures sure { is_free (answer_of (at_worker lives self.old worker (λ x.
+            at_session lives x (heard lives run.now output bytes.now)))) ≡ true → IsOk result }
+        ensures next { OnOk result (self.new
+            ≡ state_of self.old (at_worker lives self.old worker (λ x.
+            at_session lives x (heard lives run.now output bytes.now)))) }
         ensures err { OnErr result (self.new ≡ self.old) }
     {
         let place = usize::from(worker);
@@ -405,7 +438,8 @@ impl Lane {
     pub fn tell(&mut self, origins: &[Origin])
         ensures { self.new ≡ with_live_output self.old (record {
           buffer = self.old.output.buffer;
-          book = filter (λ q. not (is_due_among origins.now self.old.output.buffer.cells q)) self.old.output.book;
+          book = filter (λ q.
+              not (is_due_among origins.now self.old.output.buffer.cells q)) self.old.output.book;
         }) }
     {
         self.output.tell(origins);

@@ -1,4 +1,5 @@
-//! One output's state, which will lie under one lock: its entries, and the requests that they came with.
+//! One output's state, which will lie under one lock: its entries, and the requests that they
+//! came with.
 
 ghost use Rattle.std.specs.Prelude.{
   ◌≡◌,
@@ -21,7 +22,7 @@ ghost use Rattle.fwd_model.specs.Chunks.{cells_at};
 ghost use Rattle.fwd_model.specs.Buffers.{
   no_entries,
   buffer_is_spent,
-  buffer_closes,
+  buffer_closing,
   buffer_flushes,
   buffer_takes,
   buffer_free,
@@ -78,8 +79,9 @@ impl OutputState {
         }
     }
 
-    /// Enters a request at a moment (milliseconds): its entries take the next unused number, and its tag's old number
-    /// is closed. A request without entries takes no number and closes none. On an error nothing has changed.
+    /// Enters a request at a moment (milliseconds): its entries take the next unused number, and
+    /// its tag's old number is closed. A request without entries takes no number and closes none.
+    /// On an error nothing has changed.
     pub fn admit(
         &mut self,
         alloc: Global,
@@ -89,8 +91,10 @@ impl OutputState {
     ) -> Result<(), AdmitError>
         ensures ok { OnOk result (self.new ≡ output_enters self.old origin batch.now now) }
         ensures room { OnOk result (buffer_is_spent self.old.buffer batch.now ≡ false) }
-        ensures spent { IsErrOf result AdmitError.NumbersSpent → buffer_is_spent self.old.buffer batch.now ≡ true }
-        ensures first { buffer_is_spent self.old.buffer batch.now ≡ true → result ≡ Err AdmitError.NumbersSpent }
+        ensures spent { IsErrOf result AdmitError.NumbersSpent
+            → buffer_is_spent self.old.buffer batch.now ≡ true }
+        ensures first { buffer_is_spent self.old.buffer batch.now ≡ true
+            → result ≡ Err AdmitError.NumbersSpent }
         ensures err { OnErr result (self.new ≡ self.old) }
     {
         let Some(number) = self.buffer.number_for(batch) else {
@@ -111,7 +115,7 @@ impl OutputState {
 
     /// Closes the open numbers that a flush closes, and answers how many.
     pub fn flush(&mut self, interval: u64, now: u64, kind: FlushKind) -> usize
-        ensures count { result ≡ length (filter (buffer_closes self.old.buffer interval now kind) self.old.buffer.opened) }
+        ensures count { result ≡ buffer_closing self.old.buffer interval now kind }
         ensures flushed { self.new ≡ record {
           buffer = buffer_flushes self.old.buffer interval now kind;
           book = self.old.book;
@@ -138,8 +142,8 @@ impl OutputState {
         self.buffer.take(alloc, worker, now)
     }
 
-    /// The entries of a number that a server acknowledged leave, and its worker carries nothing any more. Answers how
-    /// many entries left.
+    /// The entries of a number that a server acknowledged leave, and its worker carries nothing
+    /// any more. Answers how many entries left.
     pub fn settle(&mut self, worker: u16, number: u64) -> usize
         ensures count { result ≡ length (cells_at number self.old.buffer.cells) }
         ensures settled { self.new ≡ record {
@@ -157,8 +161,8 @@ impl OutputState {
         self.book.untold(alloc, conn)
     }
 
-    /// What is to be told of the requests of these origins: the numbers of those whose entries are all settled, and the
-    /// acknowledgements that they asked for.
+    /// What is to be told of the requests of these origins: the numbers of those whose entries
+    /// are all settled, and the acknowledgements that they asked for.
     pub fn due(&self, alloc: Global, origins: &[Origin]) -> Result<Due, AllocError>
         ensures numbers { IfOk result (λ due. due.requests ≡
             numbers_of (due_among origins.now self.now.buffer.cells self.now.book)) }
@@ -176,7 +180,8 @@ impl OutputState {
     pub fn tell(&mut self, origins: &[Origin])
         ensures { self.new ≡ record {
           buffer = self.old.buffer;
-          book = filter (λ q. not (is_due_among origins.now self.old.buffer.cells q)) self.old.book;
+          book = filter (λ q.
+              not (is_due_among origins.now self.old.buffer.cells q)) self.old.book;
         } }
     {
         self.book.tell(origins, self.buffer.cells());

@@ -64,24 +64,29 @@ impl Relay {
         ensures { IfOk result (λ r. r ≡ live (opening config)) }
     {
         let lanes = lanes_of(alloc, config.outputs.as_slice())?;
+        let security = Arc::new(alloc, config.security)?;
+        let connections = Vec::new(alloc);
         Ok(Relay {
             run: config.run,
             routes: config.routes,
-            security: Arc::new(alloc, config.security)?,
+            security,
             last: None,
-            connections: Vec::new(alloc),
+            connections,
             lanes,
         })
     }
 
-    /// What an event does, and what is answered. It is the live step of the abstract relay, or want of memory, and
-    /// then nothing has changed.
+    /// What an event does, and what is answered. It is the live step of the abstract relay, or
+    /// want of memory, and then nothing has changed.
     pub fn step(&mut self, alloc: Global, event: &Event) -> Answer
-        ensures answer { result ≢ Answer.Memory → result ≡ answer_of (step lives self.old event.now) }
-        ensures next { result ≢ Answer.Memory → self.new ≡ state_of self.old (step lives self.old event.now) }
+        ensures answer { result ≢ Answer.Memory
+            → result ≡ answer_of (step lives self.old event.now) }
+        ensures next { result ≢ Answer.Memory
+            → self.new ≡ state_of self.old (step lives self.old event.now) }
         ensures memory { result ≡ Answer.Memory → self.new ≡ self.old }
         ensures none { takes_none event.now ≡ true → result ≢ Answer.Memory }
-        ensures sure { is_free (answer_of (step lives self.old event.now)) ≡ true → result ≢ Answer.Memory }
+        ensures sure { is_free (answer_of (step lives self.old event.now)) ≡ true
+            → result ≢ Answer.Memory }
     {
         let answered = match event {
             Event::Accept { conn, nonce, auth } => self.accept(alloc, *conn, *nonce, *auth),
@@ -123,17 +128,23 @@ impl Relay {
         answered.unwrap_or(Answer::Memory)
     }
 
-    /// Steps through events, and answers each. Over the events that are not answered want of memory, the answers and
-    /// the state are the abstract relay's, from any history that a run reaches and whose live part this relay is.
-    /// Where the room for the answers is refused, nothing has changed.
+    /// Steps through events, and answers each. Over the events that are not answered want of
+    /// memory, the answers and the state are the abstract relay's, from any history that a run
+    /// reaches and whose live part this relay is. Where the room for the answers is refused,
+    /// nothing has changed.
     pub fn run(&mut self, alloc: Global, events: &[Event]) -> Result<Vec<Answer>, AllocError>
         ensures count { IfOk result (λ answers. length answers.items ≡ length events.now) }
-        ensures answers { IfOk result (λ answers. told answers.items ≡ answers_to lives self.old (kept events.now answers.items)) }
-        ensures state { IfOk result (λ answers. self.new ≡ after lives self.old (kept events.now answers.items)) }
-        ensures history { IfOk result (λ answers. (config : Settings) (h : History) → IsReached config h → self.old ≡ live h →
-            (told answers.items ≡ answers_to histories h (kept events.now answers.items)) × (self.new ≡ live (after histories h (kept events.now answers.items)))) }
+        ensures answers { IfOk result (λ answers.
+            told answers.items ≡ answers_to lives self.old (kept events.now answers.items)) }
+        ensures state { IfOk result (λ answers.
+            self.new ≡ after lives self.old (kept events.now answers.items)) }
+        ensures history { IfOk result (λ answers. (config : Settings) (h : History)
+            → IsReached config h → self.old ≡ live h →
+            (told answers.items ≡ answers_to histories h (kept events.now answers.items))
+            × (self.new ≡ live (after histories h (kept events.now answers.items)))) }
         // Whoever is told was delivered, by what came before.
-        ensures delivered { IfOk result (λ answers. (config : Settings) (es : List AbstractEvent) →
+        ensures delivered { IfOk result (λ answers.
+            (config : Settings) (es : List AbstractEvent) →
             self.old ≡ live (reached config es) → (id r o : ℕ)
             (t : IsToldAmong (kept events.now answers.items) (told answers.items) id r o) →
             IsDelivered config (es ++ t.before) id r o) }
@@ -157,9 +168,12 @@ impl Relay {
         nonce: [u8; 16],
         auth: [u8; 16],
     ) -> Result<Answer, AllocError>
-        ensures answer { IfOk result (λ a. a ≡ answer_of (step lives self.old (event.Accept conn nonce auth))) }
-        ensures sure { is_free (answer_of (step lives self.old (event.Accept conn nonce auth))) ≡ true → IsOk result }
-        ensures next { OnOk result (self.new ≡ state_of self.old (step lives self.old (event.Accept conn nonce auth))) }
+        ensures answer { IfOk result (λ a.
+            a ≡ answer_of (step lives self.old (event.Accept conn nonce auth))) }
+        ensures sure { is_free (answer_of (step lives self.old (event.Accept conn nonce auth)))
+            ≡ true → IsOk result }
+        ensures next { OnOk result (self.new
+            ≡ state_of self.old (step lives self.old (event.Accept conn nonce auth))) }
         ensures err { OnErr result (self.new ≡ self.old) }
     {
         let above = match self.last {
@@ -179,9 +193,12 @@ impl Relay {
 
     /// Bytes are read from a connection. On an error nothing has changed.
     fn piece(&mut self, alloc: Global, conn: u64, bytes: &[u8]) -> Result<Answer, AllocError>
-        ensures answer { IfOk result (λ a. a ≡ answer_of (step lives self.old (event.Piece conn bytes.now))) }
-        ensures sure { is_free (answer_of (step lives self.old (event.Piece conn bytes.now))) ≡ true → IsOk result }
-        ensures next { OnOk result (self.new ≡ state_of self.old (step lives self.old (event.Piece conn bytes.now))) }
+        ensures answer { IfOk result (λ a.
+            a ≡ answer_of (step lives self.old (event.Piece conn bytes.now))) }
+        ensures sure { is_free (answer_of (step lives self.old (event.Piece conn bytes.now)))
+            ≡ true → IsOk result }
+        ensures next { OnOk result (self.new
+            ≡ state_of self.old (step lives self.old (event.Piece conn bytes.now))) }
         ensures err { OnErr result (self.new ≡ self.old) }
     {
         let Some(place) = place_of(conn, &self.connections) else {
@@ -194,7 +211,8 @@ impl Relay {
     /// A connection's link took so many of the bytes that wait to be sent.
     fn drained(&mut self, conn: u64, count: u64) -> Answer
         ensures answer { result ≡ answer_of (step lives self.old (event.Drained conn count)) }
-        ensures next { self.new ≡ state_of self.old (step lives self.old (event.Drained conn count)) }
+        ensures next { self.new
+            ≡ state_of self.old (step lives self.old (event.Drained conn count)) }
     {
         let Some(place) = place_of(conn, &self.connections) else {
             return Answer::Refused(Refusal::NoSuch);
@@ -223,9 +241,12 @@ impl Relay {
         output: u16,
         now: u64,
     ) -> Result<Answer, AllocError>
-        ensures answer { IfOk result (λ a. a ≡ answer_of (step lives self.old (event.Admit conn output now))) }
-        ensures sure { is_free (answer_of (step lives self.old (event.Admit conn output now))) ≡ true → IsOk result }
-        ensures next { OnOk result (self.new ≡ state_of self.old (step lives self.old (event.Admit conn output now))) }
+        ensures answer { IfOk result (λ a.
+            a ≡ answer_of (step lives self.old (event.Admit conn output now))) }
+        ensures sure { is_free (answer_of (step lives self.old (event.Admit conn output now)))
+            ≡ true → IsOk result }
+        ensures next { OnOk result (self.new
+            ≡ state_of self.old (step lives self.old (event.Admit conn output now))) }
         ensures err { OnErr result (self.new ≡ self.old) }
     {
         let Some(place) = place_of(conn, &self.connections) else {
@@ -251,7 +272,8 @@ impl Relay {
     /// Open chunks of an output are closed.
     fn flush(&mut self, output: u16, now: u64, kind: FlushKind) -> Answer
         ensures answer { result ≡ answer_of (step lives self.old (event.Flush output now kind)) }
-        ensures next { self.new ≡ state_of self.old (step lives self.old (event.Flush output now kind)) }
+        ensures next { self.new
+            ≡ state_of self.old (step lives self.old (event.Flush output now kind)) }
     {
         let place = usize::from(output);
         if place >= self.lanes.len() {
@@ -264,8 +286,10 @@ impl Relay {
 
     /// A worker's session with a server begins.
     fn up(&mut self, alloc: Global, output: u16, worker: u16, server: u16, now: u64) -> Answer
-        ensures answer { result ≡ answer_of (step lives self.old (event.Up output worker server [] now)) }
-        ensures next { self.new ≡ state_of self.old (step lives self.old (event.Up output worker server [] now)) }
+        ensures answer { result
+            ≡ answer_of (step lives self.old (event.Up output worker server [] now)) }
+        ensures next { self.new
+            ≡ state_of self.old (step lives self.old (event.Up output worker server [] now)) }
     {
         let place = usize::from(output);
         if place >= self.lanes.len() {
@@ -283,9 +307,12 @@ impl Relay {
         worker: u16,
         now: u64,
     ) -> Result<Answer, AllocError>
-        ensures answer { IfOk result (λ a. a ≡ answer_of (step lives self.old (event.Take output worker now))) }
-        ensures sure { is_free (answer_of (step lives self.old (event.Take output worker now))) ≡ true → IsOk result }
-        ensures next { OnOk result (self.new ≡ state_of self.old (step lives self.old (event.Take output worker now))) }
+        ensures answer { IfOk result (λ a.
+            a ≡ answer_of (step lives self.old (event.Take output worker now))) }
+        ensures sure { is_free (answer_of (step lives self.old (event.Take output worker now)))
+            ≡ true → IsOk result }
+        ensures next { OnOk result (self.new
+            ≡ state_of self.old (step lives self.old (event.Take output worker now))) }
         ensures err { OnErr result (self.new ≡ self.old) }
     {
         let place = usize::from(output);
@@ -304,9 +331,12 @@ impl Relay {
         worker: u16,
         now: u64,
     ) -> Result<Answer, AllocError>
-        ensures answer { IfOk result (λ a. a ≡ answer_of (step lives self.old (event.Load output worker now))) }
-        ensures sure { is_free (answer_of (step lives self.old (event.Load output worker now))) ≡ true → IsOk result }
-        ensures next { OnOk result (self.new ≡ state_of self.old (step lives self.old (event.Load output worker now))) }
+        ensures answer { IfOk result (λ a.
+            a ≡ answer_of (step lives self.old (event.Load output worker now))) }
+        ensures sure { is_free (answer_of (step lives self.old (event.Load output worker now)))
+            ≡ true → IsOk result }
+        ensures next { OnOk result (self.new
+            ≡ state_of self.old (step lives self.old (event.Load output worker now))) }
         ensures err { OnErr result (self.new ≡ self.old) }
     {
         let place = usize::from(output);
@@ -320,8 +350,10 @@ impl Relay {
 
     /// The link took so many bytes of a worker's session.
     fn wrote(&mut self, output: u16, worker: u16, count: u64) -> Answer
-        ensures answer { result ≡ answer_of (step lives self.old (event.Wrote output worker count)) }
-        ensures next { self.new ≡ state_of self.old (step lives self.old (event.Wrote output worker count)) }
+        ensures answer { result
+            ≡ answer_of (step lives self.old (event.Wrote output worker count)) }
+        ensures next { self.new
+            ≡ state_of self.old (step lives self.old (event.Wrote output worker count)) }
     {
         let place = usize::from(output);
         if place >= self.lanes.len() {
@@ -339,9 +371,13 @@ impl Relay {
         worker: u16,
         bytes: &[u8],
     ) -> Result<Answer, AllocError>
-        ensures answer { IfOk result (λ a. a ≡ answer_of (step lives self.old (event.Heard output worker bytes.now))) }
-        ensures sure { is_free (answer_of (step lives self.old (event.Heard output worker bytes.now))) ≡ true → IsOk result }
-        ensures next { OnOk result (self.new ≡ state_of self.old (step lives self.old (event.Heard output worker bytes.now))) }
+        ensures answer { IfOk result (λ a.
+            a ≡ answer_of (step lives self.old (event.Heard output worker bytes.now))) }
+        ensures sure { is_free
+            (answer_of (step lives self.old (event.Heard output worker bytes.now))) ≡ true
+            → IsOk result }
+        ensures next { OnOk result (self.new
+            ≡ state_of self.old (step lives self.old (event.Heard output worker bytes.now))) }
         ensures err { OnErr result (self.new ≡ self.old) }
     {
         let place = usize::from(output);
@@ -356,7 +392,8 @@ impl Relay {
     /// A worker's acknowledged chunk leaves its output.
     fn settle(&mut self, output: u16, worker: u16) -> Answer
         ensures answer { result ≡ answer_of (step lives self.old (event.Settle output worker)) }
-        ensures next { self.new ≡ state_of self.old (step lives self.old (event.Settle output worker)) }
+        ensures next { self.new
+            ≡ state_of self.old (step lives self.old (event.Settle output worker)) }
     {
         let place = usize::from(output);
         if place >= self.lanes.len() {
@@ -366,11 +403,15 @@ impl Relay {
         lane.settle(worker)
     }
 
-    /// A connection is told of its requests at an output whose entries are all settled. On an error nothing has changed.
+    /// A connection is told of its requests at an output whose entries are all settled. On an
+    /// error nothing has changed.
     fn collect(&mut self, alloc: Global, conn: u64, output: u16) -> Result<Answer, AllocError>
-        ensures answer { IfOk result (λ a. a ≡ answer_of (step lives self.old (event.Collect conn output))) }
-        ensures sure { is_free (answer_of (step lives self.old (event.Collect conn output))) ≡ true → IsOk result }
-        ensures next { OnOk result (self.new ≡ state_of self.old (step lives self.old (event.Collect conn output))) }
+        ensures answer { IfOk result (λ a.
+            a ≡ answer_of (step lives self.old (event.Collect conn output))) }
+        ensures sure { is_free (answer_of (step lives self.old (event.Collect conn output)))
+            ≡ true → IsOk result }
+        ensures next { OnOk result (self.new
+            ≡ state_of self.old (step lives self.old (event.Collect conn output))) }
         ensures err { OnErr result (self.new ≡ self.old) }
     {
         let Some(place) = place_of(conn, &self.connections) else {
@@ -396,7 +437,8 @@ fn lanes_of(alloc: Global, configs: &[OutputConfig]) -> Result<Vec<Lane>, AllocE
     Ok(lanes)
 }
 
-/// The first request that waits at the source is entered at the output. On an error nothing has changed.
+/// The first request that waits at the source is entered at the output. On an error nothing has
+/// changed.
 fn admit_from(
     alloc: Global,
     routes: &Routes,
@@ -406,10 +448,21 @@ fn admit_from(
     output: u16,
     now: u64,
 ) -> Result<Answer, AllocError>
-    ensures answer { IfOk result (λ a. a ≡ answer_of (admit lives routes.now conn output now source.old.live lane.old)) }
-    ensures sure { is_free (answer_of (admit lives routes.now conn output now source.old.live lane.old)) ≡ true → IsOk result }
-    ensures source { OnOk result (source.new.live ≡ (state_of (source.old.live, lane.old) (admit lives routes.now conn output now source.old.live lane.old)).0) }
-    ensures lane { OnOk result (lane.new ≡ (state_of (source.old.live, lane.old) (admit lives routes.now conn output now source.old.live lane.old)).1) }
+    ensures answer { IfOk result (λ a.
+        a ≡ answer_of (admit lives routes.now conn output now source.old.live lane.old)) }
+    ensures sure { is_free
+        (answer_of (admit lives routes.now conn output now source.old.live lane.old)) ≡ true
+        → IsOk result }
+    ensures source { OnOk result (source.new.live
+        ≡ (state_of (
+          source.old.live,
+          lane.old,
+        ) (admit lives routes.now conn output now source.old.live lane.old)).0) }
+    ensures lane { OnOk result (lane.new
+        ≡ (state_of (
+          source.old.live,
+          lane.old,
+        ) (admit lives routes.now conn output now source.old.live lane.old)).1) }
     ensures source_err { OnErr result (source.new ≡ source.old) }
     ensures lane_err { OnErr result (lane.new ≡ lane.old) }
 {
@@ -444,10 +497,20 @@ fn tell_from(
     source: &mut Source,
     conn: u64,
 ) -> Result<Answer, AllocError>
-    ensures answer { IfOk result (λ a. a ≡ answer_of (collect lives conn source.old.live lane.old)) }
-    ensures sure { is_free (answer_of (collect lives conn source.old.live lane.old)) ≡ true → IsOk result }
-    ensures source { OnOk result (source.new.live ≡ (state_of (source.old.live, lane.old) (collect lives conn source.old.live lane.old)).0) }
-    ensures lane { OnOk result (lane.new ≡ (state_of (source.old.live, lane.old) (collect lives conn source.old.live lane.old)).1) }
+    ensures answer { IfOk result (λ a.
+        a ≡ answer_of (collect lives conn source.old.live lane.old)) }
+    ensures sure { is_free (answer_of (collect lives conn source.old.live lane.old)) ≡ true
+        → IsOk result }
+    ensures source { OnOk result (source.new.live
+        ≡ (state_of (
+          source.old.live,
+          lane.old,
+        ) (collect lives conn source.old.live lane.old)).0) }
+    ensures lane { OnOk result (lane.new
+        ≡ (state_of (
+          source.old.live,
+          lane.old,
+        ) (collect lives conn source.old.live lane.old)).1) }
     ensures source_err { OnErr result (source.new.live ≡ source.old.live) }
     ensures lane_err { OnErr result (lane.new ≡ lane.old) }
 {

@@ -1,5 +1,5 @@
-//! What a server's bytes say: whether the awaited chunk is acknowledged, the first fault, and the bytes of an
-//! unfinished reply.
+//! What a server's bytes say: whether the awaited chunk is acknowledged, the first fault, and the
+//! bytes of an unfinished reply.
 
 ghost use Rattle.std.specs.Prelude.{◌≡◌, None, Some};
 ghost use Rattle.fwd_msgpack.specs.Values.{bytes_of};

@@ -20,7 +20,8 @@ use fwd_msgpack::Bytes;
 use std::alloc::{AllocError, Global};
 use std::marker::Model;
 
-/// A session with one server: the bytes that wait to be sent to it, and those of its unfinished reply.
+/// A session with one server: the bytes that wait to be sent to it, and those of its unfinished
+/// reply.
 #[derive(Drop)]
 pub struct Session {
     server: u16,
@@ -37,7 +38,16 @@ impl Model for Session {
 
     ghost Value = { LiveSession };
 
-    ghost view = { λ s. record { server = s.server; waiting = s.waiting.items; rest = s.rest.items; loaded = s.loaded; accepted = s.accepted; down = s.down; moment = s.moment } };
+    ghost view = { λ s.
+        record {
+          server = s.server;
+          waiting = s.waiting.items;
+          rest = s.rest.items;
+          loaded = s.loaded;
+          accepted = s.accepted;
+          down = s.down;
+          moment = s.moment;
+        } };
 }
 
 impl Session {
@@ -97,7 +107,8 @@ impl Session {
         true
     }
 
-    /// The name of the chunk whose acknowledgement is awaited: one that was handed on whole and is not acknowledged.
+    /// The name of the chunk whose acknowledgement is awaited: one that was handed on whole and
+    /// is not acknowledged.
     fn awaited(&self, run: &[u8; 6], output: u16) -> Option<[u8; 24]>
         ensures { result ≡ session_awaits run.now output self.now }
     {
@@ -110,7 +121,8 @@ impl Session {
         }
     }
 
-    /// Bytes are read from the link. After a fault each further piece is refused. On an error nothing has changed.
+    /// Bytes are read from the link. After a fault each further piece is refused. On an error
+    /// nothing has changed.
     #[tactic(auto, unfolding(fwd_model::specs::Sessions::session_listens))]
     pub fn heard(
         &mut self,
@@ -119,9 +131,12 @@ impl Session {
         output: u16,
         bytes: &[u8],
     ) -> Result<Answer, AllocError>
-        ensures answer { IfOk result (λ a. a ≡ answer_of (heard lives run.now output bytes.now self.old)) }
-        ensures sure { is_free (answer_of (heard lives run.now output bytes.now self.old)) ≡ true → IsOk result }
-        ensures next { OnOk result (self.new ≡ state_of self.old (heard lives run.now output bytes.now self.old)) }
+        ensures answer { IfOk result (λ a.
+            a ≡ answer_of (heard lives run.now output bytes.now self.old)) }
+        ensures sure { is_free (answer_of (heard lives run.now output bytes.now self.old)) ≡ true
+            → IsOk result }
+        ensures next { OnOk result (self.new
+            ≡ state_of self.old (heard lives run.now output bytes.now self.old)) }
         ensures err { OnErr result (self.new ≡ self.old) }
     {
         if self.down {

@@ -1,4 +1,5 @@
--- When two outcomes agree: the answers are one, and what the second goes on to is what the first goes on to, seen through a map.
+-- When two outcomes agree: the answers are one, and what the second goes on to is what the first
+-- goes on to, seen through a map.
 use Rattle.std.proofs.Common.{◌≡◌, Bool, true, false, cond, Option, Some, None, refl, sym, subst}
 use Rattle.std.specs.Prelude.{option_map}
 use Rattle.fwd_model.specs.declared.answer.Answer.{Answer}

@@ -27,18 +27,23 @@ use Rattle.fwd_model.proofs.Reached.{slice_get-set}
 
 -- ---- events are added at the end
 
-pub after-push : (h : History) (es : List Event) (e : Event) → after histories h (es ++ e ∷ []) ≡ state_of (after histories h es) (step histories (after histories h es) e)
+pub after-push : (h : History) (es : List Event) (e : Event)
+    → after histories h (es ++ e ∷ [])
+    ≡ state_of (after histories h es) (step histories (after histories h es) e)
 after-push h [] e = refl
 after-push h (d ∷ es) e = after-push (state_of h (step histories h d)) es e
 
-pub by_last : (P : List Event → Type 0) → P [] → ((es : List Event) (e : Event) → P es → P (es ++ e ∷ [])) → (es : List Event) → P es
+pub by_last : (P : List Event → Type 0) → P []
+    → ((es : List Event) (e : Event) → P es → P (es ++ e ∷ [])) → (es : List Event)
+    → P es
 by_last P none more es = go [] es none
   where
     go : (done todo : List Event) → P done → P (done ++ todo)
     go done [] p = subst P (sym (append-nil done)) p
     go done (e ∷ todo) p = subst P (append_assoc done (e ∷ []) todo) (go (done ++ e ∷ []) todo (more done e p))
 
-later_split : (es before : List Event) (x : Event) (later : List Event) (e : Event) → es ≡ before ++ x ∷ later → es ++ e ∷ [] ≡ before ++ x ∷ (later ++ e ∷ [])
+later_split : (es before : List Event) (x : Event) (later : List Event) (e : Event)
+    → es ≡ before ++ x ∷ later → es ++ e ∷ [] ≡ before ++ x ∷ (later ++ e ∷ [])
 later_split es before x later e h = ap (λ es. es ++ e ∷ []) h ∙ append_assoc before (x ∷ later) (e ∷ [])
 
 -- a list with one more at its end, split somewhere: at that end, or before it
@@ -46,10 +51,12 @@ pub data LastSplit (later between : List Event) (x : Event) (rest : List Event) 
   AtEnd : later ≡ between → e ≡ x → LastSplit later between x rest e
   Before : (front : List Event) → later ≡ between ++ x ∷ front → LastSplit later between x rest e
 
-cons_tails : {X : Type 0} {x y : X} {xs ys : List X} → x ∷ xs ≡ y ∷ ys → (x ≡ y) × (xs ≡ ys)
+cons_tails : {X : Type 0} {x y : X} {xs ys : List X} → x ∷ xs ≡ y ∷ ys → (x ≡ y)
+    × (xs ≡ ys)
 cons_tails h = (cc, cc)
 
-last_split : (later between : List Event) (x : Event) (rest : List Event) (e : Event) → later ++ e ∷ [] ≡ between ++ x ∷ rest → LastSplit later between x rest e
+last_split : (later between : List Event) (x : Event) (rest : List Event) (e : Event)
+    → later ++ e ∷ [] ≡ between ++ x ∷ rest → LastSplit later between x rest e
 last_split [] [] x rest e h = AtEnd refl (cons_tails h).0
 last_split [] (b ∷ []) x rest e h = let no : [] ≡ x ∷ rest = (cons_tails h).1 in absurd cc
 last_split [] (b ∷ c ∷ between) x rest e h = let no : [] ≡ c ∷ (between ++ x ∷ rest) = (cons_tails h).1 in absurd cc
@@ -194,7 +201,8 @@ pub record RequestStory (routes : List (List (List ℕ))) (cs : List Connection)
   pub own : cells_from a.origin.conn a.origin.request cells ≡ cells_of request a.origin number moment
   pub under : (k : ℕ) → has_cell k (cells_of request a.origin number moment) ≡ true → (k ≤ greatest cells) × (first_tag (cells_at k cells) ≡ request.tag)
 
-abbrev pub AllTold : List (List (List ℕ)) → List Connection → ℕ → List Cell → List Admission → Type 0
+abbrev pub AllTold : List (List (List ℕ)) → List Connection → ℕ → List Cell
+    → List Admission → Type 0
 AllTold routes cs o cells [] = Unit {0}
 AllTold routes cs o cells (a ∷ admissions) = RequestStory routes cs o cells a.request × AllTold routes cs o cells admissions
 
@@ -223,16 +231,19 @@ Extends cs ds = (id : ℕ) (s : SourceHistory) → ever_at id cs ≡ Some s → 
 pub extends_same : (cs : List Connection) → Extends cs cs
 extends_same cs id s h = (s, h, (omega arith, λ i q e. e))
 
-pub ever_at-push : (id : ℕ) (cs : List Connection) (c : Connection) (s : SourceHistory) → ever_at id cs ≡ Some s → ever_at id (cs ++ c ∷ []) ≡ Some s
+pub ever_at-push : (id : ℕ) (cs : List Connection) (c : Connection) (s : SourceHistory)
+    → ever_at id cs ≡ Some s → ever_at id (cs ++ c ∷ []) ≡ Some s
 ever_at-push id [] c s h = absurd cc
 ever_at-push id (d ∷ cs) c s h = grind (arith, nat_tests, ever_at-push id cs c s)
 
 -- what is known was accepted
-pub ever_from : (id : ℕ) (cs : List Connection) (s : SourceHistory) → source_at id cs ≡ Some s → ever_at id cs ≡ Some s
+pub ever_from : (id : ℕ) (cs : List Connection) (s : SourceHistory) → source_at id cs ≡ Some s
+    → ever_at id cs ≡ Some s
 ever_from id [] s h = absurd cc
 ever_from id (c ∷ cs) s h = grind (arith, nat_tests, ever_from id cs s)
 
-ever_at-with_gone : (id j : ℕ) (cs : List Connection) → ever_at j (with_gone id cs) ≡ ever_at j cs
+ever_at-with_gone : (id j : ℕ) (cs : List Connection)
+    → ever_at j (with_gone id cs) ≡ ever_at j cs
 ever_at-with_gone id j [] = refl
 ever_at-with_gone id j (c ∷ cs) = grind (arith, nat_tests, ever_at-with_gone id j cs)
 
@@ -242,18 +253,21 @@ extends_gone id cs j s h = (s, ever_at-with_gone id j cs ∙ h, (omega arith, λ
 pub extends_push : (cs : List Connection) (c : Connection) → Extends cs (cs ++ c ∷ [])
 extends_push cs c id s h = (s, ever_at-push id cs c s h, (omega arith, λ i q e. e))
 
-ever_at-with_same : (id : ℕ) (s t : SourceHistory) (cs : List Connection) → ever_at id cs ≡ Some s → ever_at id (with_source id t cs) ≡ Some t
+ever_at-with_same : (id : ℕ) (s t : SourceHistory) (cs : List Connection)
+    → ever_at id cs ≡ Some s → ever_at id (with_source id t cs) ≡ Some t
 ever_at-with_same id s t [] h = absurd cc
 ever_at-with_same id s t (c ∷ cs) h = grind (arith, nat_tests, ever_at-with_same id s t cs)
 
-ever_at-with_other : (id j : ℕ) (t : SourceHistory) (cs : List Connection) → eqb id j ≡ false → ever_at j (with_source id t cs) ≡ ever_at j cs
+ever_at-with_other : (id j : ℕ) (t : SourceHistory) (cs : List Connection) → eqb id j ≡ false
+    → ever_at j (with_source id t cs) ≡ ever_at j cs
 ever_at-with_other id j t [] d = refl
 ever_at-with_other id j t (c ∷ cs) d = grind (arith, nat_tests, ever_at-with_other id j t cs d)
 
 some_is : {X : Type 0} {x y : X} → Some x ≡ Some y → x ≡ y
 some_is h = cc
 
-pub extends_with : (id : ℕ) (s t : SourceHistory) (cs : List Connection) → ever_at id cs ≡ Some s → Grows s t → Extends cs (with_source id t cs)
+pub extends_with : (id : ℕ) (s t : SourceHistory) (cs : List Connection)
+    → ever_at id cs ≡ Some s → Grows s t → Extends cs (with_source id t cs)
 extends_with id s t cs here grows j u h = by_test (eqb id j) refl
   where
     by_test : (b : Bool) → eqb id j ≡ b → (v : SourceHistory) × (ever_at j (with_source id t cs) ≡ Some v) × Grows u v
@@ -263,12 +277,15 @@ extends_with id s t cs here grows j u h = by_test (eqb id j) refl
         (t, subst (λ x. ever_at x (with_source id t cs) ≡ Some t) same (ever_at-with_same id s t cs here), subst (λ x. Grows x t) is grows)
     by_test false e = (u, ever_at-with_other id j t cs e ∙ h, (omega arith, λ i q f. f))
 
-pub admitted_still : (cs ds : List Connection) (id r : ℕ) → Extends cs ds → Admitted cs id r → Admitted ds id r
+pub admitted_still : (cs ds : List Connection) (id r : ℕ) → Extends cs ds → Admitted cs id r
+    → Admitted ds id r
 admitted_still cs ds id r ext a =
     let g = ext id a.0 a.1 in
     (g.0, g.1, omega (arith, a.2, g.2.0))
 
-pub request_still : (routes : List (List (List ℕ))) (cs ds : List Connection) (o : ℕ) (cells : List Cell) (a : Entered) → Extends cs ds → RequestStory routes cs o cells a → RequestStory routes ds o cells a
+pub request_still : (routes : List (List (List ℕ))) (cs ds : List Connection) (o : ℕ)
+    (cells : List Cell) (a : Entered) → Extends cs ds → RequestStory routes cs o cells a
+    → RequestStory routes ds o cells a
 request_still routes cs ds o cells a ext t =
     let g = ext a.origin.conn t.source t.stands in
     record {
@@ -287,11 +304,15 @@ request_still routes cs ds o cells a ext t =
       under = t.under;
     }
 
-pub all_still : (routes : List (List (List ℕ))) (cs ds : List Connection) (o : ℕ) (cells : List Cell) (admissions : List Admission) → Extends cs ds → AllTold routes cs o cells admissions → AllTold routes ds o cells admissions
+pub all_still : (routes : List (List (List ℕ))) (cs ds : List Connection) (o : ℕ)
+    (cells : List Cell) (admissions : List Admission) → Extends cs ds
+    → AllTold routes cs o cells admissions → AllTold routes ds o cells admissions
 all_still routes cs ds o cells [] ext all = tt
 all_still routes cs ds o cells (a ∷ admissions) ext all = (request_still routes cs ds o cells a.request ext all.0, all_still routes cs ds o cells admissions ext all.1)
 
-pub lane_still : (config : Config) (es : List Event) (e : Event) (cs ds : List Connection) (o : ℕ) (l : Lane) → Extends cs ds → Quiet config es e o l → LaneStory config es cs o l → LaneStory config (es ++ e ∷ []) ds o l
+pub lane_still : (config : Config) (es : List Event) (e : Event) (cs ds : List Connection) (o : ℕ)
+    (l : Lane) → Extends cs ds → Quiet config es e o l → LaneStory config es cs o l
+    → LaneStory config (es ++ e ∷ []) ds o l
 lane_still config es e cs ds o l ext quiet t = record {
   sessions = λ w s h. session_still config es e o l.output.buffer.cells w s (quiet w s h) (t.sessions w s h);
   numbers = λ k h. number_still config es e o l.output.buffer.cells k (t.numbers k h);
@@ -305,7 +326,9 @@ abbrev pub with_parts : History → List Connection → List Lane → History
 with_parts h cs ls = record { run = h.run; routes = h.routes; security = h.security; connections = cs; lanes = ls }
 
 -- a worker that has a session begins no other
-pub up_refused : (h : History) (o w server : ℕ) (salt : List ℕ) (now : ℕ) (l : Lane) (s : SessionHistory) → slice_get h.lanes o ≡ Some l → slice_get l.sessions w ≡ Some (Some s)
+pub up_refused : (h : History) (o w server : ℕ) (salt : List ℕ) (now : ℕ) (l : Lane)
+    (s : SessionHistory) → slice_get h.lanes o ≡ Some l
+    → slice_get l.sessions w ≡ Some (Some s)
     → answer_of (step histories h (event.Up o w server salt now)) ≡ answer.Done → ⊥
 up_refused h o w server salt now l s here at done =
     by_test (not (nat_lt server l.config.servers))

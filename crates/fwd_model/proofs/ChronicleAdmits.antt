@@ -74,15 +74,18 @@ module _ (tag : List ℕ) (origin : Origin) (number moment : ℕ) where
   number_reached k [] h = absurd cc
   number_reached k (e ∷ es) h = omega arith
 
-none_yet : (id r : ℕ) (cells : List Cell) → has_origin id r cells ≡ false → cells_from id r cells ≡ []
+none_yet : (id r : ℕ) (cells : List Cell) → has_origin id r cells ≡ false
+    → cells_from id r cells ≡ []
 none_yet id r [] h = refl
 none_yet id r (c ∷ cells) h = grind (arith, nat_tests, none_yet id r cells)
 
-has_origin-append : (id r : ℕ) (xs ys : List Cell) → has_origin id r (xs ++ ys) ≡ (has_origin id r xs || has_origin id r ys)
+has_origin-append : (id r : ℕ) (xs ys : List Cell)
+    → has_origin id r (xs ++ ys) ≡ (has_origin id r xs || has_origin id r ys)
 has_origin-append id r [] ys = refl
 has_origin-append id r (c ∷ xs) ys = grind (arith, nat_tests, has_origin-append id r xs ys)
 
-cells_at-append : (k : ℕ) (xs ys : List Cell) → cells_at k (xs ++ ys) ≡ cells_at k xs ++ cells_at k ys
+cells_at-append : (k : ℕ) (xs ys : List Cell)
+    → cells_at k (xs ++ ys) ≡ cells_at k xs ++ cells_at k ys
 cells_at-append k [] ys = refl
 cells_at-append k (x ∷ xs) ys = grind (arith, nat_tests, cells_at-append k xs ys)
 
@@ -92,11 +95,16 @@ cells_at_past k (x ∷ xs) lt = grind (arith, nat_tests, cells_at_past k xs)
 
 -- ---- frames stay where a number was given before
 
-frame_stays : (config : Config) (o : ℕ) (cells : List Cell) (q : Request) (origin : Origin) (moment k : ℕ) → k ≤ greatest cells → frame_at config o cells k ≡ frame_at config o (cells ++ cells_of q origin (greatest cells + 1) moment) k
+frame_stays : (config : Config) (o : ℕ) (cells : List Cell) (q : Request) (origin : Origin)
+    (moment k : ℕ) → k ≤ greatest cells
+    → frame_at config o cells k
+    ≡ frame_at config o (cells ++ cells_of q origin (greatest cells + 1) moment) k
 frame_stays config o cells q origin moment k le =
     ap (frame_of config.run o) (sym (chunk_of-append_past k cells q.entries q.tag origin (greatest cells + 1) moment (omega (arith, le))))
 
-chunk_moves : (config : Config) (es : List Event) (o w : ℕ) (xs ys : List Cell) (s : SessionHistory) (k : ℕ) → frame_at config o xs k ≡ frame_at config o ys k → ChunkStory config es o w xs s k → ChunkStory config es o w ys s k
+chunk_moves : (config : Config) (es : List Event) (o w : ℕ) (xs ys : List Cell)
+    (s : SessionHistory) (k : ℕ) → frame_at config o xs k ≡ frame_at config o ys k
+    → ChunkStory config es o w xs s k → ChunkStory config es o w ys s k
 chunk_moves config es o w xs ys s k same c = record {
   was_loaded = subst (λ f. WasLoaded config es o w f) same c.was_loaded;
   front = c.front;

@@ -40,23 +40,30 @@ record Names (awaited : Option (List ℕ)) (values : List (List ℕ)) : Type 0 w
   pub named : ack_name value ≡ Some name
   pub was : awaited ≡ Some name
 
-one_further : (awaited : Option (List ℕ)) (v : List ℕ) (vs : List (List ℕ)) → Names awaited vs → Names awaited (v ∷ vs)
+one_further : (awaited : Option (List ℕ)) (v : List ℕ) (vs : List (List ℕ))
+    → Names awaited vs → Names awaited (v ∷ vs)
 one_further awaited v vs n = record { place = suc n.place; value = n.value; name = n.name; here = n.here; named = n.named; was = n.was }
 
-by_test : (wanted name : List ℕ) (b : Bool) → bytes_eq name wanted ≡ b → cond b Accepted (Failed WrongAck) ≡ Accepted → wanted ≡ name
+by_test : (wanted name : List ℕ) (b : Bool) → bytes_eq name wanted ≡ b
+    → cond b Accepted (Failed WrongAck) ≡ Accepted → wanted ≡ name
 by_test wanted name true e g = sym ((bytes_eq-Decides name wanted).0 e)
 by_test wanted name false e g = absurd cc
 
-by_name : (awaited found : Option (List ℕ)) → reply_named awaited found ≡ Accepted → (name : List ℕ) × (found ≡ Some name) × (awaited ≡ Some name)
+by_name : (awaited found : Option (List ℕ)) → reply_named awaited found ≡ Accepted
+    → (name : List ℕ) × (found ≡ Some name) × (awaited ≡ Some name)
 by_name awaited None h = absurd cc
 by_name None (Some name) h = absurd cc
 by_name (Some wanted) (Some name) h = (name, refl, ap Some (by_test wanted name (bytes_eq name wanted) refl h))
 
-unless_nil : (awaited : Option (List ℕ)) (v : List ℕ) (b : Bool) → cond b Skipped (reply_named awaited (ack_name v)) ≡ Accepted → (name : List ℕ) × (ack_name v ≡ Some name) × (awaited ≡ Some name)
+unless_nil : (awaited : Option (List ℕ)) (v : List ℕ) (b : Bool)
+    → cond b Skipped (reply_named awaited (ack_name v)) ≡ Accepted → (name : List ℕ)
+    × (ack_name v ≡ Some name) × (awaited ≡ Some name)
 unless_nil awaited v true h = absurd cc
 unless_nil awaited v false h = by_name awaited (ack_name v) h
 
-names_by : (awaited : Option (List ℕ)) (v : List ℕ) (vs : List (List ℕ)) (end : Replies) (r : Reply) → reply_of awaited v ≡ r → ((replies awaited vs end).accepted ≡ true → Names awaited vs)
+names_by : (awaited : Option (List ℕ)) (v : List ℕ) (vs : List (List ℕ)) (end : Replies)
+    (r : Reply) → reply_of awaited v ≡ r
+    → ((replies awaited vs end).accepted ≡ true → Names awaited vs)
     → (reply_then r (replies awaited vs end) (replies None vs end)).accepted ≡ true → Names awaited (v ∷ vs)
 names_by awaited v vs end Skipped is rec h = one_further awaited v vs (rec h)
 names_by awaited v vs end Accepted is rec h =
@@ -64,12 +71,14 @@ names_by awaited v vs end Accepted is rec h =
     record { place = zero; value = v; name = n.0; here = refl; named = n.1; was = n.2 }
 names_by awaited v vs end (Failed f) is rec h = absurd cc
 
-names_in : (awaited : Option (List ℕ)) (vs : List (List ℕ)) (end : Replies) → end.accepted ≡ false → (replies awaited vs end).accepted ≡ true → Names awaited vs
+names_in : (awaited : Option (List ℕ)) (vs : List (List ℕ)) (end : Replies)
+    → end.accepted ≡ false → (replies awaited vs end).accepted ≡ true → Names awaited vs
 names_in awaited [] end none h = absurd cc
 names_in awaited (v ∷ vs) end none h = names_by awaited v vs end (reply_of awaited v) refl (λ g. names_in awaited vs end none g) h
 
 -- an acknowledgement that is accepted names what is awaited
-accepted_names : (awaited : Option (List ℕ)) (s : Split) → (replies_in awaited s).accepted ≡ true → Names awaited (values_of s)
+accepted_names : (awaited : Option (List ℕ)) (s : Split)
+    → (replies_in awaited s).accepted ≡ true → Names awaited (values_of s)
 accepted_names awaited (Open vs rest) h = names_in awaited vs silence refl h
 accepted_names awaited (Broken vs fault) h = names_in awaited vs (failing BadReply) refl h
 
@@ -81,7 +90,10 @@ some_is h = cc
 true_false : (b : Bool) → b ≡ true → b ≡ false → ⊥
 true_false b e f = cc
 
-pub put_session : (config : Config) (es : List Event) (e : Event) (o : ℕ) (cs : List Connection) (l : Lane) (w : ℕ) (s : SessionHistory) → Quiet config es e o l → LaneStory config es cs o l → SessionStory config (es ++ e ∷ []) o w l.output.buffer.cells s
+pub put_session : (config : Config) (es : List Event) (e : Event) (o : ℕ) (cs : List Connection)
+    (l : Lane) (w : ℕ) (s : SessionHistory) → Quiet config es e o l
+    → LaneStory config es cs o l
+    → SessionStory config (es ++ e ∷ []) o w l.output.buffer.cells s
     → LaneStory config (es ++ e ∷ []) cs o (with_session w s l)
 put_session config es e o cs l w s quiet t story =
     let still = lane_still config es e cs cs o l (extends_same cs) quiet t in record {
@@ -95,7 +107,8 @@ put_session config es e o cs l w s quiet t story =
     at j u (inl x) = subst (λ k. SessionStory config (es ++ e ∷ []) o k l.output.buffer.cells u) x.0 (subst (λ v. SessionStory config (es ++ e ∷ []) o w l.output.buffer.cells v) (some_is x.1) story)
     at j u (inr x) = session_still config es e o l.output.buffer.cells j u (quiet j u x.1) (t.sessions j u x.1)
 
-no_split : (between : List Event) (x : Event) (rest : List Event) → [] ≡ between ++ x ∷ rest → ⊥
+no_split : (between : List Event) (x : Event) (rest : List Event) → [] ≡ between ++ x ∷ rest
+    → ⊥
 no_split [] x rest e = cc
 no_split (b ∷ between) x rest e = cc
 

@@ -18,12 +18,15 @@ use Rattle.fwd_model.proofs.Chronicle.{Quiet, LaneStory, NumberStory, AllTold, E
 use Rattle.fwd_model.proofs.ChronicleSessions.{put_session, unloads}
 use Rattle.fwd_model.proofs.Chronicle.{SessionStory}
 
-loaded_of : (b : Bool) (loaded : Option ℕ) (k : ℕ) → cond b loaded None ≡ Some k → (b ≡ true) × (loaded ≡ Some k)
+loaded_of : (b : Bool) (loaded : Option ℕ) (k : ℕ) → cond b loaded None ≡ Some k
+    → (b ≡ true) × (loaded ≡ Some k)
 loaded_of true loaded k e = (refl, e)
 loaded_of false loaded k e = absurd cc
 
 -- the number of an accepted acknowledgement was acknowledged
-pub acked_number_is : (config : Config) (es : List Event) (o w : ℕ) (cells : List Cell) (s : SessionHistory) (k : ℕ) → SessionStory config es o w cells s → acked histories s ≡ Some k → NumberStory config es o cells k
+pub acked_number_is : (config : Config) (es : List Event) (o w : ℕ) (cells : List Cell)
+    (s : SessionHistory) (k : ℕ) → SessionStory config es o w cells s
+    → acked histories s ≡ Some k → NumberStory config es o cells k
 acked_number_is config es o w cells s k t e =
     let is = loaded_of s.accepted s.loaded k e in
     (w, (t.chunk k is.1).was_acked is.0)
@@ -35,7 +38,10 @@ either false b h = inr h
 eq_from : (a b : ℕ) → eqb a b ≡ true → a ≡ b
 eq_from a b e = grind (arith, nat_tests, e)
 
-pub lane_settles : (config : Config) (es : List Event) (e : Event) (cs : List Connection) (o w : ℕ) (l : Lane) (s : SessionHistory) (k : ℕ) → slice_get l.sessions w ≡ Some (Some s) → acked histories s ≡ Some k → Quiet config es e o l → LaneStory config es cs o l
+pub lane_settles : (config : Config) (es : List Event) (e : Event) (cs : List Connection)
+    (o w : ℕ) (l : Lane) (s : SessionHistory) (k : ℕ)
+    → slice_get l.sessions w ≡ Some (Some s) → acked histories s ≡ Some k
+    → Quiet config es e o l → LaneStory config es cs o l
     → LaneStory config (es ++ e ∷ []) cs o (with_session w (session.unloads s) (with_buffer l (settles l.output.buffer w k)))
 unfolding settles
 lane_settles config es e cs o w l s k here is quiet t =
@@ -50,11 +56,16 @@ lane_settles config es e cs o w l s k here is quiet t =
       requests = put.requests;
     }
 
-all_told : (routes : List (List (List ℕ))) (cs : List Connection) (o : ℕ) (cells : List Cell) (p : Admission → Bool) (admissions : List Admission) → AllTold routes cs o cells admissions → AllTold routes cs o cells (map (λ a. told_if (p a) a) admissions)
+all_told : (routes : List (List (List ℕ))) (cs : List Connection) (o : ℕ) (cells : List Cell)
+    (p : Admission → Bool) (admissions : List Admission) → AllTold routes cs o cells admissions
+    → AllTold routes cs o cells (map (λ a. told_if (p a) a) admissions)
 all_told routes cs o cells p [] all = tt
 all_told routes cs o cells p (a ∷ admissions) all = (all.0, all_told routes cs o cells p admissions all.1)
 
-pub lane_tells : (config : Config) (es : List Event) (e : Event) (cs ds : List Connection) (o id : ℕ) (l : Lane) → Extends cs ds → Quiet config es e o l → LaneStory config es cs o l → LaneStory config (es ++ e ∷ []) ds o (with_output l (output_history_tells l.output id))
+pub lane_tells : (config : Config) (es : List Event) (e : Event) (cs ds : List Connection)
+    (o id : ℕ) (l : Lane) → Extends cs ds → Quiet config es e o l
+    → LaneStory config es cs o l
+    → LaneStory config (es ++ e ∷ []) ds o (with_output l (output_history_tells l.output id))
 unfolding tells
 lane_tells config es e cs ds o id l ext quiet t =
     let still = lane_still config es e cs ds o l ext quiet t in record {

@@ -17,11 +17,11 @@ use Rattle.fwd_model.specs.declared.event.FlushKind.{FlushKind}
 use Rattle.fwd_model.specs.declared.answer.Answer.{Answer}
 use Rattle.fwd_model.specs.declared.answer.Answer.TheVariants as answer
 use Rattle.fwd_model.specs.declared.fault.Refusal.TheVariants.{NoSuch, NotNow}
-use Rattle.fwd_model.specs.Outcome.{Outcome, Stays, Goes, answer_of, state_of}
+use Rattle.fwd_model.specs.Outcome.{Outcome, Stays, Goes, answer_of, state_of, of_piece, first_of, chunk_answer}
 use Rattle.fwd_model.specs.Layers.{Worker}
 use Rattle.fwd_model.specs.Books.{acks_of}
 use Rattle.fwd_model.specs.Step as steps
-use Rattle.fwd_model.specs.Step.{step, of_piece, first_of}
+use Rattle.fwd_model.specs.Step.{step}
 use Rattle.fwd_model.specs.Setups.{setup_of}
 use Rattle.fwd_model.specs.Chunks.{frame_of}
 use Rattle.fwd_model.specs.Replies.{is_loaded}
@@ -40,29 +40,34 @@ use Rattle.fwd_model.proofs.ChronicleSessions.{put_session, begins, loads, sends
 use Rattle.fwd_model.proofs.ChronicleSettles.{lane_settles, lane_tells}
 use Rattle.fwd_model.proofs.ChronicleAdmits.{lane_enters}
 
-slice_get-append : {X : Type 0} (xs ys : List X) (i : ℕ) (x : X) → slice_get xs i ≡ Some x → slice_get (xs ++ ys) i ≡ Some x
+slice_get-append : {X : Type 0} (xs ys : List X) (i : ℕ) (x : X) → slice_get xs i ≡ Some x
+    → slice_get (xs ++ ys) i ≡ Some x
 slice_get-append [] ys i x h = absurd cc
 slice_get-append (a ∷ xs) ys zero x h = h
 slice_get-append (a ∷ xs) ys (suc i) x h = slice_get-append xs ys i x h
 
-first_of-drop : (n : ℕ) (xs : List Request) (q : Request) → first_of (drop n xs) ≡ Some q → slice_get xs n ≡ Some q
+first_of-drop : (n : ℕ) (xs : List Request) (q : Request) → first_of (drop n xs) ≡ Some q
+    → slice_get xs n ≡ Some q
 first_of-drop zero [] q h = absurd cc
 first_of-drop zero (x ∷ xs) q h = h
 first_of-drop (suc n) [] q h = absurd cc
 first_of-drop (suc n) (x ∷ xs) q h = first_of-drop n xs q h
 
 -- the first request that waits is the one behind those that were admitted
-waiting_is : (s : SourceHistory) (q : Request) → first_of (waiting s) ≡ Some q → slice_get (judged s).requests s.admitted ≡ Some q
+waiting_is : (s : SourceHistory) (q : Request) → first_of (waiting s) ≡ Some q
+    → slice_get (judged s).requests s.admitted ≡ Some q
 waiting_is s q e = at s.shut e
   where
     at : (b : Bool) → first_of (cond b [] (drop s.admitted (judged s).requests)) ≡ Some q → slice_get (judged s).requests s.admitted ≡ Some q
     at true f = absurd cc
     at false f = first_of-drop s.admitted (judged s).requests q f
 
-pub grows_more : (s t : SourceHistory) → judged t ≡ judged s → s.admitted ≤ t.admitted → Grows s t
+pub grows_more : (s t : SourceHistory) → judged t ≡ judged s → s.admitted ≤ t.admitted
+    → Grows s t
 grows_more s t same le = (le, λ i q h. ap (λ j. slice_get j.requests i) same ∙ h)
 
-piece_grows : (s : SourceHistory) (bytes : List ℕ) → IsSaneSource s → is_closed s ≡ false → Grows s (hears s bytes)
+piece_grows : (s : SourceHistory) (bytes : List ℕ) → IsSaneSource s → is_closed s ≡ false
+    → Grows s (hears s bytes)
 piece_grows s bytes own e =
     let more = heard s bytes own e in
     (omega arith, λ i q f. ap (λ j. slice_get j.requests i) more.all ∙ slice_get-append (judged s).requests (judged_piece (live_source s) bytes).requests i q f)
@@ -70,7 +75,8 @@ piece_grows s bytes own e =
 same_place : (first o : ℕ) → not (first == o) ≡ false → first ≡ o
 same_place first o e = grind (arith, nat_tests, e)
 
-source_there : (id : ℕ) (s u : SourceHistory) (cs : List Connection) → ever_at id cs ≡ Some s → ever_at id (with_source id u cs) ≡ Some u
+source_there : (id : ℕ) (s u : SourceHistory) (cs : List Connection) → ever_at id cs ≡ Some s
+    → ever_at id (with_source id u cs) ≡ Some u
 source_there id s u [] f = absurd cc
 source_there id s u (c ∷ cs) f = grind (arith, nat_tests, source_there id s u cs)
 
@@ -188,7 +194,7 @@ module _ (config : Config) (es : List Event) (sane : IsSane (reached config es))
 
   take_on : (e : Event) (o w now : ℕ) → Onward (λ a k. Story config (es ++ e ∷ []) k) (steps.at_lane histories h o (λ l. steps.take histories l w now))
   take_on e o w now = lane_on histories h o _ (λ l. steps.take histories l w now) (λ l lane.
-      past_found NoSuch {x = histories.worker_at l w} (λ x at. past NotNow {b = is_some x.chunk} (λ none. to {a = steps.chunk_answer (histories.free l)} (lane_next e o _ (taken_story e o w now l lane)))))
+      past_found NoSuch {x = histories.worker_at l w} (λ x at. past NotNow {b = is_some x.chunk} (λ none. to {a = chunk_answer (histories.free l)} (lane_next e o _ (taken_story e o w now l lane)))))
 
   settle_on : (e : Event) (o w : ℕ) → Onward (λ a k. Story config (es ++ e ∷ []) k) (steps.at_lane histories h o (λ l. steps.settle histories l w))
   settle_on e o w =

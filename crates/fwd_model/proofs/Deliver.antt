@@ -32,12 +32,14 @@ use Rattle.fwd_model.specs.declared.config.OutputConfig.{OutputConfig}
 
 -- ---- the chronicle of every run
 
-no_sessions : {X : Type 0} (n w : ℕ) (t : X) → slice_get (Rattle.std.specs.Prelude.replicate n None) w ≡ Some (Some t) → ⊥
+no_sessions : {X : Type 0} (n w : ℕ) (t : X)
+    → slice_get (Rattle.std.specs.Prelude.replicate n None) w ≡ Some (Some t) → ⊥
 no_sessions zero w t e = cc
 no_sessions (suc n) zero t e = cc
 no_sessions (suc n) (suc w) t e = no_sessions n w t e
 
-new_lane_story : (config : Config) (cs : List Connection) (o : ℕ) (c : OutputConfig) → LaneStory config [] cs o (new_lane c)
+new_lane_story : (config : Config) (cs : List Connection) (o : ℕ) (c : OutputConfig)
+    → LaneStory config [] cs o (new_lane c)
 new_lane_story config cs o c = record {
   sessions = λ w s h. absurd (no_sessions c.workers w s h);
   numbers = λ k h. absurd cc;
@@ -45,7 +47,9 @@ new_lane_story config cs o c = record {
   requests = tt;
 }
 
-new_lanes : (config : Config) (cs : List Connection) (configs : List OutputConfig) (base o : ℕ) (l : Lane) → slice_get (map new_lane configs) o ≡ Some l → LaneStory config [] cs (base + o) l
+new_lanes : (config : Config) (cs : List Connection) (configs : List OutputConfig) (base o : ℕ)
+    (l : Lane) → slice_get (map new_lane configs) o ≡ Some l
+    → LaneStory config [] cs (base + o) l
 new_lanes config cs [] base o l h = absurd cc
 new_lanes config cs (c ∷ configs) base zero l h = let same : new_lane c ≡ l = cc in subst (λ x. LaneStory config [] cs (base + 0) x) same (new_lane_story config cs (base + 0) c)
 new_lanes config cs (c ∷ configs) base (suc o) l h = subst (λ n. LaneStory config [] cs n l) (omega arith) (new_lanes config cs configs (base + 1) o l h)
@@ -76,7 +80,10 @@ and_parts false b h = absurd cc
 eq_from : (a b : ℕ) → eqb a b ≡ true → a ≡ b
 eq_from a b e = grind (arith, nat_tests, e)
 
-found_by : (routes : List (List (List ℕ))) (cs : List Connection) (o id r : ℕ) (output : OutputHistory) (a : Admission) (rest : List Entered) (b c : Bool) → is_due id output.buffer.acknowledged a ≡ b → eqb a.request.origin.request r ≡ c → RequestStory routes cs o output.buffer.cells a.request
+found_by : (routes : List (List (List ℕ))) (cs : List Connection) (o id r : ℕ)
+    (output : OutputHistory) (a : Admission) (rest : List Entered) (b c : Bool)
+    → is_due id output.buffer.acknowledged a ≡ b → eqb a.request.origin.request r ≡ c
+    → RequestStory routes cs o output.buffer.cells a.request
     → (has_number r (numbers_of rest) ≡ true → IsFound routes cs o id r output) → has_number r (numbers_of (cond b (a.request ∷ rest) rest)) ≡ true → IsFound routes cs o id r output
 found_by routes cs o id r output a rest true true due_is same one later h =
     let parts = and_parts (not a.told) (is_of id a.request && is_settled output.buffer.acknowledged a.request) due_is in
@@ -85,12 +92,18 @@ found_by routes cs o id r output a rest true true due_is same one later h =
 found_by routes cs o id r output a rest true false due_is same one later h = later (grind (arith, nat_tests, h, same))
 found_by routes cs o id r output a rest false c due_is same one later h = later h
 
-due_map : (id : ℕ) (output : OutputHistory) (a : Admission) (admissions : List Admission) (b : Bool)
+due_map : (id : ℕ) (output : OutputHistory) (a : Admission) (admissions : List Admission)
+    (b : Bool)
     → map (λ (x : Admission). x.request) (cond b (a ∷ filter (is_due id output.buffer.acknowledged) admissions) (filter (is_due id output.buffer.acknowledged) admissions)) ≡ cond b (a.request ∷ map (λ x. x.request) (filter (is_due id output.buffer.acknowledged) admissions)) (map (λ x. x.request) (filter (is_due id output.buffer.acknowledged) admissions))
 due_map id output a admissions true = refl
 due_map id output a admissions false = refl
 
-found : (routes : List (List (List ℕ))) (cs : List Connection) (o id r : ℕ) (output : OutputHistory) (admissions : List Admission) → AllTold routes cs o output.buffer.cells admissions → has_number r (numbers_of (map (λ a. a.request) (filter (is_due id output.buffer.acknowledged) admissions))) ≡ true → IsFound routes cs o id r output
+found : (routes : List (List (List ℕ))) (cs : List Connection) (o id r : ℕ)
+    (output : OutputHistory) (admissions : List Admission)
+    → AllTold routes cs o output.buffer.cells admissions
+    → has_number r (numbers_of (map (λ a.
+    a.request) (filter (is_due id output.buffer.acknowledged) admissions))) ≡ true
+    → IsFound routes cs o id r output
 found routes cs o id r output [] all h = absurd cc
 found routes cs o id r output (a ∷ admissions) all h =
     found_by routes cs o id r output a (map (λ x. x.request) (filter (is_due id output.buffer.acknowledged) admissions)) (is_due id output.buffer.acknowledged a) (eqb a.request.origin.request r) refl refl all.0 (λ g. found routes cs o id r output admissions all.1 g)
@@ -123,7 +136,9 @@ module _ (q : Request) (origin : Origin) (number moment : ℕ) where
   settled_is acked k [] h g = absurd cc
   settled_is acked k (e ∷ es) h g = grind (arith, nat_tests, g)
 
-frame_is : (config : Config) (o : ℕ) (tag : List ℕ) (cells : List Cell) (k : ℕ) → first_tag (cells_at k cells) ≡ tag → frame_at config o cells k ≡ whole_frame config o tag cells k
+frame_is : (config : Config) (o : ℕ) (tag : List ℕ) (cells : List Cell) (k : ℕ)
+    → first_tag (cells_at k cells) ≡ tag
+    → frame_at config o cells k ≡ whole_frame config o tag cells k
 unfolding chunk_of
 frame_is config o tag cells k e = ap (λ x. chunk_frame x (map (λ c. c.entry) (cells_at k cells)) (chunk_name config.run o k)) e
 
@@ -162,7 +177,10 @@ module _ (config : Config) (es : List Event) (id r o : ℕ) (l : Lane) (here : s
         (n.0, subst (λ frame. WasAcknowledged config es o n.0 frame (chunk_name config.run o k)) (frame_is config o t.request.tag l.output.buffer.cells k (t.under k g).1) n.1);
   }
 
-told_by : (config : Config) (es : List Event) (id r o : ℕ) (numbers out : List ℕ) (s : Option SourceHistory) (l : Option Lane) → source_at id (reached config es).connections ≡ s → slice_get (reached config es).lanes o ≡ l → Story config es (reached config es)
+told_by : (config : Config) (es : List Event) (id r o : ℕ) (numbers out : List ℕ)
+    (s : Option SourceHistory) (l : Option Lane)
+    → source_at id (reached config es).connections ≡ s
+    → slice_get (reached config es).lanes o ≡ l → Story config es (reached config es)
     → answer_of (sought s NoSuch >>= (λ x. sought l NoSuch >>= (λ y. within (λ two. with_lane o two.1 (with_connection id two.0 (reached config es))) (steps.collect histories id x y)))) ≡ answer.Told numbers out
     → has_number r numbers ≡ true → IsDelivered config es id r o
 told_by config es id r o numbers out None l known here story told among = absurd cc
@@ -177,25 +195,31 @@ told_by config es id r o numbers out (Some s) (Some l) known here story told amo
         let lane = story.lanes o l here in
         found_delivered config es id r o l here lane (found config.routes (reached config es).connections o id r l.output l.output.book lane.requests (subst (λ ns. has_number r ns ≡ true) (sym same) among)) s known
 
-pub told_delivered : (config : Config) (es : List Event) (id r o : ℕ) (t : IsTold config es id r o) → IsDelivered config t.before id r o
+pub told_delivered : (config : Config) (es : List Event) (id r o : ℕ)
+    (t : IsTold config es id r o) → IsDelivered config t.before id r o
 told_delivered config es id r o t =
     told_by config t.before id r o t.numbers t.out (source_at id (reached config t.before).connections) (slice_get (reached config t.before).lanes o) refl refl (every_story config t.before) t.told t.among
 
 -- ---- the same of the answers to further events
 
-after-append : (h : History) (es fs : List Event) → steps.after histories h (es ++ fs) ≡ steps.after histories (steps.after histories h es) fs
+after-append : (h : History) (es fs : List Event)
+    → steps.after histories h (es ++ fs) ≡ steps.after histories (steps.after histories h es) fs
 after-append h [] fs = refl
 after-append h (e ∷ es) fs = after-append (state_of h (step histories h e)) es fs
 
 -- the answer at a place is what the event there is answered after those before it
-answer_at : (h : History) (before : List Event) (e : Event) (later : List Event) → slice_get (steps.answers histories h (before ++ e ∷ later)) (length before) ≡ Some (answer_of (step histories (steps.after histories h before) e))
+answer_at : (h : History) (before : List Event) (e : Event) (later : List Event)
+    → slice_get (steps.answers histories h (before ++ e ∷ later)) (length before)
+    ≡ Some (answer_of (step histories (steps.after histories h before) e))
 answer_at h [] e later = refl
 answer_at h (d ∷ before) e later = answer_at (state_of h (step histories h d)) before e later
 
 some_is : {X : Type 0} {x y : X} → Some x ≡ Some y → x ≡ y
 some_is h = cc
 
-pub told_among-delivered : (config : Config) (es events : List Event) (id r o : ℕ) (t : IsToldAmong events (steps.answers histories (reached config es) events) id r o) → IsDelivered config (es ++ t.before) id r o
+pub told_among-delivered : (config : Config) (es events : List Event) (id r o : ℕ)
+    (t : IsToldAmong events (steps.answers histories (reached config es) events) id r o)
+    → IsDelivered config (es ++ t.before) id r o
 told_among-delivered config es events id r o t =
     told_delivered config ((es ++ t.before) ++ event.Collect id o ∷ t.later) id r o (record {
       before = es ++ t.before;

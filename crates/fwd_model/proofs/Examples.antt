@@ -162,11 +162,15 @@ unfolding opening route pattern_matches matches enters flushes takes settles tel
 acknowledged_twice = refl
 
 -- another name, and a value that is no acknowledgement
-wrong_name : answers histories (after histories (opening settings) until_sent) (event.Heard 0 0 (0x81 ∷ 0xa3 ∷ 0x61 ∷ 0x63 ∷ 0x6b ∷ 0xa1 ∷ 0x41 ∷ []) ∷ event.Settle 0 0 ∷ []) ≡ answer.SessionFaulted WrongAck ∷ answer.Refused NotNow ∷ []
+wrong_name : answers histories (after histories (opening settings) until_sent)
+    (event.Heard 0 0 (0x81 ∷ 0xa3 ∷ 0x61 ∷ 0x63 ∷ 0x6b ∷ 0xa1 ∷ 0x41 ∷ [])
+    ∷ event.Settle 0 0 ∷ []) ≡ answer.SessionFaulted WrongAck ∷ answer.Refused NotNow ∷ []
 unfolding opening route pattern_matches matches enters flushes takes settles tells chunk_of chunk_frame chunk_name encode_symbols ack_text ack_name head_bytes reply_stream judged_of request_of parts_of row_of_values split_of first_of fault_at item_begun payload_ended reading_of row_of named_rows
 wrong_name = refl
 
-no_acknowledgement : answers histories (after histories (opening settings) until_sent) (event.Heard 0 0 (0xc0 ∷ []) ∷ event.Heard 0 0 (0xc3 ∷ []) ∷ event.Settle 0 0 ∷ []) ≡ answer.Quiet [] ∷ answer.SessionFaulted BadReply ∷ answer.Refused NotNow ∷ []
+no_acknowledgement : answers histories (after histories (opening settings) until_sent)
+    (event.Heard 0 0 (0xc0 ∷ []) ∷ event.Heard 0 0 (0xc3 ∷ []) ∷ event.Settle 0 0 ∷ [])
+    ≡ answer.Quiet [] ∷ answer.SessionFaulted BadReply ∷ answer.Refused NotNow ∷ []
 unfolding opening route pattern_matches matches enters flushes takes settles tells chunk_of chunk_frame chunk_name encode_symbols ack_text ack_name head_bytes reply_stream judged_of request_of parts_of row_of_values split_of first_of fault_at item_begun payload_ended reading_of row_of named_rows
 no_acknowledgement = refl
 
@@ -208,7 +212,8 @@ routed = refl
 
 -- ---- a connection's end
 
--- a fault behind a good request closes the connection; once it is shut it is known no more, and its id stays used
+-- a fault behind a good request closes the connection; once it is shut it is known no more, and
+-- its id stays used
 ended : answers histories (opening settings) (
     event.Accept 1 (replicate 16 0) (replicate 16 0) ∷
     event.Piece 1 (0x93 ∷ 0xa1 ∷ 0x61 ∷ 0x01 ∷ 0x80 ∷ 0xc1 ∷ []) ∷

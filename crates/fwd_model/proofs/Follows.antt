@@ -1,4 +1,5 @@
--- The live part follows the history at each event of a run, and over runs: each proof has the shape of its event.
+-- The live part follows the history at each event of a run, and over runs: each proof has the
+-- shape of its event.
 use Rattle.std.proofs.Common.{◌≡◌, ℕ, zero, suc, ◌+◌, Bool, true, false, cond, List, [], ◌∷◌, ◌++◌, length, Option, Some, None, refl, sym, ap, subst, ◌∙◌}
 use Rattle.std.specs.Prelude.{map, option_map, not, nat_lt, slice_get, replicate}
 use Rattle.fwd_modes.specs.Requests.{Request}
@@ -17,11 +18,11 @@ use Rattle.fwd_model.specs.declared.event.Event.{Event}
 use Rattle.fwd_model.specs.declared.event.Event.TheVariants as event
 use Rattle.fwd_model.specs.declared.event.FlushKind.{FlushKind}
 use Rattle.fwd_model.specs.declared.answer.Answer.TheVariants as answer
-use Rattle.fwd_model.specs.Outcome.{Outcome, Stays, Goes, answer_of, state_of}
+use Rattle.fwd_model.specs.Outcome.{Outcome, Stays, Goes, answer_of, state_of, of_piece, first_of, chunk_answer}
 use Rattle.fwd_model.specs.Layers.{Worker}
 use Rattle.fwd_model.specs.Books.{numbers_of, acks_of}
 use Rattle.fwd_model.specs.Step as steps
-use Rattle.fwd_model.specs.Step.{step, answers, after, of_piece, first_of, chunk_answer, with_session}
+use Rattle.fwd_model.specs.Step.{step, answers, after, with_session}
 use Rattle.fwd_model.specs.Setups.{setup_of}
 use Rattle.fwd_model.specs.Chunks.{frame_of}
 use Rattle.fwd_model.specs.Replies.{is_loaded, reply_answer}
@@ -79,10 +80,14 @@ both two = (live_source two.0, live_lane two.1)
 abbrev SaneBoth : SourceHistory × Lane → Type 0
 SaneBoth two = IsSaneSource two.0 × IsSaneLane two.1
 
-both_lead : {s : SourceHistory} {t : LiveSource} {l : Lane} {m : LiveLane} → Leads live_source IsSaneSource s t → Leads live_lane IsSaneLane l m → Leads both SaneBoth (s, l) (t, m)
+both_lead : {s : SourceHistory} {t : LiveSource} {l : Lane} {m : LiveLane}
+    → Leads live_source IsSaneSource s t → Leads live_lane IsSaneLane l m
+    → Leads both SaneBoth (s, l) (t, m)
 both_lead a b = (λ i. (a.0 i, b.0 i), (a.1, b.1))
 
-at_both : (h : History) (sane : IsSane h) (id o : ℕ) (p : SourceHistory → Lane → Outcome (SourceHistory × Lane)) (q : LiveSource → LiveLane → Outcome (LiveSource × LiveLane))
+at_both : (h : History) (sane : IsSane h) (id o : ℕ) (p : SourceHistory → Lane
+    → Outcome (SourceHistory × Lane)) (q : LiveSource → LiveLane
+    → Outcome (LiveSource × LiveLane))
     → ((s : SourceHistory) (l : Lane) → IsSaneSource s → IsSaneLane l → Agrees both SaneBoth (p s l) (q (live_source s) (live_lane l)))
     → Agrees live IsSane (steps.at_both histories h id o p) (steps.at_both lives (live h) id o q)
 at_both h sane id o p q agrees =
@@ -98,10 +103,13 @@ at_both h sane id o p q agrees =
 abbrev SaneWorker : Lane → ℕ → Worker SessionHistory → Worker SessionHistory → Type 0
 SaneWorker l w x y = (s : SessionHistory) × (y ≡ with_session x s) × IsSaneSession w l.output.buffer.carried s
 
-worker_here : (w : ℕ) (l : Lane) → slice_get (live_lane l).workers w ≡ option_map (worker_map live_session) (histories.worker_at l w)
+worker_here : (w : ℕ) (l : Lane)
+    → slice_get (live_lane l).workers w
+    ≡ option_map (worker_map live_session) (histories.worker_at l w)
 worker_here w l = worker_at-live w l ∙ worker_seen l w (slice_get l.sessions w)
 
-puts_leads : (l : Lane) (w : ℕ) (x : Worker SessionHistory) (s : SessionHistory) → IsSaneLane l → histories.worker_at l w ≡ Some x → IsSaneSession w l.output.buffer.carried s
+puts_leads : (l : Lane) (w : ℕ) (x : Worker SessionHistory) (s : SessionHistory) → IsSaneLane l
+    → histories.worker_at l w ≡ Some x → IsSaneSession w l.output.buffer.carried s
     → Leads live_lane IsSaneLane (histories.puts_worker l w (with_session x s)) (with_live_worker (live_lane l) w (worker_map live_session (with_session x s)))
 puts_leads l w x s own e fits =
     let at = worker_is l w x e in (
@@ -109,7 +117,9 @@ puts_leads l w x s own e fits =
       with_session-sane w s l own fits,
     )
 
-at_worker : (l : Lane) (w : ℕ) (p : Worker SessionHistory → Outcome (Worker SessionHistory)) (q : Worker LiveSession → Outcome (Worker LiveSession)) → IsSaneLane l
+at_worker : (l : Lane) (w : ℕ) (p : Worker SessionHistory
+    → Outcome (Worker SessionHistory)) (q : Worker LiveSession → Outcome (Worker LiveSession))
+    → IsSaneLane l
     → ((x : Worker SessionHistory) → histories.worker_at l w ≡ Some x → Agrees (worker_map live_session) (SaneWorker l w x) (p x) (q (worker_map live_session x)))
     → Agrees live_lane IsSaneLane (steps.at_worker histories l w p) (steps.at_worker lives (live_lane l) w q)
 at_worker l w p q own agrees =
@@ -117,11 +127,14 @@ at_worker l w p q own agrees =
     inside _ _ (agrees x e) (λ y fits.
     subst (λ z. Leads live_lane IsSaneLane (histories.puts_worker l w z) (with_live_worker (live_lane l) w (worker_map live_session z))) (sym fits.1) (puts_leads l w x fits.0 own e fits.2)))
 
-with_session-leads : (l : Lane) (w : ℕ) (x : Worker SessionHistory) (s : SessionHistory) (t : LiveSession) → Leads live_session (IsSaneSession w l.output.buffer.carried) s t
+with_session-leads : (l : Lane) (w : ℕ) (x : Worker SessionHistory) (s : SessionHistory)
+    (t : LiveSession) → Leads live_session (IsSaneSession w l.output.buffer.carried) s t
     → Leads (worker_map live_session) (SaneWorker l w x) (with_session x s) (with_session (worker_map live_session x) t)
 with_session-leads l w x s t leads = (λ i. record { chunk = x.chunk; session = Some (leads.0 i) }, (s, refl, leads.1))
 
-at_session : (l : Lane) (w : ℕ) (x : Worker SessionHistory) (p : SessionHistory → Outcome SessionHistory) (q : LiveSession → Outcome LiveSession) → IsSaneLane l → histories.worker_at l w ≡ Some x
+at_session : (l : Lane) (w : ℕ) (x : Worker SessionHistory) (p : SessionHistory
+    → Outcome SessionHistory) (q : LiveSession → Outcome LiveSession) → IsSaneLane l
+    → histories.worker_at l w ≡ Some x
     → ((s : SessionHistory) → IsSaneSession w l.output.buffer.carried s → Agrees live_session (IsSaneSession w l.output.buffer.carried) (p s) (q (live_session s)))
     → Agrees (worker_map live_session) (SaneWorker l w x) (steps.at_session histories x p) (steps.at_session lives (worker_map live_session x) q)
 at_session l w x p q own e agrees =
@@ -130,7 +143,9 @@ at_session l w x p q own e agrees =
 
 -- ---- connections
 
-piece : (s : SourceHistory) (bytes : List ℕ) → IsSaneSource s → Agrees live_source IsSaneSource (steps.piece histories s bytes) (steps.piece lives (live_source s) bytes)
+piece : (s : SourceHistory) (bytes : List ℕ) → IsSaneSource s
+    → Agrees live_source IsSaneSource (steps.piece histories s bytes)
+    (steps.piece lives (live_source s) bytes)
 unfolding live_source
 piece s bytes sane = by (is_closed s) refl
   where
@@ -151,14 +166,18 @@ piece s bytes sane = by (is_closed s) refl
         subst (λ y. Agrees live_source IsSaneSource (of_piece (told (judged (hears s bytes)).fault (length (waiting (hears s bytes)))) (length (waiting (hears s bytes))) (new_pong s bytes) (hears s bytes)) y)
         (λ i. of_piece (told (g.all i).fault (length (g.waits i))) (length (same i).waiting) (g.pong i) (source_hears (live_source s) bytes)) (at (judged (hears s bytes)).fault up)
 
-drained : (s : SourceHistory) (count : ℕ) → IsSaneSource s → Agrees live_source IsSaneSource (steps.drained histories s count) (steps.drained lives (live_source s) count)
+drained : (s : SourceHistory) (count : ℕ) → IsSaneSource s
+    → Agrees live_source IsSaneSource (steps.drained histories s count)
+    (steps.drained lives (live_source s) count)
 unfolding live_source
 drained s count sane = checked _ refl (λ few. goes refl (drains-live s count, drained-sane s count sane few))
 
 -- ---- a connection and an output
 
 -- the first request that waits is one that is given away
-gives_leads : (s : SourceHistory) (q : Request) (rs : List Request) → waiting s ≡ rs → first_of rs ≡ Some q → IsSaneSource s → Leads live_source IsSaneSource (histories.gives s) (lives.gives (live_source s))
+gives_leads : (s : SourceHistory) (q : Request) (rs : List Request) → waiting s ≡ rs
+    → first_of rs ≡ Some q → IsSaneSource s
+    → Leads live_source IsSaneSource (histories.gives s) (lives.gives (live_source s))
 gives_leads s q [] e first sane = absurd cc
 gives_leads s q (r ∷ rs) e first sane = (gives-live s, gives-sane s r rs sane e)
 
@@ -166,7 +185,8 @@ spent_here : (l : Lane) (q : Request) → lives.is_spent (live_lane l) q ≡ his
 unfolding live_lane live_output live_buffer
 spent_here l q = refl
 
-enter : (s : SourceHistory) (q : Request) (id : ℕ) (l : Lane) (now : ℕ) → IsSaneSource s → IsSaneLane l → first_of (waiting s) ≡ Some q
+enter : (s : SourceHistory) (q : Request) (id : ℕ) (l : Lane) (now : ℕ) → IsSaneSource s
+    → IsSaneLane l → first_of (waiting s) ≡ Some q
     → Agrees both SaneBoth (steps.enter histories s q id l now) (steps.enter lives (live_source s) q id (live_lane l) now)
 unfolding live_source
 enter s q id l now sane own first =
@@ -174,19 +194,23 @@ enter s q id l now sane own first =
     either (spent_here l q) (goes refl (both_lead (shuts-live s, shuts-sane s sane) (refl, own)))
     (goes refl (both_lead (gives_leads s q (waiting s) refl first sane) (enters-live l origin q now own, enters-sane l origin q now own)))
 
-routed : (to : Option ℕ) (s : SourceHistory) (q : Request) (id o : ℕ) (l : Lane) (now : ℕ) → IsSaneSource s → IsSaneLane l → first_of (waiting s) ≡ Some q
+routed : (to : Option ℕ) (s : SourceHistory) (q : Request) (id o : ℕ) (l : Lane) (now : ℕ)
+    → IsSaneSource s → IsSaneLane l → first_of (waiting s) ≡ Some q
     → Agrees both SaneBoth (steps.routed histories to s q id o l now) (steps.routed lives to (live_source s) q id o (live_lane l) now)
 routed None s q id o l now sane own first = goes refl (both_lead (shuts-live s, shuts-sane s sane) (refl, own))
 routed (Some to) s q id o l now sane own first = checked _ refl (λ here. enter s q id l now sane own first)
 
-admit : (patterns : List (List (List ℕ))) (id o now : ℕ) (s : SourceHistory) (l : Lane) → IsSaneSource s → IsSaneLane l
+admit : (patterns : List (List (List ℕ))) (id o now : ℕ) (s : SourceHistory) (l : Lane)
+    → IsSaneSource s → IsSaneLane l
     → Agrees both SaneBoth (steps.admit histories patterns id o now s l) (steps.admit lives patterns id o now (live_source s) (live_lane l))
 unfolding live_source
 admit patterns id o now s l sane own =
     sought {g = λ (q : Request). q} _ _ (option_id (first_of (waiting s))) (λ q e.
     routed (route patterns q.tag) s q id o l now sane own e)
 
-collect : (id : ℕ) (s : SourceHistory) (l : Lane) → IsSaneSource s → IsSaneLane l → Agrees both SaneBoth (steps.collect histories id s l) (steps.collect lives id (live_source s) (live_lane l))
+collect : (id : ℕ) (s : SourceHistory) (l : Lane) → IsSaneSource s → IsSaneLane l
+    → Agrees both SaneBoth (steps.collect histories id s l)
+    (steps.collect lives id (live_source s) (live_lane l))
 unfolding live_source live_lane
 collect id s l sane own =
     let same = due-same id l own in
@@ -197,7 +221,9 @@ collect id s l sane own =
 
 -- ---- an output and its workers
 
-flush : (l : Lane) (now : ℕ) (kind : FlushKind) → IsSaneLane l → Agrees live_lane IsSaneLane (steps.flush histories l now kind) (steps.flush lives (live_lane l) now kind)
+flush : (l : Lane) (now : ℕ) (kind : FlushKind) → IsSaneLane l
+    → Agrees live_lane IsSaneLane (steps.flush histories l now kind)
+    (steps.flush lives (live_lane l) now kind)
 unfolding live_lane live_output live_buffer
 flush l now kind own =
     goes (ap (λ ns. answer.Closed (length ns)) (filter-same (is_closed_by l.output.buffer l.config.flush_interval now kind) (buffer_closes (live_buffer l.output.buffer) l.config.flush_interval now kind) l.output.buffer.opened (closing-live l now kind own)))
@@ -219,7 +245,9 @@ free_here : (l : Lane) → histories.free l ≡ lives.free (live_lane l)
 unfolding live_lane live_output
 free_here l = free-same l.output
 
-take : (l : Lane) (w now : ℕ) → IsSaneLane l → Agrees live_lane IsSaneLane (steps.take histories l w now) (steps.take lives (live_lane l) w now)
+take : (l : Lane) (w now : ℕ) → IsSaneLane l
+    → Agrees live_lane IsSaneLane (steps.take histories l w now)
+    (steps.take lives (live_lane l) w now)
 take l w now own =
     sought _ _ (worker_here w l) (λ x e.
     checked _ refl (λ none.
@@ -234,7 +262,8 @@ loaded_here : (s : SessionHistory) → (live_session s).loaded ≡ s.loaded
 unfolding live_session
 loaded_here s = refl
 
-load : (run : List ℕ) (o now : ℕ) (l : Lane) (w : ℕ) (x : Worker SessionHistory) → IsSaneLane l → histories.worker_at l w ≡ Some x
+load : (run : List ℕ) (o now : ℕ) (l : Lane) (w : ℕ) (x : Worker SessionHistory)
+    → IsSaneLane l → histories.worker_at l w ≡ Some x
     → Agrees (worker_map live_session) (SaneWorker l w x) (steps.load histories run o now x) (steps.load lives run o now (worker_map live_session x))
 load run o now l w x own e =
     sought {g = live_session} _ _ refl (λ s f.
@@ -250,17 +279,22 @@ load run o now l w x own e =
       subst (λ n. IsSaneSession w l.output.buffer.carried (loads s n frame now)) by.number (loads-sane w l.output.buffer.carried s by.carry frame now by.here fits),
     )
 
-wrote : (cs : List Carry) (w count : ℕ) (s : SessionHistory) → IsSaneSession w cs s → Agrees live_session (IsSaneSession w cs) (steps.wrote histories count s) (steps.wrote lives count (live_session s))
+wrote : (cs : List Carry) (w count : ℕ) (s : SessionHistory) → IsSaneSession w cs s
+    → Agrees live_session (IsSaneSession w cs) (steps.wrote histories count s)
+    (steps.wrote lives count (live_session s))
 unfolding live_session
 wrote cs w count s fits = checked _ refl (λ few. goes refl (sends-live s count, sends-sane w cs s count fits few))
 
-hear : (run : List ℕ) (o : ℕ) (bytes : List ℕ) (cs : List Carry) (w : ℕ) (s : SessionHistory) → IsSaneSession w cs s
+hear : (run : List ℕ) (o : ℕ) (bytes : List ℕ) (cs : List Carry) (w : ℕ)
+    (s : SessionHistory) → IsSaneSession w cs s
     → Agrees live_session (IsSaneSession w cs) (steps.heard histories run o bytes s) (steps.heard lives run o bytes (live_session s))
 hear run o bytes cs w s fits =
     checked _ (down-live s) (λ up.
     goes (ap (λ r. reply_answer r.accepted r.fault) (replies-live run o s bytes up (fits.opened up))) (listens-live run o s bytes up (fits.opened up), listens-sane cs w run o s bytes fits up))
 
-settle : (l : Lane) (w : ℕ) → IsSaneLane l → Agrees live_lane IsSaneLane (steps.settle histories l w) (steps.settle lives (live_lane l) w)
+settle : (l : Lane) (w : ℕ) → IsSaneLane l
+    → Agrees live_lane IsSaneLane (steps.settle histories l w)
+    (steps.settle lives (live_lane l) w)
 unfolding live_lane live_output live_buffer live_session
 settle l w own =
     sought {g = worker_map live_session} _ _ (worker_here w l) (λ x e.
@@ -273,22 +307,26 @@ settle l w own =
 
 -- ---- the step
 
-fresh_here : (h : History) (id : ℕ) → IsSane h → is_fresh id h.connections ≡ lives.is_fresh (live h) id
+fresh_here : (h : History) (id : ℕ) → IsSane h
+    → is_fresh id h.connections ≡ lives.is_fresh (live h) id
 unfolding live
 fresh_here h id sane = sane.ids id
 
-accept : (h : History) (setup : Setup) → IsSane h → Agrees live IsSane (steps.accept histories h setup) (steps.accept lives (live h) setup)
+accept : (h : History) (setup : Setup) → IsSane h
+    → Agrees live IsSane (steps.accept histories h setup) (steps.accept lives (live h) setup)
 accept h setup sane = checked _ (ap not (sym (fresh_here h setup.conn sane))) (λ e. goes refl (accepts-live setup h, accepts-sane setup h sane (is_true (is_fresh setup.conn h.connections) e)))
   where
     is_true : (b : Bool) → not b ≡ false → b ≡ true
     is_true true e = refl
     is_true false e = absurd cc
 
-shut : (h : History) (id : ℕ) → IsSane h → Agrees live IsSane (steps.shut histories h id) (steps.shut lives (live h) id)
+shut : (h : History) (id : ℕ) → IsSane h
+    → Agrees live IsSane (steps.shut histories h id) (steps.shut lives (live h) id)
 shut h id sane = sought _ _ (live_source_here h sane id) (λ s e. goes refl (leaves-live h id s sane e, leaves-sane h id sane))
 
 -- at each event the outcome of the history, seen in its live part, is the outcome there
-pub event_agrees : (h : History) (e : Event) → IsSane h → Agrees live IsSane (step histories h e) (step lives (live h) e)
+pub event_agrees : (h : History) (e : Event) → IsSane h
+    → Agrees live IsSane (step histories h e) (step lives (live h) e)
 unfolding live
 event_agrees h (event.Accept id nonce auth) sane = accept h (setup_of h.security id nonce auth) sane
 event_agrees h (event.Piece id bytes) sane = at_source h sane id _ (λ s. steps.piece lives s bytes) (λ s own. piece s bytes own)
@@ -312,7 +350,8 @@ event_agrees h (event.Shut id) sane = shut h id sane
 
 -- ---- runs
 
-no_sessions : (n w : ℕ) (t : SessionHistory) → slice_get (replicate n None) w ≡ Some (Some t) → ⊥
+no_sessions : (n w : ℕ) (t : SessionHistory) → slice_get (replicate n None) w ≡ Some (Some t)
+    → ⊥
 no_sessions zero w t e = cc
 no_sessions (suc n) zero t e = cc
 no_sessions (suc n) (suc w) t e = no_sessions n w t e
@@ -347,7 +386,8 @@ pub record RunsAgree (h : History) (es : List Event) : Type 0 where
   pub after : live (steps.after histories h es) ≡ steps.after lives (live h) es
   pub sane : IsSane (steps.after histories h es)
 
-state_kept : (h : History) (x : Outcome History) → IsSane h → (y : Outcome (Rattle.fwd_model.specs.Live.LiveRelay)) → Agrees live IsSane x y
+state_kept : (h : History) (x : Outcome History) → IsSane h
+    → (y : Outcome (Rattle.fwd_model.specs.Live.LiveRelay)) → Agrees live IsSane x y
     → (answer_of x ≡ answer_of y) × (live (state_of h x) ≡ state_of (live h) y) × IsSane (state_of h x)
 state_kept h (Stays a) sane y agrees = (ap answer_of agrees.same, ap (state_of (live h)) agrees.same, sane)
 state_kept h (Goes a s) sane y agrees = (ap answer_of agrees.same, ap (state_of (live h)) agrees.same, agrees.kept)

@@ -21,45 +21,54 @@ use Rattle.fwd_model.proofs.Reached.{IsSaneLane, have_cells}
 
 -- ---- the output
 
-one_stays : (l : Lane) (r : Request) (origin : Origin) (moment : ℕ) (c : Option Carry) → ((d : Carry) → c ≡ Some d → d.number ≤ greatest l.output.buffer.cells)
+one_stays : (l : Lane) (r : Request) (origin : Origin) (moment : ℕ) (c : Option Carry)
+    → ((d : Carry) → c ≡ Some d → d.number ≤ greatest l.output.buffer.cells)
     → option_map (λ d. chunk_of d.number (l.output.buffer.cells ++ cells_of r origin (greatest l.output.buffer.cells + 1) moment)) c ≡ option_map (λ d. chunk_of d.number l.output.buffer.cells) c
 one_stays l r origin moment None below = refl
 one_stays l r origin moment (Some d) below =
     ap Some (chunk_of-append_past d.number l.output.buffer.cells r.entries r.tag origin (greatest l.output.buffer.cells + 1) moment (omega (arith, below d refl)))
 
-new_unsettled : (es : List (List ℕ)) (tag : List ℕ) (origin : Origin) (number moment : ℕ) (acked : List ℕ) → has_number number acked ≡ false
+new_unsettled : (es : List (List ℕ)) (tag : List ℕ) (origin : Origin) (number moment : ℕ)
+    (acked : List ℕ) → has_number number acked ≡ false
     → unsettled acked (map (λ e. record { tag = tag; entry = e; origin = origin; number = number; moment = moment }) es) ≡ map (λ e. record { tag = tag; entry = e; origin = origin; number = number; moment = moment }) es
 new_unsettled [] tag origin number moment acked h = refl
 new_unsettled (e ∷ es) tag origin number moment acked h = grind (arith, nat_tests, new_unsettled es tag origin number moment acked h)
 
-unsettled-entered : (cells : List Cell) (es : List (List ℕ)) (tag : List ℕ) (origin : Origin) (number moment : ℕ) (acked : List ℕ) → has_number number acked ≡ false
+unsettled-entered : (cells : List Cell) (es : List (List ℕ)) (tag : List ℕ) (origin : Origin)
+    (number moment : ℕ) (acked : List ℕ) → has_number number acked ≡ false
     → unsettled acked (cells ++ map (λ e. record { tag = tag; entry = e; origin = origin; number = number; moment = moment }) es) ≡ unsettled acked cells ++ map (λ e. record { tag = tag; entry = e; origin = origin; number = number; moment = moment }) es
 unsettled-entered [] es tag origin number moment acked h = new_unsettled es tag origin number moment acked h
 unsettled-entered (c ∷ cells) es tag origin number moment acked h = grind (arith, nat_tests, unsettled-entered cells es tag origin number moment acked h)
 
-new_settled : (es : List (List ℕ)) (tag : List ℕ) (origin : Origin) (number moment : ℕ) (acked : List ℕ) → has_number number acked ≡ false
+new_settled : (es : List (List ℕ)) (tag : List ℕ) (origin : Origin) (number moment : ℕ)
+    (acked : List ℕ) → has_number number acked ≡ false
     → settled_cells acked (map (λ e. record { tag = tag; entry = e; origin = origin; number = number; moment = moment }) es) ≡ []
 new_settled [] tag origin number moment acked h = refl
 new_settled (e ∷ es) tag origin number moment acked h = grind (arith, nat_tests, new_settled es tag origin number moment acked h)
 
-settled-entered : (cells : List Cell) (es : List (List ℕ)) (tag : List ℕ) (origin : Origin) (number moment : ℕ) (acked : List ℕ) → has_number number acked ≡ false
+settled-entered : (cells : List Cell) (es : List (List ℕ)) (tag : List ℕ) (origin : Origin)
+    (number moment : ℕ) (acked : List ℕ) → has_number number acked ≡ false
     → length (settled_cells acked (cells ++ map (λ e. record { tag = tag; entry = e; origin = origin; number = number; moment = moment }) es)) ≡ length (settled_cells acked cells)
 settled-entered [] es tag origin number moment acked h = ap length (new_settled es tag origin number moment acked h)
 settled-entered (c ∷ cells) es tag origin number moment acked h = grind (arith, nat_tests, settled-entered cells es tag origin number moment acked h)
 
-untold-push : (qs : List Admission) (a : Admission) → a.told ≡ false → untold (qs ++ a ∷ []) ≡ untold qs ++ a.request ∷ []
+untold-push : (qs : List Admission) (a : Admission) → a.told ≡ false
+    → untold (qs ++ a ∷ []) ≡ untold qs ++ a.request ∷ []
 untold-push [] a h = grind (arith, nat_tests, h)
 untold-push (b ∷ qs) a h = grind (arith, nat_tests, untold-push qs a h)
 
 -- a number that was not given yet is none of these
-unused : (k g : ℕ) (ns : List ℕ) → g < k → ((j : ℕ) → has_number j ns ≡ true → j ≤ g) → has_number k ns ≡ false
+unused : (k g : ℕ) (ns : List ℕ) → g < k
+    → ((j : ℕ) → has_number j ns ≡ true → j ≤ g) → has_number k ns ≡ false
 unused k g ns lt below = by_test (has_number k ns) refl
   where
     by_test : (t : Bool) → has_number k ns ≡ t → t ≡ false
     by_test true e = absurd (omega (arith, lt, below k e))
     by_test false e = refl
 
-open_after-live : (r : Request) (n : ℕ) (cells : List Cell) (acked opened : List ℕ) → ((k : ℕ) → has_number k opened ≡ true → has_number k acked ≡ false) → open_after r n cells opened ≡ open_after r n (unsettled acked cells) opened
+open_after-live : (r : Request) (n : ℕ) (cells : List Cell) (acked opened : List ℕ)
+    → ((k : ℕ) → has_number k opened ≡ true → has_number k acked ≡ false)
+    → open_after r n cells opened ≡ open_after r n (unsettled acked cells) opened
 open_after-live r n cells acked opened h =
     ap (λ ns. cond (eqb (length r.entries) 0) opened (ns ++ n ∷ [])) (filter-same (λ k. not (has_entry r.tag k cells)) (λ k. not (has_entry r.tag k (unsettled acked cells))) opened
     (λ k e. ap not (sym (has_entry-unsettled r.tag k acked cells (h k e)))))
@@ -95,19 +104,26 @@ enters-live l origin r now own =
 
 -- ---- an output stays sane
 
-have_cells-more : (spans : List Span) (cells more : List Cell) → have_cells spans cells ≡ true → have_cells spans (cells ++ more) ≡ true
+have_cells-more : (spans : List Span) (cells more : List Cell) → have_cells spans cells ≡ true
+    → have_cells spans (cells ++ more) ≡ true
 have_cells-more [] cells more h = refl
 have_cells-more (s ∷ spans) cells more h = grind (arith, nat_tests, have_cells-more spans cells more, has_cell-append s.number cells more)
 
-all_have-more : (qs : List Admission) (cells more : List Cell) → list_all (λ a. have_cells a.request.spans cells) qs ≡ true → list_all (λ a. have_cells a.request.spans (cells ++ more)) qs ≡ true
+all_have-more : (qs : List Admission) (cells more : List Cell)
+    → list_all (λ a. have_cells a.request.spans cells) qs ≡ true
+    → list_all (λ a. have_cells a.request.spans (cells ++ more)) qs ≡ true
 all_have-more [] cells more h = refl
 all_have-more (a ∷ qs) cells more h = grind (arith, nat_tests, all_have-more qs cells more, have_cells-more a.request.spans cells more)
 
-all_have-push : (qs : List Admission) (a : Admission) (cells : List Cell) → list_all (λ a. have_cells a.request.spans cells) qs ≡ true → have_cells a.request.spans cells ≡ true → list_all (λ a. have_cells a.request.spans cells) (qs ++ a ∷ []) ≡ true
+all_have-push : (qs : List Admission) (a : Admission) (cells : List Cell)
+    → list_all (λ a. have_cells a.request.spans cells) qs ≡ true
+    → have_cells a.request.spans cells ≡ true
+    → list_all (λ a. have_cells a.request.spans cells) (qs ++ a ∷ []) ≡ true
 all_have-push [] a cells h g = grind (arith, nat_tests, g)
 all_have-push (b ∷ qs) a cells h g = grind (arith, nat_tests, all_have-push qs a cells, g)
 
-spans_have : (r : Request) (number : ℕ) (origin : Origin) (moment : ℕ) (cells : List Cell) → have_cells (spans_of r number) (cells ++ cells_of r origin number moment) ≡ true
+spans_have : (r : Request) (number : ℕ) (origin : Origin) (moment : ℕ) (cells : List Cell)
+    → have_cells (spans_of r number) (cells ++ cells_of r origin number moment) ≡ true
 spans_have r number origin moment cells = at r.entries
   where
     at : (es : List (List ℕ)) → have_cells (cond (eqb (length es) 0) [] (record { number = number; from = 0; count = length es } ∷ [])) (cells ++ map (λ e. record { tag = r.tag; entry = e; origin = origin; number = number; moment = moment }) es) ≡ true
@@ -122,7 +138,9 @@ eq_from : (a b : ℕ) → eqb a b ≡ true → a ≡ b
 eq_from a b e = grind (arith, nat_tests, e)
 
 -- what is open afterwards was open, or is the number that was given
-opened_was : (b : Bool) (n k : ℕ) (opened : List ℕ) (p : ℕ → Bool) → has_number k (cond b opened (filter p opened ++ n ∷ [])) ≡ true → (has_number k opened ≡ true) ⊎ ((b ≡ false) × (n ≡ k))
+opened_was : (b : Bool) (n k : ℕ) (opened : List ℕ) (p : ℕ → Bool)
+    → has_number k (cond b opened (filter p opened ++ n ∷ [])) ≡ true
+    → (has_number k opened ≡ true) ⊎ ((b ≡ false) × (n ≡ k))
 opened_was true n k opened p h = inl h
 opened_was false n k opened p h =
     elim (or_parts (has_number k (filter p opened)) (eqb n k) (sym (has_number-push k n (filter p opened)) ∙ h)) [
@@ -130,7 +148,8 @@ opened_was false n k opened p h =
       | inr e ↦ inr (refl, eq_from n k e)
     ]
 
-pub enters-sane : (l : Lane) (origin : Origin) (r : Request) (now : ℕ) → IsSaneLane l → IsSaneLane (with_output l (output_history_enters l.output origin r now))
+pub enters-sane : (l : Lane) (origin : Origin) (r : Request) (now : ℕ) → IsSaneLane l
+    → IsSaneLane (with_output l (output_history_enters l.output origin r now))
 unfolding enters
 enters-sane l origin r now own =
     let moment = max l.output.buffer.moment now in

@@ -16,26 +16,32 @@ use Rattle.fwd_model.proofs.Settling.{has_cell-unsettled}
 use Rattle.fwd_model.proofs.Reached.{IsSaneLane, have_cells}
 
 -- a number with cells is acknowledged where none of them is left
-settled-left : (spans : List Span) (acked : List ℕ) (cells : List Cell) → have_cells spans cells ≡ true
+settled-left : (spans : List Span) (acked : List ℕ) (cells : List Cell)
+    → have_cells spans cells ≡ true
     → list_all (λ s. has_number s.number acked) spans ≡ list_all (λ s. not (has_cell s.number (unsettled acked cells))) spans
 settled-left [] acked cells h = refl
 settled-left (s ∷ spans) acked cells h = grind (arith, nat_tests, settled-left spans acked cells, has_cell-unsettled s.number acked cells)
 
-due-live : (id : ℕ) (acked : List ℕ) (cells : List Cell) (admissions : List Admission) → list_all (λ a. have_cells a.request.spans cells) admissions ≡ true
+due-live : (id : ℕ) (acked : List ℕ) (cells : List Cell) (admissions : List Admission)
+    → list_all (λ a. have_cells a.request.spans cells) admissions ≡ true
     → map (λ a. a.request) (filter (λ a. not a.told && (is_of id a.request && is_settled acked a.request)) admissions) ≡ filter (λ q. is_of id q && none_left (unsettled acked cells) q) (untold admissions)
 due-live id acked cells [] h = refl
 due-live id acked cells (a ∷ admissions) h = grind (arith, nat_tests, due-live id acked cells admissions, settled-left a.request.spans acked cells)
 
-told-live : (id : ℕ) (acked : List ℕ) (cells : List Cell) (admissions : List Admission) → list_all (λ a. have_cells a.request.spans cells) admissions ≡ true
+told-live : (id : ℕ) (acked : List ℕ) (cells : List Cell) (admissions : List Admission)
+    → list_all (λ a. have_cells a.request.spans cells) admissions ≡ true
     → untold (map (λ a. told_if (not a.told && (is_of id a.request && is_settled acked a.request)) a) admissions) ≡ filter (λ q. not (is_of id q && none_left (unsettled acked cells) q)) (untold admissions)
 told-live id acked cells [] h = refl
 told-live id acked cells (a ∷ admissions) h = grind (arith, nat_tests, told-live id acked cells admissions, settled-left a.request.spans acked cells)
 
-pub due-same : (conn : ℕ) (l : Lane) → IsSaneLane l → output_history_due l.output conn ≡ output_due (live_output l.output) conn
+pub due-same : (conn : ℕ) (l : Lane) → IsSaneLane l
+    → output_history_due l.output conn ≡ output_due (live_output l.output) conn
 unfolding live_output live_buffer
 due-same conn l own = due-live conn l.output.buffer.acknowledged l.output.buffer.cells l.output.book own.spans
 
-pub tells-live : (conn : ℕ) (l : Lane) → IsSaneLane l → live_lane (with_output l (output_history_tells l.output conn)) ≡ with_live_output (live_lane l) (output_tells (live_lane l).output conn)
+pub tells-live : (conn : ℕ) (l : Lane) → IsSaneLane l
+    → live_lane (with_output l (output_history_tells l.output conn))
+    ≡ with_live_output (live_lane l) (output_tells (live_lane l).output conn)
 unfolding live_lane live_output live_buffer tells book_tells
 tells-live conn l own = λ i. record {
   config = l.config;
@@ -45,11 +51,15 @@ tells-live conn l own = λ i. record {
 
 -- ---- an output stays sane
 
-same_spans : (p : Admission → Bool) (cells : List Cell) (admissions : List Admission) → list_all (λ a. have_cells a.request.spans cells) admissions ≡ true → list_all (λ a. have_cells a.request.spans cells) (map (λ a. told_if (p a) a) admissions) ≡ true
+same_spans : (p : Admission → Bool) (cells : List Cell) (admissions : List Admission)
+    → list_all (λ a. have_cells a.request.spans cells) admissions ≡ true
+    → list_all (λ a. have_cells a.request.spans cells) (map (λ a. told_if (p a) a) admissions)
+    ≡ true
 same_spans p cells [] h = refl
 same_spans p cells (a ∷ admissions) h = grind (arith, nat_tests, same_spans p cells admissions)
 
-pub tells-sane : (conn : ℕ) (l : Lane) → IsSaneLane l → IsSaneLane (with_output l (output_history_tells l.output conn))
+pub tells-sane : (conn : ℕ) (l : Lane) → IsSaneLane l
+    → IsSaneLane (with_output l (output_history_tells l.output conn))
 unfolding tells
 tells-sane conn l own = record {
   opened_below = own.opened_below;

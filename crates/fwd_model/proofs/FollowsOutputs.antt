@@ -18,7 +18,8 @@ use Rattle.fwd_model.proofs.Reached.{IsSaneLane, IsSane, AllSane-set}
 
 -- ---- lanes
 
-pub with_lane-live : (o : ℕ) (l : Lane) (h : History) → live (with_lane o l h) ≡ with_live_lane o (live_lane l) (live h)
+pub with_lane-live : (o : ℕ) (l : Lane) (h : History)
+    → live (with_lane o l h) ≡ with_live_lane o (live_lane l) (live h)
 unfolding live
 with_lane-live o l h = λ i. record {
   run = h.run;
@@ -29,24 +30,32 @@ with_lane-live o l h = λ i. record {
   lanes = map-set live_lane h.lanes o l i;
 }
 
-pub lane_at-live : (o : ℕ) (h : History) → slice_get (live h).lanes o ≡ option_map live_lane (slice_get h.lanes o)
+pub lane_at-live : (o : ℕ) (h : History)
+    → slice_get (live h).lanes o ≡ option_map live_lane (slice_get h.lanes o)
 unfolding live
 lane_at-live o h = slice_get-map live_lane h.lanes o
 
-pub worker_at-live : (w : ℕ) (l : Lane) → slice_get (live_lane l).workers w ≡ option_map (λ s. live_worker l.output w s) (slice_get l.sessions w)
+pub worker_at-live : (w : ℕ) (l : Lane)
+    → slice_get (live_lane l).workers w
+    ≡ option_map (λ s. live_worker l.output w s) (slice_get l.sessions w)
 unfolding live_lane
 worker_at-live w l = live_workers-at l.output 0 w l.sessions ∙ ap (λ k. option_map (λ s. live_worker l.output k s) (slice_get l.sessions w)) (zero-add w)
 
-pub with_lane-sane : (o : ℕ) (l : Lane) (h : History) → IsSane h → IsSaneLane l → IsSane (with_lane o l h)
+pub with_lane-sane : (o : ℕ) (l : Lane) (h : History) → IsSane h → IsSaneLane l
+    → IsSane (with_lane o l h)
 with_lane-sane o l h sane own = record { ids = sane.ids; once = sane.once; sources = sane.sources; lanes = AllSane-set h.lanes o l sane.lanes own }
 
 -- ---- flush
 
-closes-live : (kind : FlushKind) (interval moment : ℕ) (acked : List ℕ) (cells : List Cell) (k : ℕ) → has_number k acked ≡ false → closes kind interval moment cells k ≡ closes kind interval moment (unsettled acked cells) k
+closes-live : (kind : FlushKind) (interval moment : ℕ) (acked : List ℕ) (cells : List Cell)
+    (k : ℕ) → has_number k acked ≡ false
+    → closes kind interval moment cells k
+    ≡ closes kind interval moment (unsettled acked cells) k
 closes-live All interval moment acked cells k h = refl
 closes-live Due interval moment acked cells k h = ap (is_old interval moment) (sym (find-unsettled k acked cells h))
 
-pub closing-live : (l : Lane) (now : ℕ) (kind : FlushKind) → IsSaneLane l → (k : ℕ) → has_number k l.output.buffer.opened ≡ true
+pub closing-live : (l : Lane) (now : ℕ) (kind : FlushKind) → IsSaneLane l → (k : ℕ)
+    → has_number k l.output.buffer.opened ≡ true
     → is_closed_by l.output.buffer l.config.flush_interval now kind k ≡ buffer_closes (live_buffer l.output.buffer) l.config.flush_interval now kind k
 unfolding live_buffer
 closing-live l now kind own k h = closes-live kind l.config.flush_interval (max l.output.buffer.moment now) l.output.buffer.acknowledged l.output.buffer.cells k (own.opened_unacked k h)
@@ -74,7 +83,8 @@ flushes-live l now kind own =
       workers = live_workers-same (record { buffer = flushes l.output.buffer l.config.flush_interval now kind; book = l.output.book }) l.output 0 l.sessions (λ k. refl) i;
     }
 
-pub flushes-sane : (l : Lane) (now : ℕ) (kind : FlushKind) → IsSaneLane l → IsSaneLane (with_buffer l (flushes l.output.buffer l.config.flush_interval now kind))
+pub flushes-sane : (l : Lane) (now : ℕ) (kind : FlushKind) → IsSaneLane l
+    → IsSaneLane (with_buffer l (flushes l.output.buffer l.config.flush_interval now kind))
 unfolding flushes
 flushes-sane l now kind own =
     let was : (k : ℕ) → has_number k (filter (λ k. not (is_closed_by l.output.buffer l.config.flush_interval now kind k)) l.output.buffer.opened) ≡ true → has_number k l.output.buffer.opened ≡ true =

@@ -26,7 +26,10 @@ behind-front vs (Open ws rest) = ap (λ xs. Open xs rest) (drop-front vs ws)
 behind-front vs (Broken ws fault) = ap (λ xs. Broken xs fault) (drop-front vs ws)
 
 -- a stream that is not broken goes on behind its values
-pub reply_stream-goes_on : (heard bytes : List ℕ) → is_open (reply_stream heard) ≡ true → reply_stream (heard ++ bytes) ≡ with_front (values_of (reply_stream heard)) (reply_stream (rest_of (reply_stream heard) ++ bytes))
+pub reply_stream-goes_on : (heard bytes : List ℕ) → is_open (reply_stream heard) ≡ true
+    → reply_stream (heard ++ bytes)
+    ≡ with_front (values_of (reply_stream heard)) (reply_stream (rest_of (reply_stream heard)
+    ++ bytes))
 unfolding reply_stream
 reply_stream-goes_on heard bytes e = split_append 65536 64 heard bytes ∙ at (split_of 65536 64 heard) e
   where
@@ -35,7 +38,9 @@ reply_stream-goes_on heard bytes e = split_append 65536 64 heard bytes ∙ at (s
     at (Broken vs fault) e = absurd cc
 
 -- what a piece ends is what it ends behind the bytes of the unfinished reply
-pub ended_by-rest : (heard bytes : List ℕ) → is_open (reply_stream heard) ≡ true → ended_by heard (reply_stream (heard ++ bytes)) ≡ reply_stream (rest_of (reply_stream heard) ++ bytes)
+pub ended_by-rest : (heard bytes : List ℕ) → is_open (reply_stream heard) ≡ true
+    → ended_by heard (reply_stream (heard ++ bytes))
+    ≡ reply_stream (rest_of (reply_stream heard) ++ bytes)
 ended_by-rest heard bytes e =
     ap (ended_by heard) (reply_stream-goes_on heard bytes e) ∙ behind-front (values_of (reply_stream heard)) (reply_stream (rest_of (reply_stream heard) ++ bytes))
 
@@ -47,24 +52,28 @@ is_open-front : (vs : List (List ℕ)) (s : Split) → is_open (with_front vs s)
 is_open-front vs (Open ws rest) = refl
 is_open-front vs (Broken ws fault) = refl
 
-reply_fails : (r : Reply) (x y : Replies) → (x.fault ≡ None → ⊥) → (y.fault ≡ None → ⊥) → (reply_then r x y).fault ≡ None → ⊥
+reply_fails : (r : Reply) (x y : Replies) → (x.fault ≡ None → ⊥)
+    → (y.fault ≡ None → ⊥) → (reply_then r x y).fault ≡ None → ⊥
 reply_fails Skipped x y a b e = a e
 reply_fails Accepted x y a b e = b e
 reply_fails (Failed f) x y a b e = cc
 
-replies_fail : (awaited : Option (List ℕ)) (vs : List (List ℕ)) (f : SessionFault) → (replies awaited vs (failing f)).fault ≡ None → ⊥
+replies_fail : (awaited : Option (List ℕ)) (vs : List (List ℕ)) (f : SessionFault)
+    → (replies awaited vs (failing f)).fault ≡ None → ⊥
 replies_fail awaited [] f e = cc
 replies_fail awaited (v ∷ vs) f e =
     reply_fails (reply_of awaited v) (replies awaited vs (failing f)) (replies None vs (failing f)) (λ g. replies_fail awaited vs f g) (λ g. replies_fail None vs f g) e
 
 -- replies without a fault are those of a stream that is not broken
-replies-open : (awaited : Option (List ℕ)) (s : Split) → (replies_in awaited s).fault ≡ None → is_open s ≡ true
+replies-open : (awaited : Option (List ℕ)) (s : Split) → (replies_in awaited s).fault ≡ None
+    → is_open s ≡ true
 replies-open awaited (Open vs rest) e = refl
 replies-open awaited (Broken vs fault) e = absurd (replies_fail awaited vs BadReply e)
 
 -- ---- a session hears
 
-awaited-live : (run : List ℕ) (o : ℕ) (s : SessionHistory) → s.down ≡ false → awaited run o s ≡ session_awaits run o (live_session s)
+awaited-live : (run : List ℕ) (o : ℕ) (s : SessionHistory) → s.down ≡ false
+    → awaited run o s ≡ session_awaits run o (live_session s)
 unfolding live_session
 awaited-live run o s up = ap (λ b. cond (s.accepted || b) None (option_map (chunk_name run o) s.loaded)) (at s.down up)
   where
@@ -72,11 +81,14 @@ awaited-live run o s up = ap (λ b. cond (s.accepted || b) None (option_map (chu
     at true e = absurd cc
     at false e = grind (arith, nat_tests, length-drop s.sent s.appended)
 
-rest-live : (s : SessionHistory) → s.down ≡ false → (live_session s).rest ≡ rest_of (reply_stream s.heard)
+rest-live : (s : SessionHistory) → s.down ≡ false
+    → (live_session s).rest ≡ rest_of (reply_stream s.heard)
 unfolding live_session
 rest-live s up = ap (λ b. cond b [] (rest_of (reply_stream s.heard))) up
 
-pub replies-live : (run : List ℕ) (o : ℕ) (s : SessionHistory) (bytes : List ℕ) → s.down ≡ false → is_open (reply_stream s.heard) ≡ true → replies_to s run o bytes ≡ session_replies (live_session s) run o bytes
+pub replies-live : (run : List ℕ) (o : ℕ) (s : SessionHistory) (bytes : List ℕ)
+    → s.down ≡ false → is_open (reply_stream s.heard) ≡ true
+    → replies_to s run o bytes ≡ session_replies (live_session s) run o bytes
 replies-live run o s bytes up whole =
     let stream : newly_heard s bytes ≡ reply_stream ((live_session s).rest ++ bytes) = ended_by-rest s.heard bytes whole ∙ ap (λ r. reply_stream (r ++ bytes)) (sym (rest-live s up)) in
     λ i. replies_in (awaited-live run o s up i) (stream i)
@@ -89,7 +101,8 @@ none_of : {X : Type 0} (o : Option X) → is_some o ≡ false → o ≡ None
 none_of None e = refl
 none_of (Some x) e = absurd cc
 
-pub listens-live : (run : List ℕ) (o : ℕ) (s : SessionHistory) (bytes : List ℕ) → s.down ≡ false → is_open (reply_stream s.heard) ≡ true
+pub listens-live : (run : List ℕ) (o : ℕ) (s : SessionHistory) (bytes : List ℕ)
+    → s.down ≡ false → is_open (reply_stream s.heard) ≡ true
     → live_session (listens s bytes (replies_to s run o bytes)) ≡ session_listens (live_session s) bytes (session_replies (live_session s) run o bytes)
 unfolding live_session session_listens
 listens-live run o s bytes up whole =
@@ -109,7 +122,9 @@ listens-live run o s bytes up whole =
       moment = s.moment;
     }
 
-pub listens-sane : (cs : List Carry) (w : ℕ) (run : List ℕ) (o : ℕ) (s : SessionHistory) (bytes : List ℕ) → IsSaneSession w cs s → s.down ≡ false → IsSaneSession w cs (listens s bytes (replies_to s run o bytes))
+pub listens-sane : (cs : List Carry) (w : ℕ) (run : List ℕ) (o : ℕ) (s : SessionHistory)
+    (bytes : List ℕ) → IsSaneSession w cs s → s.down ≡ false
+    → IsSaneSession w cs (listens s bytes (replies_to s run o bytes))
 listens-sane cs w run o s bytes fits up =
     let whole = fits.opened up in
     let r = replies_to s run o bytes in

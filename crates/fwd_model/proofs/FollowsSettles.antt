@@ -18,17 +18,23 @@ use Rattle.fwd_model.proofs.FollowsTakes.{same_or, some_same, apart, eq_from}
 
 -- ---- the workers: one has nothing any more
 
-chunk_elsewhere : (o : OutputHistory) (w k j : ℕ) → w ≢ j → option_map (λ c. chunk_of c.number o.buffer.cells) (carry_of j (put_down w o.buffer.carried)) ≡ option_map (λ c. chunk_of c.number o.buffer.cells) (carry_of j o.buffer.carried)
+chunk_elsewhere : (o : OutputHistory) (w k j : ℕ) → w ≢ j
+    → option_map (λ c.
+    chunk_of c.number o.buffer.cells) (carry_of j (put_down w o.buffer.carried))
+    ≡ option_map (λ c. chunk_of c.number o.buffer.cells) (carry_of j o.buffer.carried)
 chunk_elsewhere o w k j differ = ap (option_map (λ c. chunk_of c.number o.buffer.cells)) (carry_of-put_down_other w j o.buffer.carried differ)
 
-others_same : (o : OutputHistory) (w k b : ℕ) (ss : List (Option SessionHistory)) → w < b → live_workers (record { buffer = settles o.buffer w k; book = o.book }) b ss ≡ live_workers o b ss
+others_same : (o : OutputHistory) (w k b : ℕ) (ss : List (Option SessionHistory)) → w < b
+    → live_workers (record { buffer = settles o.buffer w k; book = o.book }) b ss
+    ≡ live_workers o b ss
 unfolding settles
 others_same o w k b [] lt = refl
 others_same o w k b (s ∷ ss) lt = λ i.
     record { chunk = chunk_elsewhere o w k b (λ e. omega (arith, lt, e)) i; session = option_map live_session s }
     ∷ others_same o w k (suc b) ss (omega (arith, lt)) i
 
-one_empties : (o : OutputHistory) (w k b j : ℕ) (ss : List (Option SessionHistory)) (t : SessionHistory) (x : Option SessionHistory) → w ≡ b + j → slice_get ss j ≡ Some x
+one_empties : (o : OutputHistory) (w k b j : ℕ) (ss : List (Option SessionHistory))
+    (t : SessionHistory) (x : Option SessionHistory) → w ≡ b + j → slice_get ss j ≡ Some x
     → live_workers (record { buffer = settles o.buffer w k; book = o.book }) b (set ss j (Some t)) ≡ set (live_workers o b ss) j (record { chunk = None; session = Some (live_session t) })
 unfolding settles
 one_empties o w k b j [] t x at here = absurd cc
@@ -47,20 +53,24 @@ pub record IsAcked (l : Lane) (w k : ℕ) : Type 0 where
   pub carried : carry_of w l.output.buffer.carried ≡ Some (record { worker = w; number = k })
   pub unacked : has_number k l.output.buffer.acknowledged ≡ false
 
-loaded_of : (b : Bool) (loaded : Option ℕ) (k : ℕ) → cond b loaded None ≡ Some k → loaded ≡ Some k
+loaded_of : (b : Bool) (loaded : Option ℕ) (k : ℕ) → cond b loaded None ≡ Some k
+    → loaded ≡ Some k
 loaded_of true loaded k e = e
 loaded_of false loaded k e = absurd cc
 
-pub acked_is : (l : Lane) (w : ℕ) (s : SessionHistory) (k : ℕ) → IsSaneLane l → IsSaneSession w l.output.buffer.carried s → acked histories s ≡ Some k → IsAcked l w k
+pub acked_is : (l : Lane) (w : ℕ) (s : SessionHistory) (k : ℕ) → IsSaneLane l
+    → IsSaneSession w l.output.buffer.carried s → acked histories s ≡ Some k → IsAcked l w k
 acked_is l w s k own fits e =
     let c = fits.carries k (loaded_of s.accepted s.loaded k e) in
     record { carried = c; unacked = own.carried_unacked k (carry_of-carried w l.output.buffer.carried (record { worker = w; number = k }) c) }
 
-unloads-live : (s : SessionHistory) → live_session (unloads s) ≡ session_unloads (live_session s)
+unloads-live : (s : SessionHistory)
+    → live_session (unloads s) ≡ session_unloads (live_session s)
 unfolding live_session
 unloads-live s = refl
 
-pub settles-live : (l : Lane) (w : ℕ) (s : SessionHistory) (k : ℕ) → slice_get l.sessions w ≡ Some (Some s)
+pub settles-live : (l : Lane) (w : ℕ) (s : SessionHistory) (k : ℕ)
+    → slice_get l.sessions w ≡ Some (Some s)
     → live_lane (with_session w (unloads s) (with_buffer l (settles l.output.buffer w k))) ≡ live_settles (live_lane l) w (live_session s) k
 unfolding live_lane live_output live_buffer settles buffer_settles
 settles-live l w s k here = λ i. record {
@@ -83,7 +93,8 @@ settles-live l w s k here = λ i. record {
 
 -- ---- an output stays sane
 
-put_down-put_down : (j w : ℕ) (cs : List Carry) → put_down j (put_down w cs) ≡ put_down w (put_down j cs)
+put_down-put_down : (j w : ℕ) (cs : List Carry)
+    → put_down j (put_down w cs) ≡ put_down w (put_down j cs)
 put_down-put_down j w [] = refl
 put_down-put_down j w (c ∷ cs) = grind (arith, nat_tests, put_down-put_down j w cs)
 
@@ -94,7 +105,9 @@ not_from false h = refl
 true_false : (b : Bool) → b ≡ true → b ≡ false → ⊥
 true_false b e f = cc
 
-pub settles-sane : (l : Lane) (w : ℕ) (s : SessionHistory) (k : ℕ) → slice_get l.sessions w ≡ Some (Some s) → IsSaneLane l → IsAcked l w k → IsSaneLane (with_session w (unloads s) (with_buffer l (settles l.output.buffer w k)))
+pub settles-sane : (l : Lane) (w : ℕ) (s : SessionHistory) (k : ℕ)
+    → slice_get l.sessions w ≡ Some (Some s) → IsSaneLane l → IsAcked l w k
+    → IsSaneLane (with_session w (unloads s) (with_buffer l (settles l.output.buffer w k)))
 unfolding settles
 settles-sane l w s k here own is =
     let cs = l.output.buffer.carried in

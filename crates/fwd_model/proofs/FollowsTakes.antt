@@ -19,11 +19,14 @@ use Rattle.fwd_model.proofs.Reached.{IsSaneLane, IsSaneSession}
 
 -- ---- one more carry
 
-carry_of-push_other : (w j k : ℕ) (cs : List Carry) → w ≢ j → carry_of j (cs ++ record { worker = w; number = k } ∷ []) ≡ carry_of j cs
+carry_of-push_other : (w j k : ℕ) (cs : List Carry) → w ≢ j
+    → carry_of j (cs ++ record { worker = w; number = k } ∷ []) ≡ carry_of j cs
 carry_of-push_other w j k [] differ = grind (arith, nat_tests)
 carry_of-push_other w j k (c ∷ cs) differ = ap (cond (eqb c.worker j) (Some c)) (carry_of-push_other w j k cs differ)
 
-carry_of-push_same : (w k : ℕ) (cs : List Carry) → carry_of w cs ≡ None → carry_of w (cs ++ record { worker = w; number = k } ∷ []) ≡ Some (record { worker = w; number = k })
+carry_of-push_same : (w k : ℕ) (cs : List Carry) → carry_of w cs ≡ None
+    → carry_of w (cs ++ record { worker = w; number = k } ∷ [])
+    ≡ Some (record { worker = w; number = k })
 carry_of-push_same w k [] none = grind (arith, nat_tests)
 carry_of-push_same w k (c ∷ cs) none = at (eqb c.worker w) none (λ h. carry_of-push_same w k cs h)
   where
@@ -47,13 +50,16 @@ more_carried o w k moment = record {
 abbrev gets_chunk : OutputHistory → ℕ → Option SessionHistory → Worker LiveSession
 gets_chunk o k s = record { chunk = Some (chunk_of k o.buffer.cells); session = option_map live_session s }
 
-others_stay : (o : OutputHistory) (w k moment b : ℕ) (ss : List (Option SessionHistory)) → w < b → live_workers (more_carried o w k moment) b ss ≡ live_workers o b ss
+others_stay : (o : OutputHistory) (w k moment b : ℕ) (ss : List (Option SessionHistory)) → w < b
+    → live_workers (more_carried o w k moment) b ss ≡ live_workers o b ss
 others_stay o w k moment b [] lt = refl
 others_stay o w k moment b (s ∷ ss) lt = λ i.
     record { chunk = option_map (λ c. chunk_of c.number o.buffer.cells) (carry_of-push_other w b k o.buffer.carried (omega arith) i); session = option_map live_session s }
     ∷ others_stay o w k moment (suc b) ss (omega arith) i
 
-one_gets : (o : OutputHistory) (w k moment b j : ℕ) (ss : List (Option SessionHistory)) (s : Option SessionHistory) → w ≡ b + j → carry_of w o.buffer.carried ≡ None → slice_get ss j ≡ Some s
+one_gets : (o : OutputHistory) (w k moment b j : ℕ) (ss : List (Option SessionHistory))
+    (s : Option SessionHistory) → w ≡ b + j → carry_of w o.buffer.carried ≡ None
+    → slice_get ss j ≡ Some s
     → live_workers (more_carried o w k moment) b ss ≡ set (live_workers o b ss) j (gets_chunk o k s)
 one_gets o w k moment b j [] s at none here = absurd cc
 one_gets o w k moment b zero (t ∷ ss) s at none here =
@@ -67,7 +73,8 @@ one_gets o w k moment b (suc j) (t ∷ ss) s at none here = λ i.
     record { chunk = option_map (λ c. chunk_of c.number o.buffer.cells) (carry_of-push_other w b k o.buffer.carried (omega (arith, at)) i); session = option_map live_session t }
     ∷ one_gets o w k moment (suc b) j ss s (omega (arith, at)) none here i
 
-set_same : {X : Type 0} (xs : List X) (i : ℕ) (x : X) → slice_get xs i ≡ Some x → set xs i x ≡ xs
+set_same : {X : Type 0} (xs : List X) (i : ℕ) (x : X) → slice_get xs i ≡ Some x
+    → set xs i x ≡ xs
 set_same [] i x h = refl
 set_same (a ∷ xs) zero x h = let e : a ≡ x = cc in ap (λ y. y ∷ xs) (sym e)
 set_same (a ∷ xs) (suc i) x h = ap (λ ys. a ∷ ys) (set_same xs i x h)
@@ -78,7 +85,8 @@ abbrev with_carried : OutputHistory → List Carry → ℕ → OutputHistory
 with_carried o carried moment =
     record { buffer = record { cells = o.buffer.cells; opened = o.buffer.opened; acknowledged = o.buffer.acknowledged; carried = carried; moment = moment }; book = o.book }
 
-workers_taken : (l : Lane) (w now : ℕ) (s : Option SessionHistory) (found : Option ℕ) → slice_get l.sessions w ≡ Some s → carry_of w l.output.buffer.carried ≡ None
+workers_taken : (l : Lane) (w now : ℕ) (s : Option SessionHistory) (found : Option ℕ)
+    → slice_get l.sessions w ≡ Some s → carry_of w l.output.buffer.carried ≡ None
     → live_workers (with_carried l.output (carry_more w found l.output.buffer.carried) (max l.output.buffer.moment now)) 0 l.sessions
     ≡ set (live_workers l.output 0 l.sessions) w (record { chunk = chunk_at found l.output.buffer.cells; session = option_map live_session s })
 workers_taken l w now s None here none =
@@ -91,7 +99,8 @@ workers_taken l w now s None here none =
     ∙ sym (set_same (live_workers l.output 0 l.sessions) w (record { chunk = None; session = option_map live_session s }) at)
 workers_taken l w now s (Some k) here none = one_gets l.output w k (max l.output.buffer.moment now) 0 w l.sessions s (sym (zero-add w)) none here
 
-pub chunk_of-unsettled : (k : ℕ) (acked : List ℕ) (cells : List Cell) → has_number k acked ≡ false → chunk_of k (unsettled acked cells) ≡ chunk_of k cells
+pub chunk_of-unsettled : (k : ℕ) (acked : List ℕ) (cells : List Cell)
+    → has_number k acked ≡ false → chunk_of k (unsettled acked cells) ≡ chunk_of k cells
 unfolding chunk_of
 chunk_of-unsettled k acked cells h =
     let e = cells_at-unsettled k acked cells h in
@@ -124,15 +133,20 @@ free_of o k e =
       below = has_cell-below k o.buffer.cells here.0;
     }
 
-found_chunk : (o : OutputHistory) (found : Option ℕ) → ((k : ℕ) → found ≡ Some k → has_number k o.buffer.acknowledged ≡ false) → chunk_at found o.buffer.cells ≡ chunk_at found (unsettled o.buffer.acknowledged o.buffer.cells)
+found_chunk : (o : OutputHistory) (found : Option ℕ)
+    → ((k : ℕ) → found ≡ Some k → has_number k o.buffer.acknowledged ≡ false)
+    → chunk_at found o.buffer.cells
+    ≡ chunk_at found (unsettled o.buffer.acknowledged o.buffer.cells)
 found_chunk o None h = refl
 found_chunk o (Some k) h = ap Some (sym (chunk_of-unsettled k o.buffer.acknowledged o.buffer.cells (h k refl)))
 
-pub free-same : (o : OutputHistory) → chunk_at (free_number o.buffer) o.buffer.cells ≡ buffer_free (live_buffer o.buffer)
+pub free-same : (o : OutputHistory)
+    → chunk_at (free_number o.buffer) o.buffer.cells ≡ buffer_free (live_buffer o.buffer)
 unfolding live_buffer
 free-same o = found_chunk o (free_number o.buffer) (λ k e. (free_of o k e).unacked)
 
-pub takes-live : (l : Lane) (w now : ℕ) (s : Option SessionHistory) → slice_get l.sessions w ≡ Some s → carry_of w l.output.buffer.carried ≡ None
+pub takes-live : (l : Lane) (w now : ℕ) (s : Option SessionHistory)
+    → slice_get l.sessions w ≡ Some s → carry_of w l.output.buffer.carried ≡ None
     → live_lane (with_buffer l (takes l.output.buffer w now)) ≡ live_takes (live_lane l) w (live_worker l.output w s) now
 unfolding live_lane live_output live_buffer takes buffer_takes
 takes-live l w now s here none = λ i. record {
@@ -144,15 +158,20 @@ takes-live l w now s here none = λ i. record {
 
 -- ---- an output stays sane
 
-is_carried-push : (j w k : ℕ) (cs : List Carry) → is_carried j (cs ++ record { worker = w; number = k } ∷ []) ≡ (is_carried j cs || (k == j))
+is_carried-push : (j w k : ℕ) (cs : List Carry)
+    → is_carried j (cs ++ record { worker = w; number = k } ∷ [])
+    ≡ (is_carried j cs || (k == j))
 is_carried-push j w k [] = grind (arith, nat_tests)
 is_carried-push j w k (c ∷ cs) = grind (arith, nat_tests, is_carried-push j w k cs)
 
-put_down-push_same : (w k : ℕ) (cs : List Carry) → put_down w (cs ++ record { worker = w; number = k } ∷ []) ≡ put_down w cs
+put_down-push_same : (w k : ℕ) (cs : List Carry)
+    → put_down w (cs ++ record { worker = w; number = k } ∷ []) ≡ put_down w cs
 put_down-push_same w k [] = grind (arith, nat_tests)
 put_down-push_same w k (c ∷ cs) = grind (arith, nat_tests, put_down-push_same w k cs)
 
-put_down-push_other : (w j k : ℕ) (cs : List Carry) → w ≢ j → put_down j (cs ++ record { worker = w; number = k } ∷ []) ≡ put_down j cs ++ record { worker = w; number = k } ∷ []
+put_down-push_other : (w j k : ℕ) (cs : List Carry) → w ≢ j
+    → put_down j (cs ++ record { worker = w; number = k } ∷ []) ≡ put_down j cs
+    ++ record { worker = w; number = k } ∷ []
 put_down-push_other w j k [] differ = grind (arith, nat_tests)
 put_down-push_other w j k (c ∷ cs) differ = grind (arith, nat_tests, put_down-push_other w j k cs differ)
 
@@ -160,7 +179,8 @@ or_parts : (a b : Bool) → (a || b) ≡ true → (a ≡ true) ⊎ (b ≡ true)
 or_parts true b h = inl refl
 or_parts false b h = inr h
 
-not_carried : (w k : ℕ) (cs : List Carry) → is_carried k cs ≡ false → is_carried k (put_down w cs) ≡ false
+not_carried : (w k : ℕ) (cs : List Carry) → is_carried k cs ≡ false
+    → is_carried k (put_down w cs) ≡ false
 not_carried w k [] h = refl
 not_carried w k (c ∷ cs) h = grind (arith, nat_tests, not_carried w k cs)
 
@@ -188,14 +208,16 @@ apart true b h g = absurd cc
 apart false b h g = g
 
 -- what is carried is no number that is not
-apart_numbers : (k j : ℕ) (cs : List Carry) → is_carried k cs ≡ false → is_carried j cs ≡ true → eqb k j ≡ false
+apart_numbers : (k j : ℕ) (cs : List Carry) → is_carried k cs ≡ false
+    → is_carried j cs ≡ true → eqb k j ≡ false
 apart_numbers k j cs free held = by_test (eqb k j) refl
   where
     by_test : (t : Bool) → eqb k j ≡ t → t ≡ false
     by_test true e = absurd (false_true (sym free ∙ ap (λ x. is_carried x cs) (eq_from k j e) ∙ held))
     by_test false e = refl
 
-pub apart_opened : (k j : ℕ) (ns : List ℕ) → has_number k ns ≡ false → has_number j ns ≡ true → eqb k j ≡ false
+pub apart_opened : (k j : ℕ) (ns : List ℕ) → has_number k ns ≡ false
+    → has_number j ns ≡ true → eqb k j ≡ false
 apart_opened k j ns free held = by_test (eqb k j) refl
   where
     by_test : (t : Bool) → eqb k j ≡ t → t ≡ false
@@ -203,7 +225,9 @@ apart_opened k j ns free held = by_test (eqb k j) refl
     by_test false e = refl
 
 -- what is carried is carried once, also beside one more
-once_more : (w k : ℕ) (cs : List Carry) → carry_of w cs ≡ None → is_carried k cs ≡ false → ((j : ℕ) (c : Carry) → carry_of j cs ≡ Some c → is_carried c.number (put_down j cs) ≡ false)
+once_more : (w k : ℕ) (cs : List Carry) → carry_of w cs ≡ None → is_carried k cs ≡ false
+    → ((j : ℕ) (c : Carry) → carry_of j cs ≡ Some c
+    → is_carried c.number (put_down j cs) ≡ false)
     → (j : ℕ) (c : Carry) → carry_of j (cs ++ record { worker = w; number = k } ∷ []) ≡ Some c → is_carried c.number (put_down j (cs ++ record { worker = w; number = k } ∷ [])) ≡ false
 once_more w k cs none fresh once j c e = elim (same_or w j) [ inl s ↦ same s | inr d ↦ other d ]
   where
@@ -222,7 +246,9 @@ once_more w k cs none fresh once j c e = elim (same_or w j) [ inl s ↦ same s |
         let all = ap (is_carried c.number) (put_down-push_other w j k cs d) ∙ is_carried-push c.number w k (put_down j cs) in
         all ∙ apart (is_carried c.number (put_down j cs)) (eqb k c.number) free (apart_numbers k c.number cs fresh held)
 
-carry_more-sane : (l : Lane) (w : ℕ) (found : Option ℕ) (now : ℕ) → carry_of w l.output.buffer.carried ≡ None → ((k : ℕ) → found ≡ Some k → IsFreeOf l.output k) → IsSaneLane l
+carry_more-sane : (l : Lane) (w : ℕ) (found : Option ℕ) (now : ℕ)
+    → carry_of w l.output.buffer.carried ≡ None
+    → ((k : ℕ) → found ≡ Some k → IsFreeOf l.output k) → IsSaneLane l
     → IsSaneLane (with_output l (with_carried l.output (carry_more w found l.output.buffer.carried) (max l.output.buffer.moment now)))
 carry_more-sane l w None now none free own = record {
   opened_below = own.opened_below;
@@ -261,6 +287,7 @@ carry_more-sane l w (Some k) now none free own =
       opened = fits.opened;
     }
 
-pub takes-sane : (l : Lane) (w now : ℕ) → carry_of w l.output.buffer.carried ≡ None → IsSaneLane l → IsSaneLane (with_buffer l (takes l.output.buffer w now))
+pub takes-sane : (l : Lane) (w now : ℕ) → carry_of w l.output.buffer.carried ≡ None
+    → IsSaneLane l → IsSaneLane (with_buffer l (takes l.output.buffer w now))
 unfolding takes
 takes-sane l w now none own = carry_more-sane l w (free_number l.output.buffer) now none (λ k e. free_of l.output k e) own

@@ -29,7 +29,8 @@ and_parts true b h = (refl, h)
 and_parts false b h = absurd cc
 
 -- a number of these cells is the first one's, or one of the rest
-first_or_rest : (opened : List ℕ) (carried : List Carry) (c : Cell) (cells : List Cell) (j : ℕ) → may_take opened carried (c ∷ cells) j ≡ true → (b : Bool) → (c.number == j) ≡ b
+first_or_rest : (opened : List ℕ) (carried : List Carry) (c : Cell) (cells : List Cell) (j : ℕ)
+    → may_take opened carried (c ∷ cells) j ≡ true → (b : Bool) → (c.number == j) ≡ b
     → ((b ≡ true) × (c.number ≡ j) × (is_free opened carried c.number ≡ true)) ⊎ (may_take opened carried cells j ≡ true)
 first_or_rest opened carried c cells j h true e =
     let same : c.number ≡ j = grind (arith, nat_tests, e) in
@@ -38,7 +39,9 @@ first_or_rest opened carried c cells j h false e =
     let parts = and_parts (is_free opened carried j) (has_cell j (c ∷ cells)) h in
     inr (λ i. parts.0 i && (ap (λ x. x || has_cell j cells) (sym e) ∙ parts.1) i)
 
-mutual_none : (opened : List ℕ) (carried : List Carry) (cells : List Cell) → least_free opened carried cells ≡ None → (j : ℕ) → may_take opened carried cells j ≡ true → ⊥
+mutual_none : (opened : List ℕ) (carried : List Carry) (cells : List Cell)
+    → least_free opened carried cells ≡ None → (j : ℕ)
+    → may_take opened carried cells j ≡ true → ⊥
 mutual_none opened carried [] h j m = let no : false ≡ true = sym (and_false (is_free opened carried j)) ∙ m in absurd cc
   where
     and_false : (b : Bool) → (b && false) ≡ false
@@ -53,7 +56,9 @@ mutual_none opened carried (c ∷ cells) h j m = by (is_free opened carried c.nu
       | inr x ↦ rest e x
     ]
 
-least_is : (opened : List ℕ) (carried : List Carry) (cells : List Cell) (k : ℕ) → least_free opened carried cells ≡ Some k → (j : ℕ) → may_take opened carried cells j ≡ true → k ≤ j
+least_is : (opened : List ℕ) (carried : List Carry) (cells : List Cell) (k : ℕ)
+    → least_free opened carried cells ≡ Some k → (j : ℕ)
+    → may_take opened carried cells j ≡ true → k ≤ j
 least_is opened carried [] k h j m = absurd cc
 least_is opened carried (c ∷ cells) k h j m = by (is_free opened carried c.number) refl h (λ n e x. least_is opened carried cells n e j x)
   where
@@ -77,7 +82,8 @@ not_true : (a : Bool) → not a ≡ true → a ≡ false
 not_true true h = absurd cc
 not_true false h = refl
 
-free_is : (b : BufferHistory) (k : ℕ) → may_take b.opened b.carried (unsettled b.acknowledged b.cells) k ≡ true → IsFree b k
+free_is : (b : BufferHistory) (k : ℕ)
+    → may_take b.opened b.carried (unsettled b.acknowledged b.cells) k ≡ true → IsFree b k
 free_is b k h =
     let found = and_parts (is_free b.opened b.carried k) (has_cell k (unsettled b.acknowledged b.cells)) h in
     let free = and_parts (not (has_number k b.opened)) (not (is_carried k b.carried)) found.0 in
@@ -89,12 +95,14 @@ free_is b k h =
       uncarried = not_true (is_carried k b.carried) free.1;
     }
 
-is_may : (b : BufferHistory) (k : ℕ) → IsFree b k → may_take b.opened b.carried (unsettled b.acknowledged b.cells) k ≡ true
+is_may : (b : BufferHistory) (k : ℕ) → IsFree b k
+    → may_take b.opened b.carried (unsettled b.acknowledged b.cells) k ≡ true
 is_may b k f =
     let here : has_cell k (unsettled b.acknowledged b.cells) ≡ true = has_cell-unsettled k b.acknowledged b.cells ∙ (λ i. f.has_entries i && not (f.unacknowledged i)) in
     λ i. (not (f.is_closed i) && not (f.uncarried i)) && here i
 
-pub taken-least : (b : BufferHistory) (k : ℕ) → free_number b ≡ Some k → IsFree b k × ((j : ℕ) → IsFree b j → k ≤ j)
+pub taken-least : (b : BufferHistory) (k : ℕ) → free_number b ≡ Some k → IsFree b k
+    × ((j : ℕ) → IsFree b j → k ≤ j)
 taken-least b k e = (
   free_is b k (least_free-free b.opened b.carried (unsettled b.acknowledged b.cells) k e),
   λ j f. least_is b.opened b.carried (unsettled b.acknowledged b.cells) k e j (is_may b j f),

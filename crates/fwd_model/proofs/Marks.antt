@@ -16,7 +16,7 @@ use Rattle.fwd_source.specs.History as source
 use Rattle.fwd_source.specs.History.{SourceHistory}
 use Rattle.fwd_model.specs.declared.fault.Refusal.TheVariants.{NoSuch, NotNow}
 use Rattle.fwd_source.specs.declared.origin.Origin.{Origin}
-use Rattle.fwd_model.specs.Outcome.{Outcome, Stays, Goes, state_of}
+use Rattle.fwd_model.specs.Outcome.{Outcome, Stays, Goes, state_of, chunk_answer}
 use Rattle.fwd_model.specs.Layers.{Worker}
 use Rattle.fwd_model.specs.Step as steps
 use Rattle.fwd_model.specs.Step.{step}
@@ -39,7 +39,8 @@ AllMarked config es o admissions = (i : ℕ) (a : Admission) → slice_get admis
 abbrev Marked : Config → List Event → History → Type 0
 Marked config es h = (o : ℕ) (l : Lane) → slice_get h.lanes o ≡ Some l → AllMarked config es o l.output.book
 
-told_still : (config : Config) (es : List Event) (e : Event) (id r o : ℕ) → IsTold config es id r o → IsTold config (es ++ e ∷ []) id r o
+told_still : (config : Config) (es : List Event) (e : Event) (id r o : ℕ)
+    → IsTold config es id r o → IsTold config (es ++ e ∷ []) id r o
 told_still config es e id r o t = record {
   before = t.before;
   numbers = t.numbers;
@@ -53,13 +54,15 @@ told_still config es e id r o t = record {
 some_is : {X : Type 0} {x y : X} → Some x ≡ Some y → x ≡ y
 some_is h = cc
 
-pushed : {X : Type 0} (xs : List X) (x y : X) (i : ℕ) → slice_get (xs ++ x ∷ []) i ≡ Some y → (slice_get xs i ≡ Some y) ⊎ (x ≡ y)
+pushed : {X : Type 0} (xs : List X) (x y : X) (i : ℕ) → slice_get (xs ++ x ∷ []) i ≡ Some y
+    → (slice_get xs i ≡ Some y) ⊎ (x ≡ y)
 pushed [] x y zero h = inr (some_is h)
 pushed [] x y (suc i) h = absurd cc
 pushed (a ∷ xs) x y zero h = inl h
 pushed (a ∷ xs) x y (suc i) h = pushed xs x y i h
 
-mapped : {X Y : Type 0} (f : X → Y) (o : Option X) (y : Y) → option_map f o ≡ Some y → (x : X) × (o ≡ Some x) × (f x ≡ y)
+mapped : {X Y : Type 0} (f : X → Y) (o : Option X) (y : Y) → option_map f o ≡ Some y
+    → (x : X) × (o ≡ Some x) × (f x ≡ y)
 mapped f None y h = absurd cc
 mapped f (Some x) y h = (x, refl, some_is h)
 
@@ -133,7 +136,7 @@ module _ (config : Config) (es : List Event) (e : Event) (m : Marked config es (
   flushed_same l now kind = to refl
 
   taken_same : (l : Lane) (w now : ℕ) → Onward (λ a x. x.output.book ≡ l.output.book) (steps.take histories l w now)
-  taken_same l w now = past_found NoSuch {x = histories.worker_at l w} (λ x at. past NotNow {b = is_some x.chunk} (λ none. to {a = steps.chunk_answer (histories.free l)} refl))
+  taken_same l w now = past_found NoSuch {x = histories.worker_at l w} (λ x at. past NotNow {b = is_some x.chunk} (λ none. to {a = chunk_answer (histories.free l)} refl))
 
   settled_same : (l : Lane) (w : ℕ) → Onward (λ a x. x.output.book ≡ l.output.book) (steps.settle histories l w)
   settled_same l w = past_found NoSuch {x = histories.worker_at l w} (λ x at. past_found NotNow {x = x.session} (λ s f. past_found NotNow {x = steps.acked histories s} (λ k acked. to {a = answer.Settled (histories.entries_at l k)} refl)))
@@ -186,7 +189,8 @@ module _ (config : Config) (es : List Event) (id o : ℕ) (m : Marked config es 
       both_on histories (reached config es) id o _ (steps.collect histories id) (λ s l stands here. past _ (λ still_open. to (
       put config es asked m o (with_output l (output_history_tells l.output id)) (with_connection id (source.appends s (acks_of (output_history_due l.output id))) (reached config es)) refl (told_marks s l stands still_open here))))
 
-event_on : (config : Config) (es : List Event) (e : Event) → Marked config es (reached config es) → Onward (λ a k. Marked config (es ++ e ∷ []) k) (step histories (reached config es) e)
+event_on : (config : Config) (es : List Event) (e : Event) → Marked config es (reached config es)
+    → Onward (λ a k. Marked config (es ++ e ∷ []) k) (step histories (reached config es) e)
 event_on config es (event.Accept id nonce auth) m = past _ (λ fresh. to (nothing config es (event.Accept id nonce auth) m (histories.accepts (reached config es) (setup_of (reached config es).security id nonce auth)) refl))
 event_on config es (event.Piece id bytes) m = at_source_on config es (event.Piece id bytes) m id (λ s. steps.piece histories s bytes)
 event_on config es (event.Admit id o now) m = admit_on config es (event.Admit id o now) m id o now
@@ -201,11 +205,15 @@ event_on config es (event.Collect id o) m = collect_on config es id o m
 event_on config es (event.Drained id count) m = at_source_on config es (event.Drained id count) m id (λ s. steps.drained histories s count)
 event_on config es (event.Shut id) m = past_found _ (λ s here. to (nothing config es (event.Shut id) m (leaves id (reached config es)) refl))
 
-marks_on : (config : Config) (es : List Event) (e : Event) (m : Marked config es (reached config es)) → Marked config (es ++ e ∷ []) (state_of (reached config es) (step histories (reached config es) e))
+marks_on : (config : Config) (es : List Event) (e : Event)
+    (m : Marked config es (reached config es))
+    → Marked config (es ++ e
+    ∷ []) (state_of (reached config es) (step histories (reached config es) e))
 marks_on config es e m =
     at_next (reached config es) (step histories (reached config es) e) (λ k. Marked config (es ++ e ∷ []) k) (nothing config es e m (reached config es) refl) (event_on config es e m) (λ a k is next. next)
 
-new_lanes_unmarked : (config : Config) (configs : List OutputConfig) (o : ℕ) (l : Lane) → slice_get (map new_lane configs) o ≡ Some l → l.output.book ≡ []
+new_lanes_unmarked : (config : Config) (configs : List OutputConfig) (o : ℕ) (l : Lane)
+    → slice_get (map new_lane configs) o ≡ Some l → l.output.book ≡ []
 new_lanes_unmarked config [] o l h = absurd cc
 new_lanes_unmarked config (c ∷ configs) zero l h = let same : new_lane c ≡ l = some_is h in ap (λ (x : Lane). x.output.book) (sym same)
 new_lanes_unmarked config (c ∷ configs) (suc o) l h = new_lanes_unmarked config configs o l h
@@ -214,7 +222,9 @@ opening_marked : (config : Config) → Marked config [] (reached config [])
 unfolding opening
 opening_marked config o l here i a at told = let none : slice_get [] i ≡ Some a = subst (λ xs. slice_get xs i ≡ Some a) (new_lanes_unmarked config config.outputs o l here) at in absurd cc
 
-pub marked-told : (config : Config) (es : List Event) (o i : ℕ) (l : Lane) (a : Admission) → slice_get (reached config es).lanes o ≡ Some l → slice_get l.output.book i ≡ Some a → a.told ≡ true
+pub marked-told : (config : Config) (es : List Event) (o i : ℕ) (l : Lane) (a : Admission)
+    → slice_get (reached config es).lanes o ≡ Some l → slice_get l.output.book i ≡ Some a
+    → a.told ≡ true
     → IsTold config es a.request.origin.conn a.request.origin.request o
 marked-told config es o i l a here at told =
     by_last (λ es. Marked config es (reached config es)) (opening_marked config)

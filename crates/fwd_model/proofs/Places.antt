@@ -25,19 +25,24 @@ abbrev pub Once : List Connection → Type 0
 Once [] = Unit {0}
 Once (c ∷ cs) = (is_absent c.id cs ≡ true) × Once cs
 
-is_absent-with_source : (x id : ℕ) (s : SourceHistory) (cs : List Connection) → is_absent x (with_source id s cs) ≡ is_absent x cs
+is_absent-with_source : (x id : ℕ) (s : SourceHistory) (cs : List Connection)
+    → is_absent x (with_source id s cs) ≡ is_absent x cs
 is_absent-with_source x id s [] = refl
 is_absent-with_source x id s (c ∷ cs) = grind (arith, nat_tests, is_absent-with_source x id s cs)
 
-is_absent-with_gone : (x id : ℕ) (cs : List Connection) → is_absent x (with_gone id cs) ≡ is_absent x cs
+is_absent-with_gone : (x id : ℕ) (cs : List Connection)
+    → is_absent x (with_gone id cs) ≡ is_absent x cs
 is_absent-with_gone x id [] = refl
 is_absent-with_gone x id (c ∷ cs) = grind (arith, nat_tests, is_absent-with_gone x id cs)
 
-once_put : (b : Bool) (c d : Connection) (cs ds : List Connection) → c.id ≡ d.id → is_absent c.id cs ≡ true → is_absent c.id ds ≡ true → Once cs → Once ds → Once (cond b (d ∷ cs) (c ∷ ds))
+once_put : (b : Bool) (c d : Connection) (cs ds : List Connection) → c.id ≡ d.id
+    → is_absent c.id cs ≡ true → is_absent c.id ds ≡ true → Once cs → Once ds
+    → Once (cond b (d ∷ cs) (c ∷ ds))
 once_put true c d cs ds same h g all rest = (subst (λ k. is_absent k cs ≡ true) same h, all)
 once_put false c d cs ds same h g all rest = (g, rest)
 
-pub Once-with_source : (id : ℕ) (s : SourceHistory) (cs : List Connection) → Once cs → Once (with_source id s cs)
+pub Once-with_source : (id : ℕ) (s : SourceHistory) (cs : List Connection) → Once cs
+    → Once (with_source id s cs)
 Once-with_source id s [] all = tt
 Once-with_source id s (c ∷ cs) all =
     once_put (eqb c.id id) c (record { id = c.id; source = s; gone = c.gone }) cs (with_source id s cs) refl all.0 (is_absent-with_source c.id id s cs ∙ all.0) all.1 (Once-with_source id s cs all.1)
@@ -47,12 +52,14 @@ Once-with_gone id [] all = tt
 Once-with_gone id (c ∷ cs) all =
     once_put (eqb c.id id) c (record { id = c.id; source = c.source; gone = true }) cs (with_gone id cs) refl all.0 (is_absent-with_gone c.id id cs ∙ all.0) all.1 (Once-with_gone id cs all.1)
 
-is_absent-push : (x : ℕ) (cs : List Connection) (c : Connection) → is_absent x cs ≡ true → eqb c.id x ≡ false → is_absent x (cs ++ c ∷ []) ≡ true
+is_absent-push : (x : ℕ) (cs : List Connection) (c : Connection) → is_absent x cs ≡ true
+    → eqb c.id x ≡ false → is_absent x (cs ++ c ∷ []) ≡ true
 is_absent-push x [] c h e = grind (arith, nat_tests)
 is_absent-push x (d ∷ cs) c h e = grind (arith, nat_tests, is_absent-push x cs c)
 
 -- an id above all stands behind them once
-pub Once-push : (cs : List Connection) (c : Connection) → Once cs → is_fresh c.id cs ≡ true → Once (cs ++ c ∷ [])
+pub Once-push : (cs : List Connection) (c : Connection) → Once cs → is_fresh c.id cs ≡ true
+    → Once (cs ++ c ∷ [])
 Once-push [] c all fresh = (refl, tt)
 Once-push (d ∷ cs) c all fresh =
     let apart : eqb c.id d.id ≡ false = grind (arith, nat_tests) in
@@ -61,100 +68,140 @@ Once-push (d ∷ cs) c all fresh =
 
 -- ---- what is known of the connections
 
-known_absent : (id : ℕ) (cs : List Connection) → is_absent id cs ≡ true → live_source_at id (map live_connection (known cs)) ≡ None
+known_absent : (id : ℕ) (cs : List Connection) → is_absent id cs ≡ true
+    → live_source_at id (map live_connection (known cs)) ≡ None
 known_absent id [] h = refl
 known_absent id (c ∷ cs) h = grind (arith, nat_tests, known_absent id cs)
 
-without_absent : (id : ℕ) (cs : List Connection) → is_absent id cs ≡ true → without id (map live_connection (known cs)) ≡ map live_connection (known cs)
+without_absent : (id : ℕ) (cs : List Connection) → is_absent id cs ≡ true
+    → without id (map live_connection (known cs)) ≡ map live_connection (known cs)
 without_absent id [] h = refl
 without_absent id (c ∷ cs) h = grind (arith, nat_tests, without_absent id cs)
 
-absent_as : (a b : ℕ) (cs : List Connection) → is_absent a cs ≡ true → eqb a b ≡ true → is_absent b cs ≡ true
+absent_as : (a b : ℕ) (cs : List Connection) → is_absent a cs ≡ true → eqb a b ≡ true
+    → is_absent b cs ≡ true
 absent_as a b cs h e = let same : a ≡ b = grind (arith, nat_tests) in subst (λ k. is_absent k cs ≡ true) same h
 
-pub source_at-live : (id : ℕ) (cs : List Connection) → Once cs → live_source_at id (map live_connection (known cs)) ≡ option_map live_source (source_at id cs)
+pub source_at-live : (id : ℕ) (cs : List Connection) → Once cs
+    → live_source_at id (map live_connection (known cs))
+    ≡ option_map live_source (source_at id cs)
 source_at-live id [] all = refl
 source_at-live id (c ∷ cs) all = grind (arith, nat_tests, source_at-live id cs all.1, known_absent id cs, absent_as c.id id cs all.0)
 
-pub with_source-live : (id : ℕ) (s t : SourceHistory) (cs : List Connection) → source_at id cs ≡ Some t → map live_connection (known (with_source id s cs)) ≡ with_live_source id (live_source s) (map live_connection (known cs))
+pub with_source-live : (id : ℕ) (s t : SourceHistory) (cs : List Connection)
+    → source_at id cs ≡ Some t
+    → map live_connection (known (with_source id s cs))
+    ≡ with_live_source id (live_source s) (map live_connection (known cs))
 with_source-live id s t [] h = absurd cc
 with_source-live id s t (c ∷ cs) h = grind (arith, nat_tests, with_source-live id s t cs)
 
-pub with_gone-live : (id : ℕ) (t : SourceHistory) (cs : List Connection) → Once cs → source_at id cs ≡ Some t → map live_connection (known (with_gone id cs)) ≡ without id (map live_connection (known cs))
+pub with_gone-live : (id : ℕ) (t : SourceHistory) (cs : List Connection) → Once cs
+    → source_at id cs ≡ Some t
+    → map live_connection (known (with_gone id cs))
+    ≡ without id (map live_connection (known cs))
 with_gone-live id t [] all h = absurd cc
 with_gone-live id t (c ∷ cs) all h = grind (arith, nat_tests, with_gone-live id t cs all.1, without_absent id cs, absent_as c.id id cs all.0)
 
-pub known-push : (cs : List Connection) (c : Connection) → c.gone ≡ false → map live_connection (known (cs ++ c ∷ [])) ≡ map live_connection (known cs) ++ live_connection c ∷ []
+pub known-push : (cs : List Connection) (c : Connection) → c.gone ≡ false
+    → map live_connection (known (cs ++ c ∷ [])) ≡ map live_connection (known cs)
+    ++ live_connection c ∷ []
 known-push [] c here = grind (arith, nat_tests)
 known-push (d ∷ cs) c here = grind (arith, nat_tests, known-push cs c here)
 
-pub last_id-with_source : (id : ℕ) (s : SourceHistory) (cs : List Connection) → last_id (with_source id s cs) ≡ last_id cs
+pub last_id-with_source : (id : ℕ) (s : SourceHistory) (cs : List Connection)
+    → last_id (with_source id s cs) ≡ last_id cs
 last_id-with_source id s [] = refl
 last_id-with_source id s (c ∷ []) = grind (arith, nat_tests)
 last_id-with_source id s (c ∷ d ∷ cs) = grind (arith, nat_tests, last_id-with_source id s (d ∷ cs))
 
-pub is_fresh-with_source : (x id : ℕ) (s : SourceHistory) (cs : List Connection) → is_fresh x (with_source id s cs) ≡ is_fresh x cs
+pub is_fresh-with_source : (x id : ℕ) (s : SourceHistory) (cs : List Connection)
+    → is_fresh x (with_source id s cs) ≡ is_fresh x cs
 is_fresh-with_source x id s [] = refl
 is_fresh-with_source x id s (c ∷ cs) = grind (arith, nat_tests, is_fresh-with_source x id s cs)
 
-pub last_id-with_gone : (id : ℕ) (cs : List Connection) → last_id (with_gone id cs) ≡ last_id cs
+pub last_id-with_gone : (id : ℕ) (cs : List Connection)
+    → last_id (with_gone id cs) ≡ last_id cs
 last_id-with_gone id [] = refl
 last_id-with_gone id (c ∷ []) = grind (arith, nat_tests)
 last_id-with_gone id (c ∷ d ∷ cs) = grind (arith, nat_tests, last_id-with_gone id (d ∷ cs))
 
-pub is_fresh-with_gone : (x id : ℕ) (cs : List Connection) → is_fresh x (with_gone id cs) ≡ is_fresh x cs
+pub is_fresh-with_gone : (x id : ℕ) (cs : List Connection)
+    → is_fresh x (with_gone id cs) ≡ is_fresh x cs
 is_fresh-with_gone x id [] = refl
 is_fresh-with_gone x id (c ∷ cs) = grind (arith, nat_tests, is_fresh-with_gone x id cs)
 
-pub last_id-push : (cs : List Connection) (c : Connection) → last_id (cs ++ c ∷ []) ≡ Some c.id
+pub last_id-push : (cs : List Connection) (c : Connection)
+    → last_id (cs ++ c ∷ []) ≡ Some c.id
 last_id-push [] c = refl
 last_id-push (a ∷ []) c = refl
 last_id-push (a ∷ b ∷ cs) c = last_id-push (b ∷ cs) c
 
-pub is_fresh-push : (x : ℕ) (cs : List Connection) (c : Connection) → is_fresh x (cs ++ c ∷ []) ≡ (is_fresh x cs && nat_lt c.id x)
+pub is_fresh-push : (x : ℕ) (cs : List Connection) (c : Connection)
+    → is_fresh x (cs ++ c ∷ []) ≡ (is_fresh x cs && nat_lt c.id x)
 is_fresh-push x [] c = grind (arith, nat_tests)
 is_fresh-push x (a ∷ cs) c = grind (arith, nat_tests, is_fresh-push x cs c)
 
 -- what is fresh stays so above
-pub is_fresh-above : (x y : ℕ) (cs : List Connection) → is_fresh x cs ≡ true → x < y → is_fresh y cs ≡ true
+pub is_fresh-above : (x y : ℕ) (cs : List Connection) → is_fresh x cs ≡ true → x < y
+    → is_fresh y cs ≡ true
 is_fresh-above x y [] h lt = refl
 is_fresh-above x y (c ∷ cs) h lt = grind (arith, nat_tests, is_fresh-above x y cs)
 
 -- ---- lanes and workers
 
-pub slice_get-set_same : {X : Type 0} (xs : List X) (i : ℕ) (x y : X) → slice_get xs i ≡ Some y → slice_get (set xs i x) i ≡ Some x
+pub slice_get-set_same : {X : Type 0} (xs : List X) (i : ℕ) (x y : X)
+    → slice_get xs i ≡ Some y → slice_get (set xs i x) i ≡ Some x
 slice_get-set_same [] i x y h = absurd cc
 slice_get-set_same (a ∷ xs) zero x y h = refl
 slice_get-set_same (a ∷ xs) (suc i) x y h = slice_get-set_same xs i x y h
 
 -- what a worker has behind more cells, and behind more that is carried
-pub live_workers-same : (o p : OutputHistory) (w : ℕ) (ss : List (Option SessionHistory)) → ((k : ℕ) → option_map (λ c. chunk_of c.number o.buffer.cells) (carry_of k o.buffer.carried) ≡ option_map (λ c. chunk_of c.number p.buffer.cells) (carry_of k p.buffer.carried)) → live_workers o w ss ≡ live_workers p w ss
+pub live_workers-same : (o p : OutputHistory) (w : ℕ) (ss : List (Option SessionHistory))
+    → ((k : ℕ)
+    → option_map (λ c. chunk_of c.number o.buffer.cells) (carry_of k o.buffer.carried)
+    ≡ option_map (λ c. chunk_of c.number p.buffer.cells) (carry_of k p.buffer.carried))
+    → live_workers o w ss ≡ live_workers p w ss
 live_workers-same o p w [] h = refl
 live_workers-same o p w (s ∷ ss) h = λ i. record { chunk = h w i; session = option_map live_session s } ∷ live_workers-same o p (suc w) ss h i
 
 -- at one place
-pub live_workers-at : (o : OutputHistory) (b w : ℕ) (ss : List (Option SessionHistory)) → slice_get (live_workers o b ss) w ≡ option_map (λ s. live_worker o (b + w) s) (slice_get ss w)
+pub live_workers-at : (o : OutputHistory) (b w : ℕ) (ss : List (Option SessionHistory))
+    → slice_get (live_workers o b ss) w
+    ≡ option_map (λ s. live_worker o (b + w) s) (slice_get ss w)
 live_workers-at o b w [] = refl
 live_workers-at o b zero (s ∷ ss) = rw add-zero refl
 live_workers-at o b (suc w) (s ∷ ss) = live_workers-at o (suc b) w ss ∙ ap (λ k. option_map (λ s. live_worker o k s) (slice_get ss w)) (omega arith)
 
-pub live_workers-set : (o : OutputHistory) (b w : ℕ) (ss : List (Option SessionHistory)) (s : Option SessionHistory) → live_workers o b (set ss w s) ≡ set (live_workers o b ss) w (live_worker o (b + w) s)
+pub live_workers-set : (o : OutputHistory) (b w : ℕ) (ss : List (Option SessionHistory))
+    (s : Option SessionHistory)
+    → live_workers o b (set ss w s) ≡ set (live_workers o b ss) w (live_worker o (b + w) s)
 live_workers-set o b w [] s = refl
 live_workers-set o b zero (t ∷ ss) s = rw add-zero refl
 live_workers-set o b (suc w) (t ∷ ss) s =
     ap (λ xs. live_worker o b t ∷ xs) (live_workers-set o (suc b) w ss s ∙ ap (λ k. set (live_workers o (suc b) ss) w (live_worker o k s)) (omega arith))
 
-pub length-live_workers : (o : OutputHistory) (b : ℕ) (ss : List (Option SessionHistory)) → length (live_workers o b ss) ≡ length ss
+pub length-live_workers : (o : OutputHistory) (b : ℕ) (ss : List (Option SessionHistory))
+    → length (live_workers o b ss) ≡ length ss
 length-live_workers o b [] = refl
 length-live_workers o b (s ∷ ss) = ap suc (length-live_workers o (suc b) ss)
 
 -- ---- cells
 
-pub greatest-append : (xs ys : List Cell) → greatest (xs ++ ys) ≡ max (greatest xs) (greatest ys)
+pub greatest-append : (xs ys : List Cell)
+    → greatest (xs ++ ys) ≡ max (greatest xs) (greatest ys)
 greatest-append [] ys = omega arith
 greatest-append (c ∷ xs) ys = omega (arith, greatest-append xs ys)
 
-greatest-same_below : (es : List (List ℕ)) (tag : List ℕ) (origin : Origin) (number moment : ℕ) → greatest (map (λ e. record { tag = tag; entry = e; origin = origin; number = number; moment = moment }) es) ≤ number
+greatest-same_below : (es : List (List ℕ)) (tag : List ℕ) (origin : Origin)
+    (number moment : ℕ)
+    → greatest (map (λ e.
+    record {
+      tag = tag;
+      entry = e;
+      origin = origin;
+      number = number;
+      moment = moment;
+    }) es) ≤ number
 greatest-same_below [] tag origin number moment = omega arith
 greatest-same_below (e ∷ es) tag origin number moment = omega (arith, greatest-same_below es tag origin number moment)
 
@@ -162,7 +209,12 @@ past_zero : (n a b : ℕ) → cond (eqb (suc n) 0) a b ≡ b
 past_zero n a b = grind (arith, nat_tests)
 
 -- the greatest number once entries have taken a greater one
-pub greatest-entered : (xs : List Cell) (es : List (List ℕ)) (tag : List ℕ) (origin : Origin) (number moment : ℕ) → greatest xs < number → greatest (xs ++ map (λ e. record { tag = tag; entry = e; origin = origin; number = number; moment = moment }) es) ≡ (if length es == 0 then greatest xs else number)
+pub greatest-entered : (xs : List Cell) (es : List (List ℕ)) (tag : List ℕ) (origin : Origin)
+    (number moment : ℕ) → greatest xs < number
+    → greatest (xs
+    ++ map (λ e.
+    record { tag = tag; entry = e; origin = origin; number = number; moment = moment }) es)
+    ≡ (if length es == 0 then greatest xs else number)
 greatest-entered xs [] tag origin number moment lt = ap greatest (append-nil xs)
 greatest-entered xs (e ∷ es) tag origin number moment lt =
     let joined = greatest-append xs (map (λ e. record { tag = tag; entry = e; origin = origin; number = number; moment = moment }) (e ∷ es)) in
@@ -170,27 +222,40 @@ greatest-entered xs (e ∷ es) tag origin number moment lt =
     joined ∙ least ∙ sym (past_zero (length es) (greatest xs) number)
 
 -- no cell has the number
-pub cells_at-append_past : (k : ℕ) (xs : List Cell) (es : List (List ℕ)) (tag : List ℕ) (origin : Origin) (number moment : ℕ) → k < number → cells_at k (xs ++ map (λ e. record { tag = tag; entry = e; origin = origin; number = number; moment = moment }) es) ≡ cells_at k xs
+pub cells_at-append_past : (k : ℕ) (xs : List Cell) (es : List (List ℕ)) (tag : List ℕ)
+    (origin : Origin) (number moment : ℕ) → k < number
+    → cells_at k (xs
+    ++ map (λ e.
+    record { tag = tag; entry = e; origin = origin; number = number; moment = moment }) es)
+    ≡ cells_at k xs
 cells_at-append_past k [] [] tag origin number moment lt = refl
 cells_at-append_past k [] (e ∷ es) tag origin number moment lt = grind (arith, nat_tests, cells_at-append_past k [] es tag origin number moment lt)
 cells_at-append_past k (c ∷ xs) es tag origin number moment lt = grind (arith, nat_tests, cells_at-append_past k xs es tag origin number moment lt)
 
-pub chunk_of-append_past : (k : ℕ) (xs : List Cell) (es : List (List ℕ)) (tag : List ℕ) (origin : Origin) (number moment : ℕ) → k < number → chunk_of k (xs ++ map (λ e. record { tag = tag; entry = e; origin = origin; number = number; moment = moment }) es) ≡ chunk_of k xs
+pub chunk_of-append_past : (k : ℕ) (xs : List Cell) (es : List (List ℕ)) (tag : List ℕ)
+    (origin : Origin) (number moment : ℕ) → k < number
+    → chunk_of k (xs
+    ++ map (λ e.
+    record { tag = tag; entry = e; origin = origin; number = number; moment = moment }) es)
+    ≡ chunk_of k xs
 unfolding chunk_of
 chunk_of-append_past k xs es tag origin number moment lt =
     let e = cells_at-append_past k xs es tag origin number moment lt in
     λ i. record { number = k; tag = first_tag (e i); entries = map (λ c. c.entry) (e i) }
 
-lesser-below : (n : ℕ) (o : Option ℕ) (g k : ℕ) → lesser n o ≡ Some k → ((m : ℕ) → o ≡ Some m → m ≤ g) → k ≤ max n g
+lesser-below : (n : ℕ) (o : Option ℕ) (g k : ℕ) → lesser n o ≡ Some k
+    → ((m : ℕ) → o ≡ Some m → m ≤ g) → k ≤ max n g
 lesser-below n None g k h f = let e : n ≡ k = cc in omega (arith, e)
 lesser-below n (Some m) g k h f = let e : min n m ≡ k = cc in omega (arith, e, f m refl)
 
-least_at : (g n k : ℕ) (o : Option ℕ) (b : Bool) → cond b (lesser n o) o ≡ Some k → ((m : ℕ) → o ≡ Some m → m ≤ g) → k ≤ max n g
+least_at : (g n k : ℕ) (o : Option ℕ) (b : Bool) → cond b (lesser n o) o ≡ Some k
+    → ((m : ℕ) → o ≡ Some m → m ≤ g) → k ≤ max n g
 least_at g n k o true h f = lesser-below n o g k h f
 least_at g n k o false h f = omega (arith, f k h)
 
 -- the least free number is that of a cell
-pub least_free-below : (opened : List ℕ) (carried : List Carry) (cells : List Cell) (k : ℕ) → least_free opened carried cells ≡ Some k → k ≤ greatest cells
+pub least_free-below : (opened : List ℕ) (carried : List Carry) (cells : List Cell) (k : ℕ)
+    → least_free opened carried cells ≡ Some k → k ≤ greatest cells
 least_free-below opened carried [] k h = absurd cc
 least_free-below opened carried (c ∷ cells) k h =
     least_at (greatest cells) c.number k (least_free opened carried cells) (is_free opened carried c.number) h (λ m p. least_free-below opened carried cells m p)

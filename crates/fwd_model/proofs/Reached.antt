@@ -28,13 +28,15 @@ is_open (Broken values fault) = false
 abbrev pub have_cells : List Span → List Cell → Bool
 have_cells spans cells = list_all (λ s. has_cell s.number cells) spans
 
--- what holds of a session: its chunk is the one that its worker has, no more was sent than was appended, and what was heard while it was up is no broken stream
+-- what holds of a session: its chunk is the one that its worker has, no more was sent than was
+-- appended, and what was heard while it was up is no broken stream
 pub record IsSaneSession (w : ℕ) (carried : List Carry) (s : SessionHistory) : Type 0 where
   pub carries : (k : ℕ) → s.loaded ≡ Some k → carry_of w carried ≡ Some (record { worker = w; number = k })
   pub sent : s.sent ≤ length s.appended
   pub opened : s.down ≡ false → is_open (reply_stream s.heard) ≡ true
 
--- what holds of an output and its sessions: a number is open, carried or acknowledged, one of them only, once it was given, and carried once
+-- what holds of an output and its sessions: a number is open, carried or acknowledged, one of
+-- them only, once it was given, and carried once
 pub record IsSaneLane (l : Lane) : Type 0 where
   pub opened_below : (k : ℕ) → has_number k l.output.buffer.opened ≡ true → k ≤ greatest l.output.buffer.cells
   pub acked_below : (k : ℕ) → has_number k l.output.buffer.acknowledged ≡ true → k ≤ greatest l.output.buffer.cells
@@ -56,50 +58,61 @@ pub record IsSane (h : History) : Type 0 where
   pub sources : AllSources h.connections
   pub lanes : AllSane h.lanes
 
-found_or : (b g : Bool) (t s : SourceHistory) (o : Option SourceHistory) → cond b (cond g None (Some t)) o ≡ Some s → (t ≡ s) ⊎ (o ≡ Some s)
+found_or : (b g : Bool) (t s : SourceHistory) (o : Option SourceHistory)
+    → cond b (cond g None (Some t)) o ≡ Some s → (t ≡ s) ⊎ (o ≡ Some s)
 found_or true true t s o h = absurd cc
 found_or true false t s o h = inl cc
 found_or false g t s o h = inr h
 
-pub AllSources-at : (id : ℕ) (cs : List Connection) (s : SourceHistory) → AllSources cs → source_at id cs ≡ Some s → IsSaneSource s
+pub AllSources-at : (id : ℕ) (cs : List Connection) (s : SourceHistory) → AllSources cs
+    → source_at id cs ≡ Some s → IsSaneSource s
 AllSources-at id [] s all h = absurd cc
 AllSources-at id (c ∷ cs) s all h =
     elim (found_or (eqb c.id id) c.gone c.source s (source_at id cs) h) [ inl e ↦ subst IsSaneSource e all.0 | inr e ↦ AllSources-at id cs s all.1 e ]
 
-put_or : (b : Bool) (d c : Connection) (cs ds : List Connection) → IsSaneSource d.source → AllSources (c ∷ cs) → AllSources ds → AllSources (cond b (d ∷ cs) (c ∷ ds))
+put_or : (b : Bool) (d c : Connection) (cs ds : List Connection) → IsSaneSource d.source
+    → AllSources (c ∷ cs) → AllSources ds → AllSources (cond b (d ∷ cs) (c ∷ ds))
 put_or true d c cs ds own all rest = (own, all.1)
 put_or false d c cs ds own all rest = (all.0, rest)
 
-pub AllSources-with_source : (id : ℕ) (s : SourceHistory) (cs : List Connection) → IsSaneSource s → AllSources cs → AllSources (with_source id s cs)
+pub AllSources-with_source : (id : ℕ) (s : SourceHistory) (cs : List Connection)
+    → IsSaneSource s → AllSources cs → AllSources (with_source id s cs)
 AllSources-with_source id s [] own all = tt
 AllSources-with_source id s (c ∷ cs) own all =
     put_or (eqb c.id id) (record { id = c.id; source = s; gone = c.gone }) c cs (with_source id s cs) own all (AllSources-with_source id s cs own all.1)
 
-pub AllSources-with_gone : (id : ℕ) (cs : List Connection) → AllSources cs → AllSources (with_gone id cs)
+pub AllSources-with_gone : (id : ℕ) (cs : List Connection) → AllSources cs
+    → AllSources (with_gone id cs)
 AllSources-with_gone id [] all = tt
 AllSources-with_gone id (c ∷ cs) all =
     put_or (eqb c.id id) (record { id = c.id; source = c.source; gone = true }) c cs (with_gone id cs) all.0 all (AllSources-with_gone id cs all.1)
 
-pub AllSources-push : (cs : List Connection) (c : Connection) → AllSources cs → IsSaneSource c.source → AllSources (cs ++ c ∷ [])
+pub AllSources-push : (cs : List Connection) (c : Connection) → AllSources cs
+    → IsSaneSource c.source → AllSources (cs ++ c ∷ [])
 AllSources-push [] c all own = (own, tt)
 AllSources-push (d ∷ cs) c all own = (all.0, AllSources-push cs c all.1 own)
 
-pub AllSane-at : (ls : List Lane) (o : ℕ) (l : Lane) → AllSane ls → slice_get ls o ≡ Some l → IsSaneLane l
+pub AllSane-at : (ls : List Lane) (o : ℕ) (l : Lane) → AllSane ls → slice_get ls o ≡ Some l
+    → IsSaneLane l
 AllSane-at [] o l all h = absurd cc
 AllSane-at (k ∷ ls) zero l all h = let same : k ≡ l = cc in subst IsSaneLane same all.0
 AllSane-at (k ∷ ls) (suc o) l all h = AllSane-at ls o l all.1 h
 
-pub AllSane-set : (ls : List Lane) (o : ℕ) (l : Lane) → AllSane ls → IsSaneLane l → AllSane (set ls o l)
+pub AllSane-set : (ls : List Lane) (o : ℕ) (l : Lane) → AllSane ls → IsSaneLane l
+    → AllSane (set ls o l)
 AllSane-set [] o l all own = tt
 AllSane-set (k ∷ ls) zero l all own = (own, all.1)
 AllSane-set (k ∷ ls) (suc o) l all own = (all.0, AllSane-set ls o l all.1 own)
 
 -- a session is sane beside more that others carry, and beside less
-pub sane_beside : (w : ℕ) (cs ds : List Carry) (s : SessionHistory) → (carry_of w cs ≡ carry_of w ds) → IsSaneSession w cs s → IsSaneSession w ds s
+pub sane_beside : (w : ℕ) (cs ds : List Carry) (s : SessionHistory)
+    → (carry_of w cs ≡ carry_of w ds) → IsSaneSession w cs s → IsSaneSession w ds s
 sane_beside w cs ds s same sane = record { carries = λ k e. sym same ∙ sane.carries k e; sent = sane.sent; opened = sane.opened }
 
 -- the session at a place, after another one was put somewhere
-pub slice_get-set : {X : Type 0} (xs : List X) (i j : ℕ) (x y : X) → slice_get (set xs i x) j ≡ Some y → ((i ≡ j) × (x ≡ y)) ⊎ ((i ≢ j) × (slice_get xs j ≡ Some y))
+pub slice_get-set : {X : Type 0} (xs : List X) (i j : ℕ) (x y : X)
+    → slice_get (set xs i x) j ≡ Some y → ((i ≡ j) × (x ≡ y))
+    ⊎ ((i ≢ j) × (slice_get xs j ≡ Some y))
 slice_get-set [] i j x y h = absurd cc
 slice_get-set (a ∷ xs) zero zero x y h = inl (refl, cc)
 slice_get-set (a ∷ xs) zero (suc j) x y h = inr (λ e. cc, h)

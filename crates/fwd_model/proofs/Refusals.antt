@@ -1,4 +1,5 @@
--- An event that is refused leaves the state as it was: what it goes on to is answered otherwise, whatever the layers are.
+-- An event that is refused leaves the state as it was: what it goes on to is answered otherwise,
+-- whatever the layers are.
 use Rattle.std.proofs.Common.{◌≡◌, ℕ, ◌+◌, Bool, true, false, List, length, Option, Some, None, refl}
 use Rattle.std.specs.Prelude.{not, is_some, nat_lt, ◌==◌}
 use Rattle.fwd_modes.specs.Requests.{Request}
@@ -13,10 +14,10 @@ use Rattle.fwd_model.specs.declared.answer.Answer.{Answer}
 use Rattle.fwd_model.specs.declared.answer.Answer.TheVariants as answer
 use Rattle.fwd_model.specs.declared.fault.Refusal.TheVariants.{Closed, NoSuch, NotNow, NotUp}
 use Rattle.fwd_model.specs.declared.fault.SessionFault.{SessionFault}
-use Rattle.fwd_model.specs.Outcome.{Outcome, Stays, Goes, answer_of, state_of, is_refusal}
+use Rattle.fwd_model.specs.Outcome.{Outcome, Stays, Goes, answer_of, state_of, is_refusal, of_piece, first_of, chunk_answer}
 use Rattle.fwd_model.specs.Layers.{Worker, Layers}
 use Rattle.fwd_model.specs.Step as steps
-use Rattle.fwd_model.specs.Step.{step, of_piece, first_of, chunk_answer}
+use Rattle.fwd_model.specs.Step.{step}
 use Rattle.fwd_model.specs.Setups.{setup_of}
 use Rattle.fwd_model.specs.Replies.{is_loaded, reply_answer}
 use Rattle.fwd_model.specs.Chunks.{frame_of}
@@ -30,13 +31,15 @@ chunk_counts : (c : Option Chunk) → is_refusal (chunk_answer c) ≡ false
 chunk_counts None = refl
 chunk_counts (Some c) = refl
 
-reply_counts : (accepted : Bool) (fault : Option SessionFault) → is_refusal (reply_answer accepted fault) ≡ false
+reply_counts : (accepted : Bool) (fault : Option SessionFault)
+    → is_refusal (reply_answer accepted fault) ≡ false
 reply_counts true None = refl
 reply_counts false None = refl
 reply_counts true (Some f) = refl
 reply_counts false (Some f) = refl
 
-piece_counts : {S : Type 0} (p : Piece) (count : ℕ) (out : List ℕ) (s : S) → Onward Answered (of_piece p count out s)
+piece_counts : {S : Type 0} (p : Piece) (count : ℕ) (out : List ℕ) (s : S)
+    → Onward Answered (of_piece p count out s)
 piece_counts verdict.Closed count out s = record { holds = tt }
 piece_counts (verdict.Waiting n) count out s = to refl
 piece_counts (verdict.Fault f) count out s = to refl
@@ -96,9 +99,11 @@ module _ (L : Layers) where
   event_counts r (event.Drained id count) = source_on L r id Answered _ (λ s here. drained_counts s count)
   event_counts r (event.Shut id) = shut_counts r id
 
-stays_by : {S : Type 0} (before : S) (x : Outcome S) → Onward Answered x → is_refusal (answer_of x) ≡ true → state_of before x ≡ before
+stays_by : {S : Type 0} (before : S) (x : Outcome S) → Onward Answered x
+    → is_refusal (answer_of x) ≡ true → state_of before x ≡ before
 stays_by before (Stays a) counts e = refl
 stays_by before (Goes a s) counts e = let no : is_refusal a ≡ false = counts.holds in absurd cc
 
-pub refused_stays : (L : Layers) (r : L.Relay) (e : Event) → is_refusal (answer_of (step L r e)) ≡ true → state_of r (step L r e) ≡ r
+pub refused_stays : (L : Layers) (r : L.Relay) (e : Event)
+    → is_refusal (answer_of (step L r e)) ≡ true → state_of r (step L r e) ≡ r
 refused_stays L r e h = stays_by r (step L r e) (event_counts L r e) h

@@ -34,16 +34,19 @@ none_named : (found : Option (List ℕ)) → reply_named None found ≡ Accepted
 none_named None h = cc
 none_named (Some name) h = cc
 
-none_accepted-by : (v : List ℕ) (b : Bool) → cond b Skipped (reply_named None (ack_name v)) ≡ Accepted → ⊥
+none_accepted-by : (v : List ℕ) (b : Bool)
+    → cond b Skipped (reply_named None (ack_name v)) ≡ Accepted → ⊥
 none_accepted-by v true h = cc
 none_accepted-by v false h = none_named (ack_name v) h
 
-none_then : (r : Reply) (x y : Replies) → (r ≡ Accepted → ⊥) → x.accepted ≡ false → (reply_then r x y).accepted ≡ false
+none_then : (r : Reply) (x y : Replies) → (r ≡ Accepted → ⊥) → x.accepted ≡ false
+    → (reply_then r x y).accepted ≡ false
 none_then Skipped x y other h = h
 none_then Accepted x y other h = absurd (other refl)
 none_then (Failed f) x y other h = refl
 
-none_accepted : (vs : List (List ℕ)) (end : Replies) → end.accepted ≡ false → (replies None vs end).accepted ≡ false
+none_accepted : (vs : List (List ℕ)) (end : Replies) → end.accepted ≡ false
+    → (replies None vs end).accepted ≡ false
 none_accepted [] end h = h
 none_accepted (v ∷ vs) end h = none_then (reply_of None v) (replies None vs end) (replies None vs end) (λ e. none_accepted-by v (is_nil v) e) (none_accepted vs end h)
 
@@ -54,7 +57,8 @@ none_in (Broken vs fault) = none_accepted vs (failing BadReply) refl
 -- ---- a session that heard
 
 -- what settling comes to at a worker whose session is this one
-settled_as : (h : History) (o w : ℕ) (l : Lane) (s : SessionHistory) → slice_get h.lanes o ≡ Some l → slice_get l.sessions w ≡ Some (Some s)
+settled_as : (h : History) (o w : ℕ) (l : Lane) (s : SessionHistory)
+    → slice_get h.lanes o ≡ Some l → slice_get l.sessions w ≡ Some (Some s)
     → answer_of (step histories h (event.Settle o w)) ≡ answer_of (sought (steps.acked histories s) NotNow >>= (λ k. Goes (answer.Settled (length (cells_at k l.output.buffer.cells))) (histories.settles l w s k)))
 settled_as h o w l s here at =
     ap (λ x. answer_of (sought x NoSuch >>= (λ m. within (λ n. with_lane o n h) (steps.settle histories m w)))) here
@@ -67,7 +71,8 @@ settled_as h o w l s here at =
     outside (Some k) = refl
 
 -- what hearing comes to there
-heard_as : (h : History) (o w : ℕ) (bytes : List ℕ) (l : Lane) (s : SessionHistory) → slice_get h.lanes o ≡ Some l → slice_get l.sessions w ≡ Some (Some s)
+heard_as : (h : History) (o w : ℕ) (bytes : List ℕ) (l : Lane) (s : SessionHistory)
+    → slice_get h.lanes o ≡ Some l → slice_get l.sessions w ≡ Some (Some s)
     → step histories h (event.Heard o w bytes) ≡ (refuse_if s.down NotUp >> Goes (reply_answer (replies_to s h.run o bytes).accepted (replies_to s h.run o bytes).fault) (with_lane o (with_session w (listens s bytes (replies_to s h.run o bytes)) l) h))
 heard_as h o w bytes l s here at =
     ap (λ x. sought x NoSuch >>= (λ m. within (λ n. with_lane o n h) (steps.at_worker histories m w (λ x. steps.at_session histories x (steps.heard histories h.run o bytes))))) here
@@ -80,12 +85,15 @@ heard_as h o w bytes l s here at =
     outside false = refl
 
 -- what settling comes to after that
-settled_after : (h : History) (o w : ℕ) (l : Lane) (s u : SessionHistory) → slice_get h.lanes o ≡ Some l → slice_get l.sessions w ≡ Some (Some s)
+settled_after : (h : History) (o w : ℕ) (l : Lane) (s u : SessionHistory)
+    → slice_get h.lanes o ≡ Some l → slice_get l.sessions w ≡ Some (Some s)
     → answer_of (step histories (with_lane o (with_session w u l) h) (event.Settle o w)) ≡ answer_of (sought (steps.acked histories u) NotNow >>= (λ k. Goes (answer.Settled (length (cells_at k l.output.buffer.cells))) (histories.settles (with_session w u l) w u k)))
 settled_after h o w l s u here at =
     settled_as (with_lane o (with_session w u l) h) o w (with_session w u l) u (slice_get-set_same h.lanes o (with_session w u l) l here) (slice_get-set_same l.sessions w (Some u) (Some s) at)
 
-pub early-nothing : (h : History) (o w : ℕ) (bytes : List ℕ) (l : Lane) (s : SessionHistory) → slice_get h.lanes o ≡ Some l → slice_get l.sessions w ≡ Some (Some s) → s.accepted ≡ false → is_handed_on s ≡ false
+pub early-nothing : (h : History) (o w : ℕ) (bytes : List ℕ) (l : Lane) (s : SessionHistory)
+    → slice_get h.lanes o ≡ Some l → slice_get l.sessions w ≡ Some (Some s)
+    → s.accepted ≡ false → is_handed_on s ≡ false
     → answer_of (step histories (state_of h (step histories h (event.Heard o w bytes))) (event.Settle o w)) ≡ answer.Refused NotNow
 early-nothing h o w bytes l s here at none early =
     ap (λ x. answer_of (step histories (state_of h x) (event.Settle o w))) (heard_as h o w bytes l s here at) ∙ by s.down
@@ -111,7 +119,9 @@ either_true : (b : Bool) → (b || true) ≡ true
 either_true true = refl
 either_true false = refl
 
-pub before_fault-stands : (h : History) (o w k : ℕ) (bytes : List ℕ) (l : Lane) (s : SessionHistory) (f : SessionFault) → slice_get h.lanes o ≡ Some l → slice_get l.sessions w ≡ Some (Some s) → s.down ≡ false → s.loaded ≡ Some k
+pub before_fault-stands : (h : History) (o w k : ℕ) (bytes : List ℕ) (l : Lane)
+    (s : SessionHistory) (f : SessionFault) → slice_get h.lanes o ≡ Some l
+    → slice_get l.sessions w ≡ Some (Some s) → s.down ≡ false → s.loaded ≡ Some k
     → (replies_to s h.run o bytes).accepted ≡ true → (replies_to s h.run o bytes).fault ≡ Some f
     → (answer_of (step histories h (event.Heard o w bytes)) ≡ answer.SessionFaulted f) × (answer_of (step histories (state_of h (step histories h (event.Heard o w bytes))) (event.Settle o w)) ≡ answer.Settled (length (cells_at k l.output.buffer.cells)))
 before_fault-stands h o w k bytes l s f here at up loaded accepted fault =
@@ -126,7 +136,8 @@ before_fault-stands h o w k bytes l s f here at up loaded accepted fault =
 
 -- ---- a request without entries
 
-pub listed : (id : ℕ) (acked : List ℕ) (admissions : List Admission) (i : ℕ) (a : Admission) → slice_get admissions i ≡ Some a → is_due id acked a ≡ true
+pub listed : (id : ℕ) (acked : List ℕ) (admissions : List Admission) (i : ℕ) (a : Admission)
+    → slice_get admissions i ≡ Some a → is_due id acked a ≡ true
     → has_number a.request.origin.request (numbers_of (map (λ x. x.request) (filter (is_due id acked) admissions))) ≡ true
 listed id acked [] i a h d = absurd cc
 listed id acked (b ∷ admissions) zero a h d =
@@ -145,14 +156,18 @@ listed id acked (b ∷ admissions) (suc i) a h d = later (is_due id acked b) (li
     later false g = g
 
 -- what a collect comes to at a connection and an output
-pub told_as : (h : History) (o id : ℕ) (s : SourceHistory) (l : Lane) → source_at id h.connections ≡ Some s → slice_get h.lanes o ≡ Some l → s.shut ≡ false
+pub told_as : (h : History) (o id : ℕ) (s : SourceHistory) (l : Lane)
+    → source_at id h.connections ≡ Some s → slice_get h.lanes o ≡ Some l
+    → s.shut ≡ false
     → answer_of (step histories h (event.Collect id o)) ≡ answer.Told (numbers_of (output_history_due l.output id)) (acks_of (output_history_due l.output id))
 told_as h o id s l stands here still =
     (λ j. answer_of (sought (stands j) NoSuch >>= (λ x. sought (here j) NoSuch >>= (λ y. within (λ two. with_lane o two.1 (with_connection id two.0 h)) (steps.collect histories id x y)))))
     ∙ ap (λ b. answer_of (within (λ (two : SourceHistory × Lane). with_lane o two.1 (with_connection id two.0 h)) (refuse_if b Closed
     >> Goes (answer.Told (numbers_of (output_history_due l.output id)) (acks_of (output_history_due l.output id))) (histories.appends s (acks_of (output_history_due l.output id)), histories.tells l id)))) still
 
-pub without_entries-told : (h : History) (o i : ℕ) (s : SourceHistory) (l : Lane) (a : Admission) → source_at a.request.origin.conn h.connections ≡ Some s → s.shut ≡ false → slice_get h.lanes o ≡ Some l
+pub without_entries-told : (h : History) (o i : ℕ) (s : SourceHistory) (l : Lane) (a : Admission)
+    → source_at a.request.origin.conn h.connections ≡ Some s → s.shut ≡ false
+    → slice_get h.lanes o ≡ Some l
     → slice_get l.output.book i ≡ Some a → a.told ≡ false → a.request.spans ≡ []
     → (numbers out : List ℕ) × (answer_of (step histories h (event.Collect a.request.origin.conn o)) ≡ answer.Told numbers out) × (has_number a.request.origin.request numbers ≡ true)
 without_entries-told h o i s l a stands still here at untold none =

@@ -1,4 +1,5 @@
--- Where there is a worker, there is a place for its session, and its chunk is the one that it carries.
+-- Where there is a worker, there is a place for its session, and its chunk is the one that it
+-- carries.
 use Rattle.std.proofs.Common.{◌≡◌, ℕ, Option, Some, None, false, refl, sym, ap, ◌∙◌}
 use Rattle.std.specs.Prelude.{option_map, is_some, slice_get}
 use Rattle.fwd_model.specs.declared.cell.Carry.{Carry}
@@ -22,7 +23,8 @@ pub record IsWorker (l : Lane) (w : ℕ) (x : Worker SessionHistory) : Type 0 wh
   pub here : slice_get l.sessions w ≡ Some x.session
   pub is : history_worker l w x.session ≡ x
 
-pub worker_is : (l : Lane) (w : ℕ) (x : Worker SessionHistory) → histories.worker_at l w ≡ Some x → IsWorker l w x
+pub worker_is : (l : Lane) (w : ℕ) (x : Worker SessionHistory)
+    → histories.worker_at l w ≡ Some x → IsWorker l w x
 worker_is l w x e = at (slice_get l.sessions w) refl e
   where
     at : (s : Option (Option SessionHistory)) → slice_get l.sessions w ≡ s → option_map (history_worker l w) s ≡ Some x → IsWorker l w x
@@ -31,10 +33,13 @@ worker_is l w x e = at (slice_get l.sessions w) refl e
         let is : history_worker l w s ≡ x = cc in
         record { here = f ∙ ap (λ y. Some y.session) is; is = ap (λ y. history_worker l w y.session) (sym is) ∙ is }
 
-pub session_here : (l : Lane) (w : ℕ) (x : Worker SessionHistory) (s : SessionHistory) → histories.worker_at l w ≡ Some x → x.session ≡ Some s → slice_get l.sessions w ≡ Some (Some s)
+pub session_here : (l : Lane) (w : ℕ) (x : Worker SessionHistory) (s : SessionHistory)
+    → histories.worker_at l w ≡ Some x → x.session ≡ Some s
+    → slice_get l.sessions w ≡ Some (Some s)
 session_here l w x s e f = (worker_is l w x e).here ∙ ap Some f
 
-pub none_carried : (l : Lane) (w : ℕ) (x : Worker SessionHistory) → IsWorker l w x → is_some x.chunk ≡ false → carry_of w l.output.buffer.carried ≡ None
+pub none_carried : (l : Lane) (w : ℕ) (x : Worker SessionHistory) → IsWorker l w x
+    → is_some x.chunk ≡ false → carry_of w l.output.buffer.carried ≡ None
 none_carried l w x at none = by (carry_of w l.output.buffer.carried) (ap (λ y. is_some y.chunk) at.is ∙ none)
   where
     by : (c : Option Carry) → is_some (option_map (λ c. chunk_of c.number l.output.buffer.cells) c) ≡ false → c ≡ None
@@ -48,7 +53,8 @@ pub record IsCarriedBy (l : Lane) (w : ℕ) (c : Chunk) : Type 0 where
   pub number : carry.number ≡ c.number
   pub chunk_is : chunk_of carry.number l.output.buffer.cells ≡ c
 
-pub carried_is : (l : Lane) (w : ℕ) (x : Worker SessionHistory) (c : Chunk) → IsWorker l w x → x.chunk ≡ Some c → IsCarriedBy l w c
+pub carried_is : (l : Lane) (w : ℕ) (x : Worker SessionHistory) (c : Chunk) → IsWorker l w x
+    → x.chunk ≡ Some c → IsCarriedBy l w c
 unfolding chunk_of
 carried_is l w x c at e = by (carry_of w l.output.buffer.carried) refl (ap (λ y. y.chunk) at.is ∙ e)
   where

@@ -11,8 +11,12 @@ use Rattle.fwd_model.specs.Chunks.{has_number}
 
 -- the runs of a request's entries, which all have one number that was unused before
 abbrev pub spans_of : Request → ℕ → List Span
-spans_of r number = if length r.entries == 0 then [] else record { number = number; from = 0; count = length r.entries } ∷ []
+spans_of r number =
+    if length r.entries == 0 then []
+    else record { number = number; from = 0; count = length r.entries } ∷ []
 
+-- a request as an output's book has it: its connection and number, where its entries went, its
+-- `chunk`
 abbrev pub entered_as : Request → Origin → ℕ → Entered
 entered_as r origin number = record { origin = origin; spans = spans_of r number; chunk = r.chunk }
 
@@ -20,6 +24,7 @@ entered_as r origin number = record { origin = origin; spans = spans_of r number
 abbrev pub is_settled : List ℕ → Entered → Bool
 is_settled acknowledged q = list_all (λ s. has_number s.number acknowledged) q.spans
 
+-- the request came from the connection
 abbrev pub is_of : ℕ → Entered → Bool
 is_of conn q = q.origin.conn == conn
 
@@ -28,6 +33,8 @@ abbrev pub ack_asked : Option (List ℕ) → List ℕ
 ack_asked None = []
 ack_asked (Some chunk) = ack_text chunk
 
+-- the acknowledgement that a request asked for (Forward Protocol Specification v1, Response), if
+-- it did
 abbrev pub ack_of : Entered → List ℕ
 ack_of q = ack_asked q.chunk
 
@@ -35,6 +42,7 @@ ack_of q = ack_asked q.chunk
 abbrev pub acks_of : List Entered → List ℕ
 acks_of qs = concat (map ack_of qs)
 
+-- the requests' numbers at their connection
 abbrev pub numbers_of : List Entered → List ℕ
 numbers_of qs = map (λ q. q.origin.request) qs
 
@@ -48,22 +56,26 @@ none_left cells q = list_all (λ s. not (has_cell s.number cells)) q.spans
 
 -- ---- the history
 
--- a request that was entered at an output, and whether its connection was told that all its entries were acknowledged
+-- a request that was entered at an output, and whether its connection was told that all its
+-- entries were acknowledged
 pub record Admission : Type 0 where
   pub request : Entered
   pub told : Bool
 
--- a collect tells a request of the connection that was not told, once all its entries are acknowledged
+-- a collect tells a request of the connection that was not told, once all its entries are
+-- acknowledged
 abbrev pub is_due : ℕ → List ℕ → Admission → Bool
-is_due conn acknowledged a = not a.told && (is_of conn a.request && is_settled acknowledged a.request)
+is_due conn acknowledged a =
+    not a.told && (is_of conn a.request && is_settled acknowledged a.request)
 
--- the requests that a collect tells, in the order in which they were entered, which is that of their numbers
+-- the requests that a collect tells, in the order in which they were entered, which is that of
+-- their numbers
 abbrev pub due : ℕ → List ℕ → List Admission → List Entered
 due conn acknowledged book = map (λ a. a.request) (filter (is_due conn acknowledged) book)
 
 -- the request is told where the test holds
 abbrev pub told_if : Bool → Admission → Admission
-told_if b a = record { request = a.request; told = a.told || b }
+told_if b a = record a { told = a.told || b }
 
 -- the requests that a collect tells are told
 unfoldable pub tells : ℕ → List ℕ → List Admission → List Admission

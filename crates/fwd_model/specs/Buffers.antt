@@ -1,4 +1,5 @@
--- The entries of one output, with the numbers of their chunks: all that ever came, and what of it still matters.
+-- The entries of one output, with the numbers of their chunks: all that ever came, and what of it
+-- still matters.
 use Rattle.std.specs.Prelude.{◌≡◌, ℕ, ◌+◌, Bool, true, false, not, List, [], ◌∷◌, ◌++◌, length, filter, Option, Some, None, ◌==◌, max, if◌then◌else◌}
 use Rattle.fwd_modes.specs.Requests.{Request}
 use Rattle.fwd_source.specs.declared.origin.Origin.{Origin}
@@ -11,8 +12,8 @@ use Rattle.fwd_model.specs.Books.{has_cell}
 
 -- ---- the history
 
--- every entry ever admitted, in order; the numbers that may take more; the numbers that a server acknowledged; who has
--- which number; the greatest moment handed in
+-- every entry ever admitted, in order; the numbers that may take more; the numbers that a server
+-- acknowledged; who has which number; the greatest moment handed in
 pub record BufferHistory : Type 0 where
   pub cells : List Cell
   pub opened : List ℕ
@@ -34,11 +35,9 @@ has_no_number b q = is_spent q (next_number b) (length b.cells)
 
 -- a request's entries become cells
 unfoldable pub enters : BufferHistory → Origin → Request → ℕ → BufferHistory
-enters b origin q now = record {
+enters b origin q now = record b {
   cells = b.cells ++ cells_of q origin (next_number b) (max b.moment now);
   opened = open_after q (next_number b) b.cells b.opened;
-  acknowledged = b.acknowledged;
-  carried = b.carried;
   moment = max b.moment now;
 }
 
@@ -46,13 +45,14 @@ enters b origin q now = record {
 abbrev pub is_closed_by : BufferHistory → ℕ → ℕ → FlushKind → ℕ → Bool
 is_closed_by b interval now kind number = closes kind interval (max b.moment now) b.cells number
 
+-- how many a flush closes
+abbrev pub closing : BufferHistory → ℕ → ℕ → FlushKind → ℕ
+closing b interval now kind = length (filter (is_closed_by b interval now kind) b.opened)
+
 -- the numbers that a flush closes are open no more
 unfoldable pub flushes : BufferHistory → ℕ → ℕ → FlushKind → BufferHistory
-flushes b interval now kind = record {
-  cells = b.cells;
+flushes b interval now kind = record b {
   opened = filter (λ k. not (is_closed_by b interval now kind k)) b.opened;
-  acknowledged = b.acknowledged;
-  carried = b.carried;
   moment = max b.moment now;
 }
 
@@ -79,22 +79,16 @@ carry_more w (Some k) carried = carried ++ record { worker = w; number = k } ∷
 
 -- a worker carries the least free number, if there is one; the moment has grown either way
 unfoldable pub takes : BufferHistory → ℕ → ℕ → BufferHistory
-takes b w now = record {
-  cells = b.cells;
-  opened = b.opened;
-  acknowledged = b.acknowledged;
+takes b w now = record b {
   carried = carry_more w (free_number b) b.carried;
   moment = max b.moment now;
 }
 
 -- the number is acknowledged, and the worker carries it no more
 unfoldable pub settles : BufferHistory → ℕ → ℕ → BufferHistory
-settles b w number = record {
-  cells = b.cells;
-  opened = b.opened;
+settles b w number = record b {
   acknowledged = b.acknowledged ++ number ∷ [];
   carried = put_down w b.carried;
-  moment = b.moment;
 }
 
 -- ---- what still matters
@@ -127,7 +121,15 @@ live_buffer b = record {
 
 -- before any event
 abbrev pub no_entries : LiveBuffer
-no_entries = record { cells = []; opened = []; greatest = 0; accepted = 0; settled = 0; carried = []; moment = 0 }
+no_entries = record {
+  cells = [];
+  opened = [];
+  greatest = 0;
+  accepted = 0;
+  settled = 0;
+  carried = [];
+  moment = 0;
+}
 
 -- no number, or no count, is left for the request's entries
 abbrev pub buffer_is_spent : LiveBuffer → Request → Bool
@@ -135,13 +137,11 @@ buffer_is_spent b q = is_spent q (b.greatest + 1) b.accepted
 
 -- a request's entries become cells
 unfoldable pub buffer_enters : LiveBuffer → Origin → Request → ℕ → LiveBuffer
-buffer_enters b origin q now = record {
+buffer_enters b origin q now = record b {
   cells = b.cells ++ cells_of q origin (b.greatest + 1) (max b.moment now);
   opened = open_after q (b.greatest + 1) b.cells b.opened;
   greatest = if length q.entries == 0 then b.greatest else b.greatest + 1;
   accepted = b.accepted + length q.entries;
-  settled = b.settled;
-  carried = b.carried;
   moment = max b.moment now;
 }
 
@@ -149,15 +149,14 @@ buffer_enters b origin q now = record {
 abbrev pub buffer_closes : LiveBuffer → ℕ → ℕ → FlushKind → ℕ → Bool
 buffer_closes b interval now kind number = closes kind interval (max b.moment now) b.cells number
 
+-- how many a flush closes
+abbrev pub buffer_closing : LiveBuffer → ℕ → ℕ → FlushKind → ℕ
+buffer_closing b interval now kind = length (filter (buffer_closes b interval now kind) b.opened)
+
 -- the numbers that a flush closes are open no more
 unfoldable pub buffer_flushes : LiveBuffer → ℕ → ℕ → FlushKind → LiveBuffer
-buffer_flushes b interval now kind = record {
-  cells = b.cells;
+buffer_flushes b interval now kind = record b {
   opened = filter (λ k. not (buffer_closes b interval now kind k)) b.opened;
-  greatest = b.greatest;
-  accepted = b.accepted;
-  settled = b.settled;
-  carried = b.carried;
   moment = max b.moment now;
 }
 
@@ -167,24 +166,15 @@ buffer_free b = chunk_at (least_free b.opened b.carried b.cells) b.cells
 
 -- a worker carries the least free number, if there is one; the moment has grown either way
 unfoldable pub buffer_takes : LiveBuffer → ℕ → ℕ → LiveBuffer
-buffer_takes b w now = record {
-  cells = b.cells;
-  opened = b.opened;
-  greatest = b.greatest;
-  accepted = b.accepted;
-  settled = b.settled;
+buffer_takes b w now = record b {
   carried = carry_more w (least_free b.opened b.carried b.cells) b.carried;
   moment = max b.moment now;
 }
 
 -- the number's entries leave, and are counted
 unfoldable pub buffer_settles : LiveBuffer → ℕ → ℕ → LiveBuffer
-buffer_settles b w number = record {
+buffer_settles b w number = record b {
   cells = filter (λ c. not (c.number == number)) b.cells;
-  opened = b.opened;
-  greatest = b.greatest;
-  accepted = b.accepted;
   settled = b.settled + length (cells_at number b.cells);
   carried = put_down w b.carried;
-  moment = b.moment;
 }

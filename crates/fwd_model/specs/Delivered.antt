@@ -45,11 +45,13 @@ session_of h o w = standing (session_at w (slice_get h.lanes o))
 
 -- after these events, none of the later ones began a session of the worker
 abbrev pub NoneBegan : Config → List Event → List Event → ℕ → ℕ → Type 0
-NoneBegan config before later o w = (between rest : List Event) (server : ℕ) (salt : List ℕ) (moment : ℕ) →
+NoneBegan config before later o w =
+    (between rest : List Event) (server : ℕ) (salt : List ℕ) (moment : ℕ) →
     later ≡ between ++ event.Up o w server salt moment ∷ rest →
     answered config (before ++ between) (event.Up o w server salt moment) ≡ answer.Done → ⊥
 
--- among the events the worker's session with a server of the output began, and no other of that worker's began since
+-- among the events the worker's session with a server of the output began, and no other of that
+-- worker's began since
 pub record HasBegun (config : Config) (es : List Event) (o w : ℕ) : Type 0 where
   pub before : List Event
   pub server : ℕ
@@ -61,7 +63,8 @@ pub record HasBegun (config : Config) (es : List Event) (o w : ℕ) : Type 0 whe
   pub alone : NoneBegan config (before ++ event.Up o w server salt moment ∷ []) later o w
 
 -- among the events, after that, the session was loaded with the frame
-pub record WasLoaded (config : Config) (es : List Event) (o w : ℕ) (frame : List ℕ) : Type 0 where
+pub record WasLoaded (config : Config) (es : List Event) (o w : ℕ)
+    (frame : List ℕ) : Type 0 where
   pub before : List Event
   pub moment : ℕ
   pub later : List Event
@@ -83,12 +86,15 @@ pub record WasSent (config : Config) (es : List Event) (o w : ℕ) (frame : List
   pub split : es ≡ before ++ event.Wrote o w count ∷ later
   pub done : answered config before (event.Wrote o w count) ≡ answer.Done
   pub session : SessionHistory
-  pub stands : session_of (reached config (before ++ event.Wrote o w count ∷ [])) o w ≡ Some session
+  pub stands : session_of (reached config (before ++ event.Wrote o w count ∷ [])) o w
+      ≡ Some session
   pub taken : IsTaken session frame
   pub loaded : WasLoaded config before o w frame
 
--- among the events, after that, a piece was heard from the session while it was up, and with it the last byte of a value that names the chunk
-pub record WasAcknowledged (config : Config) (es : List Event) (o w : ℕ) (frame name : List ℕ) : Type 0 where
+-- among the events, after that, a piece was heard from the session while it was up, and with it
+-- the last byte of a value that names the chunk
+pub record WasAcknowledged (config : Config) (es : List Event) (o w : ℕ)
+    (frame name : List ℕ) : Type 0 where
   pub before : List Event
   pub bytes : List ℕ
   pub later : List Event
@@ -108,12 +114,14 @@ cells_from id r cells = filter (λ c. (c.origin.conn == id) && (c.origin.request
 
 -- the frame of all entries under a number and a tag
 abbrev pub whole_frame : Config → ℕ → List ℕ → List Cell → ℕ → List ℕ
-whole_frame config o tag cells number = chunk_frame tag (map (λ c. c.entry) (cells_at number cells)) (chunk_name config.run o number)
+whole_frame config o tag cells number =
+    chunk_frame tag (map (λ c. c.entry) (cells_at number cells)) (chunk_name config.run o number)
 
--- The request of number r of a connection, which numbers its requests from 1, was delivered by an output: it is the first
--- output whose pattern matches the request's tag; the output has its entries, all, unchanged and in order, under its tag; each number that they have is acknowledged; and a worker's
--- session was loaded with the frame of all entries under that number and the tag, the link took it to the last byte, and
--- then the server named it.
+-- The request of number r of a connection, which numbers its requests from 1, was delivered by an
+-- output: it is the first output whose pattern matches the request's tag; the output has its
+-- entries, all, unchanged and in order, under its tag; each number that they have is
+-- acknowledged; and a worker's session was loaded with the frame of all entries under that number
+-- and the tag, the link took it to the last byte, and then the server named it.
 pub record IsDelivered (config : Config) (es : List Event) (id r o : ℕ) : Type 0 where
   pub source : SourceHistory
   pub stands : source_at id (reached config es).connections ≡ Some source
@@ -125,10 +133,13 @@ pub record IsDelivered (config : Config) (es : List Event) (id r o : ℕ) : Type
   pub lane : Lane
   pub here : slice_get (reached config es).lanes o ≡ Some lane
   pub entries : map (λ c. c.entry) (cells_from id r lane.output.buffer.cells) ≡ request.entries
-  pub tags : list_all (λ c. bytes_eq c.tag request.tag) (cells_from id r lane.output.buffer.cells) ≡ true
-  pub settled : (k : ℕ) → has_cell k (cells_from id r lane.output.buffer.cells) ≡ true → has_number k lane.output.buffer.acknowledged ≡ true
+  pub tags : list_all (λ c. bytes_eq c.tag request.tag) (cells_from id r lane.output.buffer.cells)
+      ≡ true
+  pub settled : (k : ℕ) → has_cell k (cells_from id r lane.output.buffer.cells) ≡ true
+      → has_number k lane.output.buffer.acknowledged ≡ true
   pub sent : (k : ℕ) → has_cell k (cells_from id r lane.output.buffer.cells) ≡ true →
-      (w : ℕ) × WasAcknowledged config es o w (whole_frame config o request.tag lane.output.buffer.cells k) (chunk_name config.run o k)
+      (w : ℕ) × WasAcknowledged config es o w
+      (whole_frame config o request.tag lane.output.buffer.cells k) (chunk_name config.run o k)
 
 -- among the events, the connection was told that the request's entries were all acknowledged
 pub record IsTold (config : Config) (es : List Event) (id r o : ℕ) : Type 0 where
@@ -140,7 +151,8 @@ pub record IsTold (config : Config) (es : List Event) (id r o : ℕ) : Type 0 wh
   pub told : answered config before (event.Collect id o) ≡ answer.Told numbers out
   pub among : has_number r numbers ≡ true
 
--- among events and their answers, a collect of the connection was told that the request's entries were all acknowledged
+-- among events and their answers, a collect of the connection was told that the request's entries
+-- were all acknowledged
 pub record IsToldAmong (events : List Event) (answers : List Answer) (id r o : ℕ) : Type 0 where
   pub before : List Event
   pub later : List Event

@@ -1,5 +1,6 @@
--- The history of a relay: all that ever came, with nothing removed. It is one reading of the layers of a step.
-use Rattle.std.specs.Prelude.{◌≡◌, ℕ, Bool, true, false, List, [], ◌∷◌, ◌++◌, length, map, filter, replicate, Option, Some, None, option_map, nat_lt, ◌==◌, if◌then◌else◌, slice_get, slice_set}
+-- The history of a relay: all that ever came, with nothing removed. It is one reading of the
+-- layers of a step.
+use Rattle.std.specs.Prelude.{◌≡◌, ℕ, Bool, true, false, List, [], ◌∷◌, ◌++◌, length, map, replicate, Option, Some, None, option_map, nat_lt, ◌==◌, if◌then◌else◌, slice_get, slice_set}
 use Rattle.std.specs.List.{list_all}
 use Rattle.fwd_handshake.specs.declared.credentials.Security.{Security}
 use Rattle.fwd_source.specs.History.{Setup, SourceHistory, opened}
@@ -29,8 +30,8 @@ pub record Lane : Type 0 where
   pub output : OutputHistory
   pub sessions : List (Option SessionHistory)
 
--- the relay: what tells its run from others, the pattern of each output as its expanded words, what a source has to prove,
--- the connections ever accepted, and the outputs
+-- the relay: what tells its run from others, the pattern of each output as its expanded words,
+-- what a source has to prove, the connections ever accepted, and the outputs
 pub record History : Type 0 where
   pub run : List ℕ
   pub routes : List (List (List ℕ))
@@ -40,11 +41,21 @@ pub record History : Type 0 where
 
 -- an output before any event
 abbrev pub new_lane : OutputConfig → Lane
-new_lane c = record { config = c; output = record { buffer = no_cells; book = [] }; sessions = replicate c.workers None }
+new_lane c = record {
+  config = c;
+  output = record { buffer = no_cells; book = [] };
+  sessions = replicate c.workers None;
+}
 
 -- before any event
 unfoldable pub opening : Config → History
-opening config = record { run = config.run; routes = config.routes; security = config.security; connections = []; lanes = map new_lane config.outputs }
+opening config = record {
+  run = config.run;
+  routes = config.routes;
+  security = config.security;
+  connections = [];
+  lanes = map new_lane config.outputs;
+}
 
 -- ---- connections
 
@@ -56,17 +67,22 @@ ever_at id (c ∷ cs) = if c.id == id then Some c.source else ever_at id cs
 -- the connection that is known under an id
 abbrev pub source_at : ℕ → List Connection → Option SourceHistory
 source_at id [] = None
-source_at id (c ∷ cs) = if c.id == id then (if c.gone then None else Some c.source) else source_at id cs
+source_at id (c ∷ cs) =
+    if c.id == id then (if c.gone then None else Some c.source) else source_at id cs
 
 -- another history under the id
 abbrev pub with_source : ℕ → SourceHistory → List Connection → List Connection
 with_source id s [] = []
-with_source id s (c ∷ cs) = if c.id == id then record { id = c.id; source = s; gone = c.gone } ∷ cs else c ∷ with_source id s cs
+with_source id s (c ∷ cs) =
+    if c.id == id then record { id = c.id; source = s; gone = c.gone } ∷ cs
+    else c ∷ with_source id s cs
 
 -- the connection of an id is known no more
 abbrev pub with_gone : ℕ → List Connection → List Connection
 with_gone id [] = []
-with_gone id (c ∷ cs) = if c.id == id then record { id = c.id; source = c.source; gone = true } ∷ cs else c ∷ with_gone id cs
+with_gone id (c ∷ cs) =
+    if c.id == id then record { id = c.id; source = c.source; gone = true } ∷ cs
+    else c ∷ with_gone id cs
 
 -- the id is above every earlier one
 abbrev pub is_fresh : ℕ → List Connection → Bool
@@ -74,29 +90,24 @@ is_fresh id cs = list_all (λ c. nat_lt c.id id) cs
 
 -- a connection comes
 abbrev pub accepts : History → Setup → History
-accepts h setup = record {
-  run = h.run;
-  routes = h.routes;
-  security = h.security;
-  connections = h.connections ++ record { id = setup.conn; source = opened setup; gone = false } ∷ [];
-  lanes = h.lanes;
+accepts h setup = record h {
+  connections = h.connections ++ record { id = setup.conn; source = opened setup; gone = false }
+      ∷ [];
 }
 
 -- the connection of this id is another
 abbrev pub with_connection : ℕ → SourceHistory → History → History
-with_connection id s h =
-    record { run = h.run; routes = h.routes; security = h.security; connections = with_source id s h.connections; lanes = h.lanes }
+with_connection id s h = record h { connections = with_source id s h.connections }
 
 -- the connection is known no more. Its id stays used, and what it asked for stands
 abbrev pub leaves : ℕ → History → History
-leaves id h =
-    record { run = h.run; routes = h.routes; security = h.security; connections = with_gone id h.connections; lanes = h.lanes }
+leaves id h = record h { connections = with_gone id h.connections }
 
 -- ---- outputs
 
 -- the output has other entries and requests
 abbrev pub with_output : Lane → OutputHistory → Lane
-with_output l o = record { config = l.config; output = o; sessions = l.sessions }
+with_output l o = record l { output = o }
 
 -- the output has other entries
 abbrev pub with_buffer : Lane → BufferHistory → Lane
@@ -104,18 +115,22 @@ with_buffer l b = with_output l (record { buffer = b; book = l.output.book })
 
 -- the worker has this session
 abbrev pub with_session : ℕ → SessionHistory → Lane → Lane
-with_session w s l = record { config = l.config; output = l.output; sessions = slice_set l.sessions w (Some s) }
+with_session w s l = record l { sessions = slice_set l.sessions w (Some s) }
 
 -- the output of this number is another
 abbrev pub with_lane : ℕ → Lane → History → History
-with_lane o l h =
-    record { run = h.run; routes = h.routes; security = h.security; connections = h.connections; lanes = slice_set h.lanes o l }
+with_lane o l h = record h { lanes = slice_set h.lanes o l }
 
 -- ---- the history as layers
 
 -- a worker, with the chunk that it carries
 abbrev pub history_worker : Lane → ℕ → Option SessionHistory → Worker SessionHistory
-history_worker l w s = record { chunk = option_map (λ c. chunk_of c.number l.output.buffer.cells) (carry_of w l.output.buffer.carried); session = s }
+history_worker l w s = record {
+  chunk =
+      option_map (λ c. chunk_of c.number l.output.buffer.cells)
+      (carry_of w l.output.buffer.carried);
+  session = s;
+}
 
 -- outputs as all that ever came to them
 abbrev pub lane_histories : Lanes SessionHistory
@@ -123,17 +138,19 @@ lane_histories = record {
   Lane = Lane;
   config = λ l. l.config;
   is_spent = λ l q. buffer.has_no_number l.output.buffer q;
-  closing = λ l now kind. length (filter (buffer.is_closed_by l.output.buffer l.config.flush_interval now kind) l.output.buffer.opened);
-  flushes = λ l now kind. with_buffer l (buffer.flushes l.output.buffer l.config.flush_interval now kind);
+  closing = λ l now kind. buffer.closing l.output.buffer l.config.flush_interval now kind;
+  flushes = λ l now kind.
+      with_buffer l (buffer.flushes l.output.buffer l.config.flush_interval now kind);
   enters = λ l origin q now. with_output l (output_history_enters l.output origin q now);
   due = λ l conn. output_history_due l.output conn;
   tells = λ l conn. with_output l (output_history_tells l.output conn);
   worker_at = λ l w. option_map (history_worker l w) (slice_get l.sessions w);
-  puts_worker = λ l w x. record { config = l.config; output = l.output; sessions = slice_set l.sessions w x.session };
+  puts_worker = λ l w x. record l { sessions = slice_set l.sessions w x.session };
   free = λ l. chunk_at (buffer.free_number l.output.buffer) l.output.buffer.cells;
   takes = λ l w x now. with_buffer l (buffer.takes l.output.buffer w now);
   entries_at = λ l number. length (cells_at number l.output.buffer.cells);
-  settles = λ l w s number. with_session w (unloads s) (with_buffer l (buffer.settles l.output.buffer w number));
+  settles = λ l w s number.
+      with_session w (unloads s) (with_buffer l (buffer.settles l.output.buffer w number));
 }
 
 -- the relay as all that ever came to it

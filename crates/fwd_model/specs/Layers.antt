@@ -1,4 +1,5 @@
--- What a step asks of a relay's layers, and what it changes in them. Sources say theirs in their own crate.
+-- What a step asks of a relay's layers, and what it changes in them. Sources say theirs in their
+-- own crate.
 use Rattle.std.specs.Prelude.{ℕ, Bool, List, Option}
 use Rattle.fwd_handshake.specs.declared.credentials.Security.{Security}
 use Rattle.fwd_modes.specs.Requests.{Request}
@@ -19,7 +20,8 @@ pub record Worker (Session : Type 0) : Type 0 where
 -- a session of a worker with a server
 pub record Sessions : Type 1 where
   pub Session : Type 0
-  -- the number that it is loaded with, whether that one's acknowledgement was accepted, whether a fault put it down
+  -- the number that it is loaded with, whether that one's acknowledgement was accepted, whether a
+  -- fault put it down
   pub loaded : Session → Option ℕ
   pub is_acked : Session → Bool
   pub is_down : Session → Bool
@@ -27,7 +29,8 @@ pub record Sessions : Type 1 where
   pub to_send : Session → List ℕ
   -- what a piece says, by the run and the output's number
   pub replies : Session → List ℕ → ℕ → List ℕ → Replies
-  -- it begins with a server; is loaded with a number's frame; its link takes bytes; a piece is heard
+  -- it begins with a server; is loaded with a number's frame; its link takes bytes; a piece is
+  -- heard
   pub begins : ℕ → ℕ → Session
   pub loads : Session → ℕ → List ℕ → ℕ → Session
   pub sends : Session → ℕ → Session

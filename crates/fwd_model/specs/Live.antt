@@ -1,5 +1,5 @@
--- What of a history still matters: the bytes of unfinished values, the requests that wait, the counts, and what is not yet
--- settled. It is the other reading of the layers of a step.
+-- What of a history still matters: the bytes of unfinished values, the requests that wait, the
+-- counts, and what is not yet settled. It is the other reading of the layers of a step.
 use Rattle.std.specs.Prelude.{ℕ, suc, Bool, true, not, List, [], ◌∷◌, ◌++◌, length, map, filter, Option, Some, None, option_map, nat_lt, ◌==◌, if◌then◌else◌, slice_get, slice_set}
 use Rattle.fwd_handshake.specs.declared.credentials.Security.{Security}
 use Rattle.fwd_source.specs.History.{Setup}
@@ -7,7 +7,7 @@ use Rattle.fwd_source.specs.Live.{LiveSource, live_source, opened_source}
 use Rattle.fwd_source.specs.Layer.{live_sources}
 use Rattle.fwd_model.specs.declared.config.OutputConfig.{OutputConfig}
 use Rattle.fwd_model.specs.Chunks.{chunk_of, carry_of, cells_at}
-use Rattle.fwd_model.specs.Buffers.{LiveBuffer, buffer_is_spent, buffer_closes, buffer_flushes, buffer_free, buffer_takes, buffer_settles}
+use Rattle.fwd_model.specs.Buffers.{LiveBuffer, buffer_is_spent, buffer_closing, buffer_flushes, buffer_free, buffer_takes, buffer_settles}
 use Rattle.fwd_model.specs.Outputs.{OutputHistory, LiveOutput, live_output, output_enters, output_due, output_tells}
 use Rattle.fwd_model.specs.Sessions.{SessionHistory, LiveSession, live_session, session_unloads, live_sessions}
 use Rattle.fwd_model.specs.Layers.{Worker, Lanes, Layers}
@@ -57,13 +57,18 @@ live_worker o w s = record {
 }
 
 -- the workers from this place on
-abbrev pub live_workers : OutputHistory → ℕ → List (Option SessionHistory) → List (Worker LiveSession)
+abbrev pub live_workers : OutputHistory → ℕ → List (Option SessionHistory)
+    → List (Worker LiveSession)
 live_workers o w [] = []
 live_workers o w (s ∷ ss) = live_worker o w s ∷ live_workers o (suc w) ss
 
 -- the live part of an output with its workers
 unfoldable pub live_lane : Lane → LiveLane
-live_lane l = record { config = l.config; output = live_output l.output; workers = live_workers l.output 0 l.sessions }
+live_lane l = record {
+  config = l.config;
+  output = live_output l.output;
+  workers = live_workers l.output 0 l.sessions;
+}
 
 -- the live part of a history
 unfoldable pub live : History → LiveRelay
@@ -86,7 +91,8 @@ live_source_at id (c ∷ cs) = if c.id == id then Some c.source else live_source
 -- another source under the id
 abbrev pub with_live_source : ℕ → LiveSource → List LiveConnection → List LiveConnection
 with_live_source id s [] = []
-with_live_source id s (c ∷ cs) = if c.id == id then record { id = c.id; source = s } ∷ cs else c ∷ with_live_source id s cs
+with_live_source id s (c ∷ cs) =
+    if c.id == id then record { id = c.id; source = s } ∷ cs else c ∷ with_live_source id s cs
 
 -- the connections but this one
 abbrev pub without : ℕ → List LiveConnection → List LiveConnection
@@ -99,30 +105,24 @@ is_above id (Some k) = nat_lt k id
 
 -- a connection comes
 abbrev pub live_accepts : LiveRelay → Setup → LiveRelay
-live_accepts r setup = record {
-  run = r.run;
-  routes = r.routes;
-  security = r.security;
+live_accepts r setup = record r {
   last = Some setup.conn;
   connections = r.connections ++ record { id = setup.conn; source = opened_source setup } ∷ [];
-  lanes = r.lanes;
 }
 
 -- the connection of this id is another
 abbrev pub with_live_connection : ℕ → LiveSource → LiveRelay → LiveRelay
-with_live_connection id s r =
-    record { run = r.run; routes = r.routes; security = r.security; last = r.last; connections = with_live_source id s r.connections; lanes = r.lanes }
+with_live_connection id s r = record r { connections = with_live_source id s r.connections }
 
 -- the connection leaves
 abbrev pub live_leaves : ℕ → LiveRelay → LiveRelay
-live_leaves id r =
-    record { run = r.run; routes = r.routes; security = r.security; last = r.last; connections = without id r.connections; lanes = r.lanes }
+live_leaves id r = record r { connections = without id r.connections }
 
 -- ---- outputs
 
 -- the output has other entries and requests
 abbrev pub with_live_output : LiveLane → LiveOutput → LiveLane
-with_live_output l o = record { config = l.config; output = o; workers = l.workers }
+with_live_output l o = record l { output = o }
 
 -- the output has other entries
 abbrev pub with_live_buffer : LiveLane → LiveBuffer → LiveLane
@@ -130,28 +130,28 @@ with_live_buffer l b = with_live_output l (record { buffer = b; book = l.output.
 
 -- another worker stands in this place
 abbrev pub with_live_worker : LiveLane → ℕ → Worker LiveSession → LiveLane
-with_live_worker l w x = record { config = l.config; output = l.output; workers = slice_set l.workers w x }
+with_live_worker l w x = record l { workers = slice_set l.workers w x }
 
 -- the worker has the chunk with the least free number, if there is one
 abbrev pub live_takes : LiveLane → ℕ → Worker LiveSession → ℕ → LiveLane
-live_takes l w x now = record {
-  config = l.config;
+live_takes l w x now = record l {
   output = record { buffer = buffer_takes l.output.buffer w now; book = l.output.book };
-  workers = slice_set l.workers w (record { chunk = buffer_free l.output.buffer; session = x.session });
+  workers = slice_set l.workers w (record {
+    chunk = buffer_free l.output.buffer;
+    session = x.session;
+  });
 }
 
 -- the worker's chunk is settled
 abbrev pub live_settles : LiveLane → ℕ → LiveSession → ℕ → LiveLane
-live_settles l w s number = record {
-  config = l.config;
+live_settles l w s number = record l {
   output = record { buffer = buffer_settles l.output.buffer w number; book = l.output.book };
   workers = slice_set l.workers w (record { chunk = None; session = Some (session_unloads s) });
 }
 
 -- the output of this number is another
 abbrev pub with_live_lane : ℕ → LiveLane → LiveRelay → LiveRelay
-with_live_lane o l r =
-    record { run = r.run; routes = r.routes; security = r.security; last = r.last; connections = r.connections; lanes = slice_set r.lanes o l }
+with_live_lane o l r = record r { lanes = slice_set r.lanes o l }
 
 -- ---- the live part as layers
 
@@ -161,8 +161,9 @@ live_lanes = record {
   Lane = LiveLane;
   config = λ l. l.config;
   is_spent = λ l q. buffer_is_spent l.output.buffer q;
-  closing = λ l now kind. length (filter (buffer_closes l.output.buffer l.config.flush_interval now kind) l.output.buffer.opened);
-  flushes = λ l now kind. with_live_buffer l (buffer_flushes l.output.buffer l.config.flush_interval now kind);
+  closing = λ l now kind. buffer_closing l.output.buffer l.config.flush_interval now kind;
+  flushes = λ l now kind.
+      with_live_buffer l (buffer_flushes l.output.buffer l.config.flush_interval now kind);
   enters = λ l origin q now. with_live_output l (output_enters l.output origin q now);
   due = λ l conn. output_due l.output conn;
   tells = λ l conn. with_live_output l (output_tells l.output conn);

@@ -1,8 +1,13 @@
 -- What an event comes to: it is answered, and the state stays as it was, or goes on to another.
-use Rattle.std.specs.Prelude.{Bool, true, false, Option, Some, None}
+use Rattle.std.specs.Prelude.{ℕ, Bool, true, false, List, [], ◌∷◌, length, Option, Some, None}
+use Rattle.fwd_modes.specs.Requests.{Request}
+use Rattle.fwd_source.specs.declared.piece.Piece.{Piece}
+use Rattle.fwd_source.specs.declared.piece.Piece.TheVariants as told
+use Rattle.fwd_model.specs.declared.cell.Chunk.{Chunk}
 use Rattle.fwd_model.specs.declared.answer.Answer.{Answer}
 use Rattle.fwd_model.specs.declared.answer.Answer.TheVariants as answer
 use Rattle.fwd_model.specs.declared.fault.Refusal.{Refusal}
+use Rattle.fwd_model.specs.declared.fault.Refusal.TheVariants.{Closed}
 
 infixr 1 ◌>>=◌ ◌>>◌
 -- an answer where the state stays, or an answer and the next state
@@ -55,3 +60,22 @@ abbrev pub is_refusal : Answer → Bool
 is_refusal (answer.Refused why) = true
 is_refusal answer.Memory = true
 is_refusal _ = false
+
+-- ---- what a part answers, as an answer of the relay
+
+-- a piece is refused once the source is closed; else its fault is told, or how many requests
+-- wait, and the PONG
+abbrev pub of_piece : {S : Type 0} → Piece → ℕ → List ℕ → S → Outcome S
+of_piece told.Closed count out s = Stays (answer.Refused Closed)
+of_piece (told.Waiting waiting) count out s = Goes (answer.Requests waiting out) s
+of_piece (told.Fault fault) count out s = Goes (answer.Faulted fault count out) s
+
+-- the first request that waits
+abbrev pub first_of : List Request → Option Request
+first_of [] = None
+first_of (q ∷ qs) = Some q
+
+-- what is told of the least free chunk
+abbrev pub chunk_answer : Option Chunk → Answer
+chunk_answer None = answer.TookNothing
+chunk_answer (Some c) = answer.Took c.number (length c.entries)

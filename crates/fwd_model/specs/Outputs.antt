@@ -15,7 +15,8 @@ pub record OutputHistory : Type 0 where
 abbrev pub output_history_enters : OutputHistory → Origin → Request → ℕ → OutputHistory
 output_history_enters o origin q now = record {
   buffer = enters o.buffer origin q now;
-  book = o.book ++ record { request = entered_as q origin (next_number o.buffer); told = false } ∷ [];
+  book = o.book ++ record { request = entered_as q origin (next_number o.buffer); told = false }
+      ∷ [];
 }
 
 -- the requests of a connection that a collect tells
@@ -24,7 +25,7 @@ output_history_due o conn = due conn o.buffer.acknowledged o.book
 
 -- they are told
 abbrev pub output_history_tells : OutputHistory → ℕ → OutputHistory
-output_history_tells o conn = record { buffer = o.buffer; book = tells conn o.buffer.acknowledged o.book }
+output_history_tells o conn = record o { book = tells conn o.buffer.acknowledged o.book }
 
 -- ---- what still matters
 
@@ -54,4 +55,4 @@ output_due o conn = book_due conn o.buffer.cells o.book
 
 -- they leave
 abbrev pub output_tells : LiveOutput → ℕ → LiveOutput
-output_tells o conn = record { buffer = o.buffer; book = book_tells conn o.buffer.cells o.book }
+output_tells o conn = record o { book = book_tells conn o.buffer.cells o.book }

@@ -31,20 +31,26 @@ pub record Replies : Type 0 where
   pub accepted : Bool
   pub fault : Option SessionFault
 
+-- no acknowledgement, and no fault
 abbrev pub silence : Replies
 silence = record { accepted = false; fault = None }
 
+-- a fault, and no acknowledgement
 abbrev pub failing : SessionFault → Replies
 failing f = record { accepted = false; fault = Some f }
 
+-- the same with an acknowledgement that was accepted
 abbrev pub accepting : Replies → Replies
-accepting r = record { accepted = true; fault = r.fault }
+accepting r = record r { accepted = true }
 
--- what a value says, and then what comes after it, after a value that is skipped or one that is accepted
+-- what a value says, and then what comes after it, after a value that is skipped or one that is
+-- accepted
 abbrev pub reply_then : Reply → Replies → Replies → Replies
-reply_then r skipped accepted = elim r [ Skipped ↦ skipped | Accepted ↦ accepting accepted | Failed f ↦ failing f ]
+reply_then r skipped accepted =
+    elim r [ Skipped ↦ skipped | Accepted ↦ accepting accepted | Failed f ↦ failing f ]
 
--- values in their order: after an acknowledgement none is awaited, and behind a fault nothing counts
+-- values in their order: after an acknowledgement none is awaited, and behind a fault nothing
+-- counts
 abbrev pub replies : Option (List ℕ) → List (List ℕ) → Replies → Replies
 replies awaited [] end = end
 replies awaited (v ∷ vs) end =
@@ -54,6 +60,7 @@ replies awaited (v ∷ vs) end =
       | Failed f ↦ failing f
     ]
 
+-- what a stream of values says: its whole values, and then the fault behind them, if there is one
 abbrev pub replies_in : Option (List ℕ) → Split → Replies
 replies_in awaited (Open values rest) = replies awaited values silence
 replies_in awaited (Broken values fault) = replies awaited values (failing BadReply)

@@ -7,8 +7,9 @@ use Rattle.fwd_model.specs.Layers.{Sessions}
 
 -- ---- the history
 
--- all bytes heard; all bytes appended for sending, and how many of them the link took; the number that it is loaded with,
--- and whether that one's acknowledgement was accepted; whether a fault put it down; the greatest moment handed in
+-- all bytes heard; all bytes appended for sending, and how many of them the link took; the number
+-- that it is loaded with, and whether that one's acknowledgement was accepted; whether a fault
+-- put it down; the greatest moment handed in
 pub record SessionHistory : Type 0 where
   pub server : ℕ
   pub heard : List ℕ
@@ -30,37 +31,34 @@ is_handed_on s = nat_le (length s.appended) s.sent
 -- a session with a server begins
 abbrev pub begins : ℕ → ℕ → SessionHistory
 begins server now =
-    record { server = server; heard = []; appended = []; sent = 0; loaded = None; accepted = false; down = false; moment = now }
+    record {
+      server = server;
+      heard = [];
+      appended = [];
+      sent = 0;
+      loaded = None;
+      accepted = false;
+      down = false;
+      moment = now;
+    }
 
 -- a number's frame is appended
 abbrev pub loads : SessionHistory → ℕ → List ℕ → ℕ → SessionHistory
-loads s number frame now = record {
-  server = s.server;
-  heard = s.heard;
+loads s number frame now = record s {
   appended = s.appended ++ frame;
-  sent = s.sent;
   loaded = Some number;
-  accepted = s.accepted;
-  down = s.down;
   moment = max s.moment now;
 }
 
 -- the link took so many bytes more
 abbrev pub sends : SessionHistory → ℕ → SessionHistory
-sends s count = record {
-  server = s.server;
-  heard = s.heard;
-  appended = s.appended;
-  sent = s.sent + count;
-  loaded = s.loaded;
-  accepted = s.accepted;
-  down = s.down;
-  moment = s.moment;
-}
+sends s count = record s { sent = s.sent + count }
 
--- the name that the session awaits: that of its chunk, once the whole frame is handed on and until its acknowledgement
+-- the name that the session awaits: that of its chunk, once the whole frame is handed on and
+-- until its acknowledgement
 abbrev pub awaited : List ℕ → ℕ → SessionHistory → Option (List ℕ)
-awaited run o s = if s.accepted || not (is_handed_on s) then None else option_map (chunk_name run o) s.loaded
+awaited run o s =
+    if s.accepted || not (is_handed_on s) then None else option_map (chunk_name run o) s.loaded
 
 -- what a piece ends
 abbrev pub newly_heard : SessionHistory → List ℕ → Split
@@ -72,29 +70,15 @@ replies_to s run o bytes = replies_in (awaited run o s) (newly_heard s bytes)
 
 -- a piece is heard; an acknowledgement that was accepted before a fault stands
 abbrev pub listens : SessionHistory → List ℕ → Replies → SessionHistory
-listens s bytes r = record {
-  server = s.server;
+listens s bytes r = record s {
   heard = s.heard ++ bytes;
-  appended = s.appended;
-  sent = s.sent;
-  loaded = s.loaded;
   accepted = s.accepted || r.accepted;
   down = is_some r.fault;
-  moment = s.moment;
 }
 
 -- its number is settled
 abbrev pub unloads : SessionHistory → SessionHistory
-unloads s = record {
-  server = s.server;
-  heard = s.heard;
-  appended = s.appended;
-  sent = s.sent;
-  loaded = None;
-  accepted = false;
-  down = s.down;
-  moment = s.moment;
-}
+unloads s = record s { loaded = None; accepted = false }
 
 -- the session as a layer
 abbrev pub session_histories : Sessions
@@ -138,35 +122,33 @@ live_session s = record {
 -- a session with a server begins
 abbrev pub session_begins : ℕ → ℕ → LiveSession
 session_begins server now =
-    record { server = server; waiting = []; rest = []; loaded = None; accepted = false; down = false; moment = now }
+    record {
+      server = server;
+      waiting = [];
+      rest = [];
+      loaded = None;
+      accepted = false;
+      down = false;
+      moment = now;
+    }
 
 -- a number's frame waits to be sent
 abbrev pub session_loads : LiveSession → ℕ → List ℕ → ℕ → LiveSession
-session_loads s number frame now = record {
-  server = s.server;
+session_loads s number frame now = record s {
   waiting = s.waiting ++ frame;
-  rest = s.rest;
   loaded = Some number;
-  accepted = s.accepted;
-  down = s.down;
   moment = max s.moment now;
 }
 
 -- the link took so many bytes more
 unfoldable pub session_sends : LiveSession → ℕ → LiveSession
-session_sends s count = record {
-  server = s.server;
-  waiting = drop count s.waiting;
-  rest = s.rest;
-  loaded = s.loaded;
-  accepted = s.accepted;
-  down = s.down;
-  moment = s.moment;
-}
+session_sends s count = record s { waiting = drop count s.waiting }
 
 -- the name that the session awaits
 abbrev pub session_awaits : List ℕ → ℕ → LiveSession → Option (List ℕ)
-session_awaits run o s = if s.accepted || nat_lt 0 (length s.waiting) then None else option_map (chunk_name run o) s.loaded
+session_awaits run o s =
+    if s.accepted || nat_lt 0 (length s.waiting) then None
+    else option_map (chunk_name run o) s.loaded
 
 -- what a piece says
 abbrev pub session_replies : LiveSession → List ℕ → ℕ → List ℕ → Replies
@@ -174,27 +156,16 @@ session_replies s run o bytes = replies_in (session_awaits run o s) (reply_strea
 
 -- a piece is heard; once it is down, nothing waits
 unfoldable pub session_listens : LiveSession → List ℕ → Replies → LiveSession
-session_listens s bytes r = record {
-  server = s.server;
+session_listens s bytes r = record s {
   waiting = if is_some r.fault then [] else s.waiting;
   rest = if is_some r.fault then [] else rest_of (reply_stream (s.rest ++ bytes));
-  loaded = s.loaded;
   accepted = s.accepted || r.accepted;
   down = is_some r.fault;
-  moment = s.moment;
 }
 
 -- its number is settled
 abbrev pub session_unloads : LiveSession → LiveSession
-session_unloads s = record {
-  server = s.server;
-  waiting = s.waiting;
-  rest = s.rest;
-  loaded = None;
-  accepted = false;
-  down = s.down;
-  moment = s.moment;
-}
+session_unloads s = record s { loaded = None; accepted = false }
 
 -- the session's live part as a layer
 abbrev pub live_sessions : Sessions

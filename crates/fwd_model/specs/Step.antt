@@ -1,12 +1,10 @@
--- What one event does to a relay. It is said once, over any layers: the history of all that came, or what of it still
--- matters. Each event reads from the top: its checks in their order, and then its answer and what it changes.
+-- What one event does to a relay. It is said once, over any layers: the history of all that came,
+-- or what of it still matters. Each event reads from the top: its checks in their order, and then
+-- its answer and what it changes.
 use Rattle.std.specs.Prelude.{ℕ, ◌+◌, not, List, [], ◌∷◌, length, Option, Some, None, is_some, nat_lt, ◌==◌, if◌then◌else◌}
 use Rattle.fwd_modes.specs.Requests.{Request}
 use Rattle.fwd_match.specs.Patterns.{route}
-use Rattle.fwd_source.specs.declared.piece.Piece.{Piece}
-use Rattle.fwd_source.specs.declared.piece.Piece.TheVariants as told
 use Rattle.fwd_source.specs.History.{Setup, opening_text}
-use Rattle.fwd_model.specs.declared.cell.Chunk.{Chunk}
 use Rattle.fwd_model.specs.declared.event.Event.{Event}
 use Rattle.fwd_model.specs.declared.event.Event.TheVariants as event
 use Rattle.fwd_model.specs.declared.event.FlushKind.{FlushKind}
@@ -14,34 +12,66 @@ use Rattle.fwd_model.specs.declared.answer.Answer.{Answer}
 use Rattle.fwd_model.specs.declared.answer.Answer.TheVariants as answer
 use Rattle.fwd_model.specs.declared.fault.Refusal.TheVariants.{Closed, NoSuch, NotNow, NotUp}
 use Rattle.fwd_model.specs.Books.{numbers_of, acks_of}
-use Rattle.fwd_model.specs.Outcome.{Outcome, Stays, Goes, answer_of, state_of, within, ◌>>=◌, ◌>>◌, found, refuse_if}
+use Rattle.fwd_model.specs.Outcome.{Outcome, Goes, answer_of, state_of, within, ◌>>=◌, ◌>>◌, found, refuse_if, of_piece, first_of, chunk_answer}
 use Rattle.fwd_model.specs.Layers.{Worker, Layers}
 use Rattle.fwd_model.specs.Setups.{setup_of}
 use Rattle.fwd_model.specs.Chunks.{frame_of}
 use Rattle.fwd_model.specs.Replies.{reply_answer, is_loaded}
-
--- a piece is refused once the source is closed; else its fault is told, or how many requests wait, and the PONG
-abbrev pub of_piece : {S : Type 0} → Piece → ℕ → List ℕ → S → Outcome S
-of_piece told.Closed count out s = Stays (answer.Refused Closed)
-of_piece (told.Waiting waiting) count out s = Goes (answer.Requests waiting out) s
-of_piece (told.Fault fault) count out s = Goes (answer.Faulted fault count out) s
-
--- the first request that waits
-abbrev pub first_of : List Request → Option Request
-first_of [] = None
-first_of (q ∷ qs) = Some q
-
--- what is told of the least free chunk
-abbrev pub chunk_answer : Option Chunk → Answer
-chunk_answer None = answer.TookNothing
-chunk_answer (Some c) = answer.Took c.number (length c.entries)
 
 -- the worker with this session
 abbrev pub with_session : {S : Type 0} → Worker S → S → Worker S
 with_session x s = record { chunk = x.chunk; session = Some s }
 
 module _ (L : Layers) where
-  open L use {Relay, Source, Lane, Session, run, routes, security, is_fresh, source_at, lane_at, accepts, leaves, puts_source, puts_lane, is_shut, waiting, admitted, unsent, piece_answer, pong, hears, gives, appends, drains, shuts, config, is_spent, closing, free, entries_at, due, worker_at, enters, flushes, takes, settles, tells, puts_worker, begins, loaded, is_acked, is_down, to_send, replies, loads, sends, listens}
+  open L use {
+    Relay,
+    Source,
+    Lane,
+    Session,
+    run,
+    routes,
+    security,
+    is_fresh,
+    source_at,
+    lane_at,
+    accepts,
+    leaves,
+    puts_source,
+    puts_lane,
+    is_shut,
+    waiting,
+    admitted,
+    unsent,
+    piece_answer,
+    pong,
+    hears,
+    gives,
+    appends,
+    drains,
+    shuts,
+    config,
+    is_spent,
+    closing,
+    free,
+    entries_at,
+    due,
+    worker_at,
+    enters,
+    flushes,
+    takes,
+    settles,
+    tells,
+    puts_worker,
+    begins,
+    loaded,
+    is_acked,
+    is_down,
+    to_send,
+    replies,
+    loads,
+    sends,
+    listens,
+  }
 
   -- at the connection of this id
   abbrev pub at_source : Relay → ℕ → (Source → Outcome Source) → Outcome Relay
@@ -56,27 +86,31 @@ module _ (L : Layers) where
     within (puts_lane r o) (event l)
 
   -- at a connection and an output
-  abbrev pub at_both : Relay → ℕ → ℕ → (Source → Lane → Outcome (Source × Lane)) → Outcome Relay
+  abbrev pub at_both : Relay → ℕ → ℕ → (Source → Lane → Outcome (Source × Lane))
+      → Outcome Relay
   at_both r id o event = do
     s ← found (source_at r id) NoSuch
     l ← found (lane_at r o) NoSuch
     within (λ both. puts_lane (puts_source r id both.0) o both.1) (event s l)
 
   -- at a worker of the output
-  abbrev pub at_worker : Lane → ℕ → (Worker Session → Outcome (Worker Session)) → Outcome Lane
+  abbrev pub at_worker : Lane → ℕ → (Worker Session → Outcome (Worker Session))
+      → Outcome Lane
   at_worker l w event = do
     x ← found (worker_at l w) NoSuch
     within (puts_worker l w) (event x)
 
   -- at the worker's session
-  abbrev pub at_session : Worker Session → (Session → Outcome Session) → Outcome (Worker Session)
+  abbrev pub at_session : Worker Session → (Session → Outcome Session)
+      → Outcome (Worker Session)
   at_session x event = do
     s ← found x.session NotNow
     within (with_session x) (event s)
 
   -- ---- connections
 
-  -- a connection comes, under an id above every earlier one; HELO is written at once, where a shared key is set
+  -- a connection comes, under an id above every earlier one; HELO is written at once, where a
+  -- shared key is set
   abbrev pub accept : Relay → Setup → Outcome Relay
   accept r setup = do
     refuse_if (not (is_fresh r setup.conn)) NotNow
@@ -84,7 +118,9 @@ module _ (L : Layers) where
 
   -- bytes are read from it
   abbrev pub piece : Source → List ℕ → Outcome Source
-  piece s bytes = of_piece (piece_answer s bytes) (length (waiting (hears s bytes))) (pong s bytes) (hears s bytes)
+  piece s bytes =
+      of_piece (piece_answer s bytes) (length (waiting (hears s bytes)))
+      (pong s bytes) (hears s bytes)
 
   -- its link took some of the bytes that wait to be sent
   abbrev pub drained : Source → ℕ → Outcome Source
@@ -107,15 +143,18 @@ module _ (L : Layers) where
       else Goes (answer.Admitted (admitted s + 1) (length q.entries))
       (gives s, enters l (record { conn = id; request = admitted s + 1 }) q now)
 
-  -- a request goes to the first output whose pattern matches its tag, and to no other; where none does, its source is shut
-  abbrev pub routed : Option ℕ → Source → Request → ℕ → ℕ → Lane → ℕ → Outcome (Source × Lane)
+  -- a request goes to the first output whose pattern matches its tag, and to no other; where none
+  -- does, its source is shut
+  abbrev pub routed : Option ℕ → Source → Request → ℕ → ℕ → Lane → ℕ
+      → Outcome (Source × Lane)
   routed None s q id o l now = Goes answer.NoRoute (shuts s, l)
   routed (Some first) s q id o l now = do
     refuse_if (not (first == o)) NotNow
     enter s q id l now
 
   -- the first request that waits goes to the output
-  abbrev pub admit : List (List (List ℕ)) → ℕ → ℕ → ℕ → Source → Lane → Outcome (Source × Lane)
+  abbrev pub admit : List (List (List ℕ)) → ℕ → ℕ → ℕ → Source → Lane
+      → Outcome (Source × Lane)
   admit patterns id o now s l = do
     q ← found (first_of (waiting s)) NotNow
     routed (route patterns q.tag) s q id o l now
@@ -124,7 +163,8 @@ module _ (L : Layers) where
   abbrev pub collect : ℕ → Source → Lane → Outcome (Source × Lane)
   collect id s l = do
     refuse_if (is_shut s) Closed
-    Goes (answer.Told (numbers_of (due l id)) (acks_of (due l id))) (appends s (acks_of (due l id)), tells l id)
+    Goes (answer.Told (numbers_of (due l id)) (acks_of (due l id)))
+        (appends s (acks_of (due l id)), tells l id)
 
   -- ---- an output and its workers
 
@@ -153,7 +193,8 @@ module _ (L : Layers) where
     c ← found x.chunk NotNow
     refuse_if (is_loaded (loaded s) c.number) NotNow
     refuse_if (is_down s) NotUp
-    Goes (answer.Frame (frame_of name o c)) (with_session x (loads s c.number (frame_of name o c) now))
+    Goes (answer.Frame (frame_of name o c))
+        (with_session x (loads s c.number (frame_of name o c) now))
 
   -- a session's link took some of the bytes that wait to be sent
   abbrev pub wrote : ℕ → Session → Outcome Session
@@ -186,11 +227,14 @@ module _ (L : Layers) where
   step r (event.Piece id bytes) = at_source r id (λ s. piece s bytes)
   step r (event.Admit id o now) = at_both r id o (admit (routes r) id o now)
   step r (event.Flush o now kind) = at_lane r o (λ l. flush l now kind)
-  step r (event.Up o w server salt now) = at_lane r o (λ l. at_worker l w (up (config l).servers server now))
+  step r (event.Up o w server salt now) =
+      at_lane r o (λ l. at_worker l w (up (config l).servers server now))
   step r (event.Take o w now) = at_lane r o (λ l. take l w now)
   step r (event.Load o w now) = at_lane r o (λ l. at_worker l w (load (run r) o now))
-  step r (event.Wrote o w count) = at_lane r o (λ l. at_worker l w (λ x. at_session x (wrote count)))
-  step r (event.Heard o w bytes) = at_lane r o (λ l. at_worker l w (λ x. at_session x (heard (run r) o bytes)))
+  step r (event.Wrote o w count) =
+      at_lane r o (λ l. at_worker l w (λ x. at_session x (wrote count)))
+  step r (event.Heard o w bytes) =
+      at_lane r o (λ l. at_worker l w (λ x. at_session x (heard (run r) o bytes)))
   step r (event.Settle o w) = at_lane r o (λ l. settle l w)
   step r (event.Collect id o) = at_both r id o (collect id)
   step r (event.Drained id count) = at_source r id (λ s. drained s count)

@@ -2,7 +2,8 @@ use crate::fault::{Refusal, SessionFault};
 use fwd_msgpack::{Bytes, Seq};
 use fwd_source::SourceFault;
 
-/// What the relay answers to an event. `out` is what the event appended to the bytes that wait to be sent.
+/// What the relay answers to an event. `out` is what the event appended to the bytes that wait to
+/// be sent.
 #[derive(Debug, Drop)]
 pub enum Answer {
     /// The connection stands. Where a shared key is set, its HELO waits to be sent.
@@ -25,8 +26,8 @@ pub enum Answer {
         request: u64,
         entries: usize,
     },
-    /// No output's pattern matches the tag of the connection's first waiting request. The connection is closed without
-    /// an answer to its source.
+    /// No output's pattern matches the tag of the connection's first waiting request. The
+    /// connection is closed without an answer to its source.
     NoRoute,
     /// The output has no numbers left. The connection is closed without an answer to its source.
     NumbersSpent,
@@ -61,7 +62,8 @@ pub enum Answer {
     Settled {
         entries: usize,
     },
-    /// The connection's requests of these numbers are told that all their entries were acknowledged.
+    /// The connection's requests of these numbers are told that all their entries were
+    /// acknowledged.
     Told {
         requests: Seq<u64>,
         out: Bytes,

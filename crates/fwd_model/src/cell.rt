@@ -28,8 +28,8 @@ pub struct Chunk {
     pub entries: Seq<Bytes>,
 }
 
-/// A run of a request's entries in one chunk: `count` of them, the first of which is the chunk's entry at place
-/// `from`, counted from 0.
+/// A run of a request's entries in one chunk: `count` of them, the first of which is the chunk's
+/// entry at place `from`, counted from 0.
 #[derive(Clone, Copy, Debug, PartialEq, Eq)]
 pub struct Span {
     pub number: u64,
@@ -37,7 +37,8 @@ pub struct Span {
     pub count: u64,
 }
 
-/// A request that an output entered: where its entries went, and what its acknowledgement is to carry.
+/// A request that an output entered: where its entries went, and what its acknowledgement is to
+/// carry.
 #[derive(Debug, Drop)]
 pub struct Entered {
     pub origin: Origin,

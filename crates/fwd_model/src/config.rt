@@ -18,7 +18,8 @@ pub struct OutputConfig {
 pub struct Config {
     /// Six bytes that tell this run of the program from others, in the names of its chunks.
     pub run: [u8; 6],
-    /// The pattern of each output, in file order. An event goes to the first output whose pattern matches its tag.
+    /// The pattern of each output, in file order. An event goes to the first output whose pattern
+    /// matches its tag.
     pub routes: Routes,
     /// What a source has to prove, and the name under which the relay answers it.
     pub security: Security,

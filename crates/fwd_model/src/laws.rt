@@ -46,8 +46,8 @@ ghost use Rattle.fwd_model.specs.History.{History, Lane, histories, source_at, I
 ghost use Rattle.fwd_model.specs.Delivered.{IsTold, IsToldAmong, IsDelivered, reached};
 ghost use Rattle.fwd_model.specs.Live.{LiveRelay, live, lives};
 
-/// The live part is enough: from a history that a run reaches, what an event comes to, seen in its live part, is what it
-/// comes to at the history's live part.
+/// The live part is enough: from a history that a run reaches, what an event comes to, seen in
+/// its live part, is what it comes to at the history's live part.
 pub fn live_follows()
     ensures { (config : Config) (h : History) (e : Event) → IsReached config h →
         within live (step histories h e) ≡ step lives (live h) e }
@@ -63,13 +63,16 @@ pub fn live_run_follows()
 
 /// An event that is refused leaves the history as it was, and the live part too.
 pub fn refusal_changes_nothing()
-    ensures history { (h : History) (e : Event) → is_refusal (answer_of (step histories h e)) ≡ true →
+    ensures history { (h : History) (e : Event)
+        → is_refusal (answer_of (step histories h e)) ≡ true →
         state_of h (step histories h e) ≡ h }
-    ensures live { (r : LiveRelay) (e : Event) → is_refusal (answer_of (step lives r e)) ≡ true →
+    ensures live { (r : LiveRelay) (e : Event)
+        → is_refusal (answer_of (step lives r e)) ≡ true →
         state_of r (step lives r e) ≡ r }
 {}
 
-/// What a server's bytes say where a name is awaited, and what is left of them, by what stands at their front.
+/// What a server's bytes say where a name is awaited, and what is left of them, by what stands at
+/// their front.
 pub fn replies_by_front()
     ensures whole { (awaited : Option (List ℕ)) (bytes : List ℕ) (used : ℕ) →
         first_of 65536 64 bytes ≡ Whole used →
@@ -78,28 +81,33 @@ pub fn replies_by_front()
         (replies_in None (reply_stream (drop used bytes))) }
     ensures behind { (bytes : List ℕ) (used : ℕ) → first_of 65536 64 bytes ≡ Whole used →
         rest_of (reply_stream bytes) ≡ rest_of (reply_stream (drop used bytes)) }
-    ensures short { (awaited : Option (List ℕ)) (bytes : List ℕ) → first_of 65536 64 bytes ≡ Short →
+    ensures short { (awaited : Option (List ℕ)) (bytes : List ℕ)
+        → first_of 65536 64 bytes ≡ Short →
         replies_in awaited (reply_stream bytes) ≡ silence }
-    ensures rest { (bytes : List ℕ) → first_of 65536 64 bytes ≡ Short → rest_of (reply_stream bytes) ≡ bytes }
+    ensures rest { (bytes : List ℕ) → first_of 65536 64 bytes ≡ Short
+        → rest_of (reply_stream bytes) ≡ bytes }
     ensures bad { (awaited : Option (List ℕ)) (bytes : List ℕ) (fault : ScanFault) →
-        first_of 65536 64 bytes ≡ Bad fault → replies_in awaited (reply_stream bytes) ≡ failing BadReply }
+        first_of 65536 64 bytes ≡ Bad fault
+        → replies_in awaited (reply_stream bytes) ≡ failing BadReply }
 {}
 
-/// Whoever is told was delivered: where a connection was told, among any list of events, that a request of its was
-/// acknowledged, the events before had delivered that request.
+/// Whoever is told was delivered: where a connection was told, among any list of events, that a
+/// request of its was acknowledged, the events before had delivered that request.
 pub fn told_is_delivered()
     ensures { (config : Config) (es : List Event) (id r o : ℕ) (t : IsTold config es id r o) →
         IsDelivered config t.before id r o }
 {}
 
-/// The same of the answers to further events: whoever is told among them was delivered, by what came before.
+/// The same of the answers to further events: whoever is told among them was delivered, by what
+/// came before.
 pub fn told_among_is_delivered()
     ensures { (config : Config) (es events : List Event) (id r o : ℕ)
         (t : IsToldAmong events (answers histories (reached config es) events) id r o) →
         IsDelivered config (es ++ t.before) id r o }
 {}
 
-/// The number that a worker takes is free, and no free number is below it; where it takes none, no number is free.
+/// The number that a worker takes is free, and no free number is below it; where it takes none,
+/// no number is free.
 pub fn taken_is_least()
     ensures some { (b : BufferHistory) (k : ℕ) → free_number b ≡ Some k →
         IsFree b k × ((j : ℕ) → IsFree b j → k ≤ j) }
@@ -109,7 +117,8 @@ pub fn taken_is_least()
 /// A request that a run has marked as told was told by a collect of that run, to its connection.
 pub fn marked_is_told()
     ensures { (config : Config) (es : List Event) (o i : ℕ) (l : Lane) (a : Admission) →
-        slice_get (reached config es).lanes o ≡ Some l → slice_get l.output.book i ≡ Some a → a.told ≡ true →
+        slice_get (reached config es).lanes o ≡ Some l → slice_get l.output.book i ≡ Some a
+        → a.told ≡ true →
         IsTold config es a.request.origin.conn a.request.origin.request o }
 {}
 
@@ -117,29 +126,38 @@ pub fn marked_is_told()
 pub fn told_without_entries()
     ensures { (h : History) (o i : ℕ) (s : SourceHistory) (l : Lane) (a : Admission) →
         source_at a.request.origin.conn h.connections ≡ Some s → s.shut ≡ false →
-        slice_get h.lanes o ≡ Some l → slice_get l.output.book i ≡ Some a → a.told ≡ false →
+        slice_get h.lanes o ≡ Some l → slice_get l.output.book i ≡ Some a
+        → a.told ≡ false →
         a.request.spans ≡ [] → (numbers out : List ℕ)
-        × (answer_of (step histories h (event.Collect a.request.origin.conn o)) ≡ answer.Told numbers out)
+        × (answer_of (step histories h (event.Collect a.request.origin.conn o))
+        ≡ answer.Told numbers out)
         × (has_number a.request.origin.request numbers ≡ true) }
 {}
 
 /// What is heard before the link took the frame's last byte settles nothing.
 pub fn early_reply_settles_nothing()
     ensures { (h : History) (o w : ℕ) (bytes : List ℕ) (l : Lane) (s : SessionHistory) →
-        slice_get h.lanes o ≡ Some l → slice_get l.sessions w ≡ Some (Some s) → s.accepted ≡ false →
+        slice_get h.lanes o ≡ Some l → slice_get l.sessions w ≡ Some (Some s)
+        → s.accepted ≡ false →
         is_handed_on s ≡ false →
-        answer_of (step histories (state_of h (step histories h (event.Heard o w bytes))) (event.Settle o w))
+        answer_of
+        (step histories (state_of h (step histories h (event.Heard o w bytes)))
+        (event.Settle o w))
         ≡ answer.Refused NotNow }
 {}
 
-/// An acknowledgement that was accepted before a fault in the same piece stands: the fault is answered, and the chunk can
-/// be settled.
+/// An acknowledgement that was accepted before a fault in the same piece stands: the fault is
+/// answered, and the chunk can be settled.
 pub fn acknowledgement_before_fault_stands()
-    ensures { (h : History) (o w k : ℕ) (bytes : List ℕ) (l : Lane) (s : SessionHistory) (f : SessionFault) →
-        slice_get h.lanes o ≡ Some l → slice_get l.sessions w ≡ Some (Some s) → s.down ≡ false →
+    ensures { (h : History) (o w k : ℕ) (bytes : List ℕ) (l : Lane) (s : SessionHistory)
+        (f : SessionFault) →
+        slice_get h.lanes o ≡ Some l → slice_get l.sessions w ≡ Some (Some s)
+        → s.down ≡ false →
         s.loaded ≡ Some k → (replies_to s h.run o bytes).accepted ≡ true →
         (replies_to s h.run o bytes).fault ≡ Some f →
         (answer_of (step histories h (event.Heard o w bytes)) ≡ answer.SessionFaulted f)
-        × (answer_of (step histories (state_of h (step histories h (event.Heard o w bytes))) (event.Settle o w))
+        × (answer_of
+        (step histories (state_of h (step histories h (event.Heard o w bytes)))
+        (event.Settle o w))
         ≡ answer.Settled (length (cells_at k l.output.buffer.cells))) }
 {}

@@ -1,5 +1,5 @@
-//! The abstract relay: what a reader has to believe. Events and answers, the history that keeps everything,
-//! its step, its live part, and the laws between them.
+//! The abstract relay: what a reader has to believe. Events and answers, the history that keeps
+//! everything, its step, its live part, and the laws between them.
 #![tactic(auto)]
 
 mod answer;
