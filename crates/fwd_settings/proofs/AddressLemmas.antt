@@ -12,50 +12,63 @@ use Rattle.std.proofs.NetLemmas.Sockets.{read_socket_v4_complete, read_socket_v4
 use Rattle.fwd_settings.specs.Addresses.{v4_from, v6_from, socket_of}
 
 -- a whole reading ends with the text
-whole_none : {A : Type 0} (read : Read A) (value : A) → whole_value read ≡ Some value → read ≡ Some (value, [])
+whole_none : {A : Type 0} (read : Read A) (value : A) → whole_value read ≡ Some value
+    → read ≡ Some (value, [])
 whole_none None value h = cc
 whole_none (Some (found, [])) value h = cc
 whole_none (Some (found, byte ∷ rest)) value h =
     let longer : whole_value (Some (found, byte ∷ rest)) ≡ None = rw (ne_eqb (length (byte ∷ rest)) 0 (omega arith)) in
     cc
 
-v4_text : (text : List ℕ) (address : SocketAddrV4) → whole_value (read_socket_v4 text) ≡ Some (v4_parts address) → IsSocketV4Text text address
+v4_text : (text : List ℕ) (address : SocketAddrV4)
+    → whole_value (read_socket_v4 text) ≡ Some (v4_parts address)
+    → IsSocketV4Text text address
 v4_text text address h =
     let (front, split, spelled) = read_socket_v4_sound text [] address (whole_none _ _ h) in
     subst (λ t. IsSocketV4Text t address) (sym (split ∙ append-nil front)) spelled
 
-v6_text : (text : List ℕ) (address : SocketAddrV6) → whole_value (read_socket_v6 text) ≡ Some (v6_parts address) → IsSocketV6Text text address
+v6_text : (text : List ℕ) (address : SocketAddrV6)
+    → whole_value (read_socket_v6 text) ≡ Some (v6_parts address)
+    → IsSocketV6Text text address
 v6_text text address h =
     let (front, split, spelled) = read_socket_v6_sound text [] address (whole_none _ _ h) in
     subst (λ t. IsSocketV6Text t address) (sym (split ∙ append-nil front)) spelled
 
-read_v4 : (text : List ℕ) (address : SocketAddrV4) → IsSocketV4Text text address → whole_value (read_socket_v4 text) ≡ Some (v4_parts address)
+read_v4 : (text : List ℕ) (address : SocketAddrV4) → IsSocketV4Text text address
+    → whole_value (read_socket_v4 text) ≡ Some (v4_parts address)
 read_v4 text address h = rw (read_socket_v4_complete text address h)
 
-read_v6 : (text : List ℕ) (address : SocketAddrV6) → IsSocketV6Text text address → whole_value (read_socket_v6 text) ≡ Some (v6_parts address)
+read_v6 : (text : List ℕ) (address : SocketAddrV6) → IsSocketV6Text text address
+    → whole_value (read_socket_v6 text) ≡ Some (v6_parts address)
 read_v6 text address h = rw (read_socket_v6_complete text address h)
 
 -- a text of an IPv6 address is none of an IPv4 address
-no_v4 : (text : List ℕ) (address : SocketAddrV6) → IsSocketV6Text text address → (read : Option (List ℕ × ℕ)) → whole_value (read_socket_v4 text) ≡ read → read ≡ None
+no_v4 : (text : List ℕ) (address : SocketAddrV6) → IsSocketV6Text text address
+    → (read : Option (List ℕ × ℕ)) → whole_value (read_socket_v4 text) ≡ read
+    → read ≡ None
 no_v4 text address h None same = refl
 no_v4 text address h (Some parts) same =
     let other : SocketAddrV4 = record { ip = record { octets = parts.0 }; port = parts.1 } in
     absurd (IsSocketV4Text-not_v6 text other address (v4_text text other same) h)
 
 -- the text of an address is read as the address
-pub socket_read : (text : List ℕ) (address : SocketAddr) → IsSocketText text address → socket_of text ≡ Some address
+pub socket_read : (text : List ℕ) (address : SocketAddr) → IsSocketText text address
+    → socket_of text ≡ Some address
 unfolding socket_of
 socket_read text (V4 address) h = rw (read_v4 text address h)
 socket_read text (V6 address) h = rw (no_v4 text address h _ refl, read_v6 text address h)
 
-from_v6 : (text : List ℕ) (address : SocketAddr) (read : Option (List ℕ × ℕ × ℕ × ℕ)) → whole_value (read_socket_v6 text) ≡ read → option_map v6_from read ≡ Some address → IsSocketText text address
+from_v6 : (text : List ℕ) (address : SocketAddr) (read : Option (List ℕ × ℕ × ℕ × ℕ))
+    → whole_value (read_socket_v6 text) ≡ read → option_map v6_from read ≡ Some address
+    → IsSocketText text address
 from_v6 text address None same h = cc
 from_v6 text address (Some parts) same h =
     let other : SocketAddrV6 = record { ip = record { segments = parts.0 }; port = parts.1; flowinfo = parts.2; scope_id = parts.3 } in
     let spelled : V6 other ≡ address = cc in
     subst (IsSocketText text) spelled (v6_text text other same)
 
-from_either : (text : List ℕ) (address : SocketAddr) (read : Option (List ℕ × ℕ)) → whole_value (read_socket_v4 text) ≡ read
+from_either : (text : List ℕ) (address : SocketAddr) (read : Option (List ℕ × ℕ))
+    → whole_value (read_socket_v4 text) ≡ read
     → option_or (option_map v4_from read) (option_map v6_from (whole_value (read_socket_v6 text))) ≡ Some address → IsSocketText text address
 from_either text address None same h = from_v6 text address _ refl h
 from_either text address (Some parts) same h =
@@ -64,15 +77,18 @@ from_either text address (Some parts) same h =
     subst (IsSocketText text) spelled (v4_text text other same)
 
 -- what is read as an address is a text of it
-pub socket_spelled : (text : List ℕ) (address : SocketAddr) → socket_of text ≡ Some address → IsSocketText text address
+pub socket_spelled : (text : List ℕ) (address : SocketAddr) → socket_of text ≡ Some address
+    → IsSocketText text address
 unfolding socket_of
 socket_spelled text address h = from_either text address _ refl h
 
-not_read : (text : List ℕ) (read : Option SocketAddr) → socket_of text ≡ read → ((address : SocketAddr) → ¬ (IsSocketText text address)) → read ≡ None
+not_read : (text : List ℕ) (read : Option SocketAddr) → socket_of text ≡ read
+    → ((address : SocketAddr) → ¬ (IsSocketText text address)) → read ≡ None
 not_read text None same none = refl
 not_read text (Some address) same none = absurd (none address (socket_spelled text address same))
 
 -- what std parses
-pub parsed_socket : {E : Type 0} (text : List ℕ) (parsed : Result SocketAddr E) → Parses IsSocketText text parsed → result_ok parsed ≡ socket_of text
+pub parsed_socket : {E : Type 0} (text : List ℕ) (parsed : Result SocketAddr E)
+    → Parses IsSocketText text parsed → result_ok parsed ≡ socket_of text
 parsed_socket text (Ok address) h = sym (socket_read text address h)
 parsed_socket text (Err error) h = sym (not_read text _ refl h)

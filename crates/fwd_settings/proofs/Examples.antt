@@ -44,11 +44,13 @@ no_digit : digits_flaw 2 (string (codes "aBCg")) ≡ Some OutOfRange
 unfolding decode_pairs
 no_digit = refl
 
-an_address : address_of_text (codes "10.0.0.1:80") ≡ Some (v4_from (10 ∷ 0 ∷ 0 ∷ 1 ∷ [], 80))
+an_address : address_of_text (codes "10.0.0.1:80")
+    ≡ Some (v4_from (10 ∷ 0 ∷ 0 ∷ 1 ∷ [], 80))
 unfolding address_of_text socket_of read_socket_v4 read_ipv4 read_octet read_number read_port
 an_address = refl
 
-a_long_address : address_of_text (codes "[::1]:80") ≡ Some (v6_from (0 ∷ 0 ∷ 0 ∷ 0 ∷ 0 ∷ 0 ∷ 0 ∷ 1 ∷ [], 80, 0, 0))
+a_long_address : address_of_text (codes "[::1]:80")
+    ≡ Some (v6_from (0 ∷ 0 ∷ 0 ∷ 0 ∷ 0 ∷ 0 ∷ 0 ∷ 1 ∷ [], 80, 0, 0))
 unfolding address_of_text socket_of read_socket_v4 read_socket_v6 read_ipv4 read_ipv6 read_segments read_segment read_octet read_number read_port read_scope_id
 a_long_address = refl
 
@@ -72,24 +74,29 @@ a_short_wait : setting_at no_members (retry_max no_members) ≡ 60000
 unfolding setting_at number_key
 a_short_wait = refl
 
-a_long_wait : setting_at no_members (retry_max (member (codes "retry_wait") (integer (pos 60001)) no_members)) ≡ 60001
+a_long_wait : setting_at no_members
+    (retry_max (member (codes "retry_wait") (integer (pos 60001)) no_members)) ≡ 60001
 unfolding setting_at number_key
 a_long_wait = refl
 
-below_the_wait : fault_at (Output 0) (member (codes "retry_max") (integer (pos 999)) no_members) (retry_max no_members) ≡ Some (faults.OutOfRange (codes "output[0].retry_max"))
+below_the_wait : fault_at (Output 0) (member (codes "retry_max") (integer (pos 999)) no_members)
+    (retry_max no_members) ≡ Some (faults.OutOfRange (codes "output[0].retry_max"))
 unfolding fault_at setting_at number_key digits
 below_the_wait = refl
 
 -- the address is judged before the flag
-first_the_address : server_fault 0 1 (table (member (codes "standby") (integer (pos 1)) no_members)) ≡ Some (faults.Missing (codes "output[0].server[1].address"))
+first_the_address : server_fault 0 1 (table (member (codes "standby") (integer (pos 1)) no_members))
+    ≡ Some (faults.Missing (codes "output[0].server[1].address"))
 unfolding fault_at required_address_key digits
 first_the_address = refl
 
-no_server : server_fault 0 1 (integer (pos 1)) ≡ Some (faults.WrongKind (codes "output[0].server[1]"))
+no_server : server_fault 0 1 (integer (pos 1))
+    ≡ Some (faults.WrongKind (codes "output[0].server[1]"))
 unfolding digits
 no_server = refl
 
 -- the least key by its bytes, not by its number
-least_by_bytes : least (codes "output[1].b" ∷ codes "output[12].z" ∷ codes "output[2].a" ∷ []) ≡ Some (codes "output[12].z")
+least_by_bytes : least (codes "output[1].b" ∷ codes "output[12].z" ∷ codes "output[2].a" ∷ [])
+    ≡ Some (codes "output[12].z")
 unfolding least
 least_by_bytes = refl

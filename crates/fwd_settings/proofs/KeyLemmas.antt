@@ -5,7 +5,8 @@ use Rattle.fwd_settings.specs.declared.place.Place.{Place}
 use Rattle.fwd_settings.specs.declared.place.Place.TheVariants.{Root, Relay, User, Output, Server}
 use Rattle.fwd_settings.specs.Faults.{own_key, key_under}
 
-pub key_inside : (place : Place) (name : List ℕ) → place ≢ Root → key_under place name ≡ own_key place ++ (codes "." ++ name)
+pub key_inside : (place : Place) (name : List ℕ) → place ≢ Root
+    → key_under place name ≡ own_key place ++ (codes "." ++ name)
 key_inside Root name inside = absurd (inside refl)
 key_inside Relay name inside = refl
 key_inside (User user) name inside = refl

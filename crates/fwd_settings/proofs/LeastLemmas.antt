@@ -7,6 +7,7 @@ use Rattle.std.specs.Cmp.Lexicographic.{slice_cmp}
 use Rattle.std.proofs.lemmas.Cmp.{nat_list_cmp_total}
 use Rattle.std.proofs.lemmas.Map.Lookups.{exact_bytes}
 use Rattle.fwd_settings.specs.Unknown.{is_less, is_least, least}
+use Rattle.fwd_settings.proofs.ListLemmas.{each_more}
 
 -- ---- the order of keys
 
@@ -15,7 +16,8 @@ less_is Less h = refl
 less_is Equal h = absurd cc
 less_is Greater h = absurd cc
 
-neither : (o p : Ordering) → o ≡ ordering_reverse p → is_lt o ≡ false → is_lt p ≡ false → o ≡ Equal
+neither : (o p : Ordering) → o ≡ ordering_reverse p → is_lt o ≡ false → is_lt p ≡ false
+    → o ≡ Equal
 neither Less p e h g = absurd cc
 neither Equal p e h g = refl
 neither Greater Less e h g = absurd cc
@@ -30,7 +32,8 @@ own Greater e = refl
 irreflexive : (x : List ℕ) → is_less x x ≡ false
 irreflexive x = own (slice_cmp nat_cmp x x) (nat_list_cmp_total.antisymm x x)
 
-transitive : (x y z : List ℕ) → is_less x y ≡ true → is_less y z ≡ true → is_less x z ≡ true
+transitive : (x y z : List ℕ) → is_less x y ≡ true → is_less y z ≡ true
+    → is_less x z ≡ true
 transitive x y z h g =
     ap is_lt (nat_list_cmp_total.trans x y z (less_is (slice_cmp nat_cmp x y) h) (less_is (slice_cmp nat_cmp y z) g))
 
@@ -50,7 +53,8 @@ covers true b c h = refl
 covers false false c h = refl
 covers false true c h = absurd (true≢false (sym (h refl)))
 
-passed : {A : Type 0} (a b : Bool) (x y z : A) → (b ≡ true → a ≡ true) → cond a x (cond b y z) ≡ cond a x z
+passed : {A : Type 0} (a b : Bool) (x y z : A) → (b ≡ true → a ≡ true)
+    → cond a x (cond b y z) ≡ cond a x z
 passed true b x y z h = refl
 passed false false x y z h = refl
 passed false true x y z h = absurd (true≢false (sym (h refl)))
@@ -108,11 +112,13 @@ module _ (a b : List ℕ) (rest : List (List ℕ)) (h : is_less b a ≡ false) w
       ∙ passed (is_least (a ∷ rest) a) (is_least (a ∷ rest) b) (Some a) (Some b) (find (is_least (a ∷ rest)) rest) least_twice
 
 -- the least of two keys and more is the least of the lesser and more
-pub lesser_second : (a b : List ℕ) (rest : List (List ℕ)) → is_less b a ≡ true → least (a ∷ b ∷ rest) ≡ least (b ∷ rest)
+pub lesser_second : (a b : List ℕ) (rest : List (List ℕ)) → is_less b a ≡ true
+    → least (a ∷ b ∷ rest) ≡ least (b ∷ rest)
 unfolding least
 lesser_second a b rest h = second_least a b rest h
 
-pub lesser_first : (a b : List ℕ) (rest : List (List ℕ)) → is_less b a ≡ false → least (a ∷ b ∷ rest) ≡ least (a ∷ rest)
+pub lesser_first : (a b : List ℕ) (rest : List (List ℕ)) → is_less b a ≡ false
+    → least (a ∷ b ∷ rest) ≡ least (a ∷ rest)
 unfolding least
 lesser_first a b rest h = first_least a b rest h
 
@@ -124,7 +130,8 @@ least_none : least [] ≡ None
 unfolding least
 least_none = refl
 
-least_from : (a : List ℕ) (keys more : List (List ℕ)) → least (a ∷ keys ++ more) ≡ least (cons_option (least (a ∷ keys)) more)
+least_from : (a : List ℕ) (keys more : List (List ℕ))
+    → least (a ∷ keys ++ more) ≡ least (cons_option (least (a ∷ keys)) more)
 least_from a [] more = sym (ap (λ found. least (cons_option found more)) (least_one a))
 least_from a (b ∷ keys) more = by (least_from a keys more) (least_from b keys more) (is_less b a) refl
   where
@@ -137,7 +144,8 @@ least_from a (b ∷ keys) more = by (least_from a keys more) (least_from b keys 
         lesser_first a b (keys ++ more) h ∙ first ∙ sym (ap (λ found. least (cons_option found more)) (lesser_first a b keys h))
 
 -- the least of some keys and more is the least of the least and more
-pub least_append : (keys more : List (List ℕ)) → least (keys ++ more) ≡ least (cons_option (least keys) more)
+pub least_append : (keys more : List (List ℕ))
+    → least (keys ++ more) ≡ least (cons_option (least keys) more)
 least_append [] more = ap (λ found. least (cons_option found more)) (sym least_none)
 least_append (a ∷ keys) more = least_from a keys more
 
@@ -155,3 +163,10 @@ least_alone (Some a) = least_one a
 pub least_more : (found : Option (List ℕ)) (key lesser : List ℕ) (more : List (List ℕ))
     → least (cons_option found (key ∷ [])) ≡ Some lesser → least (cons_option found (key ∷ more)) ≡ least (lesser ∷ more)
 least_more found key lesser more h = least_onward found (key ∷ []) more ∙ ap (λ known. least (cons_option known more)) h
+
+-- what a look at one more key, or at more keys, needs
+pub ruleset lesser_steps = (least_one, lesser_first, lesser_second)
+
+pub ruleset onward_steps = (least_alone, least_onward)
+
+pub ruleset each_steps = (each_more, least_alone, least_onward)

@@ -17,7 +17,8 @@ data_in_items (value ∷ more) = ap (λ t. value ∷ t) (data_in_items more)
 viewed : (values : List Value) → data_in (items_view values) ≡ map view values
 viewed values = data_in_items (map view values)
 
-pub array_seen : (value : Data) (values : List Value) → as_array value ≡ Some (items_view values) → list_of value ≡ Some (map view values)
+pub array_seen : (value : Data) (values : List Value)
+    → as_array value ≡ Some (items_view values) → list_of value ≡ Some (map view values)
 array_seen (array items) values h = let same : items ≡ items_view values = cc in rw same (ap Some (viewed values))
 array_seen (string text) values h = cc
 array_seen (integer n) values h = cc
@@ -40,16 +41,19 @@ viewed_length [] = refl
 viewed_length (value ∷ more) = ap (λ n. suc n) (viewed_length more)
 
 -- one member more of a list whose members are visited in turn
-pub each_more : {A : Type 0} (test : ℕ → Data → A) (values : List Value) (i : ℕ) (v : Value) → i < length values
+pub each_more : {A : Type 0} (test : ℕ → Data → A) (values : List Value) (i : ℕ) (v : Value)
+    → i < length values
     → each test i (map view (drop i values)) ≡ test i (view (get_or values i v)) ∷ each test (i + 1) (map view (drop (i + 1) values))
 each_more test values i v h = rw (drop_more values i v h)
 
-pub map_more : {A : Type 0} (shown : Data → A) (values : List Value) (i : ℕ) (v : Value) → i < length values
+pub map_more : {A : Type 0} (shown : Data → A) (values : List Value) (i : ℕ) (v : Value)
+    → i < length values
     → map shown (map view (take (i + 1) values)) ≡ map shown (map view (take i values)) ++ shown (view (get_or values i v)) ∷ []
 map_more shown values i v h = simp (take_more values i v h, map-append)
 
 -- a value that is a table
-pub table_seen : (value : Data) (shown : Members) → as_table value ≡ Some shown → value ≡ table shown
+pub table_seen : (value : Data) (shown : Members) → as_table value ≡ Some shown
+    → value ≡ table shown
 table_seen (table inside) shown h = cc
 table_seen (array items) shown h = cc
 table_seen (string text) shown h = cc
@@ -68,5 +72,7 @@ no_table (float x) h = refl
 no_table (boolean b) h = refl
 no_table (datetime d) h = refl
 
-pub all_viewed : (values : List Value) → list_all is_standby (map view values) ≡ list_all (λ value. is_standby (view value)) values
+pub all_viewed : (values : List Value)
+    → list_all is_standby (map view values)
+    ≡ list_all (λ value. is_standby (view value)) values
 all_viewed values = list_all-map is_standby view values

@@ -23,16 +23,19 @@ unmapped : {A B : Type 0} (f : A → B) (x : Option A) → option_map f x ≡ No
 unmapped f None h = refl
 unmapped f (Some a) h = absurd cc
 
-no_flaw : {A : Type 0} (place : Place) (members : Members) (key : Key A) → fault_at place members key ≡ None → key.flaw (get_member key.name members) ≡ None
+no_flaw : {A : Type 0} (place : Place) (members : Members) (key : Key A)
+    → fault_at place members key ≡ None → key.flaw (get_member key.name members) ≡ None
 unfolding fault_at
 no_flaw place members key h = unmapped (λ flaw. fault_with flaw (key_under place key.name)) (key.flaw (get_member key.name members)) h
 
-first_none : (x : Option SettingsFault) (xs : List (Option SettingsFault)) → first (x ∷ xs) ≡ None → (x ≡ None) × (first xs ≡ None)
+first_none : (x : Option SettingsFault) (xs : List (Option SettingsFault))
+    → first (x ∷ xs) ≡ None → (x ≡ None) × (first xs ≡ None)
 first_none None xs h = (refl, h)
 first_none (Some fault) xs h = absurd cc
 
 -- where there is no first fault there is none at all
-none_at : (xs : List (Option SettingsFault)) (i : ℕ) (x : Option SettingsFault) → first xs ≡ None → slice_get xs i ≡ Some x → x ≡ None
+none_at : (xs : List (Option SettingsFault)) (i : ℕ) (x : Option SettingsFault)
+    → first xs ≡ None → slice_get xs i ≡ Some x → x ≡ None
 none_at [] i x h e = absurd cc
 none_at (y ∷ ys) zero x h e = let same : y ≡ x = cc in sym same ∙ (first_none y ys h).0
 none_at (y ∷ ys) (suc i) x h e = none_at ys i x (first_none y ys h).1 e
@@ -43,7 +46,9 @@ within false h = absurd cc
 
 -- ---- the kinds
 
-number_given : (least most default : ℕ) (value : Option Data) → is_within least most default ≡ true → optional (number_flaw least most) value ≡ None → is_within least most (given number_of default value) ≡ true
+number_given : (least most default : ℕ) (value : Option Data)
+    → is_within least most default ≡ true → optional (number_flaw least most) value ≡ None
+    → is_within least most (given number_of default value) ≡ true
 number_given least most default None d h = d
 number_given least most default (Some (integer (pos n))) d h = within (is_within least most n) h
 number_given least most default (Some (integer (negsuc n))) d h = absurd cc
@@ -54,12 +59,16 @@ number_given least most default (Some (datetime x)) d h = absurd cc
 number_given least most default (Some (array x)) d h = absurd cc
 number_given least most default (Some (table x)) d h = absurd cc
 
-number_within : (place : Place) (members : Members) (name : List ℕ) (least most default : ℕ) → is_within least most default ≡ true → fault_at place members (number_key name least most default) ≡ None
+number_within : (place : Place) (members : Members) (name : List ℕ) (least most default : ℕ)
+    → is_within least most default ≡ true
+    → fault_at place members (number_key name least most default) ≡ None
     → is_within least most (setting_at members (number_key name least most default)) ≡ true
 unfolding setting_at number_key
 number_within place members name least most default d h = number_given least most default (get_member name members) d (no_flaw place members (number_key name least most default) h)
 
-text_given : (least most : ℕ) (default : List ℕ) (value : Option Data) → is_within least most (length default) ≡ true → optional (text_flaw least most) value ≡ None
+text_given : (least most : ℕ) (default : List ℕ) (value : Option Data)
+    → is_within least most (length default) ≡ true
+    → optional (text_flaw least most) value ≡ None
     → is_within least most (length (given as_str default value)) ≡ true
 text_given least most default None d h = d
 text_given least most default (Some (string x)) d h = within (is_within least most (length x)) h
@@ -70,12 +79,15 @@ text_given least most default (Some (datetime x)) d h = absurd cc
 text_given least most default (Some (array x)) d h = absurd cc
 text_given least most default (Some (table x)) d h = absurd cc
 
-text_within : (place : Place) (members : Members) (name : List ℕ) (least most : ℕ) (default : List ℕ) → is_within least most (length default) ≡ true → fault_at place members (text_key name least most default) ≡ None
+text_within : (place : Place) (members : Members) (name : List ℕ) (least most : ℕ)
+    (default : List ℕ) → is_within least most (length default) ≡ true
+    → fault_at place members (text_key name least most default) ≡ None
     → is_within least most (length (setting_at members (text_key name least most default))) ≡ true
 unfolding setting_at text_key
 text_within place members name least most default d h = text_given least most default (get_member name members) d (no_flaw place members (text_key name least most default) h)
 
-list_given : (most : ℕ) (value : Option Data) → required (list_flaw most) value ≡ None → is_within 1 most (length (given list_of [] value)) ≡ true
+list_given : (most : ℕ) (value : Option Data) → required (list_flaw most) value ≡ None
+    → is_within 1 most (length (given list_of [] value)) ≡ true
 list_given most None h = absurd cc
 list_given most (Some (array x)) h = within (is_within 1 most (length (Rattle.fwd_settings.specs.Kinds.data_in x))) h
 list_given most (Some (string x)) h = absurd cc
@@ -85,11 +97,14 @@ list_given most (Some (boolean x)) h = absurd cc
 list_given most (Some (datetime x)) h = absurd cc
 list_given most (Some (table x)) h = absurd cc
 
-list_within : (place : Place) (members : Members) (name : List ℕ) (most : ℕ) → fault_at place members (required_list_key name most) ≡ None → is_within 1 most (length (setting_at members (required_list_key name most))) ≡ true
+list_within : (place : Place) (members : Members) (name : List ℕ) (most : ℕ)
+    → fault_at place members (required_list_key name most) ≡ None
+    → is_within 1 most (length (setting_at members (required_list_key name most))) ≡ true
 unfolding setting_at required_list_key
 list_within place members name most h = list_given most (get_member name members) (no_flaw place members (required_list_key name most) h)
 
-key_given : (value : Option Data) → optional (text_flaw 1 1024) value ≡ None → key_in_range (option_and_then as_str value) ≡ true
+key_given : (value : Option Data) → optional (text_flaw 1 1024) value ≡ None
+    → key_in_range (option_and_then as_str value) ≡ true
 key_given None h = refl
 key_given (Some (string x)) h = within (is_within 1 1024 (length x)) h
 key_given (Some (integer x)) h = absurd cc
@@ -99,11 +114,14 @@ key_given (Some (datetime x)) h = absurd cc
 key_given (Some (array x)) h = absurd cc
 key_given (Some (table x)) h = absurd cc
 
-key_within : (members : Members) → fault_at Relay members shared_key ≡ None → key_in_range (setting_at members shared_key) ≡ true
+key_within : (members : Members) → fault_at Relay members shared_key ≡ None
+    → key_in_range (setting_at members shared_key) ≡ true
 unfolding setting_at optional_text_key
 key_within members h = key_given (get_member (codes "shared_key") members) (no_flaw Relay members shared_key h)
 
-required_given : (least most : ℕ) (value : Option Data) → required (text_flaw least most) value ≡ None → is_within least most (length (given as_str [] value)) ≡ true
+required_given : (least most : ℕ) (value : Option Data)
+    → required (text_flaw least most) value ≡ None
+    → is_within least most (length (given as_str [] value)) ≡ true
 required_given least most None h = absurd cc
 required_given least most (Some (string x)) h = within (is_within least most (length x)) h
 required_given least most (Some (integer x)) h = absurd cc
@@ -113,7 +131,8 @@ required_given least most (Some (datetime x)) h = absurd cc
 required_given least most (Some (array x)) h = absurd cc
 required_given least most (Some (table x)) h = absurd cc
 
-required_within : (place : Place) (members : Members) (name : List ℕ) (least most : ℕ) → fault_at place members (required_text_key name least most) ≡ None
+required_within : (place : Place) (members : Members) (name : List ℕ) (least most : ℕ)
+    → fault_at place members (required_text_key name least most) ≡ None
     → is_within least most (length (setting_at members (required_text_key name least most))) ≡ true
 unfolding setting_at required_text_key
 required_within place members name least most h = required_given least most (get_member name members) (no_flaw place members (required_text_key name least most) h)
@@ -127,11 +146,14 @@ second_true : (a b : Bool) → (a && b) ≡ true → b ≡ true
 second_true true b h = h
 second_true false b h = absurd cc
 
-have : (key : Option (List ℕ)) (values : List Data) → is_some key ≡ true → have_key key (map user_settings values) ≡ true
+have : (key : Option (List ℕ)) (values : List Data) → is_some key ≡ true
+    → have_key key (map user_settings values) ≡ true
 have key [] h = refl
 have key (value ∷ values) h = h
 
-allowed_given : (key : Option (List ℕ)) (value : Option Data) → optional (allowed_list_flaw (is_some key)) value ≡ None → have_key key (map user_settings (given list_of [] value)) ≡ true
+allowed_given : (key : Option (List ℕ)) (value : Option Data)
+    → optional (allowed_list_flaw (is_some key)) value ≡ None
+    → have_key key (map user_settings (given list_of [] value)) ≡ true
 allowed_given key None h = refl
 allowed_given key (Some (array x)) h =
     have key (data_in x) (second_true (nat_le 1 (length (data_in x))) (is_some key) (within (nat_le 1 (length (data_in x)) && is_some key) h))
@@ -142,7 +164,8 @@ allowed_given key (Some (boolean x)) h = absurd cc
 allowed_given key (Some (datetime x)) h = absurd cc
 allowed_given key (Some (table x)) h = absurd cc
 
-users_by : (members : Members) (key : Option (List ℕ)) → fault_at Relay members (optional_list_key (codes "user") (is_some key)) ≡ None
+users_by : (members : Members) (key : Option (List ℕ))
+    → fault_at Relay members (optional_list_key (codes "user") (is_some key)) ≡ None
     → have_key key (map user_settings (setting_at members (optional_list_key (codes "user") (is_some key)))) ≡ true
 unfolding setting_at optional_list_key
 users_by members key h = allowed_given key (get_member (codes "user") members) (no_flaw Relay members (optional_list_key (codes "user") (is_some key)) h)
@@ -151,7 +174,8 @@ users_allowed : (members : Members) → fault_at Relay members (users members) �
     → have_key (setting_at members shared_key) (map user_settings (setting_at members (users members))) ≡ true
 users_allowed members h = users_by members (setting_at members shared_key) h
 
-user_within : (user : ℕ) (value : Data) → user_fault user value ≡ None → user_in_range (user_settings value) ≡ true
+user_within : (user : ℕ) (value : Data) → user_fault user value ≡ None
+    → user_in_range (user_settings value) ≡ true
 user_within user (table members) h =
     both (is_within 1 255 (length (setting_at members user_name))) (is_within 1 255 (length (setting_at members user_password)))
     (required_within (User user) members (codes "name") 1 255 (none_at (user_table user members) 0 (fault_at (User user) members user_name) h refl))
@@ -163,7 +187,8 @@ user_within user (boolean x) h = absurd cc
 user_within user (datetime x) h = absurd cc
 user_within user (array x) h = absurd cc
 
-users_within : (n : ℕ) (values : List Data) → first (each user_fault n values) ≡ None → list_all user_in_range (map user_settings values) ≡ true
+users_within : (n : ℕ) (values : List Data) → first (each user_fault n values) ≡ None
+    → list_all user_in_range (map user_settings values) ≡ true
 users_within n [] h = refl
 users_within n (value ∷ values) h =
     let f = first_none (user_fault n value) (each user_fault (n + 1) values) h in
@@ -171,7 +196,8 @@ users_within n (value ∷ values) h =
 
 -- ---- the tables
 
-relay_within : (members : Members) → first (relay_table members) ≡ None → relay_in_range (relay_settings members) ≡ true
+relay_within : (members : Members) → first (relay_table members) ≡ None
+    → relay_in_range (relay_settings members) ≡ true
 relay_within members h =
     let name = text_within Relay members (codes "hostname") 1 255 (codes "relay") refl (none_at (relay_table members) 2 (fault_at Relay members relay_hostname) h refl) in
     let key = key_within members (none_at (relay_table members) 3 (fault_at Relay members shared_key) h refl) in
@@ -184,7 +210,8 @@ relay_within members h =
     (both (is_within 1 1024 r.connections) (list_all user_in_range r.users && have_key r.shared_key r.users) count
     (both (list_all user_in_range r.users) (have_key r.shared_key r.users) all allowed)))
 
-standby_none : (output : ℕ) (listed : List Data) → standby_fault output listed ≡ None → not (list_all (λ server. server.standby) (map server_settings listed)) ≡ true
+standby_none : (output : ℕ) (listed : List Data) → standby_fault output listed ≡ None
+    → not (list_all (λ server. server.standby) (map server_settings listed)) ≡ true
 standby_none output listed h =
     ap not (list_all-map (λ (server : ServerSettings). server.standby) server_settings listed) ∙ by (list_all is_standby listed) h
   where
@@ -192,7 +219,8 @@ standby_none output listed h =
     by true f = absurd cc
     by false f = refl
 
-greater_default : (wait : ℕ) → is_within 1 86400000 wait ≡ true → is_within wait 86400000 (max 60000 wait) ≡ true
+greater_default : (wait : ℕ) → is_within 1 86400000 wait ≡ true
+    → is_within wait 86400000 (max 60000 wait) ≡ true
 greater_default wait h = grind (arith, nat_tests, h)
 
 at_most : (least most n : ℕ) → is_within least most n ≡ true → nat_le n most ≡ true
@@ -235,7 +263,8 @@ module _ (output : ℕ) (members : Members) (h : first (output_table output memb
         usable,
       )
 
-output_within : (output : ℕ) (value : Data) → output_fault output value ≡ None → output_in_range (output_settings value) ≡ true
+output_within : (output : ℕ) (value : Data) → output_fault output value ≡ None
+    → output_in_range (output_settings value) ≡ true
 output_within output (table members) h = members_within output members h
 output_within output (string x) h = absurd cc
 output_within output (integer x) h = absurd cc
@@ -244,7 +273,8 @@ output_within output (boolean x) h = absurd cc
 output_within output (datetime x) h = absurd cc
 output_within output (array x) h = absurd cc
 
-outputs_within : (n : ℕ) (values : List Data) → first (each output_fault n values) ≡ None → list_all output_in_range (map output_settings values) ≡ true
+outputs_within : (n : ℕ) (values : List Data) → first (each output_fault n values) ≡ None
+    → list_all output_in_range (map output_settings values) ≡ true
 outputs_within n [] h = refl
 outputs_within n (value ∷ values) h =
     let f = first_none (output_fault n value) (each output_fault (n + 1) values) h in
@@ -252,7 +282,8 @@ outputs_within n (value ∷ values) h =
 
 -- ---- the whole text
 
-relay_here : (root : Members) → relay_fault (get_member (codes "relay") root) ≡ None → relay_in_range (relay_settings (table_in (codes "relay") root)) ≡ true
+relay_here : (root : Members) → relay_fault (get_member (codes "relay") root) ≡ None
+    → relay_in_range (relay_settings (table_in (codes "relay") root)) ≡ true
 relay_here root h = by (get_member (codes "relay") root) h
   where
     by : (value : Option Data) → relay_fault value ≡ None
@@ -266,7 +297,8 @@ relay_here root h = by (get_member (codes "relay") root) h
     by (Some (datetime x)) f = absurd cc
     by (Some (array x)) f = absurd cc
 
-root_within : (root : Members) → first (root_table root) ≡ None → in_range (root_settings root) ≡ true
+root_within : (root : Members) → first (root_table root) ≡ None
+    → in_range (root_settings root) ≡ true
 root_within root h =
     let relay = relay_here root (none_at (root_table root) 0 (relay_fault (get_member (codes "relay") root)) h refl) in
     let listed = list_within Root root (codes "output") 64 (none_at (root_table root) 1 (fault_at Root root outputs) h refl) in
@@ -275,13 +307,17 @@ root_within root h =
     both (relay_in_range (root_settings root).relay) (is_within 1 64 (length (root_settings root).outputs) && list_all output_in_range (root_settings root).outputs) relay
     (both (is_within 1 64 (length (root_settings root).outputs)) (list_all output_in_range (root_settings root).outputs) count all)
 
-judged_within : (fault : Option SettingsFault) (settings accepted : Settings) → (fault ≡ None → in_range settings ≡ true) → judged fault settings ≡ Ok accepted → in_range accepted ≡ true
+judged_within : (fault : Option SettingsFault) (settings accepted : Settings)
+    → (fault ≡ None → in_range settings ≡ true) → judged fault settings ≡ Ok accepted
+    → in_range accepted ≡ true
 judged_within None settings accepted h e = let same : settings ≡ accepted = cc in subst (λ s. in_range s ≡ true) same (h refl)
 judged_within (Some fault) settings accepted h e = absurd cc
 
-document_within : (document : Option Members) (accepted : Settings) → of_document document ≡ Ok accepted → in_range accepted ≡ true
+document_within : (document : Option Members) (accepted : Settings)
+    → of_document document ≡ Ok accepted → in_range accepted ≡ true
 document_within None accepted e = absurd cc
 document_within (Some root) accepted e = judged_within (first (root_table root)) (root_settings root) accepted (root_within root) e
 
-pub accepted_within : (text : List ℕ) (accepted : Settings) → settings_of text ≡ Ok accepted → in_range accepted ≡ true
+pub accepted_within : (text : List ℕ) (accepted : Settings) → settings_of text ≡ Ok accepted
+    → in_range accepted ≡ true
 accepted_within text accepted e = document_within (document_of text) accepted e

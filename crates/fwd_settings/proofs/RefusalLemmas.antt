@@ -27,7 +27,8 @@ of_text (Some (OutOfRange key)) = true
 of_text (Some (Unknown key)) = true
 of_text (Some (BadPattern key)) = true
 
-flawed : (found : Option Flaw) (key : List ℕ) → of_text (option_map (λ flaw. fault_with flaw key) found) ≡ true
+flawed : (found : Option Flaw) (key : List ℕ)
+    → of_text (option_map (λ flaw. fault_with flaw key) found) ≡ true
 unfolding of_text
 flawed None key = refl
 flawed (Some flaws.Missing) key = refl
@@ -35,11 +36,13 @@ flawed (Some flaws.WrongKind) key = refl
 flawed (Some flaws.OutOfRange) key = refl
 flawed (Some flaws.BadPattern) key = refl
 
-at_key : {A : Type 0} (place : Place) (members : Members) (key : Key A) → of_text (fault_at place members key) ≡ true
+at_key : {A : Type 0} (place : Place) (members : Members) (key : Key A)
+    → of_text (fault_at place members key) ≡ true
 unfolding fault_at
 at_key place members key = flawed (key.flaw (get_member key.name members)) (key_under place key.name)
 
-first_of : (faults : List (Option SettingsFault)) → list_all of_text faults ≡ true → of_text (first faults) ≡ true
+first_of : (faults : List (Option SettingsFault)) → list_all of_text faults ≡ true
+    → of_text (first faults) ≡ true
 unfolding of_text
 first_of [] h = refl
 first_of (None ∷ more) h = first_of more h
@@ -49,12 +52,14 @@ first_of (Some fault ∷ more) h = by (of_text (Some fault)) (list_all of_text m
     by true c e = refl
     by false c e = absurd (true≢false (sym e))
 
-all_of : (what : ℕ → Data → Option SettingsFault) → ((number : ℕ) (value : Data) → of_text (what number value) ≡ true)
+all_of : (what : ℕ → Data → Option SettingsFault)
+    → ((number : ℕ) (value : Data) → of_text (what number value) ≡ true)
     → (number : ℕ) (values : List Data) → list_all of_text (each what number values) ≡ true
 all_of what h number [] = refl
 all_of what h number (value ∷ values) = ap (λ b. b && list_all of_text (each what (number + 1) values)) (h number value) ∙ all_of what h (number + 1) values
 
-members_of : (what : ℕ → Data → Option SettingsFault) → ((number : ℕ) (value : Data) → of_text (what number value) ≡ true)
+members_of : (what : ℕ → Data → Option SettingsFault)
+    → ((number : ℕ) (value : Data) → of_text (what number value) ≡ true)
     → (values : List Data) → of_text (first (each what 0 values)) ≡ true
 members_of what h values = first_of (each what 0 values) (all_of what h 0 values)
 
@@ -62,7 +67,8 @@ wrong_kind : (key : List ℕ) → of_text (Some (WrongKind key)) ≡ true
 unfolding of_text
 wrong_kind key = refl
 
-in_server : (output server : ℕ) (value : Data) → of_text (server_fault output server value) ≡ true
+in_server : (output server : ℕ) (value : Data)
+    → of_text (server_fault output server value) ≡ true
 in_server output server (table members) = first_of (server_table output server members) (simp (at_key) refl)
 in_server output server (string x) = wrong_kind (own_key (Server output server))
 in_server output server (integer x) = wrong_kind (own_key (Server output server))
@@ -130,7 +136,8 @@ abbrev fault_of : Result Settings SettingsFault → Option SettingsFault
 fault_of (Ok settings) = None
 fault_of (Err fault) = Some fault
 
-judged_of : (found : Option SettingsFault) (settings : Settings) → fault_of (judged found settings) ≡ found
+judged_of : (found : Option SettingsFault) (settings : Settings)
+    → fault_of (judged found settings) ≡ found
 judged_of None settings = refl
 judged_of (Some fault) settings = refl
 
@@ -146,3 +153,6 @@ not_memory text e = true≢false (sym (refusal_of (document_of text)) ∙ ap (λ
 pub not_unreadable : (text : List ℕ) → settings_of text ≢ Err Unreadable
 unfolding of_text
 not_unreadable text e = true≢false (sym (refusal_of (document_of text)) ∙ ap (λ answer. of_text (fault_of answer)) e)
+
+-- what no text is refused as
+pub ruleset never_refused = (not_memory, not_unreadable)

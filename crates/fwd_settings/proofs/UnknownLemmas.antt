@@ -6,6 +6,7 @@ use Rattle.std.specs.Map.{keys_of}
 use Rattle.toml.specs.View.{members_view}
 use Rattle.toml.specs.declared.value.Value.{Value}
 use Rattle.fwd_settings.specs.Unknown.{names_in}
+use Rattle.fwd_settings.proofs.LeastLemmas.{least_alone, least_more}
 
 -- a name among references to names
 pub any_shown : (names : List (Bor (List ℕ))) (name : List ℕ)
@@ -14,6 +15,10 @@ any_shown [] name = refl
 any_shown (known ∷ more) name = ap (λ found. bytes_eq known.now name || found) (any_shown more name)
 
 -- the names in a table are the keys of its map
-pub names_viewed : (entries : List (String Global × Value)) → names_in (members_view entries) ≡ map string_bytes (keys_of entries)
+pub names_viewed : (entries : List (String Global × Value))
+    → names_in (members_view entries) ≡ map string_bytes (keys_of entries)
 names_viewed [] = refl
 names_viewed (entry ∷ more) = ap (λ names. string_bytes entry.0 ∷ names) (names_viewed more)
+
+-- what a look at a table's names needs
+pub ruleset name_steps = (names_viewed, least_alone, least_more)

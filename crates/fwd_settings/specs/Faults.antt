@@ -25,7 +25,8 @@ own_key Root = codes ""
 own_key Relay = codes "relay"
 own_key (User user) = codes "relay.user[" ++ decimal user ++ codes "]"
 own_key (Output output) = codes "output[" ++ decimal output ++ codes "]"
-own_key (Server output server) = codes "output[" ++ decimal output ++ codes "].server[" ++ decimal server ++ codes "]"
+own_key (Server output server) =
+    codes "output[" ++ decimal output ++ codes "].server[" ++ decimal server ++ codes "]"
 
 -- the key of a name in a table
 abbrev pub key_under : Place → List ℕ → List ℕ

@@ -1,4 +1,5 @@
--- The table of keys: each with its kind, its range and its default, and the order in which they are judged.
+-- The table of keys: each with its kind, its range and its default, and the order in which they
+-- are judged.
 use Rattle.std.specs.Prelude.{ℕ, Bool, false, List, [], ◌∷◌, ◌++◌, map, codes, max, Option, Some, None, is_some, unwrap_or, option_and_then, if◌then◌else◌}
 use Rattle.std.specs.List.{list_all}
 use Rattle.std.specs.declared.net.socket_addr.SocketAddr.{SocketAddr}
@@ -34,32 +35,41 @@ table_in name members = unwrap_or (option_and_then as_table (get_member name mem
 
 -- ---- the whole text
 
+-- the outputs: 1 to 64
 abbrev pub outputs : Key (List Data)
 outputs = required_list_key (codes "output") 64
 
+-- the keys at the top
 abbrev pub root_names : List (List ℕ)
 root_names = codes "relay" ∷ codes "output" ∷ []
 
 -- ---- relay
 
+-- where sources connect
 abbrev pub listen : Key SocketAddr
 listen = address_key_or (codes "listen") home
 
+-- where the monitor page is had, if anywhere
 abbrev pub monitor : Key (Option SocketAddr)
 monitor = address_key (codes "monitor")
 
+-- the name that the relay gives sources in the handshake: 1 to 255 bytes
 abbrev pub relay_hostname : Key (List ℕ)
 relay_hostname = text_key (codes "hostname") 1 255 (codes "relay")
 
+-- the key that a source has to prove, if one is set: 1 to 1,024 bytes
 abbrev pub shared_key : Key (Option (List ℕ))
 shared_key = optional_text_key (codes "shared_key") 1 1024
 
+-- what tells this run's chunks from others': 12 hexadecimal digits
 abbrev pub run_id : Key (Option (List ℕ))
 run_id = digits_key (codes "run_id") 6
 
+-- the seed of nonces, salts and the run's id: 64 hexadecimal digits
 abbrev pub seed : Key (Option (List ℕ))
 seed = digits_key (codes "seed") 32
 
+-- how many sources may be connected at once
 abbrev pub connections : Key ℕ
 connections = number_key (codes "connections") 1 1024 256
 
@@ -67,37 +77,49 @@ connections = number_key (codes "connections") 1 1024 256
 abbrev pub users : Members → Key (List Data)
 users relay = optional_list_key (codes "user") (is_some (setting_at relay shared_key))
 
+-- the keys under `relay`
 abbrev pub relay_names : List (List ℕ)
 relay_names =
-    codes "listen" ∷ codes "monitor" ∷ codes "hostname" ∷ codes "shared_key" ∷ codes "run_id" ∷ codes "seed" ∷
+    codes "listen" ∷ codes "monitor" ∷ codes "hostname" ∷ codes "shared_key"
+    ∷ codes "run_id" ∷ codes "seed" ∷
     codes "connections" ∷ codes "user" ∷ []
 
 -- ---- relay.user[i]
 
+-- a user's name: 1 to 255 bytes
 abbrev pub user_name : Key (List ℕ)
 user_name = required_text_key (codes "name") 1 255
 
+-- a user's password: 1 to 255 bytes
 abbrev pub user_password : Key (List ℕ)
 user_password = required_text_key (codes "password") 1 255
 
+-- the keys under a user
 abbrev pub user_names : List (List ℕ)
 user_names = codes "name" ∷ codes "password" ∷ []
 
+-- the faults of a user's keys, in the order in which they are judged
 abbrev pub user_table : ℕ → Members → List (Option SettingsFault)
 user_table user members =
     fault_at (User user) members user_name ∷
     fault_at (User user) members user_password ∷ []
 
+-- the first fault of a user, if there is one
 abbrev pub user_fault : ℕ → Data → Option SettingsFault
 user_fault user (table members) = first (user_table user members)
 user_fault user _ = Some (WrongKind (own_key (User user)))
 
+-- a user, by its keys
 abbrev pub user_settings : Data → UserSettings
 user_settings value =
-    record { name = setting_at (table_of value) user_name; password = setting_at (table_of value) user_password }
+    record {
+      name = setting_at (table_of value) user_name;
+      password = setting_at (table_of value) user_password;
+    }
 
 -- ---- the table `relay`
 
+-- the faults of the keys under `relay`, in the order in which they are judged
 abbrev pub relay_table : Members → List (Option SettingsFault)
 relay_table relay =
     fault_at Relay relay listen ∷
@@ -110,6 +132,7 @@ relay_table relay =
     fault_at Relay relay (users relay) ∷
     first (each user_fault 0 (setting_at relay (users relay))) ∷ []
 
+-- the settings under `relay`, by their keys
 abbrev pub relay_settings : Members → RelaySettings
 relay_settings relay = record {
   listen = setting_at relay listen;
@@ -124,76 +147,101 @@ relay_settings relay = record {
 
 -- ---- output[i].server[j]
 
+-- where a server listens
 abbrev pub address : Key SocketAddr
 address = required_address_key (codes "address")
 
+-- whether a server is tried only where no other is usable
 abbrev pub standby : Key Bool
 standby = flag_key (codes "standby") false
 
+-- the keys under a server
 abbrev pub server_names : List (List ℕ)
 server_names = codes "address" ∷ codes "standby" ∷ []
 
+-- the faults of a server's keys, in the order in which they are judged
 abbrev pub server_table : (output server : ℕ) → Members → List (Option SettingsFault)
 server_table output server members =
     fault_at (Server output server) members address ∷
     fault_at (Server output server) members standby ∷ []
 
+-- the first fault of a server, if there is one
 abbrev pub server_fault : (output server : ℕ) → Data → Option SettingsFault
 server_fault output server (table members) = first (server_table output server members)
 server_fault output server _ = Some (WrongKind (own_key (Server output server)))
 
+-- a server, by its keys
 abbrev pub server_settings : Data → ServerSettings
 server_settings value =
-    record { address = setting_at (table_of value) address; standby = setting_at (table_of value) standby }
+    record {
+      address = setting_at (table_of value) address;
+      standby = setting_at (table_of value) standby;
+    }
 
 -- ---- output[i]
 
+-- the pattern of the tags that go to an output
 abbrev pub pattern : Key (List (List ℕ))
 pattern = required_pattern_key (codes "match")
 
+-- how many sessions an output has at once
 abbrev pub workers : Key ℕ
 workers = number_key (codes "workers") 1 16 1
 
+-- how long a chunk may be, in bytes
 abbrev pub chunk_limit : Key ℕ
 chunk_limit = number_key (codes "chunk_limit") 1 16000000 8000000
 
+-- how much an output may hold, in bytes
 abbrev pub total_limit : Key ℕ
 total_limit = number_key (codes "total_limit") 1 1000000000000 512000000
 
+-- how old a chunk's first entry grows before the chunk is closed, in ms
 abbrev pub flush_interval : Key ℕ
 flush_interval = number_key (codes "flush_interval") 0 86400000 5000
 
+-- how long a chunk or a server waits after its first loss, in ms
 abbrev pub retry_wait : Key ℕ
 retry_wait = number_key (codes "retry_wait") 1 86400000 1000
 
 -- from the output's `retry_wait` on
 abbrev pub retry_max : Members → Key ℕ
 retry_max output =
-    let wait = setting_at output retry_wait in number_key (codes "retry_max") wait 86400000 (max 60000 wait)
+    let wait = setting_at output retry_wait in number_key (codes "retry_max") wait 86400000
+    (max 60000 wait)
 
+-- how long an acknowledgement is awaited, in ms
 abbrev pub ack_wait : Key ℕ
 ack_wait = number_key (codes "ack_wait") 1 86400000 190000
 
+-- the name that the relay gives servers in the handshake: 1 to 255 bytes
 abbrev pub output_hostname : Key (List ℕ)
 output_hostname = text_key (codes "hostname") 1 255 (codes "relay")
 
 -- here stands `shared_key`, a text of 1 to 1,024 bytes, once sessions log in
 
+-- the name that servers ask for: at most 255 bytes
 abbrev pub username : Key (List ℕ)
 username = text_key (codes "username") 0 255 (codes "")
 
+-- the password that servers ask for: at most 255 bytes
 abbrev pub password : Key (List ℕ)
 password = text_key (codes "password") 0 255 (codes "")
 
+-- the servers of an output: 1 to 16
 abbrev pub servers : Key (List Data)
 servers = required_list_key (codes "server") 16
 
+-- the keys under an output
 abbrev pub output_names : List (List ℕ)
 output_names =
-    codes "match" ∷ codes "workers" ∷ codes "chunk_limit" ∷ codes "total_limit" ∷ codes "flush_interval" ∷
-    codes "retry_wait" ∷ codes "retry_max" ∷ codes "ack_wait" ∷ codes "hostname" ∷ codes "username" ∷
+    codes "match" ∷ codes "workers" ∷ codes "chunk_limit" ∷ codes "total_limit"
+    ∷ codes "flush_interval" ∷
+    codes "retry_wait" ∷ codes "retry_max" ∷ codes "ack_wait" ∷ codes "hostname"
+    ∷ codes "username" ∷
     codes "password" ∷ codes "server" ∷ []
 
+-- the servers of an output, by their keys
 abbrev pub servers_in : Members → List ServerSettings
 servers_in output = map server_settings (setting_at output servers)
 
@@ -204,7 +252,8 @@ is_standby value = setting_at (table_of value) standby
 -- a list of servers that are all standbys is out of range, which is judged before its members' keys
 abbrev pub standby_fault : ℕ → List Data → Option SettingsFault
 standby_fault output listed =
-    if list_all is_standby listed then Some (OutOfRange (key_under (Output output) (codes "server"))) else None
+    if list_all is_standby listed
+    then Some (OutOfRange (key_under (Output output) (codes "server"))) else None
 
 -- how much an output holds
 abbrev pub size_table : ℕ → Members → List (Option SettingsFault)
@@ -235,11 +284,14 @@ list_table output members =
     standby_fault output (setting_at members servers) ∷
     first (each (server_fault output) 0 (setting_at members servers)) ∷ []
 
+-- the faults of an output's keys, in the order in which they are judged
 abbrev pub output_table : ℕ → Members → List (Option SettingsFault)
 output_table output members =
     fault_at (Output output) members pattern ∷
-    (size_table output members ++ (wait_table output members ++ (login_table output members ++ list_table output members)))
+    (size_table output members
+    ++ (wait_table output members ++ (login_table output members ++ list_table output members)))
 
+-- how much an output takes, by its keys
 abbrev pub output_sizes : Members → Sizes
 output_sizes output = record {
   workers = setting_at output workers;
@@ -247,6 +299,7 @@ output_sizes output = record {
   total_limit = setting_at output total_limit;
 }
 
+-- how long an output waits, by its keys
 abbrev pub output_waits : Members → Waits
 output_waits output = record {
   flush_interval = setting_at output flush_interval;
@@ -255,6 +308,7 @@ output_waits output = record {
   ack_wait = setting_at output ack_wait;
 }
 
+-- what an output says of itself to servers, by its keys
 abbrev pub output_login : Members → Login
 output_login output = record {
   hostname = setting_at output output_hostname;
@@ -262,10 +316,12 @@ output_login output = record {
   password = setting_at output password;
 }
 
+-- the first fault of an output, if there is one
 abbrev pub output_fault : ℕ → Data → Option SettingsFault
 output_fault output (table members) = first (output_table output members)
 output_fault output _ = Some (WrongKind (own_key (Output output)))
 
+-- an output, by its keys
 abbrev pub output_settings : Data → OutputSettings
 output_settings value = let output = table_of value in record {
   pattern = setting_at output pattern;

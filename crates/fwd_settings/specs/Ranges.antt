@@ -7,9 +7,11 @@ use Rattle.fwd_settings.specs.declared.settings.OutputSettings.{OutputSettings}
 use Rattle.fwd_settings.specs.declared.settings.Settings.{Settings}
 use Rattle.fwd_settings.specs.Kinds.{is_within}
 
+-- a user's name and password have a length that is allowed
 abbrev pub user_in_range : UserSettings → Bool
 user_in_range u = is_within 1 255 (length u.name) && is_within 1 255 (length u.password)
 
+-- a shared key, if one is set, has a length that is allowed
 abbrev pub key_in_range : Option (List ℕ) → Bool
 key_in_range None = true
 key_in_range (Some key) = is_within 1 1024 (length key)
@@ -19,6 +21,7 @@ abbrev pub have_key : Option (List ℕ) → List UserSettings → Bool
 have_key key [] = true
 have_key key (user ∷ users) = is_some key
 
+-- the settings under `relay` are in their ranges
 abbrev pub relay_in_range : RelaySettings → Bool
 relay_in_range r =
     is_within 1 255 (length r.hostname) &&
@@ -26,6 +29,7 @@ relay_in_range r =
     (is_within 1 1024 r.connections &&
     (list_all user_in_range r.users && have_key r.shared_key r.users)))
 
+-- an output's settings are in their ranges
 abbrev pub output_in_range : OutputSettings → Bool
 output_in_range o =
     is_within 1 16 o.workers &&
@@ -38,7 +42,11 @@ output_in_range o =
     (is_within 1 255 (length o.hostname) &&
     (nat_le (length o.username) 255 &&
     (nat_le (length o.password) 255 &&
-    (is_within 1 16 (length o.servers) && not (list_all (λ server. server.standby) o.servers)))))))))))
+    (is_within 1 16 (length o.servers)
+    && not (list_all (λ server. server.standby) o.servers)))))))))))
 
+-- all settings are in their ranges
 abbrev pub in_range : Settings → Bool
-in_range s = relay_in_range s.relay && (is_within 1 64 (length s.outputs) && list_all output_in_range s.outputs)
+in_range s =
+    relay_in_range s.relay
+    && (is_within 1 64 (length s.outputs) && list_all output_in_range s.outputs)

@@ -18,13 +18,16 @@ abbrev pub names_in : Members → List (List ℕ)
 names_in no_members = []
 names_in (member name value more) = name ∷ names_in more
 
+-- the key is none of these
 abbrev pub is_unknown : List (List ℕ) → List ℕ → Bool
 is_unknown names name = not (list_any (λ known. bytes_eq known name) names)
 
 -- the keys of a table that are none of these names
 abbrev pub unknown_under : Place → List (List ℕ) → Members → List (List ℕ)
-unknown_under place names members = map (key_under place) (filter (is_unknown names) (names_in members))
+unknown_under place names members =
+    map (key_under place) (filter (is_unknown names) (names_in members))
 
+-- the paths of the unknown keys under a user
 abbrev pub unknown_in_user : ℕ → Data → List (List ℕ)
 unknown_in_user user value = unknown_under (User user) user_names (table_of value)
 
@@ -32,16 +35,22 @@ unknown_in_user user value = unknown_under (User user) user_names (table_of valu
 abbrev pub unknown_in_users : ℕ → List Data → List (List ℕ)
 unknown_in_users user values = flat_map (λ keys. keys) (each unknown_in_user user values)
 
+-- the paths of the unknown keys under `relay` and its users
 abbrev pub unknown_in_relay : Members → List (List ℕ)
-unknown_in_relay relay = unknown_under Relay relay_names relay ++ unknown_in_users 0 (list_in (codes "user") relay)
+unknown_in_relay relay =
+    unknown_under Relay relay_names relay ++ unknown_in_users 0 (list_in (codes "user") relay)
 
+-- the paths of the unknown keys under a server
 abbrev pub unknown_in_server : (output server : ℕ) → Data → List (List ℕ)
-unknown_in_server output server value = unknown_under (Server output server) server_names (table_of value)
+unknown_in_server output server value =
+    unknown_under (Server output server) server_names (table_of value)
 
 -- those of the servers of an output, of which the first has this number
 abbrev pub unknown_in_servers : (output server : ℕ) → List Data → List (List ℕ)
-unknown_in_servers output server values = flat_map (λ keys. keys) (each (unknown_in_server output) server values)
+unknown_in_servers output server values =
+    flat_map (λ keys. keys) (each (unknown_in_server output) server values)
 
+-- the paths of the unknown keys under an output and its servers
 abbrev pub unknown_in_output : ℕ → Data → List (List ℕ)
 unknown_in_output output value =
     unknown_under (Output output) output_names (table_of value) ++
@@ -69,5 +78,6 @@ is_least keys key = not (list_any (λ other. is_less other key) keys)
 unfoldable pub least : List (List ℕ) → Option (List ℕ)
 least keys = find (is_least keys) keys
 
+-- the fault of the least path of an unknown key, if there is one
 abbrev pub unknown_fault : Members → Option SettingsFault
 unknown_fault root = option_map Unknown (least (unknown_keys root))

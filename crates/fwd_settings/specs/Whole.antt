@@ -26,6 +26,7 @@ root_table root =
     first (each output_fault 0 (setting_at root outputs)) ∷
     unknown_fault root ∷ []
 
+-- the settings of a whole file, by its keys
 abbrev pub root_settings : Members → Settings
 root_settings root = record {
   relay = relay_settings (table_in (codes "relay") root);
@@ -37,6 +38,7 @@ abbrev pub judged : Option SettingsFault → Settings → Result Settings Settin
 judged None settings = Ok settings
 judged (Some fault) settings = Err fault
 
+-- the settings of a file that was read as TOML, or its first fault
 abbrev pub of_document : Option Members → Result Settings SettingsFault
 of_document None = Err NotToml
 of_document (Some root) = judged (first (root_table root)) (root_settings root)

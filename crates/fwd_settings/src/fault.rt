@@ -7,7 +7,8 @@ use crate::text::Text;
 use std::alloc::{AllocError, AllocFailed};
 use std::fmt;
 
-/// Why settings are refused. A key is written as `relay.listen`, `output[0].match` or `output[0].server[1].address`.
+/// Why settings are refused. A key is written as `relay.listen`, `output[0].match` or
+/// `output[0].server[1].address`.
 #[derive(Debug, Drop)]
 pub enum SettingsFault {
     /// Memory ran out.

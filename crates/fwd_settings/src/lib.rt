@@ -22,8 +22,3 @@ pub use read::read_settings;
 pub use seq::Seq;
 pub use settings::{OutputSettings, RelaySettings, ServerSettings, Settings, UserSettings};
 pub use text::Text;
-
-#[cfg(test)]
-mod key_tests;
-#[cfg(test)]
-mod tests;

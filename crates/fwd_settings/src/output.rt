@@ -94,8 +94,8 @@ fn login_in(alloc: Global, output: usize, table: &Table) -> Result<Login, Settin
     })
 }
 
-/// The servers in an output's table. The list's own range is judged first: how many there are, and whether one of them
-/// is no standby.
+/// The servers in an output's table. The list's own range is judged first: how many there are,
+/// and whether one of them is no standby.
 fn servers_in(
     alloc: Global,
     output: usize,
@@ -113,7 +113,8 @@ fn servers_in(
 
 /// The settings in an output's table.
 fn output_in(alloc: Global, output: usize, table: &Table) -> Result<OutputSettings, SettingsFault>
-    ensures { Answers (first (output_table output (table_view table.now))) (output_settings (data_table (table_view table.now))) result }
+    ensures { Answers (first (output_table output (table_view table.now)))
+        (output_settings (data_table (table_view table.now))) result }
 {
     let place = Place::Output(output);
     let section = Section { place, table };
@@ -140,7 +141,8 @@ fn output_in(alloc: Global, output: usize, table: &Table) -> Result<OutputSettin
 
 /// The settings of an output.
 fn output_of(alloc: Global, output: usize, value: &Value) -> Result<OutputSettings, SettingsFault>
-    ensures { Answers (output_fault output (view value.now)) (output_settings (view value.now)) result }
+    ensures { Answers (output_fault output (view value.now))
+        (output_settings (view value.now)) result }
 {
     match value.as_table() {
         Some(table) => output_in(alloc, output, table),
@@ -151,7 +153,8 @@ fn output_of(alloc: Global, output: usize, value: &Value) -> Result<OutputSettin
 /// The settings of the outputs.
 #[tactic(auto, using(crate::proofs::ListLemmas::each_more, crate::proofs::ListLemmas::map_more))]
 pub fn outputs_of(alloc: Global, values: &[Value]) -> Result<Seq<OutputSettings>, SettingsFault>
-    ensures { Answers (first (each output_fault 0 (map view values.now))) (map output_settings (map view values.now)) result }
+    ensures { Answers (first (each output_fault 0 (map view values.now)))
+        (map output_settings (map view values.now)) result }
 {
     let mut outputs = Seq::new(alloc);
     for value in values {

@@ -79,7 +79,8 @@ impl Place {
 
     /// The fault of a name in the table.
     pub fn fault(self, alloc: Global, name: &str, flaw: Flaw) -> SettingsFault
-        ensures { result ≢ SettingsFault.Memory → result ≡ fault_with flaw (key_under self name.now) }
+        ensures { result ≢ SettingsFault.Memory
+            → result ≡ fault_with flaw (key_under self name.now) }
     {
         match self.key(alloc, name) {
             Ok(key) => flaw.at(key),

@@ -29,7 +29,8 @@ fn check_known(alloc: Global, root: &Table) -> Result<(), SettingsFault>
 
 /// The settings in a document.
 fn settings_in(alloc: Global, root: &Table) -> Result<Settings, SettingsFault>
-    ensures { Answers (first (spec.root_table (table_view root.now))) (spec.root_settings (table_view root.now)) result }
+    ensures { Answers (first (spec.root_table (table_view root.now)))
+        (spec.root_settings (table_view root.now)) result }
 {
     let section = Section {
         place: Place::Root,
@@ -43,7 +44,7 @@ fn settings_in(alloc: Global, root: &Table) -> Result<Settings, SettingsFault>
 }
 
 /// The document that a text is.
-#[tactic(auto, using(crate::proofs::DocumentLemmas::document_read, crate::proofs::DocumentLemmas::no_document))]
+#[tactic(auto, using(crate::proofs::DocumentLemmas::document_steps))]
 fn document(alloc: Global, text: &[u8]) -> Result<Table, SettingsFault>
     ensures ok { IfOk result (λ root. spec.document_of text.now ≡ Some (table_view root)) }
     ensures fault { IfErr result (λ fault. fault ≢ SettingsFault.Memory →
@@ -56,9 +57,10 @@ fn document(alloc: Global, text: &[u8]) -> Result<Table, SettingsFault>
     }
 }
 
-/// The settings of a TOML text, with the defaults where a key is absent. It answers the text's first fault: that it is
-/// no TOML; then what is wrong with the keys in the order of their table, the members of a list one after another; then
-/// the least unknown key. It never answers `Unreadable`.
+/// The settings of a TOML text, with the defaults where a key is absent. It answers the text's
+/// first fault: that it is no TOML; then what is wrong with the keys in the order of their table,
+/// the members of a list one after another; then the least unknown key. It never answers
+/// `Unreadable`.
 pub fn read_settings(alloc: Global, text: &[u8]) -> Result<Settings, SettingsFault>
     ensures { result ≢ Err SettingsFault.Memory → result ≡ spec.settings_of text.now }
 {

@@ -26,7 +26,8 @@ fn home() -> SocketAddr
 
 /// The settings in the table `relay`.
 fn relay_in(alloc: Global, table: &Table) -> Result<RelaySettings, SettingsFault>
-    ensures { Answers (first (relay_table (table_view table.now))) (relay_settings (table_view table.now)) result }
+    ensures { Answers (first (relay_table (table_view table.now)))
+        (relay_settings (table_view table.now)) result }
 {
     let relay = Section {
         place: Place::Relay,
@@ -63,7 +64,8 @@ fn empty(alloc: Global) -> Table
 /// The settings of the relay: with no table, the defaults.
 pub fn relay_of(alloc: Global, root: &Table) -> Result<RelaySettings, SettingsFault>
     ensures { let members = table_view root.now in
-        Answers (relay_fault (get_member (codes "relay") members)) (relay_settings (table_in (codes "relay") members)) result }
+        Answers (relay_fault (get_member (codes "relay") members))
+        (relay_settings (table_in (codes "relay") members)) result }
 {
     let section = Section {
         place: Place::Root,

@@ -15,7 +15,8 @@ use std::alloc::Global;
 use std::net::SocketAddr;
 use toml::{Table, Value};
 
-/// A table, and where it stands. Each reader of a key answers its setting, or what is wrong with it.
+/// A table, and where it stands. Each reader of a key answers its setting, or what is wrong with
+/// it.
 #[derive(Clone, Copy)]
 pub struct Section<'a> {
     pub place: Place,
@@ -25,7 +26,8 @@ pub struct Section<'a> {
 impl<'a> Section<'a> {
     /// The value under a name.
     pub fn get(&self, name: &str) -> Option<&'a Value>
-        ensures { option_map (λ value. view value.now) result ≡ get_member name.now (table_view self.now.table.now) }
+        ensures { option_map (λ value. view value.now) result
+            ≡ get_member name.now (table_view self.now.table.now) }
     {
         self.table.get(name)
     }
@@ -41,7 +43,8 @@ impl<'a> Section<'a> {
         default: u64,
     ) -> Result<u64, SettingsFault>
         requires { (least ≤ default) × (default ≤ most) }
-        ensures reads { Reads self.now.place (table_view self.now.table.now) (number_key name.now least most default) result }
+        ensures reads { Reads self.now.place (table_view self.now.table.now)
+            (number_key name.now least most default) result }
         ensures least { IfOk result (λ number. least ≤ number) }
         ensures most { IfOk result (λ number. number ≤ most) }
     {
@@ -58,7 +61,8 @@ impl<'a> Section<'a> {
     pub fn retry_max(&self, alloc: Global, retry_wait: u64) -> Result<u64, SettingsFault>
         requires wait { retry_wait ≡ setting_at (table_view self.now.table.now) keys.retry_wait }
         requires within { retry_wait ≤ 86400000 }
-        ensures { Reads self.now.place (table_view self.now.table.now) (keys.retry_max (table_view self.now.table.now)) result }
+        ensures { Reads self.now.place (table_view self.now.table.now)
+            (keys.retry_max (table_view self.now.table.now)) result }
     {
         let default = u64::max(60_000, retry_wait);
         match self.number(alloc, "retry_max", retry_wait, 86_400_000, default) {
@@ -76,7 +80,8 @@ impl<'a> Section<'a> {
         default: u16,
     ) -> Result<u16, SettingsFault>
         requires { (1 ≤ default) × (default ≤ most) }
-        ensures { Reads self.now.place (table_view self.now.table.now) (number_key name.now 1 most default) result }
+        ensures { Reads self.now.place (table_view self.now.table.now)
+            (number_key name.now 1 most default) result }
     {
         match self.number(alloc, name, 1, most as u64, default as u64) {
             Ok(count) => Ok(count as u16),
@@ -87,7 +92,8 @@ impl<'a> Section<'a> {
     /// True or false.
     #[tactic(auto, unfolding(crate::specs::Kinds::fault_at, crate::specs::Kinds::setting_at, crate::specs::Kinds::flag_key))]
     pub fn flag(&self, alloc: Global, name: &str, default: bool) -> Result<bool, SettingsFault>
-        ensures { Reads self.now.place (table_view self.now.table.now) (flag_key name.now default) result }
+        ensures { Reads self.now.place (table_view self.now.table.now)
+            (flag_key name.now default) result }
     {
         match self.get(name) {
             None => Ok(default),
@@ -108,7 +114,8 @@ impl<'a> Section<'a> {
         most: usize,
         default: &str,
     ) -> Result<Text, SettingsFault>
-        ensures { Reads self.now.place (table_view self.now.table.now) (text_key name.now least most default.now) result }
+        ensures { Reads self.now.place (table_view self.now.table.now)
+            (text_key name.now least most default.now) result }
     {
         match self.get(name) {
             None => Ok(Text::from_str(alloc, default)?),
@@ -128,7 +135,8 @@ impl<'a> Section<'a> {
         least: usize,
         most: usize,
     ) -> Result<Option<Text>, SettingsFault>
-        ensures { Reads self.now.place (table_view self.now.table.now) (optional_text_key name.now least most) result }
+        ensures { Reads self.now.place (table_view self.now.table.now)
+            (optional_text_key name.now least most) result }
     {
         match self.get(name) {
             None => Ok(None),
@@ -148,7 +156,8 @@ impl<'a> Section<'a> {
         least: usize,
         most: usize,
     ) -> Result<Text, SettingsFault>
-        ensures { Reads self.now.place (table_view self.now.table.now) (required_text_key name.now least most) result }
+        ensures { Reads self.now.place (table_view self.now.table.now)
+            (required_text_key name.now least most) result }
     {
         match self.get(name) {
             None => Err(self.place.fault(alloc, name, Flaw::Missing)),
@@ -166,7 +175,8 @@ impl<'a> Section<'a> {
         alloc: Global,
         name: &str,
     ) -> Result<Option<[u8; N]>, SettingsFault>
-        ensures { Reads self.now.place (table_view self.now.table.now) (digits_key name.now N) result }
+        ensures { Reads self.now.place (table_view self.now.table.now)
+            (digits_key name.now N) result }
     {
         match self.get(name) {
             None => Ok(None),
@@ -180,7 +190,8 @@ impl<'a> Section<'a> {
     /// An address, if there is one.
     #[tactic(auto, unfolding(crate::specs::Kinds::fault_at, crate::specs::Kinds::setting_at, crate::specs::Kinds::address_key))]
     pub fn address(&self, alloc: Global, name: &str) -> Result<Option<SocketAddr>, SettingsFault>
-        ensures { Reads self.now.place (table_view self.now.table.now) (address_key name.now) result }
+        ensures { Reads self.now.place (table_view self.now.table.now)
+            (address_key name.now) result }
     {
         match self.get(name) {
             None => Ok(None),
@@ -199,7 +210,8 @@ impl<'a> Section<'a> {
         name: &str,
         default: SocketAddr,
     ) -> Result<SocketAddr, SettingsFault>
-        ensures { Reads self.now.place (table_view self.now.table.now) (address_key_or name.now default) result }
+        ensures { Reads self.now.place (table_view self.now.table.now)
+            (address_key_or name.now default) result }
     {
         match self.get(name) {
             None => Ok(default),
@@ -213,7 +225,8 @@ impl<'a> Section<'a> {
     /// An address that has to be there.
     #[tactic(auto, unfolding(crate::specs::Kinds::fault_at, crate::specs::Kinds::setting_at, crate::specs::Kinds::required_address_key))]
     pub fn required_address(&self, alloc: Global, name: &str) -> Result<SocketAddr, SettingsFault>
-        ensures { Reads self.now.place (table_view self.now.table.now) (required_address_key name.now) result }
+        ensures { Reads self.now.place (table_view self.now.table.now)
+            (required_address_key name.now) result }
     {
         match self.get(name) {
             None => Err(self.place.fault(alloc, name, Flaw::Missing)),
@@ -227,7 +240,8 @@ impl<'a> Section<'a> {
     /// A match pattern that has to be there.
     #[tactic(auto, unfolding(crate::specs::Kinds::fault_at, crate::specs::Kinds::setting_at, crate::specs::Kinds::required_pattern_key))]
     pub fn required_pattern(&self, alloc: Global, name: &str) -> Result<Pattern, SettingsFault>
-        ensures { Reads self.now.place (table_view self.now.table.now) (required_pattern_key name.now) result }
+        ensures { Reads self.now.place (table_view self.now.table.now)
+            (required_pattern_key name.now) result }
     {
         let Some(value) = self.get(name) else {
             return Err(self.place.fault(alloc, name, Flaw::Missing));
@@ -253,7 +267,8 @@ impl<'a> Section<'a> {
         ensures ok { let members = table_view self.now.table.now in IfOk result (λ values.
             (fault_at self.now.place members (required_list_key name.now most) ≡ None)
             × (map view values.now ≡ setting_at members (required_list_key name.now most))) }
-        ensures fault { let members = table_view self.now.table.now in IfErr result (λ fault. fault ≢ SettingsFault.Memory →
+        ensures fault { let members = table_view self.now.table.now in IfErr result (λ fault.
+            fault ≢ SettingsFault.Memory →
             fault_at self.now.place members (required_list_key name.now most) ≡ Some fault) }
     {
         let Some(value) = self.get(name) else {
@@ -265,7 +280,8 @@ impl<'a> Section<'a> {
         }
     }
 
-    /// The members of a list of at least one, or none where it is absent. It may only be there where that is allowed.
+    /// The members of a list of at least one, or none where it is absent. It may only be there
+    /// where that is allowed.
     #[tactic(auto, unfolding(crate::specs::Kinds::fault_at, crate::specs::Kinds::setting_at, crate::specs::Kinds::optional_list_key))]
     pub fn optional_list(
         &self,
@@ -276,7 +292,8 @@ impl<'a> Section<'a> {
         ensures ok { let members = table_view self.now.table.now in IfOk result (λ values.
             (fault_at self.now.place members (optional_list_key name.now may) ≡ None)
             × (map view values.now ≡ setting_at members (optional_list_key name.now may))) }
-        ensures fault { let members = table_view self.now.table.now in IfErr result (λ fault. fault ≢ SettingsFault.Memory →
+        ensures fault { let members = table_view self.now.table.now in IfErr result (λ fault.
+            fault ≢ SettingsFault.Memory →
             fault_at self.now.place members (optional_list_key name.now may) ≡ Some fault) }
     {
         let Some(value) = self.get(name) else {

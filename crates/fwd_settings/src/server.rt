@@ -23,7 +23,8 @@ fn server_in(
     server: usize,
     table: &Table,
 ) -> Result<ServerSettings, SettingsFault>
-    ensures { Answers (first (server_table output server (table_view table.now))) (server_settings (data_table (table_view table.now))) result }
+    ensures { Answers (first (server_table output server (table_view table.now)))
+        (server_settings (data_table (table_view table.now))) result }
 {
     let place = Place::Server(output, server);
     let section = Section { place, table };
@@ -39,7 +40,8 @@ fn server_of(
     server: usize,
     value: &Value,
 ) -> Result<ServerSettings, SettingsFault>
-    ensures { Answers (server_fault output server (view value.now)) (server_settings (view value.now)) result }
+    ensures { Answers (server_fault output server (view value.now))
+        (server_settings (view value.now)) result }
 {
     match value.as_table() {
         Some(table) => server_in(alloc, output, server, table),
@@ -47,7 +49,8 @@ fn server_of(
     }
 }
 
-/// Whether a member of the list counts as a standby: its `standby` is true, whatever else is wrong with it.
+/// Whether a member of the list counts as a standby: its `standby` is true, whatever else is
+/// wrong with it.
 fn is_standby(value: &Value) -> bool
     ensures { result ≡ is_standby (view value.now) }
 {
@@ -83,7 +86,8 @@ pub fn servers_of(
     output: usize,
     values: &[Value],
 ) -> Result<Seq<ServerSettings>, SettingsFault>
-    ensures { Answers (first (each (server_fault output) 0 (map view values.now))) (map server_settings (map view values.now)) result }
+    ensures { Answers (first (each (server_fault output) 0 (map view values.now)))
+        (map server_settings (map view values.now)) result }
 {
     let mut servers = Seq::new(alloc);
     for value in values {

@@ -14,7 +14,8 @@ pub struct Settings {
     pub outputs: Seq<OutputSettings>,
 }
 
-/// The settings of the relay itself. They are not printed, since the seed, the key and the passwords are secrets.
+/// The settings of the relay itself. They are not printed, since the seed, the key and the
+/// passwords are secrets.
 #[derive(Drop)]
 pub struct RelaySettings {
     /// Where sources connect.
@@ -23,7 +24,8 @@ pub struct RelaySettings {
     pub monitor: Option<SocketAddr>,
     /// The relay's name, 1 to 255 bytes.
     pub hostname: Text,
-    /// The key that sources have to know, 1 to 1,024 bytes. Without one there is no handshake with them.
+    /// The key that sources have to know, 1 to 1,024 bytes. Without one there is no handshake
+    /// with them.
     pub shared_key: Option<Text>,
     /// What tells this run from others.
     pub run_id: Option<[u8; 6]>,
@@ -31,8 +33,8 @@ pub struct RelaySettings {
     pub seed: Option<[u8; 32]>,
     /// The most sources at a time, 1 to 1,024.
     pub connections: u16,
-    /// The users that sources log in as, in the order of the file; where there is none, they need none. There are only
-    /// users where there is a `shared_key`.
+    /// The users that sources log in as, in the order of the file; where there is none, they need
+    /// none. There are only users where there is a `shared_key`.
     pub users: Seq<UserSettings>,
 }
 

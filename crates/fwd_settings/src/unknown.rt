@@ -47,7 +47,7 @@ const OUTPUT: [&str; 12] = [
 const SERVER: [&str; 2] = ["address", "standby"];
 
 /// The least of a key and of one more, if there is one.
-#[tactic(auto, using(crate::proofs::LeastLemmas::least_one, crate::proofs::LeastLemmas::lesser_first, crate::proofs::LeastLemmas::lesser_second))]
+#[tactic(auto, using(crate::proofs::LeastLemmas::lesser_steps))]
 fn lesser(least: Option<Text>, key: Text) -> Text
     ensures { spec.least (cons_option least (key ∷ [])) ≡ Some result }
 {
@@ -70,7 +70,7 @@ fn is_unknown(names: &[&str], name: &str) -> bool
 }
 
 /// The least of the keys of a table that are none of these names, and of one key more.
-#[tactic(auto, using(crate::proofs::UnknownLemmas::names_viewed, crate::proofs::LeastLemmas::least_alone, crate::proofs::LeastLemmas::least_more))]
+#[tactic(auto, using(crate::proofs::UnknownLemmas::name_steps))]
 fn least_under(
     alloc: Global,
     place: Place,
@@ -79,7 +79,8 @@ fn least_under(
     least: Option<Text>,
 ) -> Result<Option<Text>, AllocError>
     ensures { IfOk result (λ key. let known = map (λ known. known.now) names.now in
-        key ≡ spec.least (cons_option least (spec.unknown_under place known (table_view table.now)))) }
+        key ≡ spec.least
+        (cons_option least (spec.unknown_under place known (table_view table.now)))) }
 {
     let mut least = least;
     for name in table.keys() {
@@ -110,7 +111,8 @@ fn least_in_user(
     value: &Value,
     least: Option<Text>,
 ) -> Result<Option<Text>, AllocError>
-    ensures { IfOk result (λ key. key ≡ spec.least (cons_option least (spec.unknown_in_user user (view value.now)))) }
+    ensures { IfOk result (λ key.
+        key ≡ spec.least (cons_option least (spec.unknown_in_user user (view value.now)))) }
 {
     match value.as_table() {
         Some(table) => least_under(alloc, Place::User(user), &USER, table, least),
@@ -119,13 +121,14 @@ fn least_in_user(
 }
 
 /// The least of the unknown keys of some users, and of one key more.
-#[tactic(auto, using(crate::proofs::ListLemmas::each_more, crate::proofs::LeastLemmas::least_alone, crate::proofs::LeastLemmas::least_onward))]
+#[tactic(auto, using(crate::proofs::LeastLemmas::each_steps))]
 fn least_in_users(
     alloc: Global,
     values: &[Value],
     least: Option<Text>,
 ) -> Result<Option<Text>, AllocError>
-    ensures { IfOk result (λ key. key ≡ spec.least (cons_option least (spec.unknown_in_users 0 (map view values.now)))) }
+    ensures { IfOk result (λ key.
+        key ≡ spec.least (cons_option least (spec.unknown_in_users 0 (map view values.now)))) }
 {
     let mut least = least;
     for user in 0..values.len() {
@@ -143,7 +146,10 @@ fn least_in_server(
     value: &Value,
     least: Option<Text>,
 ) -> Result<Option<Text>, AllocError>
-    ensures { IfOk result (λ key. key ≡ spec.least (cons_option least (spec.unknown_in_server output server (view value.now)))) }
+    ensures { IfOk result (λ key.
+        key
+        ≡ spec.least
+        (cons_option least (spec.unknown_in_server output server (view value.now)))) }
 {
     match value.as_table() {
         Some(table) => least_under(alloc, Place::Server(output, server), &SERVER, table, least),
@@ -152,14 +158,17 @@ fn least_in_server(
 }
 
 /// The least of the unknown keys of some servers, and of one key more.
-#[tactic(auto, using(crate::proofs::ListLemmas::each_more, crate::proofs::LeastLemmas::least_alone, crate::proofs::LeastLemmas::least_onward))]
+#[tactic(auto, using(crate::proofs::LeastLemmas::each_steps))]
 fn least_in_servers(
     alloc: Global,
     output: usize,
     values: &[Value],
     least: Option<Text>,
 ) -> Result<Option<Text>, AllocError>
-    ensures { IfOk result (λ key. key ≡ spec.least (cons_option least (spec.unknown_in_servers output 0 (map view values.now)))) }
+    ensures { IfOk result (λ key.
+        key
+        ≡ spec.least
+        (cons_option least (spec.unknown_in_servers output 0 (map view values.now)))) }
 {
     let mut least = least;
     for server in 0..values.len() {
@@ -169,14 +178,15 @@ fn least_in_servers(
 }
 
 /// The least of the unknown keys of an output, and of one key more.
-#[tactic(auto, using(crate::proofs::LeastLemmas::least_alone, crate::proofs::LeastLemmas::least_onward))]
+#[tactic(auto, using(crate::proofs::LeastLemmas::onward_steps))]
 fn least_in_output(
     alloc: Global,
     output: usize,
     value: &Value,
     least: Option<Text>,
 ) -> Result<Option<Text>, AllocError>
-    ensures { IfOk result (λ key. key ≡ spec.least (cons_option least (spec.unknown_in_output output (view value.now)))) }
+    ensures { IfOk result (λ key.
+        key ≡ spec.least (cons_option least (spec.unknown_in_output output (view value.now)))) }
 {
     let Some(table) = value.as_table() else {
         return Ok(least);
@@ -187,13 +197,14 @@ fn least_in_output(
 }
 
 /// The least of the unknown keys of some outputs, and of one key more.
-#[tactic(auto, using(crate::proofs::ListLemmas::each_more, crate::proofs::LeastLemmas::least_alone, crate::proofs::LeastLemmas::least_onward))]
+#[tactic(auto, using(crate::proofs::LeastLemmas::each_steps))]
 fn least_in_outputs(
     alloc: Global,
     values: &[Value],
     least: Option<Text>,
 ) -> Result<Option<Text>, AllocError>
-    ensures { IfOk result (λ key. key ≡ spec.least (cons_option least (spec.unknown_in_outputs 0 (map view values.now)))) }
+    ensures { IfOk result (λ key.
+        key ≡ spec.least (cons_option least (spec.unknown_in_outputs 0 (map view values.now)))) }
 {
     let mut least = least;
     for output in 0..values.len() {
@@ -209,7 +220,8 @@ fn least_in_relay_table(
     relay: &Table,
     least: Option<Text>,
 ) -> Result<Option<Text>, AllocError>
-    ensures { IfOk result (λ key. key ≡ spec.least (cons_option least (spec.unknown_in_relay (table_view relay.now)))) }
+    ensures { IfOk result (λ key.
+        key ≡ spec.least (cons_option least (spec.unknown_in_relay (table_view relay.now)))) }
 {
     let least = least_under(alloc, Place::Relay, &RELAY, relay, least)?;
     least_in_users(alloc, members_of(relay, Place::Relay, "user"), least)

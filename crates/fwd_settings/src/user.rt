@@ -16,7 +16,8 @@ use toml::{Table, Value};
 
 /// The settings in a user's table.
 fn user_in(alloc: Global, user: usize, table: &Table) -> Result<UserSettings, SettingsFault>
-    ensures { Answers (first (user_table user (table_view table.now))) (user_settings (data_table (table_view table.now))) result }
+    ensures { Answers (first (user_table user (table_view table.now)))
+        (user_settings (data_table (table_view table.now))) result }
 {
     let place = Place::User(user);
     let section = Section { place, table };
@@ -38,7 +39,8 @@ fn user_of(alloc: Global, user: usize, value: &Value) -> Result<UserSettings, Se
 /// The settings of the users.
 #[tactic(auto, using(crate::proofs::ListLemmas::each_more, crate::proofs::ListLemmas::map_more))]
 pub fn users_of(alloc: Global, values: &[Value]) -> Result<Seq<UserSettings>, SettingsFault>
-    ensures { Answers (first (each user_fault 0 (map view values.now))) (map user_settings (map view values.now)) result }
+    ensures { Answers (first (each user_fault 0 (map view values.now)))
+        (map user_settings (map view values.now)) result }
 {
     let mut users = Seq::new(alloc);
     for value in values {

@@ -14,7 +14,8 @@ use toml::Value;
 
 /// An integer of this range.
 pub fn number_in(value: &Value, least: u64, most: u64) -> Result<u64, Flaw>
-    ensures ok { IfOk result (λ number. (number_of (view value.now) ≡ Some number) × (number_flaw least most (view value.now) ≡ None)) }
+    ensures ok { IfOk result (λ number. (number_of (view value.now) ≡ Some number)
+        × (number_flaw least most (view value.now) ≡ None)) }
     ensures flaw { IfErr result (λ flaw. number_flaw least most (view value.now) ≡ Some flaw) }
     ensures least { IfOk result (λ number. least ≤ number) }
     ensures most { IfOk result (λ number. number ≤ most) }
@@ -30,7 +31,8 @@ pub fn number_in(value: &Value, least: u64, most: u64) -> Result<u64, Flaw>
 
 /// True or false.
 pub fn flag_in(value: &Value) -> Result<bool, Flaw>
-    ensures ok { IfOk result (λ flag. (as_bool (view value.now) ≡ Some flag) × (flag_flaw (view value.now) ≡ None)) }
+    ensures ok { IfOk result (λ flag. (as_bool (view value.now) ≡ Some flag)
+        × (flag_flaw (view value.now) ≡ None)) }
     ensures flaw { IfErr result (λ flaw. flag_flaw (view value.now) ≡ Some flaw) }
 {
     value.as_bool().ok_or(Flaw::WrongKind)
@@ -48,7 +50,8 @@ pub fn is_true(value: Option<&Value>) -> bool
 
 /// A text of so many bytes.
 pub fn text_in(value: &Value, least: usize, most: usize) -> Result<&str, Flaw>
-    ensures ok { IfOk result (λ text. (as_str (view value.now) ≡ Some text.now) × (text_flaw least most (view value.now) ≡ None)) }
+    ensures ok { IfOk result (λ text. (as_str (view value.now) ≡ Some text.now)
+        × (text_flaw least most (view value.now) ≡ None)) }
     ensures flaw { IfErr result (λ flaw. text_flaw least most (view value.now) ≡ Some flaw) }
 {
     let text = value.as_str().ok_or(Flaw::WrongKind)?;
@@ -61,7 +64,8 @@ pub fn text_in(value: &Value, least: usize, most: usize) -> Result<&str, Flaw>
 
 /// So many bytes, each as two hex digits.
 pub fn digits_in<const N: usize>(value: &Value) -> Result<[u8; N], Flaw>
-    ensures ok { IfOk result (λ bytes. (bytes_of N (view value.now) ≡ Some bytes) × (digits_flaw N (view value.now) ≡ None)) }
+    ensures ok { IfOk result (λ bytes. (bytes_of N (view value.now) ≡ Some bytes)
+        × (digits_flaw N (view value.now) ≡ None)) }
     ensures flaw { IfErr result (λ flaw. digits_flaw N (view value.now) ≡ Some flaw) }
 {
     let text = value.as_str().ok_or(Flaw::WrongKind)?;
@@ -94,7 +98,8 @@ fn address_of(text: &str) -> Option<SocketAddr>
 
 /// An address.
 pub fn address_in(value: &Value) -> Result<SocketAddr, Flaw>
-    ensures ok { IfOk result (λ address. (spec.address_of (view value.now) ≡ Some address) × (address_flaw (view value.now) ≡ None)) }
+    ensures ok { IfOk result (λ address. (spec.address_of (view value.now) ≡ Some address)
+        × (address_flaw (view value.now) ≡ None)) }
     ensures flaw { IfErr result (λ flaw. address_flaw (view value.now) ≡ Some flaw) }
 {
     let text = value.as_str().ok_or(Flaw::WrongKind)?;
@@ -115,7 +120,8 @@ pub fn array_in(value: &Value) -> Option<&[Value]>
 /// The members of a list of 1 to so many.
 #[tactic(auto, using(crate::proofs::ListLemmas::viewed_length))]
 pub fn list_in(value: &Value, most: usize) -> Result<&[Value], Flaw>
-    ensures ok { IfOk result (λ values. (list_of (view value.now) ≡ Some (map view values.now)) × (list_flaw most (view value.now) ≡ None)) }
+    ensures ok { IfOk result (λ values. (list_of (view value.now) ≡ Some (map view values.now))
+        × (list_flaw most (view value.now) ≡ None)) }
     ensures flaw { IfErr result (λ flaw. list_flaw most (view value.now) ≡ Some flaw) }
 {
     let Some(values) = array_in(value) else {
@@ -131,7 +137,8 @@ pub fn list_in(value: &Value, most: usize) -> Result<&[Value], Flaw>
 /// The members of a list of at least one, where it may be there.
 #[tactic(auto, using(crate::proofs::ListLemmas::viewed_length))]
 pub fn allowed_list_in(value: &Value, may: bool) -> Result<&[Value], Flaw>
-    ensures ok { IfOk result (λ values. (list_of (view value.now) ≡ Some (map view values.now)) × (allowed_list_flaw may (view value.now) ≡ None)) }
+    ensures ok { IfOk result (λ values. (list_of (view value.now) ≡ Some (map view values.now))
+        × (allowed_list_flaw may (view value.now) ≡ None)) }
     ensures flaw { IfErr result (λ flaw. allowed_list_flaw may (view value.now) ≡ Some flaw) }
 {
     let Some(values) = array_in(value) else {
