@@ -1,5 +1,5 @@
 -- The check of settings, by what was read.
-use Rattle.std.proofs.Common.{◌≡◌, ◌≢◌, ℕ, List, [], ◌∷◌, Result, Ok, Err, Option, Vec, Some, None, Global, inl, inr, refl, sym, ap, ◌∙◌}
+use Rattle.std.proofs.Common.{◌≡◌, ◌≢◌, ℕ, List, Result, Ok, Err, Option, Vec, Global, inl, inr, refl}
 use Rattle.std.specs.Prelude.{IfOk, IfErr, IfSome}
 use Rattle.fwd_settings.specs.Whole.{settings_of}
 use Rattle.fwd_settings.specs.declared.settings.Settings.{Settings}
@@ -20,11 +20,13 @@ abbrev refused : Status → Result Settings Status
 refused status = Err status
 
 -- what stands for good settings is their text's
-good_text : (r : Result Settings SettingsFault) (s : Settings) → good s ≡ verdict_on r → r ≡ Ok s
+good_text : (r : Result Settings SettingsFault) (s : Settings) → good s ≡ verdict_on r
+    → r ≡ Ok s
 good_text (Ok t) s e = cc
 good_text (Err fault) s e = absurd cc
 
-tells : (status : Status) (text : List ℕ) (s : Settings) (old new : Option (List ℕ)) → settings_of text ≡ Ok s → TellsGood status s old new → Checks status text old new
+tells : (status : Status) (text : List ℕ) (s : Settings) (old new : Option (List ℕ))
+    → settings_of text ≡ Ok s → TellsGood status s old new → Checks status text old new
 tells Done text s old new e h = (s, e, h)
 tells (BadSettings fault) text s old new e h = absurd h
 tells (BadLine n) text s old new e h = absurd h
@@ -32,7 +34,8 @@ tells Memory text s old new e h = h
 tells Input text s old new e h = absurd h
 tells Output text s old new e h = (s, e, h)
 
-pub told_checks : (read : Result (Vec ℕ Global) InputError) (known : Option (List ℕ)) (s : Settings) (status : Status) (old new : Option (List ℕ))
+pub told_checks : (read : Result (Vec ℕ Global) InputError) (known : Option (List ℕ))
+    (s : Settings) (status : Status) (old new : Option (List ℕ))
     → IfOk read (λ bytes. IfSome known (λ left. bytes.items ≡ left))
     → IfOk read (λ text. good s ≢ refused Memory → good s ≡ verdict_on (settings_of text.items))
     → IfErr read (λ error. good s ≡ verdict_on (Err (unread error)))
@@ -44,7 +47,9 @@ told_checks (Err NoRoom) known s status old new whole text failed tells_good = a
 told_checks (Err Failed) known s status old new whole text failed tells_good = absurd cc
 
 -- a text's own fault, at the status that says it
-fault_checks : (r : Result Settings SettingsFault) (text : List ℕ) (status : Status) (known : Option (List ℕ)) → settings_of text ≡ r → refused status ≡ verdict_on r → Checks status text known known
+fault_checks : (r : Result Settings SettingsFault) (text : List ℕ) (status : Status)
+    (known : Option (List ℕ)) → settings_of text ≡ r → refused status ≡ verdict_on r
+    → Checks status text known known
 fault_checks (Ok s) text status known e h = absurd cc
 fault_checks (Err fault) text status known e h = by fault status e cc
   where
@@ -59,7 +64,9 @@ fault_checks (Err fault) text status known e h = by fault status e cc
     by (faults.BadPattern key) status e h = rw h (inl e, Keeps-same known)
 
 -- a status that is want of memory, or the one that the text's settings are refused with
-memory_or : (status : Status) (text : List ℕ) (known : Option (List ℕ)) → (refused status ≢ refused Memory → refused status ≡ verdict_on (settings_of text)) → Checks status text known known
+memory_or : (status : Status) (text : List ℕ) (known : Option (List ℕ))
+    → (refused status ≢ refused Memory → refused status ≡ verdict_on (settings_of text))
+    → Checks status text known known
 memory_or Memory text known h = Keeps-same known
 memory_or Done text known h = fault_checks (settings_of text) text Done known refl (h (λ e. absurd cc))
 memory_or (BadSettings fault) text known h = fault_checks (settings_of text) text (BadSettings fault) known refl (h (λ e. absurd cc))
@@ -67,7 +74,8 @@ memory_or (BadLine n) text known h = fault_checks (settings_of text) text (BadLi
 memory_or Input text known h = fault_checks (settings_of text) text Input known refl (h (λ e. absurd cc))
 memory_or Output text known h = fault_checks (settings_of text) text Output known refl (h (λ e. absurd cc))
 
-pub refused_checks : (read : Result (Vec ℕ Global) InputError) (known : Option (List ℕ)) (status : Status) (old : Option (List ℕ))
+pub refused_checks : (read : Result (Vec ℕ Global) InputError) (known : Option (List ℕ))
+    (status : Status) (old : Option (List ℕ))
     → IfOk read (λ bytes. IfSome known (λ left. bytes.items ≡ left))
     → IfOk read (λ text. refused status ≢ refused Memory → refused status ≡ verdict_on (settings_of text.items))
     → IfErr read (λ error. refused status ≡ verdict_on (Err (unread error)))

@@ -1,9 +1,8 @@
 -- The line of an event is text.
-use Rattle.std.proofs.Common.{◌≡◌, ℕ, ◌^◌, ◌<◌, true, List, [], ◌∷◌, Some, refl, nat_lt, lit<, arith}
+use Rattle.std.proofs.Common.{◌≡◌, ℕ, true, List, [], ◌∷◌, map, Some, refl, nat_lt, lit<, arith}
 use Rattle.std.specs.Prelude.{codes}
 use Rattle.std.specs.List.{join_with_byte, list_all}
 use Rattle.std.specs.Str.{IsAscii, IsUtf8}
-use Rattle.std.specs.Fmt.{decimal}
 use Rattle.std.proofs.lemmas.Bool.{and_parts, ltb-true}
 use Rattle.std.proofs.lemmas.Str.{IsAscii-append, IsUtf8-from_ascii}
 use Rattle.std.proofs.lemmas.Str.Ascii.{IsAscii-nil, IsAscii-cons}
@@ -11,12 +10,11 @@ use Rattle.std.proofs.lemmas.Fmt.{IsAscii-decimal}
 use Rattle.hex.specs.Hex.{encode_lower, lower_digits}
 use Rattle.hex.proofs.HexLemmas.{IsAscii-encode_with}
 use Rattle.fwd_model.specs.declared.event.Event.{Event}
-use Rattle.fwd_model.specs.declared.event.Event.TheVariants.{Accept, Piece, Admit, Flush, Up, Take, Load, Wrote, Heard, Settle, Collect, Drained, Shut}
 use Rattle.fwd_model.specs.declared.event.FlushKind.{FlushKind}
 use Rattle.fwd_model.specs.declared.event.FlushKind.TheVariants.{Due, All}
 use Rattle.fwd_script.specs.Words.{hex_text}
-use Rattle.fwd_script.specs.Lines.{kind_text, words_of, line_of, InRange, event_of}
-use Rattle.fwd_script.proofs.Spelling.{event_of-some}
+use Rattle.fwd_script.specs.Lines.{Kind, Long, Short, Hex, Sixteen, Closing, Meaning, Fits, text_at, Field, kind_text, form_of, words_of, line_of, AllFit, InRange, event_of}
+use Rattle.fwd_script.proofs.Spelling.{spelled, event_of-some}
 
 -- a text whose bytes pass the test
 IsAscii-tested : (text : List ℕ) → list_all (λ b. nat_lt b 128) text ≡ true → IsAscii text
@@ -29,7 +27,8 @@ abbrev AllAscii : List (List ℕ) → Type 0
 AllAscii [] = Unit {0}
 AllAscii (word ∷ more) = IsAscii word × AllAscii more
 
-IsAscii-join : (first : List ℕ) (more : List (List ℕ)) → AllAscii (first ∷ more) → IsAscii (join_with_byte 32 (first ∷ more))
+IsAscii-join : (first : List ℕ) (more : List (List ℕ)) → AllAscii (first ∷ more)
+    → IsAscii (join_with_byte 32 (first ∷ more))
 IsAscii-join first [] h = h.0
 IsAscii-join first (second ∷ more) h =
     let rest = IsAscii-join second more h.1 in
@@ -50,23 +49,21 @@ IsAscii-words : (ws : List (List ℕ)) → AllAscii ws → IsAscii (join_with_by
 IsAscii-words [] h = IsAscii-nil
 IsAscii-words (first ∷ more) h = IsAscii-join first more h
 
-small : (n : ℕ) → n < 2 ^ 16 → IsAscii (decimal n)
-small n lt = IsAscii-decimal n (omega arith)
+-- a word in range is ASCII
+IsAscii-text_at : (kind : Kind) (x : Meaning kind) → Fits kind x → IsAscii (text_at kind x)
+IsAscii-text_at Long n r = IsAscii-decimal n r
+IsAscii-text_at Short n r = IsAscii-decimal n (omega arith)
+IsAscii-text_at Hex bytes r = IsAscii-hex_text bytes
+IsAscii-text_at Sixteen bytes r = IsAscii-hex bytes
+IsAscii-text_at Closing kind r = IsAscii-kind kind
+
+AllAscii-fields : (fields : List Field) → AllFit fields
+    → AllAscii (map (λ f. text_at f.0 f.1) fields)
+AllAscii-fields [] r = tt
+AllAscii-fields (f ∷ fields) r = (IsAscii-text_at f.0 f.1 r.0, AllAscii-fields fields r.1)
 
 AllAscii-words_of : (e : Event) → InRange e → AllAscii (words_of e)
-AllAscii-words_of (Accept conn nonce auth) r = (IsAscii-tested (codes "accept") refl, (IsAscii-decimal conn r.0, (IsAscii-hex nonce, (IsAscii-hex auth, tt))))
-AllAscii-words_of (Piece conn bytes) r = (IsAscii-tested (codes "piece") refl, (IsAscii-decimal conn r.0, (IsAscii-hex_text bytes, tt)))
-AllAscii-words_of (Admit conn output now) r = (IsAscii-tested (codes "admit") refl, (IsAscii-decimal conn r.0, (small output r.1, (IsAscii-decimal now r.2, tt))))
-AllAscii-words_of (Flush output now kind) r = (IsAscii-tested (codes "flush") refl, (small output r.0, (IsAscii-decimal now r.1, (IsAscii-kind kind, tt))))
-AllAscii-words_of (Up output worker server salt now) r = (IsAscii-tested (codes "up") refl, (small output r.0, (small worker r.1, (small server r.2, (IsAscii-hex_text salt, (IsAscii-decimal now r.4, tt))))))
-AllAscii-words_of (Take output worker now) r = (IsAscii-tested (codes "take") refl, (small output r.0, (small worker r.1, (IsAscii-decimal now r.2, tt))))
-AllAscii-words_of (Load output worker now) r = (IsAscii-tested (codes "load") refl, (small output r.0, (small worker r.1, (IsAscii-decimal now r.2, tt))))
-AllAscii-words_of (Wrote output worker count) r = (IsAscii-tested (codes "wrote") refl, (small output r.0, (small worker r.1, (IsAscii-decimal count r.2, tt))))
-AllAscii-words_of (Heard output worker bytes) r = (IsAscii-tested (codes "heard") refl, (small output r.0, (small worker r.1, (IsAscii-hex_text bytes, tt))))
-AllAscii-words_of (Settle output worker) r = (IsAscii-tested (codes "settle") refl, (small output r.0, (small worker r.1, tt)))
-AllAscii-words_of (Collect conn output) r = (IsAscii-tested (codes "collect") refl, (IsAscii-decimal conn r.0, (small output r.1, tt)))
-AllAscii-words_of (Drained conn count) r = (IsAscii-tested (codes "drained") refl, (IsAscii-decimal conn r.0, (IsAscii-decimal count r.1, tt)))
-AllAscii-words_of (Shut conn) r = (IsAscii-tested (codes "shut") refl, (IsAscii-decimal conn r, tt))
+AllAscii-words_of e r = (IsAscii-tested (form_of e).0 (spelled e r).is_ascii, AllAscii-fields (form_of e).1 r)
 
 pub IsUtf8-event : (line : List ℕ) (e : Event) → event_of line ≡ Some e → IsUtf8 line
 IsUtf8-event line e h =

@@ -8,37 +8,38 @@ use Rattle.fwd_model.specs.declared.fault.SessionFault.TheVariants.{EarlyAck}
 use Rattle.fwd_model.specs.declared.fault.Refusal.TheVariants.{NotUp}
 use Rattle.fwd_model.specs.declared.answer.Answer.TheVariants.{Quiet, Acked, SessionFaulted, Settled, Told, Refused}
 use Rattle.fwd_script.specs.Words.{number_of, bytes_of}
-use Rattle.fwd_script.specs.Lines.{line_of, wrote_of, heard_of, settle_of, collect_of, named, of_words, event_of}
+use Rattle.fwd_script.specs.Lines.{line_of, read_as, named, of_words, event_of}
 use Rattle.fwd_script.specs.Texts.{list_text, text_of}
 
 -- ---- lines
 
 wrote_line : event_of (codes "wrote 0 0 46") ≡ Some (Wrote 0 0 46)
-unfolding of_words named wrote_of number_of digits
+unfolding of_words named read_as number_of digits
 wrote_line = refl
 
-heard_line : event_of (codes "heard 0 1 81a361636b") ≡ Some (Heard 0 1 (0x81 ∷ 0xa3 ∷ 0x61 ∷ 0x63 ∷ 0x6b ∷ []))
-unfolding of_words named heard_of number_of digits bytes_of decode_pairs encode_with
+heard_line : event_of (codes "heard 0 1 81a361636b")
+    ≡ Some (Heard 0 1 (0x81 ∷ 0xa3 ∷ 0x61 ∷ 0x63 ∷ 0x6b ∷ []))
+unfolding of_words named read_as number_of digits bytes_of decode_pairs encode_with
 heard_line = refl
 
 heard_nothing : event_of (codes "heard 0 1 -") ≡ Some (Heard 0 1 [])
-unfolding of_words named heard_of number_of digits bytes_of decode_pairs encode_with
+unfolding of_words named read_as number_of digits bytes_of decode_pairs encode_with
 heard_nothing = refl
 
 settle_line : event_of (codes "settle 0 65535") ≡ Some (Settle 0 65535)
-unfolding of_words named settle_of number_of digits
+unfolding of_words named read_as number_of digits
 settle_line = refl
 
 worker_too_large : event_of (codes "settle 0 65536") ≡ None
-unfolding of_words named settle_of number_of digits
+unfolding of_words named read_as number_of digits
 worker_too_large = refl
 
 settle_has_no_moment : event_of (codes "settle 0 0 0") ≡ None
-unfolding of_words named settle_of number_of digits
+unfolding of_words named read_as number_of digits
 settle_has_no_moment = refl
 
 collect_line : event_of (codes "collect 65536 0") ≡ Some (Collect 65536 0)
-unfolding of_words named collect_of number_of digits
+unfolding of_words named read_as number_of digits
 collect_line = refl
 
 line_of_wrote : line_of (Wrote 1 2 46) ≡ codes "wrote 1 2 46"
@@ -75,7 +76,8 @@ settled : text_of (Settled 1) ≡ codes "settled 1"
 unfolding digits
 settled = refl
 
-told : text_of (Told (1 ∷ []) (0x81 ∷ 0xa3 ∷ 0x61 ∷ 0x63 ∷ 0x6b ∷ 0xa1 ∷ 0x78 ∷ [])) ≡ codes "told 1 out 81a361636ba178"
+told : text_of (Told (1 ∷ []) (0x81 ∷ 0xa3 ∷ 0x61 ∷ 0x63 ∷ 0x6b ∷ 0xa1 ∷ 0x78 ∷ []))
+    ≡ codes "told 1 out 81a361636ba178"
 unfolding digits encode_with
 told = refl
 

@@ -8,7 +8,8 @@ use Rattle.fwd_script.specs.Replay.{events_of, bad_line, SplitsAtBad, AllAreEven
 abbrev just : {A : Type 0} → A → Option A
 just x = Some x
 
-bad_line-more : (count : ℕ) (line : List ℕ) (lines : List (List ℕ)) (event : Event) → event_of line ≡ Some event → (b : Option ℕ)
+bad_line-more : (count : ℕ) (line : List ℕ) (lines : List (List ℕ)) (event : Event)
+    → event_of line ≡ Some event → (b : Option ℕ)
     → MatchOption b (AllAreEvents lines) (IsBadLine (count + 1) lines) → MatchOption b (AllAreEvents (line ∷ lines)) (IsBadLine count (line ∷ lines))
 bad_line-more count line lines event e None h =
     rw e (ap (λ (es : List (Option Event)). Some event ∷ es) h)

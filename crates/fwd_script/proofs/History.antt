@@ -1,5 +1,5 @@
 -- A replay against the live part of a history is one against the history.
-use Rattle.std.proofs.Common.{◌≡◌, ℕ, List, [], ◌∷◌, Option, Some, None, Result, Ok, Err, inl, inr, refl, sym, ap, subst, ◌∙◌}
+use Rattle.std.proofs.Common.{◌≡◌, ℕ, List, [], ◌∷◌, Option, Ok, inr, refl, sym, ap, subst, ◌∙◌}
 use Rattle.std.specs.List.{flat_map}
 use Rattle.std.specs.Io.KnownBytes.{Appends}
 use Rattle.fwd_model.specs.declared.event.Event.{Event}
@@ -24,11 +24,13 @@ live_answer_to r e = answer_of (step lives r e)
 abbrev pub live_next : LiveRelay → Event → LiveRelay
 live_next r e = state_of r (step lives r e)
 
-history_answers : (h : History) (es : List Event) → answers answer_to next h es ≡ model.answers histories h es
+history_answers : (h : History) (es : List Event)
+    → answers answer_to next h es ≡ model.answers histories h es
 history_answers h [] = refl
 history_answers h (e ∷ es) = ap (λ xs. answer_to h e ∷ xs) (history_answers (next h e) es)
 
-live_answers_same : (r : LiveRelay) (es : List Event) → answers live_answer_to live_next r es ≡ model.answers lives r es
+live_answers_same : (r : LiveRelay) (es : List Event)
+    → answers live_answer_to live_next r es ≡ model.answers lives r es
 live_answers_same r [] = refl
 live_answers_same r (e ∷ es) = ap (λ xs. live_answer_to r e ∷ xs) (live_answers_same (live_next r e) es)
 
@@ -56,7 +58,8 @@ module _ (h : History) (r : LiveRelay) (shown : r ≡ live h) (law : (es : List 
   of_history Output count lines old new f = subst (λ bytes. AppendsFront old new bytes) (same_output lines) f
 
 -- a script that was answered by a relay that its settings opened
-pub opened_replays : (script text : List ℕ) (relay : LiveRelay) (status : Status) (count : ℕ) (lines : List (List ℕ)) (old new : Option (List ℕ))
+pub opened_replays : (script text : List ℕ) (relay : LiveRelay) (status : Status) (count : ℕ)
+    (lines : List (List ℕ)) (old new : Option (List ℕ))
     → ((config : Config) (h : History) (es : List Event) → IsReached config h → model.answers histories h es ≡ model.answers lives (live h) es)
     → Opens text (Ok relay) → text ≡ settings_of script → count ≡ head_len (lines_of script) → lines ≡ event_lines (lines_of script)
     → Ends status live_answer_to live_next relay count lines old new → Replays status script old new

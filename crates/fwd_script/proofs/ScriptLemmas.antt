@@ -1,4 +1,5 @@
--- The lines of a text, and the parts of a script, as one line after the other is taken from the front.
+-- The lines of a text, and the parts of a script, as one line after the other is taken from the
+-- front.
 use Rattle.std.proofs.Common.{◌≡◌, ℕ, suc, ◌+◌, ◌-◌, ◌<◌, ◌≤◌, ◌==◌, Bool, true, false, List, [], ◌∷◌, ◌++◌, length, get_or, take, drop, add-one, drop-cons, refl, sym, ap, ◌∙◌, arith, append_assoc, length-append, ◌⊎◌, inl, inr}
 use Rattle.std.specs.List.{list_any, flat_map}
 use Rattle.std.proofs.lemmas.List.{append-nil, take_at, take-append-drop}
@@ -11,13 +12,15 @@ use Rattle.std.specs.Prelude.{codes}
 abbrev pub OneLine : List ℕ → Type 0
 OneLine bytes = list_any (λ b. b == 10) bytes ≡ false
 
-lines_of-ended : (line after : List ℕ) → OneLine line → lines_of (line ++ 10 ∷ after) ≡ line ∷ lines_of after
+lines_of-ended : (line after : List ℕ) → OneLine line
+    → lines_of (line ++ 10 ∷ after) ≡ line ∷ lines_of after
 lines_of-ended [] after h = refl
 lines_of-ended (b ∷ line) after h =
     let parts = or_false (b == 10) (list_any (λ x. x == 10) line) h in
     rw (parts.0, lines_of-ended line after parts.1) refl
 
-lines_of-last : (b : ℕ) (line : List ℕ) → OneLine (b ∷ line) → lines_of (b ∷ line) ≡ (b ∷ line) ∷ []
+lines_of-last : (b : ℕ) (line : List ℕ) → OneLine (b ∷ line)
+    → lines_of (b ∷ line) ≡ (b ∷ line) ∷ []
 lines_of-last b [] h =
     let parts = or_false (b == 10) false h in
     rw parts.0 refl
@@ -25,19 +28,22 @@ lines_of-last b (c ∷ line) h =
     let parts = or_false (b == 10) (list_any (λ x. x == 10) (c ∷ line)) h in
     rw (parts.0, lines_of-last c line parts.1) refl
 
-pub first_line-ended : (text line after : List ℕ) → OneLine line → text ≡ line ++ 10 ∷ after → IsFirstLine text line after
+pub first_line-ended : (text line after : List ℕ) → OneLine line
+    → text ≡ line ++ 10 ∷ after → IsFirstLine text line after
 first_line-ended text line after one is = record {
   lines = ap lines_of is ∙ lines_of-ended line after one;
   parts = inl (is ∙ sym (append_assoc line (10 ∷ []) after));
   shorter = let len = ap length is in omega (arith, len, length-append line (10 ∷ after));
 }
 
-pub first_line-last : (text : List ℕ) → OneLine text → 0 < length text → IsFirstLine text text []
+pub first_line-last : (text : List ℕ) → OneLine text → 0 < length text
+    → IsFirstLine text text []
 first_line-last [] one some = absurd (omega arith)
 first_line-last (b ∷ text) one some = record { lines = lines_of-last b text one; parts = inr (refl, refl); shorter = omega arith }
 
 -- a line feed at an index, and none before
-pub first_line-at : (text : List ℕ) (i : ℕ) → i < length text → get_or text i 0 ≡ 10 → OneLine (take i text) → IsFirstLine text (take i text) (drop (i + 1) text)
+pub first_line-at : (text : List ℕ) (i : ℕ) → i < length text → get_or text i 0 ≡ 10
+    → OneLine (take i text) → IsFirstLine text (take i text) (drop (i + 1) text)
 first_line-at text i lt feed one =
     let rest : drop i text ≡ get_or text i 0 ∷ drop (suc i) text = drop-cons text i 0 lt in
     let whole : text ≡ take i text ++ drop i text = sym (take-append-drop i text) in
@@ -57,17 +63,21 @@ pub record IsSplit (script rest : List ℕ) (count : ℕ) : Type 0 where
 pub IsSplit-none : (script : List ℕ) → IsSplit script script 0
 IsSplit-none script = record { seen = []; lines = refl; no_rule = refl; text = inl refl; counted = refl; fits = omega arith }
 
-list_any-push : (p : List ℕ → Bool) (xs : List (List ℕ)) (y : List ℕ) → list_any p xs ≡ false → p y ≡ false → list_any p (xs ++ y ∷ []) ≡ false
+list_any-push : (p : List ℕ → Bool) (xs : List (List ℕ)) (y : List ℕ)
+    → list_any p xs ≡ false → p y ≡ false → list_any p (xs ++ y ∷ []) ≡ false
 list_any-push p [] y h e = rw e refl
 list_any-push p (x ∷ xs) y h e =
     let parts = or_false (p x) (list_any p xs) h in
     rw parts.0 (list_any-push p xs y parts.1 e)
 
-flat_map-push : (xs : List (List ℕ)) (y : List ℕ) → flat_map ended (xs ++ y ∷ []) ≡ flat_map ended xs ++ ended y
+flat_map-push : (xs : List (List ℕ)) (y : List ℕ)
+    → flat_map ended (xs ++ y ∷ []) ≡ flat_map ended xs ++ ended y
 flat_map-push [] y = append-nil (ended y)
 flat_map-push (x ∷ xs) y = ap (λ (t : List ℕ). ended x ++ t) (flat_map-push xs y) ∙ sym (append_assoc (ended x) (flat_map ended xs) (ended y))
 
-pub IsSplit-more : (script rest : List ℕ) (count : ℕ) (line after : List ℕ) → IsSplit script rest count → IsFirstLine rest line after → is_rule line ≡ false → IsSplit script after (count + 1)
+pub IsSplit-more : (script rest : List ℕ) (count : ℕ) (line after : List ℕ)
+    → IsSplit script rest count → IsFirstLine rest line after → is_rule line ≡ false
+    → IsSplit script after (count + 1)
 IsSplit-more script rest count line after s f other =
     let counted = s.counted in
     let fits = s.fits in
@@ -91,7 +101,8 @@ IsSplit-more script rest count line after s f other =
 
 -- ---- at the line that ends the settings, and at the end of a script without one
 
-event_lines-rule : (seen : List (List ℕ)) (line : List ℕ) (more : List (List ℕ)) → list_any is_rule seen ≡ false → is_rule line ≡ true
+event_lines-rule : (seen : List (List ℕ)) (line : List ℕ) (more : List (List ℕ))
+    → list_any is_rule seen ≡ false → is_rule line ≡ true
     → (event_lines (seen ++ line ∷ more) ≡ more) × (settings_lines (seen ++ line ∷ more) ≡ seen) × (head_len (seen ++ line ∷ more) ≡ length seen + 1) × (list_any is_rule (seen ++ line ∷ more) ≡ true)
 event_lines-rule [] line more none rule = (rw rule refl, rw rule refl, rw rule refl, rw rule refl)
 event_lines-rule (first ∷ seen) line more none rule =
@@ -99,7 +110,8 @@ event_lines-rule (first ∷ seen) line more none rule =
     let ih = event_lines-rule seen line more parts.1 rule in
     (rw parts.0 ih.0, rw parts.0 (ap (λ (ls : List (List ℕ)). first ∷ ls) ih.1), rw parts.0 (ap suc ih.2 ∙ omega arith), rw parts.0 ih.3)
 
-event_lines-none : (seen : List (List ℕ)) → list_any is_rule seen ≡ false → (event_lines seen ≡ []) × (head_len seen ≡ length seen)
+event_lines-none : (seen : List (List ℕ)) → list_any is_rule seen ≡ false
+    → (event_lines seen ≡ []) × (head_len seen ≡ length seen)
 event_lines-none [] none = (refl, refl)
 event_lines-none (first ∷ seen) none =
     let parts = or_false (is_rule first) (list_any is_rule seen) none in
@@ -107,13 +119,15 @@ event_lines-none (first ∷ seen) none =
     (rw parts.0 ih.0, rw parts.0 (ap suc ih.1))
 
 -- what stands before the rest
-front-at : (script front rest : List ℕ) → script ≡ front ++ rest → take (length script - length rest) script ≡ front
+front-at : (script front rest : List ℕ) → script ≡ front ++ rest
+    → take (length script - length rest) script ≡ front
 front-at script front rest text =
     let len : length script ≡ length (front ++ rest) = ap length text in
     let size : length script - length rest ≡ length front = omega (arith, length-append front rest) in
     rw (size, text) (take_at front rest (length front) refl)
 
-pub IsSplit-rule : (script rest : List ℕ) (count : ℕ) (line after : List ℕ) → IsSplit script rest count → IsFirstLine rest line after → is_rule line ≡ true
+pub IsSplit-rule : (script rest : List ℕ) (count : ℕ) (line after : List ℕ)
+    → IsSplit script rest count → IsFirstLine rest line after → is_rule line ≡ true
     → (take (length script - length rest) script ≡ settings_of script) × (lines_of after ≡ event_lines (lines_of script)) × (count + 1 ≡ head_len (lines_of script))
 IsSplit-rule script rest count line after s f rule =
     let whole : lines_of script ≡ s.seen ++ line ∷ lines_of after = s.lines ∙ ap (λ (ls : List (List ℕ)). s.seen ++ ls) f.lines in
@@ -128,7 +142,9 @@ IsSplit-rule script rest count line after s f rule =
     (front ∙ sym found, sym (ap event_lines whole ∙ at.0), rw whole (omega (arith, at.2)))
 
 -- the line that ends the settings stands between the two parts
-pub IsSplit-parts : (script rest : List ℕ) (count : ℕ) (line after : List ℕ) → IsSplit script rest count → IsFirstLine rest line after → is_rule line ≡ true → IsScript script (take (length script - length rest) script) after
+pub IsSplit-parts : (script rest : List ℕ) (count : ℕ) (line after : List ℕ)
+    → IsSplit script rest count → IsFirstLine rest line after → is_rule line ≡ true
+    → IsScript script (take (length script - length rest) script) after
 IsSplit-parts script rest count line after s f rule =
     let dashes : line ≡ codes "---" = bytes_eq-true line (codes "---") rule in
     let shorter = f.shorter in
@@ -142,7 +158,8 @@ IsSplit-parts script rest count line after s f rule =
           ]
     ]
 
-pub IsSplit-end : (script : List ℕ) (count : ℕ) (rest : List ℕ) → rest ≡ [] → IsSplit script rest count
+pub IsSplit-end : (script : List ℕ) (count : ℕ) (rest : List ℕ) → rest ≡ []
+    → IsSplit script rest count
     → (script ≡ settings_of script) × (lines_of rest ≡ event_lines (lines_of script)) × (count ≡ head_len (lines_of script))
 IsSplit-end script count rest none s =
     let whole : lines_of script ≡ s.seen = s.lines ∙ ap (λ (t : List ℕ). s.seen ++ lines_of t) none ∙ append-nil s.seen in

@@ -1,7 +1,7 @@
 -- A line spells an event exactly where it is that event's line.
-use Rattle.std.proofs.Common.{◌≡◌, ℕ, suc, ◌^◌, ◌<◌, ◌==◌, ◌/◌, ◌%◌, false, cond, List, [], ◌∷◌, ◌++◌, Option, Some, None, refl, sym, ap, ◌∙◌, arith, inl, inr}
+use Rattle.std.proofs.Common.{◌≡◌, ℕ, suc, ◌^◌, ◌<◌, ◌==◌, ◌/◌, ◌%◌, true, false, nat_lt, cond, List, [], ◌∷◌, ◌++◌, map, Option, Some, None, refl, sym, ap, ◌∙◌, arith, inl, inr}
 use Rattle.std.specs.Prelude.{codes, ◌↔◌}
-use Rattle.std.specs.List.{list_any, join_with_byte}
+use Rattle.std.specs.List.{list_any, list_all, join_with_byte}
 use Rattle.std.specs.Str.{bytes_eq}
 use Rattle.std.specs.Str.Parse.{AllDigits}
 use Rattle.std.specs.Fmt.{decimal}
@@ -14,8 +14,8 @@ use Rattle.fwd_model.specs.declared.event.Event.{Event}
 use Rattle.fwd_model.specs.declared.event.Event.TheVariants.{Accept, Piece, Admit, Flush, Up, Take, Load, Wrote, Heard, Settle, Collect, Drained, Shut}
 use Rattle.fwd_model.specs.declared.event.FlushKind.{FlushKind}
 use Rattle.fwd_model.specs.declared.event.FlushKind.TheVariants.{Due, All}
-use Rattle.fwd_script.specs.Words.{words, hex_text, number_of, bytes_of, sixteen_of}
-use Rattle.fwd_script.specs.Lines.{kind_text, words_of, line_of, InRange, accept_of, piece_of, admit_of, kind_of, flush_of, session_of, up_of, take_of, load_of, wrote_of, heard_of, settle_of, collect_of, drained_of, shut_of, named, of_words, event_of}
+use Rattle.fwd_script.specs.Words.{words, hex_text}
+use Rattle.fwd_script.specs.Lines.{Kind, Long, Short, Hex, Sixteen, Closing, Meaning, Fits, text_at, Field, kind_text, form_of, words_of, line_of, AllFit, InRange, kind_of, read_at, Makes, read_as, named, of_words, event_of}
 use Rattle.fwd_script.proofs.WordLemmas.{bytes_eq-true, number_of-some, number_of-decimal}
 use Rattle.fwd_script.proofs.HexText.{chosen, then_some, or_false, no_space, bytes_of-some, bytes_of-hex_text, sixteen_of-some, sixteen_of-encode_lower}
 
@@ -31,7 +31,8 @@ words-one (b ∷ word) h =
     let parts = or_false (b == 32) (list_any (λ b. b == 32) word) h in
     rw (parts.0, words-one word parts.1) refl
 
-words-first : (word rest : List ℕ) → Lacks word → words (word ++ 32 ∷ rest) ≡ word ∷ words rest
+words-first : (word rest : List ℕ) → Lacks word
+    → words (word ++ 32 ∷ rest) ≡ word ∷ words rest
 words-first [] rest h = refl
 words-first (b ∷ word) rest h =
     let parts = or_false (b == 32) (list_any (λ b. b == 32) word) h in
@@ -41,7 +42,8 @@ abbrev AllLack : List (List ℕ) → Type 0
 AllLack [] = Unit {0}
 AllLack (word ∷ more) = Lacks word × AllLack more
 
-words-join : (first : List ℕ) (more : List (List ℕ)) → AllLack (first ∷ more) → words (join_with_byte 32 (first ∷ more)) ≡ first ∷ more
+words-join : (first : List ℕ) (more : List (List ℕ)) → AllLack (first ∷ more)
+    → words (join_with_byte 32 (first ∷ more)) ≡ first ∷ more
 words-join first [] h = words-one first h.0
 words-join first (second ∷ more) h =
     words-first first (join_with_byte 32 (second ∷ more)) h.0 ∙ ap (λ (ws : List (List ℕ)). first ∷ ws) (words-join second more h.1)
@@ -69,20 +71,25 @@ Lacks-hex_text : (bytes : List ℕ) → IsBytes bytes → Lacks (hex_text bytes)
 Lacks-hex_text [] fits = refl
 Lacks-hex_text (b ∷ bytes) fits = Lacks-encode_lower (b ∷ bytes) fits
 
--- ---- a line that is read is the event's line
+-- ---- what words of some kinds say
 
--- words one by one
-same_words-1 : (n : List ℕ) {a c : List ℕ} → a ≡ c → n ∷ a ∷ [] ≡ n ∷ c ∷ []
-same_words-1 n p = cc
+-- the values of words of some kinds
+abbrev pub Values : List Kind → Type 0
+Values [] = Unit {0}
+Values (kind ∷ kinds) = Meaning kind × Values kinds
 
-same_words-2 : (n : List ℕ) {a b c d : List ℕ} → a ≡ c → b ≡ d → n ∷ a ∷ b ∷ [] ≡ n ∷ c ∷ d ∷ []
-same_words-2 n p q = cc
+-- what is made of them
+abbrev pub made : (kinds : List Kind) → Makes kinds → Values kinds → Event
+made [] event xs = event
+made (kind ∷ kinds) make xs = made kinds (make xs.0) xs.1
 
-same_words-3 : (n : List ℕ) {a b c x y z : List ℕ} → a ≡ x → b ≡ y → c ≡ z → n ∷ a ∷ b ∷ c ∷ [] ≡ n ∷ x ∷ y ∷ z ∷ []
-same_words-3 n p q r = cc
+-- each with its kind
+abbrev pub fields_of : (kinds : List Kind) → Values kinds → List Field
+fields_of [] xs = []
+fields_of (kind ∷ kinds) xs = (kind, xs.0) ∷ fields_of kinds xs.1
 
-same_words-5 : (n : List ℕ) {a b c d e v w x y z : List ℕ} → a ≡ v → b ≡ w → c ≡ x → d ≡ y → e ≡ z → n ∷ a ∷ b ∷ c ∷ d ∷ e ∷ [] ≡ n ∷ v ∷ w ∷ x ∷ y ∷ z ∷ []
-same_words-5 n p q r s t = cc
+abbrev texts : List Field → List (List ℕ)
+texts fields = map (λ f. text_at f.0 f.1) fields
 
 abbrev just : {A : Type 0} → A → Option A
 just x = Some x
@@ -90,41 +97,8 @@ just x = Some x
 some_is : {A : Type 0} (x y : A) → just x ≡ just y → x ≡ y
 some_is x y e = cc
 
-accept_of-some : (ws : List (List ℕ)) (e : Event) → accept_of ws ≡ Some e → InRange e × (codes "accept" ∷ ws ≡ words_of e)
-unfolding accept_of
-accept_of-some (conn ∷ nonce ∷ auth ∷ []) e h =
-    let c = then_some (number_of (2 ^ 64) conn) _ e h in
-    let n = then_some (sixteen_of nonce) _ e c.2 in
-    let a = then_some (sixteen_of auth) _ e n.2 in
-    let cs = number_of-some (2 ^ 64) conn c.0 c.1 in
-    let ns = sixteen_of-some nonce n.0 n.1 in
-    let salts = sixteen_of-some auth a.0 a.1 in
-    rw (← some_is (Accept c.0 n.0 a.0) e a.2) ((cs.0, ns.0, ns.1, salts.0, salts.1), same_words-3 _ cs.1 ns.2 salts.2)
-accept_of-some _ e h = absurd cc
-
-piece_of-some : (ws : List (List ℕ)) (e : Event) → piece_of ws ≡ Some e → InRange e × (codes "piece" ∷ ws ≡ words_of e)
-unfolding piece_of
-piece_of-some (conn ∷ bytes ∷ []) e h =
-    let c = then_some (number_of (2 ^ 64) conn) _ e h in
-    let b = then_some (bytes_of bytes) _ e c.2 in
-    let cs = number_of-some (2 ^ 64) conn c.0 c.1 in
-    let bs = bytes_of-some bytes b.0 b.1 in
-    rw (← some_is (Piece c.0 b.0) e b.2) ((cs.0, bs.0), same_words-2 _ cs.1 bs.1)
-piece_of-some _ e h = absurd cc
-
-admit_of-some : (ws : List (List ℕ)) (e : Event) → admit_of ws ≡ Some e → InRange e × (codes "admit" ∷ ws ≡ words_of e)
-unfolding admit_of
-admit_of-some (conn ∷ output ∷ now ∷ []) e h =
-    let c = then_some (number_of (2 ^ 64) conn) _ e h in
-    let o = then_some (number_of (2 ^ 16) output) _ e c.2 in
-    let t = then_some (number_of (2 ^ 64) now) _ e o.2 in
-    let cs = number_of-some (2 ^ 64) conn c.0 c.1 in
-    let os = number_of-some (2 ^ 16) output o.0 o.1 in
-    let ts = number_of-some (2 ^ 64) now t.0 t.1 in
-    rw (← some_is (Admit c.0 o.0 t.0) e t.2) ((cs.0, os.0, ts.0), same_words-3 _ cs.1 os.1 ts.1)
-admit_of-some _ e h = absurd cc
-
-kind_of-some : (word : List ℕ) (k : FlushKind) → kind_of word ≡ Some k → word ≡ kind_text k
+kind_of-some : (word : List ℕ) (k : FlushKind) → kind_of word ≡ Some k
+    → word ≡ kind_text k
 unfolding kind_of
 kind_of-some word k h =
     elim (chosen (bytes_eq word (codes "due")) (Some Due) (cond (bytes_eq word (codes "all")) (Some All) None) (Some k) h) [
@@ -136,208 +110,149 @@ kind_of-some word k h =
           ]
     ]
 
-flush_of-some : (ws : List (List ℕ)) (e : Event) → flush_of ws ≡ Some e → InRange e × (codes "flush" ∷ ws ≡ words_of e)
-unfolding flush_of
-flush_of-some (output ∷ now ∷ kind ∷ []) e h =
-    let o = then_some (number_of (2 ^ 16) output) _ e h in
-    let t = then_some (number_of (2 ^ 64) now) _ e o.2 in
-    let k = then_some (kind_of kind) _ e t.2 in
-    let os = number_of-some (2 ^ 16) output o.0 o.1 in
-    let ts = number_of-some (2 ^ 64) now t.0 t.1 in
-    rw (← some_is (Flush o.0 t.0 k.0) e k.2) ((os.0, ts.0), same_words-3 _ os.1 ts.1 (kind_of-some kind k.0 k.1))
-flush_of-some _ e h = absurd cc
+kind_of-kind_text : (k : FlushKind) → kind_of (kind_text k) ≡ Some k
+unfolding kind_of
+kind_of-kind_text Due = refl
+kind_of-kind_text All = refl
 
-session_of-some : (output worker server : List ℕ) (s : ℕ × ℕ × ℕ) → session_of output worker server ≡ Some s → ((s.0 < 2 ^ 16) × (s.1 < 2 ^ 16) × (s.2 < 2 ^ 16)) × ((output ≡ decimal s.0) × (worker ≡ decimal s.1) × (server ≡ decimal s.2))
-unfolding session_of
-session_of-some output worker server s h =
-    let o = then_some (number_of (2 ^ 16) output) _ s h in
-    let w = then_some (number_of (2 ^ 16) worker) _ s o.2 in
-    let r = then_some (number_of (2 ^ 16) server) _ s w.2 in
-    let os = number_of-some (2 ^ 16) output o.0 o.1 in
-    let ws = number_of-some (2 ^ 16) worker w.0 w.1 in
-    let rs = number_of-some (2 ^ 16) server r.0 r.1 in
-    rw (← some_is (o.0, w.0, r.0) s r.2) ((os.0, ws.0, rs.0), (os.1, ws.1, rs.1))
+-- a word that is read is the spelling of what it says
+read_at-some : (kind : Kind) (word : List ℕ) (x : Meaning kind)
+    → read_at kind word ≡ Some x → Fits kind x × (word ≡ text_at kind x)
+read_at-some Long word n h = number_of-some (2 ^ 64) word n h
+read_at-some Short word n h = number_of-some (2 ^ 16) word n h
+read_at-some Hex word bytes h = bytes_of-some word bytes h
+read_at-some Sixteen word bytes h = let s = sixteen_of-some word bytes h in ((s.0, s.1), s.2)
+read_at-some Closing word kind h = (tt, kind_of-some word kind h)
 
-up_of-some : (ws : List (List ℕ)) (e : Event) → up_of ws ≡ Some e → InRange e × (codes "up" ∷ ws ≡ words_of e)
-unfolding up_of
-up_of-some (output ∷ worker ∷ server ∷ salt ∷ now ∷ []) e h =
-    let s = then_some (session_of output worker server) _ e h in
-    let t = then_some (number_of (2 ^ 64) now) _ e s.2 in
-    let b = then_some (bytes_of salt) _ e t.2 in
-    let ss = session_of-some output worker server s.0 s.1 in
-    let ts = number_of-some (2 ^ 64) now t.0 t.1 in
-    let bs = bytes_of-some salt b.0 b.1 in
-    rw (← some_is (Up s.0.0 s.0.1 s.0.2 b.0 t.0) e b.2) ((ss.0.0, ss.0.1, ss.0.2, bs.0, ts.0), same_words-5 _ ss.1.0 ss.1.1 ss.1.2 bs.1 ts.1)
-up_of-some _ e h = absurd cc
+-- a spelling is read
+read_at-text_at : (kind : Kind) (x : Meaning kind) → Fits kind x
+    → read_at kind (text_at kind x) ≡ Some x
+read_at-text_at Long n r = number_of-decimal (2 ^ 64) n r r
+read_at-text_at Short n r = number_of-decimal (2 ^ 16) n r (omega arith)
+read_at-text_at Hex bytes r = bytes_of-hex_text bytes r
+read_at-text_at Sixteen bytes r = sixteen_of-encode_lower bytes r.0 r.1
+read_at-text_at Closing kind r = kind_of-kind_text kind
 
-take_of-some : (ws : List (List ℕ)) (e : Event) → take_of ws ≡ Some e → InRange e × (codes "take" ∷ ws ≡ words_of e)
-unfolding take_of
-take_of-some (output ∷ worker ∷ now ∷ []) e h =
-    let o = then_some (number_of (2 ^ 16) output) _ e h in
-    let w = then_some (number_of (2 ^ 16) worker) _ e o.2 in
-    let t = then_some (number_of (2 ^ 64) now) _ e w.2 in
-    let os = number_of-some (2 ^ 16) output o.0 o.1 in
-    let ws = number_of-some (2 ^ 16) worker w.0 w.1 in
-    let ts = number_of-some (2 ^ 64) now t.0 t.1 in
-    rw (← some_is (Take o.0 w.0 t.0) e t.2) ((os.0, ws.0, ts.0), same_words-3 _ os.1 ws.1 ts.1)
-take_of-some _ e h = absurd cc
+-- words that are read are the spellings of what they say
+read_as-some : (kinds : List Kind) (make : Makes kinds) (ws : List (List ℕ)) (e : Event)
+    → read_as kinds make ws ≡ Some e
+    → (xs : Values kinds) × AllFit (fields_of kinds xs) × (ws ≡ texts (fields_of kinds xs)) × (made kinds make xs ≡ e)
+unfolding read_as
+read_as-some [] event [] e h = (tt, tt, refl, some_is event e h)
+read_as-some [] event (w ∷ ws) e h = absurd cc
+read_as-some (kind ∷ kinds) make [] e h = absurd cc
+read_as-some (kind ∷ kinds) make (w ∷ ws) e h =
+    let x = then_some (read_at kind w) _ e h in
+    let word = read_at-some kind w x.0 x.1 in
+    let rest = read_as-some kinds (make x.0) ws e x.2 in
+    ((x.0, rest.0), (word.0, rest.1), same_row word.1 rest.2, rest.3)
+  where
+    same_row : {v w : List ℕ} {vs ws : List (List ℕ)} → v ≡ w → vs ≡ ws → v ∷ vs ≡ w ∷ ws
+    same_row p q = cc
 
-load_of-some : (ws : List (List ℕ)) (e : Event) → load_of ws ≡ Some e → InRange e × (codes "load" ∷ ws ≡ words_of e)
-unfolding load_of
-load_of-some (output ∷ worker ∷ now ∷ []) e h =
-    let o = then_some (number_of (2 ^ 16) output) _ e h in
-    let w = then_some (number_of (2 ^ 16) worker) _ e o.2 in
-    let t = then_some (number_of (2 ^ 64) now) _ e w.2 in
-    let os = number_of-some (2 ^ 16) output o.0 o.1 in
-    let ws = number_of-some (2 ^ 16) worker w.0 w.1 in
-    let ts = number_of-some (2 ^ 64) now t.0 t.1 in
-    rw (← some_is (Load o.0 w.0 t.0) e t.2) ((os.0, ws.0, ts.0), same_words-3 _ os.1 ws.1 ts.1)
-load_of-some _ e h = absurd cc
+-- spellings are read
+read_as-texts : (kinds : List Kind) (make : Makes kinds) (xs : Values kinds)
+    → AllFit (fields_of kinds xs) → read_as kinds make (texts (fields_of kinds xs)) ≡ Some (made kinds make xs)
+unfolding read_as
+read_as-texts [] event xs r = refl
+read_as-texts (kind ∷ kinds) make xs r =
+    rw (read_at-text_at kind xs.0 r.0) (read_as-texts kinds (make xs.0) xs.1 r.1)
 
-wrote_of-some : (ws : List (List ℕ)) (e : Event) → wrote_of ws ≡ Some e → InRange e × (codes "wrote" ∷ ws ≡ words_of e)
-unfolding wrote_of
-wrote_of-some (output ∷ worker ∷ count ∷ []) e h =
-    let o = then_some (number_of (2 ^ 16) output) _ e h in
-    let w = then_some (number_of (2 ^ 16) worker) _ e o.2 in
-    let n = then_some (number_of (2 ^ 64) count) _ e w.2 in
-    let os = number_of-some (2 ^ 16) output o.0 o.1 in
-    let ws = number_of-some (2 ^ 16) worker w.0 w.1 in
-    let ns = number_of-some (2 ^ 64) count n.0 n.1 in
-    rw (← some_is (Wrote o.0 w.0 n.0) e n.2) ((os.0, ws.0, ns.0), same_words-3 _ os.1 ws.1 ns.1)
-wrote_of-some _ e h = absurd cc
+-- ---- a line that is read is the event's line
 
-heard_of-some : (ws : List (List ℕ)) (e : Event) → heard_of ws ≡ Some e → InRange e × (codes "heard" ∷ ws ≡ words_of e)
-unfolding heard_of
-heard_of-some (output ∷ worker ∷ bytes ∷ []) e h =
-    let o = then_some (number_of (2 ^ 16) output) _ e h in
-    let w = then_some (number_of (2 ^ 16) worker) _ e o.2 in
-    let b = then_some (bytes_of bytes) _ e w.2 in
-    let os = number_of-some (2 ^ 16) output o.0 o.1 in
-    let ws = number_of-some (2 ^ 16) worker w.0 w.1 in
-    let bs = bytes_of-some bytes b.0 b.1 in
-    rw (← some_is (Heard o.0 w.0 b.0) e b.2) ((os.0, ws.0, bs.0), same_words-3 _ os.1 ws.1 bs.1)
-heard_of-some _ e h = absurd cc
-
-settle_of-some : (ws : List (List ℕ)) (e : Event) → settle_of ws ≡ Some e → InRange e × (codes "settle" ∷ ws ≡ words_of e)
-unfolding settle_of
-settle_of-some (output ∷ worker ∷ []) e h =
-    let o = then_some (number_of (2 ^ 16) output) _ e h in
-    let w = then_some (number_of (2 ^ 16) worker) _ e o.2 in
-    let os = number_of-some (2 ^ 16) output o.0 o.1 in
-    let ws = number_of-some (2 ^ 16) worker w.0 w.1 in
-    rw (← some_is (Settle o.0 w.0) e w.2) ((os.0, ws.0), same_words-2 _ os.1 ws.1)
-settle_of-some _ e h = absurd cc
-
-collect_of-some : (ws : List (List ℕ)) (e : Event) → collect_of ws ≡ Some e → InRange e × (codes "collect" ∷ ws ≡ words_of e)
-unfolding collect_of
-collect_of-some (conn ∷ output ∷ []) e h =
-    let c = then_some (number_of (2 ^ 64) conn) _ e h in
-    let o = then_some (number_of (2 ^ 16) output) _ e c.2 in
-    let cs = number_of-some (2 ^ 64) conn c.0 c.1 in
-    let os = number_of-some (2 ^ 16) output o.0 o.1 in
-    rw (← some_is (Collect c.0 o.0) e o.2) ((cs.0, os.0), same_words-2 _ cs.1 os.1)
-collect_of-some _ e h = absurd cc
-
-drained_of-some : (ws : List (List ℕ)) (e : Event) → drained_of ws ≡ Some e → InRange e × (codes "drained" ∷ ws ≡ words_of e)
-unfolding drained_of
-drained_of-some (conn ∷ count ∷ []) e h =
-    let c = then_some (number_of (2 ^ 64) conn) _ e h in
-    let n = then_some (number_of (2 ^ 64) count) _ e c.2 in
-    let cs = number_of-some (2 ^ 64) conn c.0 c.1 in
-    let ns = number_of-some (2 ^ 64) count n.0 n.1 in
-    rw (← some_is (Drained c.0 n.0) e n.2) ((cs.0, ns.0), same_words-2 _ cs.1 ns.1)
-drained_of-some _ e h = absurd cc
-
-shut_of-some : (ws : List (List ℕ)) (e : Event) → shut_of ws ≡ Some e → InRange e × (codes "shut" ∷ ws ≡ words_of e)
-unfolding shut_of
-shut_of-some (conn ∷ []) e h =
-    let c = then_some (number_of (2 ^ 64) conn) _ e h in
-    let cs = number_of-some (2 ^ 64) conn c.0 c.1 in
-    rw (← some_is (Shut c.0) e c.2) (cs.0, same_words-1 _ cs.1)
-shut_of-some _ e h = absurd cc
+-- an event of this form has these words
+spelled_by : (name text : List ℕ) (fields : List Field) (ws : List (List ℕ)) (d e : Event)
+    → d ≡ e → form_of d ≡ (text, fields) → name ≡ text → ws ≡ texts fields → AllFit fields
+    → InRange e × (name ∷ ws ≡ words_of e)
+spelled_by name text fields ws d e same form is spelling fit =
+    rw (← same, form, is, spelling) (fit, refl)
 
 -- a test of the name that passed, or failed: what is read is the event's words
-if_named : (name text : List ℕ) (read other : Option Event) (ws : List (List ℕ)) (e : Event)
-    → (read ≡ Some e → InRange e × (text ∷ ws ≡ words_of e))
+if_named : (name text : List ℕ) (kinds : List Kind) (make : Makes kinds)
+    → ((xs : Values kinds) → form_of (made kinds make xs) ≡ (text, fields_of kinds xs))
+    → (other : Option Event) (ws : List (List ℕ)) (e : Event)
     → (other ≡ Some e → InRange e × (name ∷ ws ≡ words_of e))
-    → cond (bytes_eq name text) read other ≡ Some e → InRange e × (name ∷ ws ≡ words_of e)
-if_named name text read other ws e is_event is_other h =
-    elim (chosen (bytes_eq name text) read other (Some e) h) [
-      | inl is ↦ let r = is_event is.1 in (r.0, ap (λ (n : List ℕ). n ∷ ws) (bytes_eq-true name text is.0) ∙ r.1)
+    → cond (bytes_eq name text) (read_as kinds make ws) other ≡ Some e → InRange e × (name ∷ ws ≡ words_of e)
+if_named name text kinds make form other ws e is_other h =
+    elim (chosen (bytes_eq name text) (read_as kinds make ws) other (Some e) h) [
+      | inl is ↦
+          let r = read_as-some kinds make ws e is.1 in
+          spelled_by name text (fields_of kinds r.0) ws (made kinds make r.0) e
+          r.3 (form r.0) (bytes_eq-true name text is.0) r.2 r.1
       | inr is_not ↦ is_other is_not.1
     ]
 
-named-some : (name : List ℕ) (ws : List (List ℕ)) (e : Event) → named name ws ≡ Some e → InRange e × (name ∷ ws ≡ words_of e)
+named-some : (name : List ℕ) (ws : List (List ℕ)) (e : Event) → named name ws ≡ Some e
+    → InRange e × (name ∷ ws ≡ words_of e)
 unfolding named
 named-some name ws e =
-    if_named name (codes "accept") (accept_of ws) _ ws e (accept_of-some ws e) (
-    if_named name (codes "piece") (piece_of ws) _ ws e (piece_of-some ws e) (
-    if_named name (codes "admit") (admit_of ws) _ ws e (admit_of-some ws e) (
-    if_named name (codes "flush") (flush_of ws) _ ws e (flush_of-some ws e) (
-    if_named name (codes "up") (up_of ws) _ ws e (up_of-some ws e) (
-    if_named name (codes "take") (take_of ws) _ ws e (take_of-some ws e) (
-    if_named name (codes "load") (load_of ws) _ ws e (load_of-some ws e) (
-    if_named name (codes "wrote") (wrote_of ws) _ ws e (wrote_of-some ws e) (
-    if_named name (codes "heard") (heard_of ws) _ ws e (heard_of-some ws e) (
-    if_named name (codes "settle") (settle_of ws) _ ws e (settle_of-some ws e) (
-    if_named name (codes "collect") (collect_of ws) _ ws e (collect_of-some ws e) (
-    if_named name (codes "drained") (drained_of ws) _ ws e (drained_of-some ws e) (
-    if_named name (codes "shut") (shut_of ws) None ws e (shut_of-some ws e) (λ none. absurd cc)))))))))))))
+    if_named name (codes "accept") (Long ∷ Sixteen ∷ Sixteen ∷ []) Accept (λ xs. refl) _ ws e (
+    if_named name (codes "piece") (Long ∷ Hex ∷ []) Piece (λ xs. refl) _ ws e (
+    if_named name (codes "admit") (Long ∷ Short ∷ Long ∷ []) Admit (λ xs. refl) _ ws e (
+    if_named name (codes "flush") (Short ∷ Long ∷ Closing ∷ []) Flush (λ xs. refl) _ ws e (
+    if_named name (codes "up") (Short ∷ Short ∷ Short ∷ Hex ∷ Long ∷ []) Up (λ xs. refl) _ ws e (
+    if_named name (codes "take") (Short ∷ Short ∷ Long ∷ []) Take (λ xs. refl) _ ws e (
+    if_named name (codes "load") (Short ∷ Short ∷ Long ∷ []) Load (λ xs. refl) _ ws e (
+    if_named name (codes "wrote") (Short ∷ Short ∷ Long ∷ []) Wrote (λ xs. refl) _ ws e (
+    if_named name (codes "heard") (Short ∷ Short ∷ Hex ∷ []) Heard (λ xs. refl) _ ws e (
+    if_named name (codes "settle") (Short ∷ Short ∷ []) Settle (λ xs. refl) _ ws e (
+    if_named name (codes "collect") (Long ∷ Short ∷ []) Collect (λ xs. refl) _ ws e (
+    if_named name (codes "drained") (Long ∷ Long ∷ []) Drained (λ xs. refl) _ ws e (
+    if_named name (codes "shut") (Long ∷ []) Shut (λ xs. refl) None ws e (λ none. absurd cc)))))))))))))
 
-of_words-some : (ws : List (List ℕ)) (e : Event) → of_words ws ≡ Some e → InRange e × (ws ≡ words_of e)
+of_words-some : (ws : List (List ℕ)) (e : Event) → of_words ws ≡ Some e → InRange e
+    × (ws ≡ words_of e)
 unfolding of_words
 of_words-some [] e h = absurd cc
 of_words-some (name ∷ ws) e h = named-some name ws e h
 
 -- ---- an event's line is read
 
-kind_of-kind_text : (k : FlushKind) → kind_of (kind_text k) ≡ Some k
-unfolding kind_of
-kind_of-kind_text Due = refl
-kind_of-kind_text All = refl
+-- an event's words are read as it, and its name is ASCII without a space
+pub record IsSpelled (e : Event) : Type 0 where
+  pub is_read : of_words (words_of e) ≡ Some e
+  pub is_ascii : list_all (λ b. nat_lt b 128) (form_of e).0 ≡ true
+  pub has_no_space : Lacks (form_of e).0
 
-of_words-words_of : (e : Event) → InRange e → of_words (words_of e) ≡ Some e
-unfolding of_words named accept_of piece_of admit_of flush_of session_of up_of take_of load_of wrote_of heard_of settle_of collect_of drained_of shut_of
-of_words-words_of (Accept conn nonce auth) r = rw (number_of-decimal (2 ^ 64) conn r.0 r.0, sixteen_of-encode_lower nonce r.1 r.2, sixteen_of-encode_lower auth r.3 r.4) refl
-of_words-words_of (Piece conn bytes) r = rw (number_of-decimal (2 ^ 64) conn r.0 r.0, bytes_of-hex_text bytes r.1) refl
-of_words-words_of (Admit conn output now) r = rw (number_of-decimal (2 ^ 64) conn r.0 r.0, number_of-decimal (2 ^ 16) output r.1 (omega arith), number_of-decimal (2 ^ 64) now r.2 r.2) refl
-of_words-words_of (Flush output now kind) r = rw (number_of-decimal (2 ^ 16) output r.0 (omega arith), number_of-decimal (2 ^ 64) now r.1 r.1, kind_of-kind_text kind) refl
-of_words-words_of (Up output worker server salt now) r = rw (number_of-decimal (2 ^ 16) output r.0 (omega arith), number_of-decimal (2 ^ 16) worker r.1 (omega arith), number_of-decimal (2 ^ 16) server r.2 (omega arith), number_of-decimal (2 ^ 64) now r.4 r.4, bytes_of-hex_text salt r.3) refl
-of_words-words_of (Take output worker now) r = rw (number_of-decimal (2 ^ 16) output r.0 (omega arith), number_of-decimal (2 ^ 16) worker r.1 (omega arith), number_of-decimal (2 ^ 64) now r.2 r.2) refl
-of_words-words_of (Load output worker now) r = rw (number_of-decimal (2 ^ 16) output r.0 (omega arith), number_of-decimal (2 ^ 16) worker r.1 (omega arith), number_of-decimal (2 ^ 64) now r.2 r.2) refl
-of_words-words_of (Wrote output worker count) r = rw (number_of-decimal (2 ^ 16) output r.0 (omega arith), number_of-decimal (2 ^ 16) worker r.1 (omega arith), number_of-decimal (2 ^ 64) count r.2 r.2) refl
-of_words-words_of (Heard output worker bytes) r = rw (number_of-decimal (2 ^ 16) output r.0 (omega arith), number_of-decimal (2 ^ 16) worker r.1 (omega arith), bytes_of-hex_text bytes r.2) refl
-of_words-words_of (Settle output worker) r = rw (number_of-decimal (2 ^ 16) output r.0 (omega arith), number_of-decimal (2 ^ 16) worker r.1 (omega arith)) refl
-of_words-words_of (Collect conn output) r = rw (number_of-decimal (2 ^ 64) conn r.0 r.0, number_of-decimal (2 ^ 16) output r.1 (omega arith)) refl
-of_words-words_of (Drained conn count) r = rw (number_of-decimal (2 ^ 64) conn r.0 r.0, number_of-decimal (2 ^ 64) count r.1 r.1) refl
-of_words-words_of (Shut conn) r = rw (number_of-decimal (2 ^ 64) conn r r) refl
-
-Lacks-small : (n : ℕ) → n < 2 ^ 16 → Lacks (decimal n)
-Lacks-small n lt = Lacks-decimal n (omega arith)
+pub spelled : (e : Event) → InRange e → IsSpelled e
+unfolding of_words named
+spelled (Accept conn nonce auth) r = record { is_read = read_as-texts (Long ∷ Sixteen ∷ Sixteen ∷ []) Accept (conn, (nonce, (auth, tt))) r; is_ascii = refl; has_no_space = refl }
+spelled (Piece conn bytes) r = record { is_read = read_as-texts (Long ∷ Hex ∷ []) Piece (conn, (bytes, tt)) r; is_ascii = refl; has_no_space = refl }
+spelled (Admit conn output now) r = record { is_read = read_as-texts (Long ∷ Short ∷ Long ∷ []) Admit (conn, (output, (now, tt))) r; is_ascii = refl; has_no_space = refl }
+spelled (Flush output now kind) r = record { is_read = read_as-texts (Short ∷ Long ∷ Closing ∷ []) Flush (output, (now, (kind, tt))) r; is_ascii = refl; has_no_space = refl }
+spelled (Up output worker server salt now) r = record { is_read = read_as-texts (Short ∷ Short ∷ Short ∷ Hex ∷ Long ∷ []) Up (output, (worker, (server, (salt, (now, tt))))) r; is_ascii = refl; has_no_space = refl }
+spelled (Take output worker now) r = record { is_read = read_as-texts (Short ∷ Short ∷ Long ∷ []) Take (output, (worker, (now, tt))) r; is_ascii = refl; has_no_space = refl }
+spelled (Load output worker now) r = record { is_read = read_as-texts (Short ∷ Short ∷ Long ∷ []) Load (output, (worker, (now, tt))) r; is_ascii = refl; has_no_space = refl }
+spelled (Wrote output worker count) r = record { is_read = read_as-texts (Short ∷ Short ∷ Long ∷ []) Wrote (output, (worker, (count, tt))) r; is_ascii = refl; has_no_space = refl }
+spelled (Heard output worker bytes) r = record { is_read = read_as-texts (Short ∷ Short ∷ Hex ∷ []) Heard (output, (worker, (bytes, tt))) r; is_ascii = refl; has_no_space = refl }
+spelled (Settle output worker) r = record { is_read = read_as-texts (Short ∷ Short ∷ []) Settle (output, (worker, tt)) r; is_ascii = refl; has_no_space = refl }
+spelled (Collect conn output) r = record { is_read = read_as-texts (Long ∷ Short ∷ []) Collect (conn, (output, tt)) r; is_ascii = refl; has_no_space = refl }
+spelled (Drained conn count) r = record { is_read = read_as-texts (Long ∷ Long ∷ []) Drained (conn, (count, tt)) r; is_ascii = refl; has_no_space = refl }
+spelled (Shut conn) r = record { is_read = read_as-texts (Long ∷ []) Shut (conn, tt) r; is_ascii = refl; has_no_space = refl }
 
 Lacks-kind : (k : FlushKind) → Lacks (kind_text k)
 Lacks-kind Due = refl
 Lacks-kind All = refl
 
-words-line_of : (e : Event) → InRange e → words (line_of e) ≡ words_of e
-words-line_of (Accept conn nonce auth) r = words-join _ _ (refl, (Lacks-decimal conn r.0, (Lacks-encode_lower nonce r.1, (Lacks-encode_lower auth r.3, tt))))
-words-line_of (Piece conn bytes) r = words-join _ _ (refl, (Lacks-decimal conn r.0, (Lacks-hex_text bytes r.1, tt)))
-words-line_of (Admit conn output now) r = words-join _ _ (refl, (Lacks-decimal conn r.0, (Lacks-small output r.1, (Lacks-decimal now r.2, tt))))
-words-line_of (Flush output now kind) r = words-join _ _ (refl, (Lacks-small output r.0, (Lacks-decimal now r.1, (Lacks-kind kind, tt))))
-words-line_of (Up output worker server salt now) r = words-join _ _ (refl, (Lacks-small output r.0, (Lacks-small worker r.1, (Lacks-small server r.2, (Lacks-hex_text salt r.3, (Lacks-decimal now r.4, tt))))))
-words-line_of (Take output worker now) r = words-join _ _ (refl, (Lacks-small output r.0, (Lacks-small worker r.1, (Lacks-decimal now r.2, tt))))
-words-line_of (Load output worker now) r = words-join _ _ (refl, (Lacks-small output r.0, (Lacks-small worker r.1, (Lacks-decimal now r.2, tt))))
-words-line_of (Wrote output worker count) r = words-join _ _ (refl, (Lacks-small output r.0, (Lacks-small worker r.1, (Lacks-decimal count r.2, tt))))
-words-line_of (Heard output worker bytes) r = words-join _ _ (refl, (Lacks-small output r.0, (Lacks-small worker r.1, (Lacks-hex_text bytes r.2, tt))))
-words-line_of (Settle output worker) r = words-join _ _ (refl, (Lacks-small output r.0, (Lacks-small worker r.1, tt)))
-words-line_of (Collect conn output) r = words-join _ _ (refl, (Lacks-decimal conn r.0, (Lacks-small output r.1, tt)))
-words-line_of (Drained conn count) r = words-join _ _ (refl, (Lacks-decimal conn r.0, (Lacks-decimal count r.1, tt)))
-words-line_of (Shut conn) r = words-join _ _ (refl, (Lacks-decimal conn r, tt))
+Lacks-text_at : (kind : Kind) (x : Meaning kind) → Fits kind x → Lacks (text_at kind x)
+Lacks-text_at Long n r = Lacks-decimal n r
+Lacks-text_at Short n r = Lacks-decimal n (omega arith)
+Lacks-text_at Hex bytes r = Lacks-hex_text bytes r
+Lacks-text_at Sixteen bytes r = Lacks-encode_lower bytes r.0
+Lacks-text_at Closing kind r = Lacks-kind kind
 
-pub event_of-some : (line : List ℕ) (e : Event) → (event_of line ≡ Some e) ↔ (InRange e × (line ≡ line_of e))
+AllLack-texts : (fields : List Field) → AllFit fields → AllLack (texts fields)
+AllLack-texts [] r = tt
+AllLack-texts (f ∷ fields) r = (Lacks-text_at f.0 f.1 r.0, AllLack-texts fields r.1)
+
+words-line_of : (e : Event) → InRange e → words (line_of e) ≡ words_of e
+words-line_of e r = words-join _ _ ((spelled e r).has_no_space, AllLack-texts (form_of e).1 r)
+
+pub event_of-some : (line : List ℕ) (e : Event)
+    → (event_of line ≡ Some e) ↔ (InRange e × (line ≡ line_of e))
 event_of-some line e = (
   λ h.
       let s = of_words-some (words line) e h in
       (s.0, sym (join_with_byte-slice_split 32 line) ∙ ap (join_with_byte 32) s.1),
-  λ s. ap event_of s.1 ∙ ap of_words (words-line_of e s.0) ∙ of_words-words_of e s.0,
+  λ s. ap event_of s.1 ∙ ap of_words (words-line_of e s.0) ∙ (spelled e s.0).is_read,
 )

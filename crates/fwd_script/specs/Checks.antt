@@ -42,6 +42,7 @@ Checks Done text old new = (s : Settings) × (settings_of text ≡ Ok s) × Tell
 Checks (BadSettings fault) text old new =
     ((settings_of text ≡ Err fault) ⊎ (fault ≡ faults.Unreadable)) × Keeps old new
 Checks Memory text old new = Keeps old new
-Checks Output text old new = (s : Settings) × (settings_of text ≡ Ok s) × TellsGood Output s old new
+Checks Output text old new =
+    (s : Settings) × (settings_of text ≡ Ok s) × TellsGood Output s old new
 Checks (BadLine n) text old new = ⊥
 Checks Input text old new = ⊥

@@ -30,6 +30,7 @@ row_lines =
     codes "address = \"127.0.0.1:24226\"" ∷
     codes "standby = true" ∷ []
 
+-- the settings that an empty text stands for
 unfoldable pub row_text : List ℕ
 row_text = flat_map (λ line. line ++ 10 ∷ []) row_lines
 
@@ -38,9 +39,12 @@ abbrev pub settings_text : List ℕ → List ℕ
 settings_text [] = row_text
 settings_text (byte ∷ more) = byte ∷ more
 
+-- an output, as the relay has to know it
 abbrev pub output_config : OutputSettings → OutputConfig
-output_config o = record { workers = o.workers; servers = length o.servers; flush_interval = o.flush_interval }
+output_config o =
+    record { workers = o.workers; servers = length o.servers; flush_interval = o.flush_interval }
 
+-- a user that a source may name
 abbrev pub user_of : UserSettings → User
 user_of u = record { name = u.name; password = u.password }
 
@@ -55,5 +59,6 @@ pub record IsConfig (s : Settings) (config : Config) : Type 0 where
 
 -- what a script's text of settings sets the relay to, or its first fault
 abbrev pub Configures : List ℕ → Result Config SettingsFault → Type 0
-Configures text (Ok config) = (s : Settings) × (settings_of (settings_text text) ≡ Ok s) × IsConfig s config
+Configures text (Ok config) =
+    (s : Settings) × (settings_of (settings_text text) ≡ Ok s) × IsConfig s config
 Configures text (Err fault) = settings_of (settings_text text) ≡ Err fault

@@ -20,8 +20,11 @@ words_behind (name ∷ words) = words
 abbrev pub Asks : List (List ℕ) → Option Command → Type 0
 Asks words (Some Replay) = words ≡ codes "replay" ∷ []
 Asks words (Some (Check path)) = words ≡ codes "check" ∷ path.now ∷ []
-Asks words None = (words ≢ codes "replay" ∷ []) × ((path : List ℕ) → words ≢ codes "check" ∷ path ∷ [])
+Asks words None =
+    (words ≢ codes "replay" ∷ [])
+    × ((path : List ℕ) → words ≢ codes "check" ∷ path ∷ [])
 
+-- the exit status of an end
 abbrev pub end_code : End → ℕ
 end_code Usage = 2
 end_code (Ran status) = exit_code status
@@ -36,17 +39,22 @@ abbrev pub told : End → List ℕ
 told (Ran statuses.Done) = []
 told end = end_text end ++ 10 ∷ []
 
--- how a command was carried out, by the bytes of standard input where they are known, and what it wrote
-abbrev pub CarriesOut : Command → Status → Option (List ℕ) → Option (List ℕ) → Option (List ℕ) → Type 0
+-- how a command was carried out, by the bytes of standard input where they are known, and what it
+-- wrote
+abbrev pub CarriesOut : Command → Status → Option (List ℕ) → Option (List ℕ)
+    → Option (List ℕ) → Type 0
 CarriesOut Replay status input old new =
     (script : List ℕ) × IfSome input (λ left. script ≡ left) × Replays status script old new
 CarriesOut (Check path) status input old new = (text : List ℕ) × Checks status text old new
 
 -- What words come to: a replay, a check, or a usage fault that writes nothing.
-pub record Performs (words : List (List ℕ)) (end : End) (input old new : Option (List ℕ)) : Type 0 where
+pub record Performs (words : List (List ℕ)) (end : End)
+    (input old new : Option (List ℕ)) : Type 0 where
   pub replay : words ≡ codes "replay" ∷ []
       → (status : Status) × (end ≡ Ran status) × CarriesOut Replay status input old new
   pub check : (path : List ℕ) → words ≡ codes "check" ∷ path ∷ []
-      → (status : Status) × (end ≡ Ran status) × ((text : List ℕ) × Checks status text old new)
-  pub usage : words ≢ codes "replay" ∷ [] → ((path : List ℕ) → words ≢ codes "check" ∷ path ∷ [])
+      → (status : Status) × (end ≡ Ran status)
+      × ((text : List ℕ) × Checks status text old new)
+  pub usage : words ≢ codes "replay" ∷ []
+      → ((path : List ℕ) → words ≢ codes "check" ∷ path ∷ [])
       → (end ≡ Usage) × Keeps old new

@@ -34,19 +34,23 @@ events_of (line ∷ lines) = option_map_or (λ event. event ∷ events_of lines)
 -- the number of the first line that is no event, where count lines stand before these
 abbrev pub bad_line : ℕ → List (List ℕ) → Option ℕ
 bad_line count [] = None
-bad_line count (line ∷ lines) = if is_none (event_of line) then Some (count + 1) else bad_line (count + 1) lines
+bad_line count (line ∷ lines) =
+    if is_none (event_of line) then Some (count + 1) else bad_line (count + 1) lines
 
 -- the answers to events one after the other, from a state
-abbrev pub answers : {S : Type 0} → (S → Event → Answer) → (S → Event → S) → S → List Event → List Answer
+abbrev pub answers : {S : Type 0} → (S → Event → Answer) → (S → Event → S) → S
+    → List Event → List Answer
 answers answer_to next s [] = []
-answers answer_to next s (event ∷ events) = answer_to s event ∷ answers answer_to next (next s event) events
+answers answer_to next s (event ∷ events) =
+    answer_to s event ∷ answers answer_to next (next s event) events
 
 -- the line of an answer, with its line feed
 abbrev pub answer_line : Answer → List ℕ
 answer_line answer = text_of answer ++ 10 ∷ []
 
 -- what is written for lines, from a state: the line of each answer to their events
-abbrev pub output : {S : Type 0} → (S → Event → Answer) → (S → Event → S) → S → List (List ℕ) → List ℕ
+abbrev pub output : {S : Type 0} → (S → Event → Answer) → (S → Event → S) → S
+    → List (List ℕ) → List ℕ
 output answer_to next s lines = flat_map answer_line (answers answer_to next s (events_of lines))
 
 -- the state after events
@@ -58,8 +62,10 @@ after next s (event ∷ events) = after next (next s event) events
 abbrev pub AllAreEvents : List (List ℕ) → Type 0
 AllAreEvents lines = map event_of lines ≡ map Some (events_of lines)
 
--- the events of the lines before one of them were answered, and no more was written than their answers
-pub record StopsAtLine {S : Type 0} (answer_to : S → Event → Answer) (next : S → Event → S) (s : S)
+-- the events of the lines before one of them were answered, and no more was written than their
+-- answers
+pub record StopsAtLine {S : Type 0} (answer_to : S → Event → Answer) (next : S → Event
+    → S) (s : S)
     (lines : List (List ℕ)) (old new : Option (List ℕ)) : Type 0 where
   pub front : List (List ℕ)
   pub line : List ℕ
@@ -70,37 +76,54 @@ pub record StopsAtLine {S : Type 0} (answer_to : S → Event → Answer) (next :
 
 -- The same, and the state is the one after those events, or after the event of that line too, whose
 -- answer was not written.
-pub record MeetsMemory {S : Type 0} (answer_to : S → Event → Answer) (next : S → Event → S) (s t : S)
+pub record MeetsMemory {S : Type 0} (answer_to : S → Event → Answer) (next : S → Event
+    → S) (s t : S)
     (lines : List (List ℕ)) (old new : Option (List ℕ)) : Type 0 where
   pub stops : StopsAtLine answer_to next s lines old new
   pub state : (t ≡ after next s (events_of stops.front))
       ⊎ (t ≡ after next s (events_of (stops.front ++ stops.line ∷ [])))
 
 -- How a run over lines ended, where count lines stood before them, and what it wrote.
-abbrev pub Ends : {S : Type 0} → Status → (S → Event → Answer) → (S → Event → S) → S → ℕ → List (List ℕ) → Option (List ℕ) → Option (List ℕ) → Type 0
-Ends Done answer_to next s count lines old new = (bad_line count lines ≡ None) × Appends old new (output answer_to next s lines)
-Ends (BadLine n) answer_to next s count lines old new = (bad_line count lines ≡ Some n) × Appends old new (output answer_to next s lines)
+abbrev pub Ends : {S : Type 0} → Status → (S → Event → Answer) → (S → Event → S) → S
+    → ℕ → List (List ℕ) → Option (List ℕ) → Option (List ℕ) → Type 0
+Ends Done answer_to next s count lines old new =
+    (bad_line count lines ≡ None) × Appends old new (output answer_to next s lines)
+Ends (BadLine n) answer_to next s count lines old new =
+    (bad_line count lines ≡ Some n) × Appends old new (output answer_to next s lines)
 Ends Memory answer_to next s count lines old new = StopsAtLine answer_to next s lines old new
-Ends Output answer_to next s count lines old new = AppendsFront old new (output answer_to next s lines)
+Ends Output answer_to next s count lines old new =
+    AppendsFront old new (output answer_to next s lines)
 Ends (BadSettings fault) answer_to next s count lines old new = ⊥
 Ends Input answer_to next s count lines old new = ⊥
 
--- How the replay of a script ended, and what it wrote: by its settings, the answers of the abstract relay from its opening state.
+-- How the replay of a script ended, and what it wrote: by its settings, the answers of the
+-- abstract relay from its opening state.
 abbrev pub Replays : Status → List ℕ → Option (List ℕ) → Option (List ℕ) → Type 0
 Replays Done script old new =
-    (config : Config) × Configures (settings_of script) (Ok config) × Ends Done answer_to next (opening config) (head_len (lines_of script)) (event_lines (lines_of script)) old new
+    (config : Config) × Configures (settings_of script) (Ok config)
+    × Ends Done answer_to next (opening config) (head_len (lines_of script))
+    (event_lines (lines_of script)) old new
 Replays (BadLine n) script old new =
-    (config : Config) × Configures (settings_of script) (Ok config) × Ends (BadLine n) answer_to next (opening config) (head_len (lines_of script)) (event_lines (lines_of script)) old new
-Replays (BadSettings fault) script old new = Configures (settings_of script) (Err fault) × Keeps old new
+    (config : Config) × Configures (settings_of script) (Ok config)
+    × Ends (BadLine n) answer_to next (opening config) (head_len (lines_of script))
+    (event_lines (lines_of script)) old new
+Replays (BadSettings fault) script old new =
+    Configures (settings_of script) (Err fault) × Keeps old new
 Replays Memory script old new =
-    Keeps old new ⊎ ((config : Config) × Configures (settings_of script) (Ok config) × Ends Memory answer_to next (opening config) (head_len (lines_of script)) (event_lines (lines_of script)) old new)
+    Keeps old new
+    ⊎ ((config : Config) × Configures (settings_of script) (Ok config)
+    × Ends Memory answer_to next (opening config) (head_len (lines_of script))
+    (event_lines (lines_of script)) old new)
 Replays Input script old new = Keeps old new
 Replays Output script old new =
-    (config : Config) × Configures (settings_of script) (Ok config) × Ends Output answer_to next (opening config) (head_len (lines_of script)) (event_lines (lines_of script)) old new
+    (config : Config) × Configures (settings_of script) (Ok config)
+    × Ends Output answer_to next (opening config) (head_len (lines_of script))
+    (event_lines (lines_of script)) old new
 
 -- how a relay was opened by a script's text of settings, or why it was not
 abbrev pub Opens : List ℕ → Result LiveRelay Status → Type 0
-Opens text (Ok relay) = (config : Config) × Configures text (Ok config) × (relay ≡ live (opening config))
+Opens text (Ok relay) =
+    (config : Config) × Configures text (Ok config) × (relay ≡ live (opening config))
 Opens text (Err (BadSettings fault)) = Configures text (Err fault)
 Opens text (Err Memory) = Unit {0}
 Opens text (Err Done) = ⊥
@@ -120,5 +143,7 @@ pub record IsBadLine (count : ℕ) (lines : List (List ℕ)) (n : ℕ) : Type 0 
   pub is_none : event_of line ≡ None
   pub number : n ≡ count + length front + 1
 
+-- the lines are all events, or there is a first that is none
 abbrev pub SplitsAtBad : ℕ → List (List ℕ) → Type 0
-SplitsAtBad count lines = MatchOption (bad_line count lines) (AllAreEvents lines) (IsBadLine count lines)
+SplitsAtBad count lines =
+    MatchOption (bad_line count lines) (AllAreEvents lines) (IsBadLine count lines)

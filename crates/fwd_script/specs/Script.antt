@@ -3,7 +3,8 @@ use Rattle.std.specs.Prelude.{◌≡◌, ℕ, suc, ◌==◌, ◌<◌, if◌then�
 use Rattle.std.specs.List.{onto_first, list_any, flat_map}
 use Rattle.std.specs.Str.{bytes_eq}
 
--- the lines of a text: a line ends at a line feed, and bytes after the last one are a line where there are any
+-- the lines of a text: a line ends at a line feed, and bytes after the last one are a line where
+-- there are any
 abbrev pub lines_of : List ℕ → List (List ℕ)
 lines_of [] = []
 lines_of (b ∷ bytes) = if b == 10 then [] ∷ lines_of bytes else onto_first b (lines_of bytes)
@@ -31,10 +32,12 @@ settings_lines (line ∷ lines) = if is_rule line then [] else line ∷ settings
 abbrev pub ended : List ℕ → List ℕ
 ended line = line ++ 10 ∷ []
 
--- the text of the settings: what stands before the line that ends it, or all of the script where there is none
+-- the text of the settings: what stands before the line that ends it, or all of the script where
+-- there is none
 abbrev pub settings_of : List ℕ → List ℕ
 settings_of script =
-    if list_any is_rule (lines_of script) then flat_map ended (settings_lines (lines_of script)) else script
+    if list_any is_rule (lines_of script) then flat_map ended (settings_lines (lines_of script))
+    else script
 
 -- a text is a first line, and what comes after it
 pub record IsFirstLine (text line after : List ℕ) : Type 0 where
@@ -42,8 +45,8 @@ pub record IsFirstLine (text line after : List ℕ) : Type 0 where
   pub parts : (text ≡ ended line ++ after) ⊎ ((text ≡ line) × (after ≡ []))
   pub shorter : length after < length text
 
--- The settings, the line that ends them and the text of the events are all of the script; or the script ends with
--- that line, or has none, and there are no events.
+-- The settings, the line that ends them and the text of the events are all of the script; or the
+-- script ends with that line, or has none, and there are no events.
 abbrev pub IsScript : List ℕ → List ℕ → List ℕ → Type 0
 IsScript script settings events =
     (script ≡ settings ++ (ended (codes "---") ++ events))

@@ -9,6 +9,7 @@ use Rattle.fwd_script.specs.declared.input.InputError.TheVariants as reads
 use Rattle.fwd_script.specs.declared.status.Status.{Status}
 use Rattle.fwd_script.specs.declared.status.Status.TheVariants.{Done, BadSettings, BadLine, Memory, Input, Output}
 
+-- the exit status of each
 abbrev pub exit_code : Status → ℕ
 exit_code Done = 0
 exit_code (BadSettings fault) = 1

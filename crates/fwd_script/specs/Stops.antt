@@ -11,12 +11,15 @@ use Rattle.fwd_script.specs.declared.stepping.Stop.{Stop}
 use Rattle.fwd_script.specs.declared.stepping.Stop.TheVariants.{Bad, Memory, Output}
 
 -- at a line that may spell an event, from a state to a state, with what was written
-abbrev pub Stops : {S : Type 0} → Stop → (S → Event → Answer) → (S → Event → S) → S → S → Option Event → Option (List ℕ) → Option (List ℕ) → Type 0
+abbrev pub Stops : {S : Type 0} → Stop → (S → Event → Answer) → (S → Event → S) → S
+    → S → Option Event → Option (List ℕ) → Option (List ℕ) → Type 0
 Stops Bad answer_to next s t spelled old new = (spelled ≡ None) × Keeps old new
 Stops Memory answer_to next s t spelled old new =
-    Keeps old new × ((t ≡ s) ⊎ ((event : Event) × (spelled ≡ Some event) × (t ≡ next s event)))
+    Keeps old new
+    × ((t ≡ s) ⊎ ((event : Event) × (spelled ≡ Some event) × (t ≡ next s event)))
 Stops Output answer_to next s t spelled old new =
-    (event : Event) × (spelled ≡ Some event) × AppendsFront old new (answer_line (answer_to s event))
+    (event : Event) × (spelled ≡ Some event)
+    × AppendsFront old new (answer_line (answer_to s event))
 
 -- how a run ends that stops so at the line of a number
 abbrev pub stop_status : Stop → ℕ → Status

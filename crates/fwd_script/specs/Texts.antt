@@ -16,11 +16,13 @@ use Rattle.fwd_model.specs.declared.answer.Answer.{Answer}
 use Rattle.fwd_model.specs.declared.answer.Answer.TheVariants.{Accepted, Requests, Faulted, Admitted, NoRoute, NumbersSpent, Closed, Done, Took, TookNothing, Frame, Quiet, Acked, SessionFaulted, Settled, Told, Refused, Memory}
 use Rattle.fwd_script.specs.Words.{hex_text}
 
+-- the name of each fault of a value's spelling
 abbrev pub scan_name : ScanFault → List ℕ
 scan_name Reserved = codes "Reserved"
 scan_name TooDeep = codes "TooDeep"
 scan_name TooLong = codes "TooLong"
 
+-- the name of each fault of a request
 abbrev pub input_name : InputFault → List ℕ
 input_name BadShape = codes "BadShape"
 input_name BadTag = codes "BadTag"
@@ -28,6 +30,7 @@ input_name BadEntry = codes "BadEntry"
 input_name BadOption = codes "BadOption"
 input_name Compressed = codes "Compressed"
 
+-- the name of each fault of a source
 abbrev pub source_name : SourceFault → List ℕ
 source_name (Scan fault) = scan_name fault
 source_name (Input fault) = input_name fault
@@ -35,11 +38,13 @@ source_name NotPing = codes "NotPing"
 source_name Denied = codes "Denied"
 source_name SourceClosed = codes "Closed"
 
+-- the name of each fault of a server
 abbrev pub session_name : SessionFault → List ℕ
 session_name BadReply = codes "BadReply"
 session_name WrongAck = codes "WrongAck"
 session_name EarlyAck = codes "EarlyAck"
 
+-- the name of each refusal
 abbrev pub refusal_name : Refusal → List ℕ
 refusal_name refusal.NotUp = codes "NotUp"
 refusal_name refusal.Closed = codes "Closed"
@@ -52,7 +57,8 @@ out_words word out = word ∷ codes "out" ∷ hex_text out ∷ []
 
 -- how many requests wait, and the bytes that an event appended to what waits to be sent
 abbrev pub requests_words : ℕ → List ℕ → List (List ℕ)
-requests_words waiting out = codes "requests" ∷ decimal waiting ∷ codes "out" ∷ hex_text out ∷ []
+requests_words waiting out =
+    codes "requests" ∷ decimal waiting ∷ codes "out" ∷ hex_text out ∷ []
 
 -- a fault that closed a connection, and the requests before it
 abbrev pub faulted_words : SourceFault → ℕ → List ℕ → List (List ℕ)
@@ -65,19 +71,22 @@ list_text (n ∷ ns) = join_with_byte 44 (map decimal (n ∷ ns))
 
 -- which requests are told, and the bytes that an event appended to what waits to be sent
 abbrev pub told_words : List ℕ → List ℕ → List (List ℕ)
-told_words requests out = codes "told" ∷ list_text requests ∷ codes "out" ∷ hex_text out ∷ []
+told_words requests out =
+    codes "told" ∷ list_text requests ∷ codes "out" ∷ hex_text out ∷ []
 
 -- the words of an answer
 abbrev pub answer_words : Answer → List (List ℕ)
 answer_words (Accepted out) = out_words (codes "accepted") out
 answer_words (Requests waiting out) = requests_words waiting out
 answer_words (Faulted fault waiting out) = faulted_words fault waiting out
-answer_words (Admitted request entries) = codes "admitted" ∷ decimal request ∷ codes "entries" ∷ decimal entries ∷ []
+answer_words (Admitted request entries) =
+    codes "admitted" ∷ decimal request ∷ codes "entries" ∷ decimal entries ∷ []
 answer_words NoRoute = codes "fault" ∷ codes "NoRoute" ∷ []
 answer_words NumbersSpent = codes "fault" ∷ codes "NumbersSpent" ∷ []
 answer_words (Closed chunks) = codes "closed" ∷ decimal chunks ∷ []
 answer_words Done = codes "done" ∷ []
-answer_words (Took number entries) = codes "took" ∷ decimal number ∷ codes "entries" ∷ decimal entries ∷ []
+answer_words (Took number entries) =
+    codes "took" ∷ decimal number ∷ codes "entries" ∷ decimal entries ∷ []
 answer_words TookNothing = codes "took" ∷ codes "-" ∷ []
 answer_words (Frame out) = codes "frame" ∷ hex_text out ∷ []
 answer_words (Quiet out) = out_words (codes "quiet") out

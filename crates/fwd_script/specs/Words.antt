@@ -1,6 +1,7 @@
 -- The words of a script line, and the numbers and bytes that they spell.
-use Rattle.std.specs.Prelude.{ℕ, ◌==◌, ◌&&◌, nat_lt, if◌then◌else◌, List, [], ◌∷◌, length, codes, Option, Some, None, Result, Ok, Err, option_and_then}
-use Rattle.std.specs.List.{slice_split}
+use Rattle.std.specs.Prelude.{ℕ, ◌%◌, ◌==◌, ◌&&◌, not, Bool, nat_lt, if◌then◌else◌, List, [], ◌∷◌, length, codes, Option, Some, None, Result, Ok, Err, option_and_then}
+use Rattle.std.specs.Char.{is_ascii_hexdigit, is_ascii_uppercase}
+use Rattle.std.specs.List.{list_all, list_any, slice_split}
 use Rattle.std.specs.Str.{bytes_eq}
 use Rattle.std.specs.Str.Parse.{digits_value}
 use Rattle.std.specs.Fmt.{decimal}
@@ -8,6 +9,7 @@ use Rattle.hex.specs.Hex.{encode_lower, decode_of}
 use Rattle.hex.specs.declared.error.FromHexError.{FromHexError}
 
 infixl 10 ◌>>=◌
+-- the second step, where the first gave something
 abbrev pub ◌>>=◌ : {A B : Type 0} → Option A → (A → Option B) → Option B
 o >>= f = option_and_then f o
 
@@ -20,7 +22,14 @@ abbrev pub hex_text : List ℕ → List ℕ
 hex_text [] = codes "-"
 hex_text (b ∷ bytes) = encode_lower (b ∷ bytes)
 
--- the number that a word's digits stand for, where it is below the limit and the word is its one decimal spelling
+-- pairs of hexadecimal digits, with no letter in upper case
+abbrev pub is_hex : List ℕ → Bool
+is_hex word =
+    (length word % 2 == 0)
+    && (not (list_any is_ascii_uppercase word) && list_all is_ascii_hexdigit word)
+
+-- the number that a word's digits stand for, where it is below the limit and the word is its one
+-- decimal spelling
 unfoldable pub number_of : ℕ → List ℕ → Option ℕ
 number_of limit word =
     let n = digits_value 10 word in

@@ -24,9 +24,11 @@ fn unread(error: InputError) -> SettingsFault
     }
 }
 
-/// The settings in what was read, or how a check of it ends: what was not read to its end is `unreadable`.
+/// The settings in what was read, or how a check of it ends: what was not read to its end is
+/// `unreadable`.
 fn settings_in(alloc: Global, read: Result<Vec<u8>, InputError>) -> Result<Settings, Status>
-    ensures text { IfOk read (λ text. result ≢ Err Status.Memory → result ≡ verdict_on (settings_of text.items)) }
+    ensures text { IfOk read (λ text. result ≢ Err Status.Memory
+        → result ≡ verdict_on (settings_of text.items)) }
     ensures unread { IfErr read (λ error. result ≡ verdict_on (Err (unread error))) }
 {
     let text = match read {
@@ -65,9 +67,10 @@ fn tell_good<W: Write>(alloc: Global, settings: &Settings, writer: &mut W) -> St
     status.flushed(writer.flush())
 }
 
-/// Checks the settings that the reader gives: writes `settings are good, outputs: N` and a line feed where they are good, and
-/// else answers their first fault. A read that failed, or 2^32 reads without an end, is `BadSettings(Unreadable)`, a
-/// failed write or flush `Output`, and behind it a front of the line was written. `Memory` has written nothing.
+/// Checks the settings that the reader gives: writes `settings are good, outputs: N` and a line
+/// feed where they are good, and else answers their first fault. A read that failed, or 2^32
+/// reads without an end, is `BadSettings(Unreadable)`, a failed write or flush `Output`, and
+/// behind it a front of the line was written. `Memory` has written nothing.
 pub fn check<R: Read, W: Write>(alloc: Global, reader: &mut R, writer: &mut W) -> Status
     ensures { (text : List ℕ) × IfSome (R.remaining reader.old) (λ left. text ≡ left)
         × Checks result text (W.contents writer.old) (W.contents writer.new) }
@@ -78,14 +81,16 @@ pub fn check<R: Read, W: Write>(alloc: Global, reader: &mut R, writer: &mut W) -
     }
 }
 
-/// Checks the settings in a file, as `check` does. A file that cannot be opened is `BadSettings(Unreadable)`.
+/// Checks the settings in a file, as `check` does. A file that cannot be opened is
+/// `BadSettings(Unreadable)`.
 pub fn check_file<F: Files, W: Write>(
     alloc: Global,
     files: &F,
     path: &str,
     writer: &mut W,
 ) -> Status
-    ensures { (text : List ℕ) × Checks result text (W.contents writer.old) (W.contents writer.new) }
+    ensures { (text : List ℕ)
+        × Checks result text (W.contents writer.old) (W.contents writer.new) }
 {
     match fs::open(files, path) {
         Ok(mut file) => check(alloc, &mut file, writer),

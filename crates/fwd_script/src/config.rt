@@ -68,7 +68,8 @@ fn configs_of(alloc: Global, outputs: &[OutputSettings]) -> Result<Vec<OutputCon
 
 /// The pattern of each output.
 fn patterns_of(alloc: Global, mut outputs: Vec<OutputSettings>) -> Result<Vec<Pattern>, AllocError>
-    ensures items { IfOk result (λ patterns. patterns.items ≡ map (λ o. o.pattern) outputs.items) }
+    ensures items { IfOk result (λ patterns.
+        patterns.items ≡ map (λ o. o.pattern) outputs.items) }
     ensures len { IfOk result (λ patterns. vec_len patterns ≡ length outputs.items) }
 {
     let mut patterns = Vec::new(alloc);
@@ -151,8 +152,8 @@ fn config_of(alloc: Global, settings: Settings) -> Result<Config, AllocError>
     })
 }
 
-/// What a script's text of settings sets the relay to: an empty text stands for one output of two workers and two servers, which
-/// takes each tag. It answers the text's first fault.
+/// What a script's text of settings sets the relay to: an empty text stands for one output of two
+/// workers and two servers, which takes each tag. It answers the text's first fault.
 pub fn read_config(alloc: Global, text: &[u8]) -> Result<Config, SettingsFault>
     ensures { result ≢ Err SettingsFault.Memory → Configures text.now result }
 {

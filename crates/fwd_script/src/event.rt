@@ -1,14 +1,42 @@
-ghost use Rattle.std.specs.Prelude.{◌≡◌, ◌↔◌, ℕ, List, map, IfOk, Some};
+ghost use Rattle.std.specs.Prelude.{◌≡◌, ◌↔◌, ◌∷◌, ℕ, List, [], map, IfOk, Some};
 ghost use Rattle.std.specs.Str.{IsUtf8};
-ghost use Rattle.fwd_script.specs.Lines.{accept_of, piece_of, admit_of, kind_of, flush_of, session_of, up_of, take_of, load_of, wrote_of, heard_of, settle_of, collect_of, drained_of, shut_of, named, event_of, InRange, line_of};
 ghost use Rattle.fwd_model.specs.declared.event.Event.{Event};
+ghost use Rattle.fwd_model.specs.declared.event.Event.TheVariants.{
+  Accept,
+  Piece,
+  Admit,
+  Flush,
+  Up,
+  Take,
+  Load,
+  Wrote,
+  Heard,
+  Settle,
+  Collect,
+  Drained,
+  Shut,
+};
+ghost use Rattle.fwd_script.specs.Lines.{
+  Long,
+  Short,
+  Hex,
+  Sixteen,
+  Closing,
+  kind_of,
+  read_as,
+  named,
+  event_of,
+  InRange,
+  line_of,
+};
 
 use crate::word::{bytes, number, sixteen, small_number, split_words};
 use fwd_model::{Event, FlushKind};
 use std::alloc::{AllocError, Global};
 
-/// The event of a script line, where the line has the form of one: words with one space between each two,
-/// decimal numbers with no sign and no leading zero that fit their width, bytes in lower-case hexadecimal.
+/// The event of a script line, where the line has the form of one: words with one space between
+/// each two, decimal numbers with no sign and no leading zero that fit their width, bytes in
+/// lower-case hexadecimal.
 #[tactic(auto, unfolding(crate::specs::Lines::of_words))]
 pub fn read_event(alloc: Global, line: &[u8]) -> Result<Option<Event>, AllocError>
     ensures { IfOk result (λ e. e ≡ event_of line.now) }
@@ -20,7 +48,8 @@ pub fn read_event(alloc: Global, line: &[u8]) -> Result<Option<Event>, AllocErro
     }
 }
 
-/// A line is an event exactly where it is the one spelling of an event whose numbers and bytes are in range.
+/// A line is an event exactly where it is the one spelling of an event whose numbers and bytes are
+/// in range.
 pub fn one_spelling()
     ensures { (line : List ℕ) (event : Event) →
         (event_of line ≡ Some event) ↔ (InRange event × (line ≡ line_of event)) }
@@ -66,9 +95,10 @@ fn event_named(alloc: Global, name: &[u8], rest: &[&[u8]]) -> Result<Option<Even
     }
 }
 
-#[tactic(auto, unfolding(crate::specs::Lines::accept_of))]
+#[tactic(auto, unfolding(crate::specs::Lines::read_as))]
 fn accept(words: &[&[u8]]) -> Option<Event>
-    ensures { result ≡ accept_of (map (λ w. w.now) words.now) }
+    ensures { result
+        ≡ read_as (Long ∷ Sixteen ∷ Sixteen ∷ []) Accept (map (λ w. w.now) words.now) }
 {
     let [conn, nonce, auth] = words else {
         return None;
@@ -80,9 +110,10 @@ fn accept(words: &[&[u8]]) -> Option<Event>
     })
 }
 
-#[tactic(auto, unfolding(crate::specs::Lines::piece_of))]
+#[tactic(auto, unfolding(crate::specs::Lines::read_as))]
 fn piece(alloc: Global, words: &[&[u8]]) -> Result<Option<Event>, AllocError>
-    ensures { IfOk result (λ e. e ≡ piece_of (map (λ w. w.now) words.now)) }
+    ensures { IfOk result (λ e.
+        e ≡ read_as (Long ∷ Hex ∷ []) Piece (map (λ w. w.now) words.now)) }
 {
     let [conn, piece] = words else {
         return Ok(None);
@@ -94,9 +125,10 @@ fn piece(alloc: Global, words: &[&[u8]]) -> Result<Option<Event>, AllocError>
     Ok(bytes.map(|bytes| Event::Piece { conn, bytes }))
 }
 
-#[tactic(auto, unfolding(crate::specs::Lines::admit_of))]
+#[tactic(auto, unfolding(crate::specs::Lines::read_as))]
 fn admit(words: &[&[u8]]) -> Option<Event>
-    ensures { result ≡ admit_of (map (λ w. w.now) words.now) }
+    ensures { result
+        ≡ read_as (Long ∷ Short ∷ Long ∷ []) Admit (map (λ w. w.now) words.now) }
 {
     let [conn, output, now] = words else {
         return None;
@@ -119,9 +151,10 @@ fn flush_kind(word: &[u8]) -> Option<FlushKind>
     }
 }
 
-#[tactic(auto, unfolding(crate::specs::Lines::flush_of))]
+#[tactic(auto, unfolding(crate::specs::Lines::read_as))]
 fn flush(words: &[&[u8]]) -> Option<Event>
-    ensures { result ≡ flush_of (map (λ w. w.now) words.now) }
+    ensures { result
+        ≡ read_as (Short ∷ Long ∷ Closing ∷ []) Flush (map (λ w. w.now) words.now) }
 {
     let [output, now, kind] = words else {
         return None;
@@ -133,21 +166,28 @@ fn flush(words: &[&[u8]]) -> Option<Event>
     })
 }
 
-#[tactic(auto, unfolding(crate::specs::Lines::up_of))]
+#[tactic(auto, unfolding(crate::specs::Lines::read_as))]
 fn up(alloc: Global, words: &[&[u8]]) -> Result<Option<Event>, AllocError>
-    ensures { IfOk result (λ e. e ≡ up_of (map (λ w. w.now) words.now)) }
+    ensures { IfOk result (λ e.
+        e ≡ read_as (Short ∷ Short ∷ Short ∷ Hex ∷ Long
+        ∷ []) Up (map (λ w. w.now) words.now)) }
 {
     let [output, worker, server, salt, now] = words else {
         return Ok(None);
     };
-    let Some((output, worker, server)) = session(output, worker, server) else {
+    let Some(output) = small_number(output) else {
         return Ok(None);
     };
-    let Some(now) = number(now) else {
+    let Some(worker) = small_number(worker) else {
         return Ok(None);
     };
-    let salt = bytes(alloc, salt)?;
-    Ok(salt.map(|salt| Event::Up {
+    let Some(server) = small_number(server) else {
+        return Ok(None);
+    };
+    let Some(salt) = bytes(alloc, salt)? else {
+        return Ok(None);
+    };
+    Ok(number(now).map(|now| Event::Up {
         output,
         worker,
         server,
@@ -156,21 +196,10 @@ fn up(alloc: Global, words: &[&[u8]]) -> Result<Option<Event>, AllocError>
     }))
 }
 
-/// The output, the worker and the server of a session.
-#[tactic(auto, unfolding(crate::specs::Lines::session_of))]
-fn session(output: &[u8], worker: &[u8], server: &[u8]) -> Option<(u16, u16, u16)>
-    ensures { result ≡ session_of output.now worker.now server.now }
-{
-    Some((
-        small_number(output)?,
-        small_number(worker)?,
-        small_number(server)?,
-    ))
-}
-
-#[tactic(auto, unfolding(crate::specs::Lines::take_of))]
+#[tactic(auto, unfolding(crate::specs::Lines::read_as))]
 fn take(words: &[&[u8]]) -> Option<Event>
-    ensures { result ≡ take_of (map (λ w. w.now) words.now) }
+    ensures { result
+        ≡ read_as (Short ∷ Short ∷ Long ∷ []) Take (map (λ w. w.now) words.now) }
 {
     let [output, worker, now] = words else {
         return None;
@@ -182,9 +211,10 @@ fn take(words: &[&[u8]]) -> Option<Event>
     })
 }
 
-#[tactic(auto, unfolding(crate::specs::Lines::load_of))]
+#[tactic(auto, unfolding(crate::specs::Lines::read_as))]
 fn load(words: &[&[u8]]) -> Option<Event>
-    ensures { result ≡ load_of (map (λ w. w.now) words.now) }
+    ensures { result
+        ≡ read_as (Short ∷ Short ∷ Long ∷ []) Load (map (λ w. w.now) words.now) }
 {
     let [output, worker, now] = words else {
         return None;
@@ -196,9 +226,10 @@ fn load(words: &[&[u8]]) -> Option<Event>
     })
 }
 
-#[tactic(auto, unfolding(crate::specs::Lines::wrote_of))]
+#[tactic(auto, unfolding(crate::specs::Lines::read_as))]
 fn wrote(words: &[&[u8]]) -> Option<Event>
-    ensures { result ≡ wrote_of (map (λ w. w.now) words.now) }
+    ensures { result
+        ≡ read_as (Short ∷ Short ∷ Long ∷ []) Wrote (map (λ w. w.now) words.now) }
 {
     let [output, worker, count] = words else {
         return None;
@@ -210,9 +241,10 @@ fn wrote(words: &[&[u8]]) -> Option<Event>
     })
 }
 
-#[tactic(auto, unfolding(crate::specs::Lines::heard_of))]
+#[tactic(auto, unfolding(crate::specs::Lines::read_as))]
 fn heard(alloc: Global, words: &[&[u8]]) -> Result<Option<Event>, AllocError>
-    ensures { IfOk result (λ e. e ≡ heard_of (map (λ w. w.now) words.now)) }
+    ensures { IfOk result (λ e.
+        e ≡ read_as (Short ∷ Short ∷ Hex ∷ []) Heard (map (λ w. w.now) words.now)) }
 {
     let [output, worker, piece] = words else {
         return Ok(None);
@@ -231,9 +263,9 @@ fn heard(alloc: Global, words: &[&[u8]]) -> Result<Option<Event>, AllocError>
     }))
 }
 
-#[tactic(auto, unfolding(crate::specs::Lines::settle_of))]
+#[tactic(auto, unfolding(crate::specs::Lines::read_as))]
 fn settle(words: &[&[u8]]) -> Option<Event>
-    ensures { result ≡ settle_of (map (λ w. w.now) words.now) }
+    ensures { result ≡ read_as (Short ∷ Short ∷ []) Settle (map (λ w. w.now) words.now) }
 {
     let [output, worker] = words else {
         return None;
@@ -244,9 +276,9 @@ fn settle(words: &[&[u8]]) -> Option<Event>
     })
 }
 
-#[tactic(auto, unfolding(crate::specs::Lines::collect_of))]
+#[tactic(auto, unfolding(crate::specs::Lines::read_as))]
 fn collect(words: &[&[u8]]) -> Option<Event>
-    ensures { result ≡ collect_of (map (λ w. w.now) words.now) }
+    ensures { result ≡ read_as (Long ∷ Short ∷ []) Collect (map (λ w. w.now) words.now) }
 {
     let [conn, output] = words else {
         return None;
@@ -257,9 +289,9 @@ fn collect(words: &[&[u8]]) -> Option<Event>
     })
 }
 
-#[tactic(auto, unfolding(crate::specs::Lines::drained_of))]
+#[tactic(auto, unfolding(crate::specs::Lines::read_as))]
 fn drained(words: &[&[u8]]) -> Option<Event>
-    ensures { result ≡ drained_of (map (λ w. w.now) words.now) }
+    ensures { result ≡ read_as (Long ∷ Long ∷ []) Drained (map (λ w. w.now) words.now) }
 {
     let [conn, count] = words else {
         return None;
@@ -269,9 +301,9 @@ fn drained(words: &[&[u8]]) -> Option<Event>
     Some(Event::Drained { conn, count })
 }
 
-#[tactic(auto, unfolding(crate::specs::Lines::shut_of))]
+#[tactic(auto, unfolding(crate::specs::Lines::read_as))]
 fn shut(words: &[&[u8]]) -> Option<Event>
-    ensures { result ≡ shut_of (map (λ w. w.now) words.now) }
+    ensures { result ≡ read_as (Long ∷ []) Shut (map (λ w. w.now) words.now) }
 {
     let [conn] = words else {
         return None;

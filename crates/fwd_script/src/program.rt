@@ -1,4 +1,5 @@
-//! The program over its words and streams: what the words ask for, and what each end prints and returns.
+//! The program over its words and streams: what the words ask for, and what each end prints and
+//! returns.
 
 ghost use Rattle.std.specs.Prelude.{◌≡◌, ◌≢◌, ◌↔◌, ℕ, List, [], ◌∷◌, map, codes, IsTrue, MatchOption, OnOk, IfOk, IfErr};
 ghost use Rattle.std.specs.String.{string_bytes};
@@ -64,7 +65,8 @@ impl fmt::Display for End {
 
 /// Whether words ask for a replay.
 fn is_replay(words: &[String]) -> bool
-    ensures { IsTrue result ↔ (words_behind (map string_bytes words.now) ≡ codes "replay" ∷ []) }
+    ensures { IsTrue result ↔ (words_behind (map string_bytes words.now) ≡ codes "replay"
+        ∷ []) }
 {
     if words.len() != 2 {
         return false;
@@ -75,7 +77,8 @@ fn is_replay(words: &[String]) -> bool
 /// The path of the settings that words ask to check.
 fn checked_path(words: &[String]) -> Option<&str>
     ensures { MatchOption result
-        ((path : List ℕ) → words_behind (map string_bytes words.now) ≢ codes "check" ∷ path ∷ [])
+        ((path : List ℕ)
+        → words_behind (map string_bytes words.now) ≢ codes "check" ∷ path ∷ [])
         (λ path. words_behind (map string_bytes words.now) ≡ codes "check" ∷ path.now ∷ []) }
 {
     if words.len() != 3 {
@@ -88,7 +91,8 @@ fn checked_path(words: &[String]) -> Option<&str>
     }
 }
 
-/// What words ask for, the program's own name before them: `replay` or `check CONFIG`, or nothing that the program knows.
+/// What words ask for, the program's own name before them: `replay` or `check CONFIG`, or nothing
+/// that the program knows.
 pub fn asked(words: &[String]) -> Option<Command<'_>>
     ensures { Asks (words_behind (map string_bytes words.now)) result }
 {
@@ -101,14 +105,17 @@ pub fn asked(words: &[String]) -> Option<Command<'_>>
     }
 }
 
-/// The program's words, its own name before them. They are an error for want of memory, of that kind, and where one is not UTF-8.
+/// The program's words, its own name before them. They are an error for want of memory, of that
+/// kind, and where one is not UTF-8.
 pub fn words<R: Env + AllocGlobal>(rt: &R) -> io::Result<Vec<String>> {
     Ok(env::args(rt)?.collect(rt.alloc())?)
 }
 
-/// How the program ends where its words could not be had: that is for want of memory, or since one is not UTF-8.
+/// How the program ends where its words could not be had: that is for want of memory, or since
+/// one is not UTF-8.
 fn wordless(error: &io::Error) -> End
-    ensures memory { error_kind error.now ≡ ErrorKind.OutOfMemory → result ≡ End.Ran Status.Memory }
+    ensures memory { error_kind error.now ≡ ErrorKind.OutOfMemory
+        → result ≡ End.Ran Status.Memory }
     ensures other { error_kind error.now ≢ ErrorKind.OutOfMemory → result ≡ End.Usage }
 {
     if error.kind() == ErrorKind::OutOfMemory {
@@ -135,9 +142,9 @@ fn carry_out<F: Files, R: Read, W: Write>(
     }
 }
 
-/// Does what the program's words ask for. `replay` reads the input and writes to the output, `check CONFIG` reads a file and
-/// writes to the output; all other words are `Usage`, and so are words that are not UTF-8. Where memory runs out before the
-/// words are had it is `Memory`.
+/// Does what the program's words ask for. `replay` reads the input and writes to the output,
+/// `check CONFIG` reads a file and writes to the output; all other words are `Usage`, and so are
+/// words that are not UTF-8. Where memory runs out before the words are had it is `Memory`.
 pub fn perform<F: Files, R: Read, W: Write>(
     alloc: Global,
     files: &F,
@@ -147,8 +154,10 @@ pub fn perform<F: Files, R: Read, W: Write>(
 ) -> End
     ensures asked { IfOk words (λ list. Performs (words_behind (map string_bytes list.items))
         result (R.remaining input.old) (W.contents output.old) (W.contents output.new)) }
-    ensures memory { IfErr words (λ error. error_kind error ≡ ErrorKind.OutOfMemory → result ≡ End.Ran Status.Memory) }
-    ensures other { IfErr words (λ error. error_kind error ≢ ErrorKind.OutOfMemory → result ≡ End.Usage) }
+    ensures memory { IfErr words (λ error. error_kind error ≡ ErrorKind.OutOfMemory
+        → result ≡ End.Ran Status.Memory) }
+    ensures other { IfErr words (λ error. error_kind error ≢ ErrorKind.OutOfMemory
+        → result ≡ End.Usage) }
     ensures kept { IfErr words (λ _. Keeps (W.contents output.old) (W.contents output.new)) }
 {
     let words = match words {
@@ -171,8 +180,9 @@ pub fn tell<E: Write>(errors: &mut E, end: &End) -> io::Result<()>
     }
 }
 
-/// The whole program, but for where its words and streams come from: it does what the words ask for, as `perform` does, tells
-/// how that ended, as `tell` does, and returns the exit status. An end that cannot be told has the same exit status.
+/// The whole program, but for where its words and streams come from: it does what the words ask
+/// for, as `perform` does, tells how that ended, as `tell` does, and returns the exit status. An
+/// end that cannot be told has the same exit status.
 pub fn run_program<F: Files, R: Read, W: Write, E: Write>(
     alloc: Global,
     files: &F,

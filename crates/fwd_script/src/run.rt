@@ -35,14 +35,16 @@ fn open_relay(alloc: Global, text: &[u8]) -> Result<Relay, Status>
     Ok(Relay::new(alloc, config)?)
 }
 
-/// Replays a script: reads all of the input (at most 2^32 reads), and then answers the event of each line on a line
-/// of its own. The first line `---` ends the settings; an empty text of settings stands for one output with two
-/// workers and two servers, which takes each tag.
+/// Replays a script: reads all of the input (at most 2^32 reads), and then answers the event of
+/// each line on a line of its own. The first line `---` ends the settings; an empty text of
+/// settings stands for one output with two workers and two servers, which takes each tag.
 ///
-/// At `Done` and at `BadLine` what was written is the lines of the abstract relay's answers, from its opening state by these
-/// settings, to the events of the lines before the first bad one; `BadLine` has that line's number, counted from 1 over all
-/// of the input. At `BadSettings` nothing was written, and the fault is the first of the settings. At `Memory` what was
-/// written is the answers to the lines before the one that met it, and at `Output` a front of what `Done` would have written.
+/// At `Done` and at `BadLine` what was written is the lines of the abstract relay's answers, from
+/// its opening state by these settings, to the events of the lines before the first bad one;
+/// `BadLine` has that line's number, counted from 1 over all of the input. At `BadSettings`
+/// nothing was written, and the fault is the first of the settings. At `Memory` what was written
+/// is the answers to the lines before the one that met it, and at `Output` a front of what `Done`
+/// would have written.
 pub fn replay<R: Read, W: Write>(alloc: Global, reader: &mut R, writer: &mut W) -> Status
     ensures { (script : List ℕ) × IfSome (R.remaining reader.old) (λ left. script ≡ left)
         × Replays result script (W.contents writer.old) (W.contents writer.new) }

@@ -1,7 +1,8 @@
 ghost use Rattle.std.specs.Prelude.{◌≡◌, ◌+◌, ◌≤◌, [], length, MatchOption};
 ghost use Rattle.fwd_script.specs.Script.{lines_of, settings_of, event_lines, head_len, IsFirstLine, IsScript};
 
-/// The parts of a script. The first line `---` ends the settings; without one all of the script is settings.
+/// The parts of a script. The first line `---` ends the settings; without one all of the script
+/// is settings.
 #[derive(Clone, Copy)]
 pub struct Script<'a> {
     /// The text of the settings.

@@ -15,7 +15,8 @@ pub enum Status {
     Done,
     /// The settings were refused, and nothing was written.
     BadSettings(SettingsFault),
-    /// The line of this number, counted from 1 over all of the script, is no event. Each line before it was answered.
+    /// The line of this number, counted from 1 over all of the script, is no event. Each line
+    /// before it was answered.
     BadLine(u64),
     /// Memory ran out. Nothing was written but answers to the lines before.
     Memory,
@@ -39,7 +40,8 @@ impl Status {
         }
     }
 
-    /// How a run ends that would end so, once its writer was flushed: a flush that fails is a failed write.
+    /// How a run ends that would end so, once its writer was flushed: a flush that fails is a
+    /// failed write.
     pub(crate) fn flushed(self, flush: io::Result<()>) -> Status
         ensures ok { OnOk flush (result ≡ self) }
         ensures err { OnErr flush (result ≡ statuses.Output) }

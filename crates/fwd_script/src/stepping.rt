@@ -31,12 +31,13 @@ pub trait Step {
     /// Answers an event, or answers `Memory` and stays as it was.
     fn step(&mut self, alloc: Global, event: &Event) -> Answer
         ensures answer { (result ≡ Memory)
-            ⊎ ((result ≡ answer_to self.old event.now) × (self.new ≡ next self.old event.now)) }
+            ⊎ ((result ≡ answer_to self.old event.now)
+            × (self.new ≡ next self.old event.now)) }
         ensures memory { result ≡ Memory → self.new ≡ self.old };
 }
 
-/// The bad line is the first that is no event: each line before it is one of the events that are answered, and
-/// where there is no bad line each line is.
+/// The bad line is the first that is no event: each line before it is one of the events that are
+/// answered, and where there is no bad line each line is.
 pub fn bad_line_is_first()
     ensures { (count : ℕ) (lines : List (List ℕ)) → SplitsAtBad count lines }
 {}
@@ -80,8 +81,9 @@ impl From<WriteFailed> for Stop {
     }
 }
 
-/// Answers one event after the other, a line of the text for each, and writes each answer on a line of its own.
-/// It stops at the first line that is no event, where memory runs out, and where a write fails.
+/// Answers one event after the other, a line of the text for each, and writes each answer on a
+/// line of its own. It stops at the first line that is no event, where memory runs out, and where
+/// a write fails.
 pub fn answer_lines<S: Step, W: Write>(
     alloc: Global,
     relay: &mut S,
@@ -92,7 +94,8 @@ pub fn answer_lines<S: Step, W: Write>(
     requires { lines_before + length text.now < 2 ^ 64 }
     ensures ends { Ends result S.answer_to S.next relay.old lines_before (lines_of text.now)
         (W.contents writer.old) (W.contents writer.new) }
-    ensures memory { result ≡ statuses.Memory → MeetsMemory S.answer_to S.next relay.old relay.new
+    ensures memory { result ≡ statuses.Memory
+        → MeetsMemory S.answer_to S.next relay.old relay.new
         (lines_of text.now) (W.contents writer.old) (W.contents writer.new) }
 {
     let mut rest = text;
@@ -118,7 +121,8 @@ pub fn answer_script<S: Step, W: Write>(
     ensures ends { Ends result S.answer_to S.next relay.old
         script.entry.lines_before (lines_of script.entry.events.now)
         (W.contents writer.old) (W.contents writer.new) }
-    ensures memory { result ≡ statuses.Memory → MeetsMemory S.answer_to S.next relay.old relay.new
+    ensures memory { result ≡ statuses.Memory
+        → MeetsMemory S.answer_to S.next relay.old relay.new
         (lines_of script.entry.events.now) (W.contents writer.old) (W.contents writer.new) }
 {
     let status = answer_lines(alloc, relay, script.events, script.lines_before, writer);
@@ -133,8 +137,10 @@ fn answer_event<S: Step, W: Write>(
     writer: &mut W,
 ) -> Result<(), Stop>
     ensures { MatchResult result
-        (λ _. (event : Event) × (event_of line.now ≡ Some event) × (relay.new ≡ S.next relay.old event)
-        × Appends (W.contents writer.old) (W.contents writer.new) (answer_line (S.answer_to relay.old event)))
+        (λ _. (event : Event) × (event_of line.now ≡ Some event)
+        × (relay.new ≡ S.next relay.old event)
+        × Appends (W.contents writer.old) (W.contents writer.new)
+        (answer_line (S.answer_to relay.old event)))
         (λ stop. Stops stop S.answer_to S.next relay.old relay.new (event_of line.now)
         (W.contents writer.old) (W.contents writer.new)) }
 {

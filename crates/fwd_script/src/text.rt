@@ -53,7 +53,8 @@ pub fn print_answer(alloc: Global, answer: &Answer) -> Result<String, AllocError
 
 /// A word, and the bytes that were appended to what waits to be sent.
 fn with_out(alloc: Global, word: &str, out: &[u8]) -> Result<String, AllocError>
-    ensures { IfOk result (λ text. string_bytes text ≡ join_with_byte 32 (out_words word.now out.now)) }
+    ensures { IfOk result (λ text.
+        string_bytes text ≡ join_with_byte 32 (out_words word.now out.now)) }
 {
     let out = hex_word(alloc, out)?;
     format!(in alloc; "{word} out {out}")
@@ -66,7 +67,8 @@ fn faulted(
     waiting: usize,
     out: &[u8],
 ) -> Result<String, AllocError>
-    ensures { IfOk result (λ text. string_bytes text ≡ join_with_byte 32 (faulted_words fault waiting out.now)) }
+    ensures { IfOk result (λ text.
+        string_bytes text ≡ join_with_byte 32 (faulted_words fault waiting out.now)) }
 {
     let name = source_fault_name(fault);
     let requests = requests(alloc, waiting, out)?;
@@ -75,7 +77,8 @@ fn faulted(
 
 /// How many requests wait, and the bytes that were appended to what waits to be sent.
 fn requests(alloc: Global, waiting: usize, out: &[u8]) -> Result<String, AllocError>
-    ensures { IfOk result (λ text. string_bytes text ≡ join_with_byte 32 (requests_words waiting out.now)) }
+    ensures { IfOk result (λ text.
+        string_bytes text ≡ join_with_byte 32 (requests_words waiting out.now)) }
 {
     let out = hex_word(alloc, out)?;
     format!(in alloc; "requests {waiting} out {out}")
@@ -83,7 +86,8 @@ fn requests(alloc: Global, waiting: usize, out: &[u8]) -> Result<String, AllocEr
 
 /// Which requests are told, and the bytes that were appended to what waits to be sent.
 fn told(alloc: Global, requests: &[u64], out: &[u8]) -> Result<String, AllocError>
-    ensures { IfOk result (λ text. string_bytes text ≡ join_with_byte 32 (told_words requests.now out.now)) }
+    ensures { IfOk result (λ text.
+        string_bytes text ≡ join_with_byte 32 (told_words requests.now out.now)) }
 {
     let list = number_list(alloc, requests)?;
     let out = hex_word(alloc, out)?;
@@ -112,7 +116,8 @@ fn number_list(alloc: Global, numbers: &[u64]) -> Result<String, AllocError>
 
 /// The first number, and each other after a comma.
 fn with_commas(alloc: Global, first: u64, rest: &[u64]) -> Result<String, AllocError>
-    ensures { IfOk result (λ text. string_bytes text ≡ join_with_byte 44 (map decimal (first ∷ rest.now))) }
+    ensures { IfOk result (λ text.
+        string_bytes text ≡ join_with_byte 44 (map decimal (first ∷ rest.now))) }
 {
     let mut text = first.to_string(alloc)?;
     for number in rest {

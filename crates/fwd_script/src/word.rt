@@ -1,12 +1,25 @@
-ghost use Rattle.std.specs.Prelude.{◌≡◌, ◌≢◌, ◌<◌, ◌≤◌, ◌^◌, ◌↔◌, length, slice_index, IsTrue, map, None, IfOk, IsOk, IsErr, MatchOption};
-ghost use Rattle.std.specs.Char.{is_ascii_uppercase};
-ghost use Rattle.std.specs.List.{list_any};
+ghost use Rattle.std.specs.Prelude.{
+  ◌≡◌,
+  ◌<◌,
+  ◌≤◌,
+  ◌^◌,
+  ◌↔◌,
+  length,
+  slice_index,
+  IsTrue,
+  map,
+  IfOk,
+  IsErr,
+  IsSome,
+  MatchOption,
+};
+ghost use Rattle.std.specs.Char.{is_ascii_hexdigit, is_ascii_uppercase};
+ghost use Rattle.std.specs.List.{list_all, list_any};
 ghost use Rattle.std.specs.Str.Parse.{AllDigits, digits_value};
-ghost use Rattle.hex.specs.declared.error.FromHexError.TheVariants.{OutOfMemory};
-ghost use Rattle.fwd_script.specs.Words.{words, number_of, bytes_of, sixteen_of};
+ghost use Rattle.fwd_script.specs.Words.{words, is_hex, number_of, bytes_of, sixteen_of};
 
 use fwd_msgpack::Bytes;
-use hex::{FromHex, FromHexError};
+use hex::FromHex;
 use std::alloc::{AllocError, Global};
 
 /// The words of a line: what stands before, between and after its spaces.
@@ -16,7 +29,8 @@ pub fn split_words<'a>(alloc: Global, line: &'a [u8]) -> Result<Vec<&'a [u8]>, A
     line.split(|b| *b == b' ').collect(alloc)
 }
 
-/// The number that the word's digits stand for, if all of the word is digits and the number is below 2^64.
+/// The number that the word's digits stand for, if all of the word is digits and the number is
+/// below 2^64.
 fn digits(word: &[u8]) -> Option<u64>
     ensures { MatchOption result
         (AllDigits 10 word.now → 2 ^ 64 ≤ digits_value 10 word.now)
@@ -63,31 +77,35 @@ fn has_upper_case(word: &[u8]) -> bool
     word.iter().any(|b| b.is_ascii_uppercase())
 }
 
-/// No bytes, unless it is memory that ran out: a bad word is no want of memory.
-fn no_bytes(error: FromHexError) -> Result<Option<Bytes>, AllocError>
-    ensures none { IfOk result (λ b. b ≡ None) }
-    ensures memory { error ≡ OutOfMemory → IsErr result }
-    ensures other { error ≢ OutOfMemory → IsOk result }
+/// Whether the word is hexadecimal digits alone.
+fn has_digits_alone(word: &[u8]) -> bool
+    ensures { result ≡ list_all is_ascii_hexdigit word.now }
 {
-    match error {
-        FromHexError::OutOfMemory => Err(AllocError),
-        _ => Ok(None),
-    }
+    word.iter().all(|b| b.is_ascii_hexdigit())
 }
 
-/// The bytes that the word spells in lower-case hexadecimal digits, or no bytes for `-`.
+/// Whether the word is pairs of hexadecimal digits, with no letter in upper case.
+fn is_hex(word: &[u8]) -> bool
+    ensures { result ≡ is_hex word.now }
+{
+    word.len() % 2 == 0 && !has_upper_case(word) && has_digits_alone(word)
+}
+
+/// The bytes that the word spells in lower-case hexadecimal digits, or no bytes for `-`. Want of
+/// memory is answered only for a word that spells bytes.
 pub fn bytes(alloc: Global, word: &[u8]) -> Result<Option<Bytes>, AllocError>
-    ensures { IfOk result (λ b. b ≡ bytes_of word.now) }
+    ensures value { IfOk result (λ b. b ≡ bytes_of word.now) }
+    ensures memory { IsErr result → IsSome (bytes_of word.now) }
 {
     if word == b"-".as_slice() {
         return Ok(Some(Bytes::new(alloc)));
     }
-    if word.is_empty() || has_upper_case(word) {
+    if word.is_empty() || !is_hex(word) {
         return Ok(None);
     }
     match hex::decode(alloc, word) {
         Ok(bytes) => Ok(Some(Bytes::from_vec(bytes))),
-        Err(error) => no_bytes(error),
+        Err(_) => Err(AllocError),
     }
 }
 

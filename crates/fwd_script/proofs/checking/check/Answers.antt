@@ -1,15 +1,3 @@
-use Rattle.std.proofs.Common.{◌≡◌, ◌≢◌, ℕ, List, Result, Ok, Err, Option, Vec, Some, None, inl, inr, sym, ap, ◌∙◌}
-use Rattle.std.specs.Prelude.{IfOk, IfErr, IfSome}
-use Rattle.std.proofs.Common.{Global}
-use Rattle.fwd_settings.specs.Whole.{settings_of}
-use Rattle.fwd_settings.specs.declared.settings.Settings.{Settings}
-use Rattle.fwd_settings.specs.declared.fault.SettingsFault.{SettingsFault}
-use Rattle.fwd_settings.specs.declared.fault.SettingsFault.TheVariants as faults
-use Rattle.fwd_script.specs.Checks.{Checks, TellsGood, verdict_on, unread}
-use Rattle.fwd_script.specs.declared.input.InputError.{InputError}
-use Rattle.fwd_script.specs.declared.input.InputError.TheVariants.{Memory as NoRoom, Failed}
-use Rattle.fwd_script.specs.declared.status.Status.{Status}
-use Rattle.fwd_script.specs.declared.status.Status.TheVariants.{Done, BadSettings, BadLine, Memory, Input, Output}
 use Rattle.fwd_script.proofs.CheckLemmas.{told_checks, refused_checks}
 use Rattle.fwd_script.proofs.checking.check.Goals as goal
 

@@ -10,7 +10,8 @@ use Rattle.fwd_script.proofs.Results.{left_or_none, Keeps-same}
 use Rattle.fwd_script.proofs.run.replay.Goals as goal
 
 -- nothing was written where the input was not read to its end
-ends : (error : InputError) (status : Status) (script : List ℕ) (known : Option (List ℕ)) → status ≡ unread_status error → Replays status script known known
+ends : (error : InputError) (status : Status) (script : List ℕ) (known : Option (List ℕ))
+    → status ≡ unread_status error → Replays status script known known
 ends reads.Memory status script known e = rw e (inl (Keeps-same known))
 ends reads.Failed status script known e = rw e (Keeps-same known)
 

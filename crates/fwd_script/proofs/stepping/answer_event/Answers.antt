@@ -1,4 +1,4 @@
-use Rattle.std.proofs.Common.{◌≡◌, ◌⊎◌, inl, inr, sym, ap, ◌∙◌, subst, Some}
+use Rattle.std.proofs.Common.{◌≡◌, ◌⊎◌, inl, inr, sym, ap, ◌∙◌, Some}
 use Rattle.fwd_script.specs.Stops.{Stops}
 use Rattle.fwd_script.specs.Lines.{event_of}
 use Rattle.fwd_script.specs.Replay.{answer_line}

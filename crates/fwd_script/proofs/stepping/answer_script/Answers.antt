@@ -3,16 +3,20 @@ use Rattle.std.specs.Prelude.{OnOk, OnErr}
 use Rattle.fwd_script.specs.declared.status.Status.{Status}
 use Rattle.fwd_script.specs.declared.status.Status.TheVariants.{Output, Memory}
 use Rattle.fwd_script.specs.Script.{lines_of}
-use Rattle.fwd_script.specs.Replay.{Ends, MeetsMemory}
+use Rattle.fwd_script.specs.Replay.{Ends}
 use Rattle.fwd_script.proofs.ReplayLemmas.{Ends-keeps, Ends-output, MeetsMemory-keeps}
 use Rattle.fwd_script.proofs.stepping.answer_script.Goals as goal
 
 -- a result that is fine leaves the status, and one that is not makes it a failed write
-by_flush : {T E : Type 0} (r : Result T E) (status result : Status) (P : Status → Type 0) → OnOk r (result ≡ status) → OnErr r (result ≡ Output) → P status → P Output → P result
+by_flush : {T E : Type 0} (r : Result T E) (status result : Status) (P : Status → Type 0)
+    → OnOk r (result ≡ status) → OnErr r (result ≡ Output) → P status → P Output
+    → P result
 by_flush (Ok x) status result P ok err good failed = subst P (sym ok) good
 by_flush (Err e) status result P ok err good failed = subst P (sym err) failed
 
-still_memory : {T E : Type 0} (r : Result T E) (status result : Status) → OnOk r (result ≡ status) → OnErr r (result ≡ Output) → result ≡ Memory → status ≡ Memory
+still_memory : {T E : Type 0} (r : Result T E) (status result : Status)
+    → OnOk r (result ≡ status) → OnErr r (result ≡ Output) → result ≡ Memory
+    → status ≡ Memory
 still_memory (Ok x) status result ok err h = sym ok ∙ h
 still_memory (Err e) status result ok err h = absurd cc
 
