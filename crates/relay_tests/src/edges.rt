@@ -1,45 +1,12 @@
-//! The relay where a session is down, and where many requests wait.
+//! The relay where many requests wait.
 
-use crate::scripts::{open_to_all, replays, routes_of};
+use crate::settings::{open_to_all, routes_of};
 use fwd_core::Relay;
 use fwd_model::{Answer, Config, Event, OutputConfig};
 use fwd_msgpack::{Bytes, Seq};
-use fwd_script::Status;
 use std::alloc::{AllocError, Global};
 use std::process::Abort;
 use std::test::Fail;
-
-/// A wrong acknowledgement puts the session down, and what it hears from then on is refused.
-#[test]
-fn a_session_that_is_down_hears_nothing(rt: HostRuntime) -> Result<(), Fail> {
-    replays(
-        &rt,
-        b"---\n\
-accept 1 00000000000000000000000000000000 00000000000000000000000000000000\n\
-piece 1 93a1610180\n\
-admit 1 0 0\n\
-flush 0 0 all\n\
-up 0 0 0 - 0\n\
-take 0 0 0\n\
-load 0 0 0\n\
-wrote 0 0 46\n\
-heard 0 0 81a361636bb8414141414141414141414141414141414141414141673d3d\n\
-heard 0 0 81a361636bb8414141414141414141414141414141414141414141513d3d\n\
-settle 0 0\n",
-        b"accepted out -\n\
-requests 1 out -\n\
-admitted 1 entries 1\n\
-closed 1\n\
-done\n\
-took 1 entries 1\n\
-frame 93a161c40392018082a473697a6501a56368756e6bb8414141414141414141414141414141414141414141513d3d\n\
-done\n\
-fault WrongAck\n\
-refused NotUp\n\
-refused NotNow\n",
-        Status::Done,
-    )
-}
 
 /// A request for the one entry `[1, {}]` under the tag `a`.
 const REQUEST: &[u8] = b"\x93\xa1a\x01\x80";
@@ -73,7 +40,8 @@ fn requests(alloc: Global, count: usize) -> Result<Event, AllocError> {
     })
 }
 
-/// How many requests wait once one piece of each of these counts was heard, and the first of them is admitted.
+/// How many requests wait once one piece of each of these counts
+/// was heard, and the first of them is admitted.
 fn waiting_after(rt: &(impl Abort + AllocGlobal), counts: &[usize]) -> Result<usize, Fail> {
     let alloc = rt.alloc();
     let mut relay = one_output(alloc)?;

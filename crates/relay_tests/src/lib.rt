@@ -1,27 +1,32 @@
-//! Tests that cross crates: scripts through the whole relay, and events through its library.
+//! Tests of what no contract says: each layer, events through the relay's library, and MessagePack
+//! as others spell it. Scripts are replayed by the program `relay_scripts`.
 #![tactic(auto)]
 
 #[cfg(test)]
-mod all_modes;
-#[cfg(test)]
-mod cut_scripts;
-#[cfg(test)]
-mod cuts;
+mod connections;
 #[cfg(test)]
 mod edges;
 #[cfg(test)]
-mod first_path;
+mod handshakes;
 #[cfg(test)]
 mod msgpack_values;
 #[cfg(test)]
+mod patterns;
+#[cfg(test)]
+mod program;
+#[cfg(test)]
 mod relay;
 #[cfg(test)]
-mod routing;
+mod replays;
 #[cfg(test)]
-mod scripts;
+mod requests;
 #[cfg(test)]
-mod sources;
+mod servers;
+#[cfg(test)]
+mod settings;
+#[cfg(test)]
+mod settings_text;
 #[cfg(test)]
 mod spellings;
 #[cfg(test)]
-mod way_back;
+mod values;

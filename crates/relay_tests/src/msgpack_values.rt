@@ -1,4 +1,5 @@
-//! MessagePack values as others spell them: by the specification's table of formats, and by python3-msgpack.
+//! MessagePack values as others spell them: by the
+//! specification's table of formats, and by python3-msgpack.
 
 ghost use Rattle.std.specs.Bool.{OnTrue};
 ghost use Rattle.fwd_msgpack.specs.Heads.{IsSpelled};
@@ -8,7 +9,8 @@ use fwd_msgpack::{Bytes, Cut, Head, Limits, ScanFault, Value, cut, write_head};
 use std::process::Abort;
 use std::test::Fail;
 
-/// A first byte that never stands for itself, so that a payload which is read as values is found out.
+/// A first byte that never stands for itself, so that a
+/// payload which is read as values is found out.
 const NEVER: u8 = 0xc1;
 
 const NIL: u8 = 0xc0;
@@ -36,17 +38,17 @@ static FIXED: [(u8, u8, u64); 19] = [
     (0xe0, 0xff, 0),
 ];
 
-/// The formats with the length in the first byte: the first bytes, how many bytes stand behind for each step of
-/// the length, and which.
+/// The formats with the length in the first byte: the first bytes, how many bytes stand behind for
+/// each step of the length, and which.
 static NEAR: [(u8, u8, u64, u8); 3] = [
     (0x80, 0x8f, 2, NIL),
     (0x90, 0x9f, 1, NIL),
     (0xa0, 0xbf, 1, NEVER),
 ];
 
-/// The formats with a length behind the first byte: that byte, how many bytes of a length of four are left out,
-/// how many bytes of type follow it, how many bytes stand behind for each step of the length, and which; and
-/// a long length.
+/// The formats with a length behind the first byte: that byte, how many bytes of a length of four
+/// are left out, how many bytes of type follow it, how many bytes stand behind for each step of the
+/// length, and which; and a long length.
 static SIZED: [(u8, usize, u64, u64, u8, u32); 13] = [
     (0xc4, 3, 0, 1, NEVER, 255),
     (0xc5, 2, 0, 1, NEVER, 300),
@@ -254,7 +256,8 @@ fn is_spelled(head: Head) -> bool
     }
 }
 
-/// Asserts that the bytes begin with the head as it is written, and have no byte between it and its payload.
+/// Asserts that the bytes begin with the head as it is
+/// written, and have no byte between it and its payload.
 fn assert_written(
     rt: &(impl Abort + AllocGlobal),
     bytes: &[u8],
@@ -279,8 +282,8 @@ fn assert_written(
     Ok(())
 }
 
-/// Kinds, numbers, payloads and counts of members are those that the packer was given, and a head is written as the
-/// packer writes it where that is the shortest way.
+/// Kinds, numbers, payloads and counts of members are those that the packer was given, and a head
+/// is written as the packer writes it where that is the shortest way.
 #[test]
 fn values_of_python(rt: HostRuntime) -> Result<(), Fail> {
     for line in SPELLINGS.lines() {

@@ -1,6 +1,6 @@
 //! The relay, called as a library.
 
-use crate::scripts::{open_to_all, routes_of};
+use crate::settings::{open_to_all, routes_of};
 use fwd_core::Relay;
 use fwd_model::{Answer, Config, Event, FlushKind, OutputConfig, Refusal};
 use fwd_msgpack::{Bytes, Seq};

@@ -1,11 +1,9 @@
-//! A script through the whole relay.
+//! Parts of a relay's settings.
 
 use fwd_handshake::Security;
 use fwd_match::{Pattern, Routes};
 use fwd_msgpack::{Bytes, Seq};
-use fwd_script::{Status, replay};
 use std::alloc::{AllocError, Global};
-use std::process::Abort;
 use std::test::Fail;
 
 /// The routes of these patterns.
@@ -27,22 +25,4 @@ pub fn open_to_all(alloc: Global) -> Result<Security, AllocError> {
         shared_key: None,
         users: Seq::new(alloc),
     })
-}
-
-/// Replays a script, and compares what it wrote and how it ended.
-pub fn replays(
-    rt: &(impl Abort + AllocGlobal),
-    script: &[u8],
-    written: &[u8],
-    status: Status,
-) -> Result<(), Fail> {
-    let mut reader = script;
-    let mut writer = Vec::new(rt.alloc());
-    let ended = replay(rt.alloc(), &mut reader, &mut writer);
-    let told = format!(in rt.alloc(); "{ended}")?;
-    let wanted = format!(in rt.alloc(); "{status}")?;
-    assert_eq!(rt; told.as_str(), wanted.as_str());
-    assert_eq!(rt; ended.exit_code(), status.exit_code());
-    assert_eq!(rt; writer.as_slice(), written);
-    Ok(())
 }
