@@ -1,0 +1,13 @@
+mod Examples
+pub mod Numbers
+pub mod CellLemmas
+pub mod Doublings
+pub mod Packing
+pub mod Sane
+pub mod Follows
+pub mod Sounding
+pub mod Places
+pub mod Filling
+pub mod Calls
+pub mod Admission
+pub mod Runs

@@ -1,0 +1,10 @@
+pub mod Cells
+pub mod Waits
+pub mod History
+pub mod Events
+pub mod Live
+pub mod Soundness
+pub mod Stored
+pub mod Filling
+pub mod Parts
+pub mod Plans

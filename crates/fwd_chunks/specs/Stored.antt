@@ -1,0 +1,22 @@
+-- What holds of the code's buffer.
+use Rattle.std.specs.Prelude.{◌≡◌, ◌≤◌, ℕ, Bool, true, false, Some, length}
+use Rattle.std.specs.List.{AllByRecursion}
+use Rattle.fwd_chunks.specs.declared.chunk.Chunk.{Chunk}
+use Rattle.fwd_chunks.specs.declared.stage.Stage.TheVariants.{Closed}
+use Rattle.fwd_chunks.specs.Live.{LiveBuffer, bytes_in, tally_more}
+use Rattle.fwd_chunks.specs.Soundness.{IsSound}
+
+-- the tag fits a frame
+abbrev pub TagFits : Chunk → Type 0
+TagFits c = length c.tag ≤ 1024
+
+-- the buffer is sound, its tags fit, and so many bytes are held
+pub record IsStored (b : LiveBuffer) (size : ℕ) : Type 0 where
+  pub sound : IsSound b
+  pub tags : AllByRecursion TagFits b.chunks
+  pub bytes : size ≡ bytes_in b.chunks
+
+-- the chunk is closed again, with a loss where it was lost
+abbrev pub put_back : Bool → ℕ → Chunk → Chunk
+put_back true moment c = record c { stage = Closed; losses = Some (tally_more c.losses moment) }
+put_back false moment c = record c { stage = Closed }

@@ -1,0 +1,427 @@
+//! The entries of one output that are not yet settled, in chunks of one tag each.
+
+ghost use Rattle.std.specs.Prelude.{◌≡◌, ◌+◌, ◌-◌, ◌<◌, ◌≤◌, ◌^◌, ◌↔◌, IsTrue, IfOk, OnOk, OnErr, IfSome, IfNone, Some, None, length, option_map, option_to_list, slice_get, ℕ, nat_lt, nat_le, ◌||◌, IfErr};
+ghost use Rattle.fwd_chunks.specs.declared.chunk.Chunk.{Chunk};
+ghost use Rattle.fwd_chunks.specs.Live.{
+  IsCarried,
+  live_opening,
+  live_next_number,
+  live_is_full,
+  live_is_spent,
+  live_refusal,
+  live_enters,
+  live_spans,
+  live_looks,
+  live_closing,
+  live_flushes,
+  live_given,
+  live_carries_more,
+  live_takes,
+  live_load,
+  live_settles,
+  live_frees,
+  live_counts,
+};
+ghost use Rattle.fwd_chunks.specs.Soundness.{IsSound};
+ghost use Rattle.fwd_chunks.specs.Filling.{joined_span, chunk_at};
+ghost use Rattle.fwd_chunks.specs.Parts.{entries_in};
+ghost use Rattle.fwd_chunks.specs.Plans.{IsPlan};
+
+use crate::carried::Carried;
+use crate::chunk::Chunk;
+use crate::counts::Counts;
+use crate::fault::AdmitError;
+use crate::flush::FlushKind;
+use crate::limits::BufferLimits;
+use crate::part::Part;
+use crate::plan::Plan;
+use crate::retry::Retry;
+use crate::span::Span;
+use crate::stage::Stage;
+use crate::{chunks, entering};
+use fwd_modes::{Batch, chunk_name};
+use fwd_msgpack::Seq;
+use fwd_source::Origin;
+use std::alloc::{AllocError, Global};
+use std::marker::Model;
+
+/// The buffer of one output. Sizes are in bytes, moments in milliseconds; a moment before the
+/// greatest one handed in counts as that one.
+#[derive(Debug, Drop)]
+pub struct Buffer {
+    limits: BufferLimits,
+    run: [u8; 6],
+    output: u16,
+    /// By rising number.
+    chunks: Vec<Chunk>,
+    greatest: Option<u64>,
+    accepted: u64,
+    settled: u64,
+    /// The bytes of all entries that are not settled.
+    bytes: u64,
+    moment: u64,
+}
+
+impl Model for Buffer {
+    ghost use Rattle.fwd_chunks.specs.Live.{LiveBuffer};
+
+    ghost Value = { LiveBuffer };
+
+    ghost use Rattle.fwd_chunks.specs.Stored.{IsStored};
+
+    ghost view = { λ b. record {
+      setting = record { limits = b.limits; run = b.run; output = b.output };
+      chunks = b.chunks.items;
+      greatest = b.greatest;
+      accepted = b.accepted;
+      settled = b.settled;
+      moment = b.moment;
+    } };
+
+    ghost invariant = { λ b. IsStored (record {
+      setting = record { limits = b.limits; run = b.run; output = b.output };
+      chunks = b.chunks.items;
+      greatest = b.greatest;
+      accepted = b.accepted;
+      settled = b.settled;
+      moment = b.moment;
+    }) b.bytes };
+}
+
+impl Buffer {
+    /// A buffer without entries, of the output of this number in the run of these six bytes.
+    pub fn new(alloc: Global, limits: BufferLimits, run: [u8; 6], output: u16) -> Self
+        ensures { result ≡ live_opening (record { limits = limits; run = run; output = output }) }
+    {
+        Buffer {
+            limits,
+            run,
+            output,
+            chunks: Vec::new(alloc),
+            greatest: None,
+            accepted: 0,
+            settled: 0,
+            bytes: 0,
+            moment: 0,
+        }
+    }
+
+    /// What is true of every buffer.
+    pub fn is_sound(&self)
+        ensures { IsSound self.now }
+    {
+        let _moment = self.moment;
+    }
+
+    /// The entries accepted, settled and held, with the bytes held and the chunks that hold them.
+    pub fn held(&self) -> Counts
+        ensures { result ≡ live_counts self.now }
+    {
+        Counts {
+            accepted: self.accepted,
+            settled: self.settled,
+            held: self.accepted - self.settled,
+            bytes: self.bytes,
+            chunks: self.chunks.len() as u64,
+        }
+    }
+
+    /// Whether the bytes that are held, with a request's, are more than the total limit.
+    fn is_full(&self, batch: &Batch) -> bool
+        ensures { result ≡ live_is_full self.now batch.now }
+    {
+        batch.entries().len() as u64 > self.limits.total - self.bytes
+    }
+
+    /// How a request's entries go into chunks.
+    fn plan<'a>(&self, batch: &'a Batch) -> Plan<'a>
+        ensures { IsPlan self.now batch.now result }
+    {
+        let limit = u64::from(self.limits.chunk);
+        let part = Part::whole(batch);
+        let place = chunks::open_of(&self.chunks, batch.tag());
+        let count = match place {
+            None => 0,
+            Some(place) => part.fitting(limit, self.chunks[place].entries.size()),
+        };
+        let (front, back) = part.split_at(count);
+        Plan {
+            place,
+            front,
+            back,
+            needed: back.needed(limit),
+        }
+    }
+
+    /// The number of the next chunk; none where there is no number left.
+    fn next_number(&self) -> Option<u64>
+        ensures some { IfSome result (λ number. number ≡ live_next_number self.now) }
+        ensures none { IfNone result (live_next_number self.now ≡ 2 ^ 64) }
+    {
+        match self.greatest {
+            None => Some(self.limits.first),
+            Some(number) => number.checked_add(1),
+        }
+    }
+
+    /// Whether so many chunks more, or so many entries more, are too many to be counted.
+    fn exceeds(&self, needed: u64, count: usize) -> bool
+        ensures { result ≡ (nat_lt (2 ^ 64) (live_next_number self.now + needed)
+            || nat_le (2 ^ 64) (self.now.accepted + count)) }
+    {
+        let fits = match self.next_number() {
+            None => needed == 0,
+            Some(number) => needed == 0 || number.checked_add(needed - 1).is_some(),
+        };
+        !fits || self.accepted.checked_add(count as u64).is_none()
+    }
+
+    /// Whether the chunks or the entries of a request are more than can be counted.
+    fn is_spent(&self, batch: &Batch, plan: Plan<'_>) -> bool
+        requires { IsPlan self.now batch.now plan }
+        ensures { (now : ℕ) → result ≡ live_is_spent (live_enters self.now batch.now now) }
+    {
+        self.is_sound();
+        self.exceeds(plan.needed, batch.len())
+    }
+
+    /// The run of the entries that go to the open chunk at a place, if there are some.
+    fn joined_span(&self, place: Option<usize>, front: Part<'_>) -> Option<Span>
+        requires { IfSome place (λ i. i < length self.now.chunks) }
+        ensures { option_to_list result
+            ≡ joined_span (chunk_at self.now.chunks place) (entries_in front.entry) }
+    {
+        let place = place?;
+        if front.is_empty() {
+            return None;
+        }
+        let chunk = &self.chunks[place];
+        Some(Span {
+            number: chunk.number,
+            from: chunk.entries.len() as u64,
+            count: front.len() as u64,
+        })
+    }
+
+    /// The greatest number once so many new chunks are there, of which the first has the number.
+    fn greatest_after(&self, first: u64, needed: u64) -> Option<u64>
+        requires { 0 < needed → first + needed ≤ 2 ^ 64 }
+        ensures some { 0 < needed → result ≡ Some (first + (needed - 1)) }
+        ensures none { needed ≤ 0 → result ≡ self.now.greatest }
+    {
+        if needed > 0 {
+            Some(first + (needed - 1))
+        } else {
+            self.greatest
+        }
+    }
+
+    /// Enters a request that is not refused, as it was planned. On an error nothing has changed.
+    fn enter(
+        &mut self,
+        alloc: Global,
+        batch: &Batch,
+        plan: Plan<'_>,
+        now: u64,
+    ) -> Result<Seq<Span>, AllocError>
+        requires planned { IsPlan self.old batch.now plan }
+        requires fits { live_refusal self.old batch.now now ≡ None }
+        ensures ok { OnOk result (self.new ≡ live_enters self.old batch.now now) }
+        ensures spans { IfOk result (λ spans. spans ≡ live_spans self.old batch.now now) }
+        ensures err { OnErr result (self.new ≡ self.old) }
+    {
+        let size = batch.entries().len() as u64;
+        let moment = self.moment.max(now);
+        let limit = u64::from(self.limits.chunk);
+        let first = self.next_number().unwrap_or(0);
+        let fresh = entering::fresh_chunks(alloc, batch.tag(), plan.back, limit, moment, first)?;
+        let spans = entering::spans_of(alloc, self.joined_span(plan.place, plan.front), &fresh)?;
+        let greatest = self.greatest_after(first, plan.needed);
+        entering::fill(&mut self.chunks, plan.place, plan.front, fresh)?;
+        self.greatest = greatest;
+        self.accepted += batch.len() as u64;
+        self.bytes += size;
+        self.moment = moment;
+        Ok(spans)
+    }
+
+    /// Enters a request's entries at a moment: each joins its tag's open chunk where that stays
+    /// within the chunk limit, and begins a new one otherwise. Answers the runs of the entries in
+    /// their chunks. It is refused as `Full` where the bytes held would be more than the total
+    /// limit, and then as `NumbersSpent` where a chunk number above 2^64 - 1 or a count of 2^64
+    /// entries would be needed. On an error nothing has changed. The entries' origin is no part
+    /// of what a buffer keeps.
+    pub fn admit(
+        &mut self,
+        alloc: Global,
+        _origin: Origin,
+        batch: &Batch,
+        now: u64,
+    ) -> Result<Seq<Span>, AdmitError>
+        ensures refused { IfSome (live_refusal self.old batch.now now) (λ fault.
+            result ≡ Err fault) }
+        ensures ok { OnOk result (self.new ≡ live_enters self.old batch.now now) }
+        ensures spans { IfOk result (λ spans. spans ≡ live_spans self.old batch.now now) }
+        ensures err { OnErr result (self.new ≡ self.old) }
+
+        // What is not refused is entered, unless memory is.
+        ensures memory { live_refusal self.old batch.now now ≡ None
+            → IfErr result (λ error. error ≡ AdmitError.Memory) }
+    {
+        if self.is_full(batch) {
+            return Err(AdmitError::Full);
+        }
+        let plan = self.plan(batch);
+        if self.is_spent(batch, plan) {
+            return Err(AdmitError::NumbersSpent);
+        }
+        self.enter(alloc, batch, plan, now)
+            .map_err(|_| AdmitError::Memory)
+    }
+
+    /// Closes the open chunks that a flush closes at a moment, and answers how many.
+    pub fn flush(&mut self, now: u64, kind: FlushKind) -> usize
+        ensures count { result ≡ length (live_closing self.old now kind) }
+        ensures flushed { self.new ≡ live_flushes self.old now kind }
+    {
+        self.moment = self.moment.max(now);
+        chunks::flush(&mut self.chunks, kind, self.limits.interval, self.moment)
+    }
+
+    /// How long chunks wait that were lost.
+    fn retry(&self) -> Retry
+        ensures { result ≡ record {
+          wait = self.now.setting.limits.retry_wait;
+          max = self.now.setting.limits.retry_max;
+        } }
+    {
+        Retry {
+            wait: self.limits.retry_wait,
+            max: self.limits.retry_max,
+        }
+    }
+
+    /// What a worker has of the chunk at a place.
+    fn load_at(&self, alloc: Global, place: usize) -> Result<Carried, AllocError>
+        requires { place < length self.now.chunks }
+        ensures { IfOk result (λ load.
+            Some load ≡ option_map (live_load self.now) (slice_get self.now.chunks place)) }
+    {
+        let chunk = &self.chunks[place];
+        Ok(Carried::new(
+            chunk.number,
+            chunk.tag.to_owned(alloc)?,
+            chunk.entries.to_owned(alloc)?,
+            chunk_name(&self.run, self.output, chunk.number),
+        ))
+    }
+
+    /// A worker has the chunk at a place, from a moment on.
+    fn give(&mut self, place: usize, worker: u16, moment: u64)
+        requires { place < length self.old.chunks }
+        ensures { self.new
+            ≡ live_carries_more worker (slice_get self.old.chunks place)
+            (record self.old { moment = moment }) }
+    {
+        self.chunks[place].stage = Stage::Taken(worker);
+        self.moment = moment;
+    }
+
+    /// Gives a worker the free chunk of the least number, if there is one. On an error nothing
+    /// has changed.
+    pub fn take(
+        &mut self,
+        alloc: Global,
+        worker: u16,
+        now: u64,
+    ) -> Result<Option<Carried>, AllocError>
+        ensures given { IfOk result (λ carried.
+            carried ≡ option_map (live_load self.old) (live_given (live_looks self.old now))) }
+        ensures ok { OnOk result (self.new ≡ live_takes self.old worker now) }
+        ensures err { OnErr result (self.new ≡ self.old) }
+    {
+        let moment = self.moment.max(now);
+        let Some(place) = chunks::first_free(&self.chunks, self.retry(), moment) else {
+            self.moment = moment;
+            return Ok(None);
+        };
+        let carried = self.load_at(alloc, place)?;
+        self.give(place, worker, moment);
+        Ok(Some(carried))
+    }
+
+    /// The place of the chunk, if it is one of this buffer and a worker has it.
+    fn place_of(&self, carried: &Carried) -> Option<usize>
+        ensures some { IfSome result (λ place. IsCarried self.now carried.now
+            × (option_map (λ c. c.number) (slice_get self.now.chunks place)
+            ≡ Some carried.now.number)) }
+        ensures none { IfNone result (¬ (IsCarried self.now carried.now)) }
+    {
+        let place = chunks::taken_at(&self.chunks, carried.number())?;
+        let chunk = &self.chunks[place];
+        let name = chunk_name(&self.run, self.output, chunk.number);
+        if carried.is(chunk, &name) {
+            Some(place)
+        } else {
+            None
+        }
+    }
+
+    /// Whether a worker has the chunk from this buffer, with its tag, its entries and its name.
+    pub fn carries(&self, carried: &Carried) -> bool
+        ensures { IsTrue result ↔ IsCarried self.now carried.now }
+    {
+        self.place_of(carried).is_some()
+    }
+
+    /// The chunk at a place leaves, and its entries are settled.
+    fn remove(&mut self, place: usize)
+        requires { place < length self.old.chunks }
+        ensures { (c : Chunk) → slice_get self.old.chunks place ≡ Some c
+            → self.new ≡ live_settles self.old c.number }
+    {
+        let chunk = self.chunks.remove(place);
+        self.bytes -= chunk.entries.size();
+        self.settled += chunk.entries.len() as u64;
+    }
+
+    /// A server acknowledged the chunk: its entries leave. A chunk that no worker has from this
+    /// buffer is only spent.
+    pub fn settle(&mut self, carried: Carried)
+        ensures here { IsCarried self.old carried
+            → self.new ≡ live_settles self.old carried.number }
+        ensures elsewhere { ¬ (IsCarried self.old carried) → self.new ≡ self.old }
+    {
+        if let Some(place) = self.place_of(&carried) {
+            self.remove(place);
+        }
+        carried.spend();
+    }
+
+    /// The chunk at a place is closed again, with a loss at a moment where one is handed in.
+    fn put_back(&mut self, place: usize, loss: Option<u64>)
+        requires { place < length self.old.chunks }
+        ensures { (c : Chunk) → slice_get self.old.chunks place ≡ Some c
+            → self.new ≡ live_frees self.old c.number loss }
+    {
+        let moment = match loss {
+            None => self.moment,
+            Some(now) => self.moment.max(now),
+        };
+        chunks::put_back(&mut self.chunks[place], loss.is_some(), moment);
+        self.moment = moment;
+    }
+
+    /// A worker gives the chunk back, with a loss at a moment where one is handed in. A chunk
+    /// that no worker has from this buffer is only spent.
+    pub fn free(&mut self, carried: Carried, loss: Option<u64>)
+        ensures here { IsCarried self.old carried
+            → self.new ≡ live_frees self.old carried.number loss }
+        ensures elsewhere { ¬ (IsCarried self.old carried) → self.new ≡ self.old }
+    {
+        if let Some(place) = self.place_of(&carried) {
+            self.put_back(place, loss);
+        }
+        carried.spend();
+    }
+}

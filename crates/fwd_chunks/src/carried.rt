@@ -1,0 +1,115 @@
+ghost use Rattle.std.specs.Prelude.{◌≡◌, ◌≤◌, ◌<◌, ◌^◌, ◌↔◌, IsTrue, length};
+ghost use Rattle.std.specs.List.{concat};
+ghost use Rattle.fwd_modes.specs.Entries.{ends_of};
+
+use crate::chunk::Chunk;
+use crate::packed::Packed;
+use fwd_msgpack::Bytes;
+use std::marker::Model;
+
+/// A chunk that a worker has: its number, its tag, its entries and its name. It must be spent:
+/// settled, or given back.
+#[derive(Debug)]
+pub struct Carried {
+    number: u64,
+    tag: Bytes,
+    entries: Packed,
+    name: [u8; 24],
+}
+
+impl Model for Carried {
+    ghost use Rattle.fwd_chunks.specs.History.{Load};
+
+    ghost Value = { Load };
+
+    ghost use Rattle.std.specs.Prelude.{◌≤◌, length};
+
+    ghost view = { λ c.
+        record { number = c.number; tag = c.tag; entries = c.entries; name = c.name } };
+
+    ghost invariant = { λ c. (length c.tag ≤ 1024) };
+}
+
+impl Carried {
+    /// A chunk of a buffer, which alone makes them.
+    pub(crate) fn new(number: u64, tag: Bytes, entries: Packed, name: [u8; 24]) -> Self
+        requires { length tag ≤ 1024 }
+        ensures { result ≡ record { number = number; tag = tag; entries = entries; name = name } }
+    {
+        Carried {
+            number,
+            tag,
+            entries,
+            name,
+        }
+    }
+
+    /// The tag's bytes: at most 1,024.
+    pub fn tag(&self) -> &[u8]
+        ensures value { result.now ≡ self.now.tag }
+        ensures bound { length result.now ≤ 1024 }
+    {
+        self.tag.as_slice()
+    }
+
+    /// The entries as they are kept, one after the other: less than 2^32 bytes.
+    pub fn entries(&self) -> &[u8]
+        ensures value { result.now ≡ concat self.now.entries }
+        ensures bound { length (concat self.now.entries) < 2 ^ 32 }
+    {
+        self.entries.bytes()
+    }
+
+    /// Where each entry ends, in bytes from the front of the first.
+    pub fn ends(&self) -> &[u32]
+        ensures { result.now ≡ ends_of self.now.entries }
+    {
+        self.entries.ends()
+    }
+
+    /// How many entries there are.
+    pub fn count(&self) -> usize
+        ensures { result ≡ length self.now.entries }
+    {
+        self.entries.len()
+    }
+
+    /// The number of the chunk at its output.
+    pub fn number(&self) -> u64
+        ensures { result ≡ self.now.number }
+    {
+        self.number
+    }
+
+    /// The chunk's name: 24 bytes of Base64.
+    pub fn name(&self) -> &[u8]
+        ensures { result.now ≡ self.now.name }
+    {
+        &self.name
+    }
+
+    /// Whether it is the chunk of this number, tag, entries and name.
+    pub(crate) fn is(&self, chunk: &Chunk, name: &[u8; 24]) -> bool
+        ensures { IsTrue result ↔ (self.now ≡ record {
+          number = chunk.now.number;
+          tag = chunk.now.tag;
+          entries = chunk.now.entries;
+          name = name.now;
+        }) }
+    {
+        self.number == chunk.number
+            && self.tag.as_slice() == chunk.tag.as_slice()
+            && self.entries.is(&chunk.entries)
+            && self.name == *name
+    }
+
+    /// The chunk is no more.
+    pub(crate) fn spend(self) {
+        let Carried {
+            number: _,
+            tag: _,
+            entries: _,
+            name: _,
+        } = self;
+    }
+}

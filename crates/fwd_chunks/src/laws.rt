@@ -1,0 +1,73 @@
+//! Laws over the definitions, each the contract of a function that does nothing.
+
+ghost use Rattle.std.specs.Prelude.{◌≡◌, ◌<◌, ◌^◌, ℕ, List, length, drop, Option, Some, None, option_map, if◌then◌else◌};
+ghost use Rattle.fwd_modes.specs.Requests.{Request};
+ghost use Rattle.fwd_source.specs.declared.origin.Origin.{Origin};
+ghost use Rattle.fwd_chunks.specs.declared.flush.FlushKind.{FlushKind};
+ghost use Rattle.fwd_chunks.specs.Cells.{is_carried};
+ghost use Rattle.fwd_chunks.specs.History.{BufferSetting, BufferHistory, opening, enters, refusal, spans_of, closing, looks, given, IsGiven, load_of, counts};
+ghost use Rattle.fwd_chunks.specs.Events.{BufferEvent, history_next, IsReached, NumbersRise, TagNumbersRise, NumbersHaveOneTag};
+ghost use Rattle.fwd_chunks.specs.Live.{live_buffer, live_opening, live_next, live_refusal, live_spans, live_closing, live_given, live_load, live_carried, live_counts};
+ghost use Rattle.fwd_chunks.specs.Soundness.{IsSound};
+
+/// The live part is enough: from a history that a run reaches, what an event leaves, seen in its
+/// live part, is what it leaves of the history's live part.
+pub fn live_follows()
+    ensures opening { (setting : BufferSetting)
+        → live_buffer (opening setting) ≡ live_opening setting }
+    ensures next { (setting : BufferSetting) (h : BufferHistory) (event : BufferEvent)
+        → setting.limits.retry_max < 2 ^ 64 →
+        IsReached setting h
+        → live_buffer (history_next h event) ≡ live_next (live_buffer h) event }
+{}
+
+/// What a history answers is what its live part does.
+pub fn live_answers()
+    ensures refusal { (setting : BufferSetting) (h : BufferHistory) (origin : Origin) (r : Request)
+        (now : ℕ) →
+        IsReached setting h → refusal h origin r now ≡ live_refusal (live_buffer h) r now }
+    ensures spans { (setting : BufferSetting) (h : BufferHistory) (origin : Origin) (r : Request)
+        (now : ℕ) →
+        IsReached setting h → spans_of h origin r now ≡ live_spans (live_buffer h) r now }
+    ensures closing { (setting : BufferSetting) (h : BufferHistory) (now : ℕ)
+        (kind : FlushKind) →
+        IsReached setting h
+        → length (closing h now kind) ≡ length (live_closing (live_buffer h) now kind) }
+    ensures given { (setting : BufferSetting) (h : BufferHistory)
+        → setting.limits.retry_max < 2 ^ 64 →
+        IsReached setting h
+        → option_map (load_of h) (given h)
+        ≡ option_map (live_load (live_buffer h)) (live_given (live_buffer h)) }
+    ensures carried { (setting : BufferSetting) (h : BufferHistory) (number : ℕ)
+        → IsReached setting h →
+        live_carried (live_buffer h) number
+        ≡ (if is_carried number h.carried then Some (load_of h number) else None) }
+    ensures counts { (h : BufferHistory) → counts h ≡ live_counts (live_buffer h) }
+{}
+
+/// The number that a worker is given is free, and no free number is below it; where none is
+/// given, none is free.
+pub fn given_is_least()
+    ensures is { (h : BufferHistory) → IsGiven h (given h) }
+    ensures only { (h : BufferHistory) (answer : Option ℕ) → IsGiven h answer
+        → answer ≡ given h }
+{}
+
+/// Every live buffer that a run reaches is sound.
+pub fn reached_is_sound()
+    ensures { (setting : BufferSetting) (h : BufferHistory) → setting.limits.first < 2 ^ 64
+        → setting.limits.retry_max < 2 ^ 64 →
+        IsReached setting h → IsSound (live_buffer h) }
+{}
+
+/// Numbers rise: in list order those of one tag never fall, nor do those of one request's
+/// entries; and all entries of a number have one tag.
+pub fn numbers_rise()
+    ensures tags { (setting : BufferSetting) (h : BufferHistory) → IsReached setting h
+        → TagNumbersRise h.cells }
+    ensures request { (setting : BufferSetting) (h : BufferHistory) (origin : Origin) (r : Request)
+        (now : ℕ) →
+        IsReached setting h → NumbersRise (drop (length h.cells) (enters h origin r now).cells) }
+    ensures one_tag { (setting : BufferSetting) (h : BufferHistory) → IsReached setting h
+        → NumbersHaveOneTag h.cells }
+{}

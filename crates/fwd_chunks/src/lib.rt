@@ -1,0 +1,33 @@
+//! The buffer of one output: entries are joined into chunks by their tag (Fluentd's documentation
+//! on buffers), and workers take chunks, which are settled or given back. Sizes are in bytes,
+//! moments and waits in milliseconds.
+#![tactic(auto)]
+
+mod buffer;
+mod carried;
+mod chunk;
+mod chunks;
+mod counts;
+mod entering;
+mod fault;
+mod flush;
+mod laws;
+mod limits;
+mod losses;
+mod packed;
+mod part;
+mod plan;
+mod retry;
+mod span;
+mod stage;
+#[cfg(test)]
+mod tests;
+
+pub use buffer::Buffer;
+pub use carried::Carried;
+pub use counts::Counts;
+pub use fault::AdmitError;
+pub use flush::FlushKind;
+pub use laws::{given_is_least, live_answers, live_follows, numbers_rise, reached_is_sound};
+pub use limits::BufferLimits;
+pub use span::Span;

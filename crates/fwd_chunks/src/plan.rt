@@ -1,0 +1,13 @@
+use crate::part::Part;
+
+/// How a request's entries go into chunks: the first of them to the open chunk of their tag, if
+/// it has one, and the others to new chunks.
+#[derive(Clone, Copy, Debug)]
+pub(crate) struct Plan<'a> {
+    /// The place of the tag's open chunk.
+    pub(crate) place: Option<usize>,
+    pub(crate) front: Part<'a>,
+    pub(crate) back: Part<'a>,
+    /// How many new chunks there are.
+    pub(crate) needed: u64,
+}
