@@ -98,6 +98,14 @@ get-read [] i x lt e = absurd (omega arith)
 get-read (y ∷ xs) zero x lt e = ap Some (sym e)
 get-read (y ∷ xs) (suc i) x lt e = get-read xs i x (omega arith) e
 
+pub get-within : {X : Type 0} (xs : List X) (i : ℕ) → i < length xs → slice_get xs i ≡ None → ⊥
+get-within [] i lt e = absurd (omega arith)
+get-within (x ∷ xs) zero lt e = none_item (sym e)
+  where
+    none_item : None ≡ Some x → ⊥
+    none_item f = cc
+get-within (x ∷ xs) (suc i) lt e = get-within xs i (omega arith) e
+
 place_by : (p : Chunk → Bool) (chunks : List Chunk) (b : Bool)
     → nat_lt (position_or_len p chunks) (length chunks) ≡ b
     → position p chunks ≡ cond b (Some (position_or_len p chunks)) None

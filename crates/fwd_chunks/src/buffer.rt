@@ -1,6 +1,6 @@
 //! The entries of one output that are not yet settled, in chunks of one tag each.
 
-ghost use Rattle.std.specs.Prelude.{◌≡◌, ◌+◌, ◌-◌, ◌<◌, ◌≤◌, ◌^◌, ◌↔◌, IsTrue, IfOk, OnOk, OnErr, IfSome, IfNone, Some, None, length, option_map, option_to_list, slice_get, ℕ, nat_lt, nat_le, ◌||◌, IfErr};
+ghost use Rattle.std.specs.Prelude.{◌≡◌, ◌+◌, ◌-◌, ◌<◌, ◌≤◌, ◌^◌, ◌↔◌, IsTrue, IfOk, IsOk, OnOk, OnErr, IfSome, IfNone, Some, None, length, option_map, option_to_list, slice_get, ℕ, nat_lt, nat_le, ◌||◌, IfErr};
 ghost use Rattle.fwd_chunks.specs.declared.chunk.Chunk.{Chunk};
 ghost use Rattle.fwd_chunks.specs.Live.{
   IsCarried,
@@ -327,8 +327,8 @@ impl Buffer {
         self.moment = moment;
     }
 
-    /// Gives a worker the free chunk of the least number, if there is one. On an error nothing
-    /// has changed.
+    /// Gives a worker the free chunk of the least number, if there is one, and takes no memory
+    /// where there is none. On an error nothing has changed.
     pub fn take(
         &mut self,
         alloc: Global,
@@ -339,6 +339,9 @@ impl Buffer {
             carried ≡ option_map (live_load self.old) (live_given (live_looks self.old now))) }
         ensures ok { OnOk result (self.new ≡ live_takes self.old worker now) }
         ensures err { OnErr result (self.new ≡ self.old) }
+
+        // Where none is free, no memory is taken.
+        ensures none { live_given (live_looks self.old now) ≡ None → IsOk result }
     {
         let moment = self.moment.max(now);
         let Some(place) = chunks::first_free(&self.chunks, self.retry(), moment) else {
