@@ -7,6 +7,7 @@ pub mod Sane
 pub mod Follows
 pub mod Sounding
 pub mod Places
+pub mod Search
 pub mod Filling
 pub mod Calls
 pub mod Admission

@@ -13,7 +13,7 @@ use Rattle.fwd_chunks.proofs.Numbers.{not_from, eq_from, eq_same}
 pub one_chunk : {c d : Chunk} → Some c ≡ Some d → c ≡ d
 one_chunk e = cc
 
-none_some : {X : Type 0} {c : X} → None ≡ Some c → ⊥
+pub none_some : {X : Type 0} {c : X} → None ≡ Some c → ⊥
 none_some e = cc
 
 -- what stands at a place behind a chunk has a higher number

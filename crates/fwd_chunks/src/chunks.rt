@@ -1,6 +1,7 @@
 //! What is asked of the chunks of a buffer, and changed in them.
 
 ghost use Rattle.std.specs.Prelude.{◌≡◌, ◌&&◌, length, map, filter, position};
+ghost use Rattle.fwd_chunks.specs.Soundness.{AreInOrder};
 ghost use Rattle.fwd_chunks.specs.Stored.{put_back};
 ghost use Rattle.fwd_chunks.specs.Live.{is_at, is_closed, is_taken, is_open_of, live_is_over, changed, staged, is_due};
 
@@ -64,18 +65,46 @@ pub(crate) fn first_free(chunks: &[Chunk], retry: Retry, moment: u64) -> Option<
     chunks.iter().position(|c| is_free(c, retry, moment))
 }
 
-/// Whether a worker has the chunk of the number.
-fn is_taken_at(chunk: &Chunk, number: u64) -> bool
-    ensures { result ≡ is_at number chunk.now && is_taken chunk.now.stage }
+/// The place of the chunk of the number, where chunks stand by rising number.
+pub(crate) fn place_of(chunks: &[Chunk], number: u64) -> Option<usize>
+    requires { AreInOrder chunks.now }
+    ensures { result ≡ position (is_at number) chunks.now }
 {
-    chunk.number == number && matches!(chunk.stage, Stage::Taken(_))
+    let mut low = 0;
+    let mut high = chunks.len();
+    while low < high {
+        let middle = low + (high - low) / 2;
+        let here = chunks[middle].number;
+        if here == number {
+            return Some(middle);
+        }
+        if here < number {
+            low = middle + 1;
+        } else {
+            high = middle;
+        }
+    }
+    None
+}
+
+/// Whether a worker has the chunk.
+fn is_taken(chunk: &Chunk) -> bool
+    ensures { result ≡ is_taken chunk.now.stage }
+{
+    matches!(chunk.stage, Stage::Taken(_))
 }
 
 /// The place of the chunk of the number that a worker has.
 pub(crate) fn taken_at(chunks: &[Chunk], number: u64) -> Option<usize>
+    requires { AreInOrder chunks.now }
     ensures { result ≡ position (λ c. is_at number c && is_taken c.stage) chunks.now }
 {
-    chunks.iter().position(|c| is_taken_at(c, number))
+    let place = place_of(chunks, number)?;
+    if is_taken(&chunks[place]) {
+        Some(place)
+    } else {
+        None
+    }
 }
 
 /// Whether the chunk is open, and of the tag.
