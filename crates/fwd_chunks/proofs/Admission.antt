@@ -409,7 +409,7 @@ enters-stored b r now size own fits e =
 
 -- ---- the plan of a request
 
-fresh-last : (limit : ℕ) (tag : List ℕ) (since n : ℕ) (back : List (List ℕ))
+pub fresh-last : (limit : ℕ) (tag : List ℕ) (since n : ℕ) (back : List (List ℕ))
     → stage_last (length (fresh_of limit tag since n back) == 0) ≡ stage_before back
 fresh-last limit tag since n [] = refl
 fresh-last limit tag since n (e ∷ back) =

@@ -8,7 +8,9 @@ pub mod Follows
 pub mod Sounding
 pub mod Places
 pub mod Search
+pub mod Tagging
 pub mod Filling
 pub mod Calls
 pub mod Admission
+pub mod Opened
 pub mod Runs

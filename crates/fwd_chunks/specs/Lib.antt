@@ -6,7 +6,8 @@ pub mod History
 pub mod Events
 pub mod Live
 pub mod Soundness
--- These four only describe how the code keeps chunks and fills them. No public clause speaks of them.
+-- These five only describe how the code keeps chunks and fills them. No public clause speaks of them.
+pub mod Newest
 pub mod Stored
 pub mod Filling
 pub mod Parts

@@ -1,10 +1,11 @@
 -- What holds of the code's buffer.
-use Rattle.std.specs.Prelude.{◌≡◌, ◌≤◌, ℕ, Bool, true, false, Some, length}
+use Rattle.std.specs.Prelude.{◌≡◌, ◌≤◌, ℕ, List, Bool, true, false, Some, length}
 use Rattle.std.specs.List.{AllByRecursion}
 use Rattle.fwd_chunks.specs.declared.chunk.Chunk.{Chunk}
 use Rattle.fwd_chunks.specs.declared.stage.Stage.TheVariants.{Closed}
 use Rattle.fwd_chunks.specs.Live.{LiveBuffer, bytes_in, tally_more}
 use Rattle.fwd_chunks.specs.Soundness.{IsSound}
+use Rattle.fwd_chunks.specs.Newest.{AreNewest}
 
 -- the tag fits a frame
 abbrev pub TagFits : Chunk → Type 0
@@ -15,6 +16,11 @@ pub record IsStored (b : LiveBuffer) (size : ℕ) : Type 0 where
   pub sound : IsSound b
   pub tags : AllByRecursion TagFits b.chunks
   pub bytes : size ≡ bytes_in b.chunks
+
+-- so it is, and each open chunk has its tag's number
+pub record IsKept (b : LiveBuffer) (size : ℕ) (numbers : List (List ℕ × ℕ)) : Type 0 where
+  pub stored : IsStored b size
+  pub newest : AreNewest numbers b.chunks
 
 -- the chunk is closed again, with a loss where it was lost
 abbrev pub put_back : Bool → ℕ → Chunk → Chunk

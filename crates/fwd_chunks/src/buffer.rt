@@ -38,6 +38,7 @@ use crate::plan::Plan;
 use crate::retry::Retry;
 use crate::span::Span;
 use crate::stage::Stage;
+use crate::tags::Tags;
 use crate::{chunks, entering};
 use fwd_modes::{Batch, chunk_name};
 use fwd_msgpack::Seq;
@@ -54,6 +55,8 @@ pub struct Buffer {
     output: u16,
     /// By rising number.
     chunks: Vec<Chunk>,
+    /// The number of each tag's open chunk.
+    tags: Tags,
     greatest: Option<u64>,
     accepted: u64,
     settled: u64,
@@ -67,7 +70,7 @@ impl Model for Buffer {
 
     ghost Value = { LiveBuffer };
 
-    ghost use Rattle.fwd_chunks.specs.Stored.{IsStored};
+    ghost use Rattle.fwd_chunks.specs.Stored.{IsKept};
 
     ghost view = { λ b. record {
       setting = record { limits = b.limits; run = b.run; output = b.output };
@@ -78,14 +81,14 @@ impl Model for Buffer {
       moment = b.moment;
     } };
 
-    ghost invariant = { λ b. IsStored (record {
+    ghost invariant = { λ b. IsKept (record {
       setting = record { limits = b.limits; run = b.run; output = b.output };
       chunks = b.chunks.items;
       greatest = b.greatest;
       accepted = b.accepted;
       settled = b.settled;
       moment = b.moment;
-    }) b.bytes };
+    }) b.bytes b.tags };
 }
 
 impl Buffer {
@@ -98,6 +101,7 @@ impl Buffer {
             run,
             output,
             chunks: Vec::new(alloc),
+            tags: Tags::new(alloc),
             greatest: None,
             accepted: 0,
             settled: 0,
@@ -139,7 +143,7 @@ impl Buffer {
     {
         let limit = u64::from(self.limits.chunk);
         let part = Part::whole(batch);
-        let place = chunks::open_of(&self.chunks, batch.tag());
+        let place = chunks::open_of(&self.chunks, &self.tags, batch.tag());
         let count = match place {
             None => 0,
             Some(place) => part.fitting(limit, self.chunks[place].entries.size()),
@@ -234,10 +238,14 @@ impl Buffer {
         let moment = self.moment.max(now);
         let limit = u64::from(self.limits.chunk);
         let first = self.next_number().unwrap_or(0);
-        let fresh = entering::fresh_chunks(alloc, batch.tag(), plan.back, limit, moment, first)?;
+        let tag = batch.tag();
+        let fresh = entering::fresh_chunks(alloc, tag, plan.back, limit, moment, first)?;
         let spans = entering::spans_of(alloc, self.joined_span(plan.place, plan.front), &fresh)?;
+        let newest = entering::newest_of(first, plan.needed);
         let greatest = self.greatest_after(first, plan.needed);
+        self.tags.prepare(alloc, tag, newest)?;
         entering::fill(&mut self.chunks, plan.place, plan.front, fresh)?;
+        self.tags.put(tag, newest);
         self.greatest = greatest;
         self.accepted += batch.len() as u64;
         self.bytes += size;
@@ -384,6 +392,7 @@ impl Buffer {
             → self.new ≡ live_settles self.old c.number }
     {
         let chunk = self.chunks.remove(place);
+        self.tags.forget(chunk.tag.as_slice(), chunk.number);
         self.bytes -= chunk.entries.size();
         self.settled += chunk.entries.len() as u64;
     }

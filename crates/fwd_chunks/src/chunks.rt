@@ -2,6 +2,7 @@
 
 ghost use Rattle.std.specs.Prelude.{◌≡◌, ◌&&◌, length, map, filter, position};
 ghost use Rattle.fwd_chunks.specs.Soundness.{AreInOrder};
+ghost use Rattle.fwd_chunks.specs.Newest.{AreNewest};
 ghost use Rattle.fwd_chunks.specs.Stored.{put_back};
 ghost use Rattle.fwd_chunks.specs.Live.{is_at, is_closed, is_taken, is_open_of, live_is_over, changed, staged, is_due};
 
@@ -10,6 +11,7 @@ use crate::flush::FlushKind;
 use crate::losses::Losses;
 use crate::retry::Retry;
 use crate::stage::Stage;
+use crate::tags::Tags;
 
 /// Whether a flush at a moment closes the chunk.
 fn is_due(chunk: &Chunk, kind: FlushKind, interval: u64, moment: u64) -> bool
@@ -114,11 +116,20 @@ fn is_open_of(chunk: &Chunk, tag: &[u8]) -> bool
     matches!(chunk.stage, Stage::Open) && chunk.tag.as_slice() == tag
 }
 
-/// The place of the tag's open chunk.
-pub(crate) fn open_of(chunks: &[Chunk], tag: &[u8]) -> Option<usize>
+/// The place of the tag's open chunk, where chunks stand by rising number and each open one has its
+/// tag's number.
+pub(crate) fn open_of(chunks: &[Chunk], tags: &Tags, tag: &[u8]) -> Option<usize>
+    requires ordered { AreInOrder chunks.now }
+    requires newest { AreNewest tags.now chunks.now }
     ensures { result ≡ position (is_open_of tag.now) chunks.now }
 {
-    chunks.iter().position(|c| is_open_of(c, tag))
+    let number = tags.get(tag)?;
+    let place = place_of(chunks, number)?;
+    if is_open_of(&chunks[place], tag) {
+        Some(place)
+    } else {
+        None
+    }
 }
 
 /// Closes the chunk again, with a loss at a moment where it was lost.

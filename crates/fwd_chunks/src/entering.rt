@@ -1,6 +1,6 @@
 //! How a request's entries enter chunks.
 
-ghost use Rattle.std.specs.Prelude.{◌≡◌, ◌+◌, ◌<◌, ◌≤◌, ◌^◌, ◌==◌, ◌++◌, length, map, None, Some, IfOk, IfSome, OnOk, OnErr, slice_get, slice_set, option_to_list, if◌then◌else◌};
+ghost use Rattle.std.specs.Prelude.{◌≡◌, ◌+◌, ◌-◌, ◌<◌, ◌≤◌, ◌^◌, ◌==◌, ◌++◌, length, map, None, Some, IfOk, IfSome, OnOk, OnErr, slice_get, slice_set, option_to_list, if◌then◌else◌};
 ghost use Rattle.fwd_chunks.specs.declared.chunk.Chunk.{Chunk};
 ghost use Rattle.fwd_chunks.specs.Cells.{size_of};
 ghost use Rattle.fwd_chunks.specs.Filling.{fresh_of, needed, span_of, joined_by, stage_last, chunk_at, filled_at};
@@ -75,6 +75,19 @@ pub(crate) fn fresh_chunks(
         rest = others;
     }
     Ok(chunks)
+}
+
+/// The number of the last of so many new chunks, of which the first has the number.
+pub(crate) fn newest_of(first: u64, needed: u64) -> Option<u64>
+    requires { 0 < needed → first + needed ≤ 2 ^ 64 }
+    ensures some { 0 < needed → result ≡ Some (first + (needed - 1)) }
+    ensures none { needed ≤ 0 → result ≡ None }
+{
+    if needed > 0 {
+        Some(first + (needed - 1))
+    } else {
+        None
+    }
 }
 
 /// The runs of a request's entries: one in the open chunk, if there is one, and one for each new

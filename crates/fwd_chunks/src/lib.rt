@@ -20,6 +20,7 @@ mod plan;
 mod retry;
 mod span;
 mod stage;
+mod tags;
 #[cfg(test)]
 mod tests;
 

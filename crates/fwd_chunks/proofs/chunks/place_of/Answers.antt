@@ -1,5 +1,4 @@
-use Rattle.std.proofs.Common.{◌≡◌, ◌+◌, ◌-◌, ◌/◌, ◌<◌, ◌≤◌, length, get_or, Some, sym, ap, ◌∙◌, arith}
-use Rattle.std.specs.Prelude.{slice_get}
+use Rattle.std.proofs.Common.{◌≡◌, ◌+◌, ◌-◌, ◌/◌, ◌<◌, length, get_or, sym, ap, ◌∙◌, arith}
 use Rattle.fwd_chunks.proofs.Places.{get-read}
 use Rattle.fwd_chunks.proofs.Search.{number-place, place-below, place-above, place-nowhere}
 use Rattle.fwd_chunks.proofs.chunks.place_of.Goals as goal

@@ -1,5 +1,4 @@
-use Rattle.std.proofs.Common.{◌≡◌, length, Some, None, sym, ap, ◌∙◌}
-use Rattle.std.specs.Prelude.{slice_get, position, ◌&&◌}
+use Rattle.std.proofs.Common.{sym, ◌∙◌}
 use Rattle.fwd_chunks.specs.Live.{is_at, is_taken}
 use Rattle.fwd_chunks.proofs.Places.{get-read, place-within}
 use Rattle.fwd_chunks.proofs.Search.{also-none, also-passes, also-fails}

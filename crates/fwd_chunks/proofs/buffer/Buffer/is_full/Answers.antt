@@ -12,7 +12,7 @@ returns c =
     let r = c.args.batch.now in
     let v = the_view c.self.inside in
     let size : length c.entries.result.now ≡ size_of r.entries = ap length c.entries.ensures.value ∙ sym (size_joined r.entries) in
-    let within : c.self.inside.bytes ≤ c.self.inside.limits.total = omega (arith, c.self.invariant.bytes, c.self.invariant.sound.total) in
+    let within : c.self.inside.bytes ≤ c.self.inside.limits.total = omega (arith, c.self.invariant.stored.bytes, c.self.invariant.stored.sound.total) in
     full-by c.self.inside.limits.total c.self.inside.bytes (length c.entries.result.now) within
-    ∙ (λ i. nat_lt c.self.inside.limits.total (c.self.invariant.bytes i + size i))
+    ∙ (λ i. nat_lt c.self.inside.limits.total (c.self.invariant.stored.bytes i + size i))
     ∙ ap (λ b. live_is_full b r) c.self.view_is

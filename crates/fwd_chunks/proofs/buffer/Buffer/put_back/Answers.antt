@@ -3,6 +3,7 @@ use Rattle.std.specs.Prelude.{slice_get, slice_set, is_some}
 use Rattle.fwd_chunks.specs.Live.{LiveBuffer, changed, is_at, live_frees}
 use Rattle.fwd_chunks.specs.Stored.{put_back}
 use Rattle.fwd_chunks.proofs.Places.{get-read, set-changed}
+use Rattle.fwd_chunks.proofs.Opened.{newest-put_back}
 use Rattle.fwd_chunks.proofs.Calls.{number_of, moment_after, put_back-stored, frees-is}
 use Rattle.fwd_chunks.proofs.buffer.Buffer.put_back.Goals as goal
 use Rattle.fwd_chunks.proofs.buffer.Buffer.put_back.Goals.{in-None, in-Some}
@@ -18,7 +19,10 @@ invariant_of-self c =
     let r = c.index_mut.result.now in
     let lt : c.args.place < length items = subst (λ (b : LiveBuffer). c.args.place < length b.chunks) (sym c.self.view_is) c.requires in
     let e : slice_get items c.args.place ≡ Some r = get-read items c.args.place r lt c.index_mut.ensures.value in
-    rw (c.put_back.ensures, set-changed items c.args.place r (put_back c.is_some.result c.match-loss.moment) c.self.invariant.sound.in_order e) (put_back-stored (the_view c.self.inside) r.number c.is_some.result c.match-loss.moment c.self.inside.bytes c.self.invariant)
+    rw (c.put_back.ensures, set-changed items c.args.place r (put_back c.is_some.result c.match-loss.moment) c.self.invariant.stored.sound.in_order e) (record {
+      stored = put_back-stored (the_view c.self.inside) r.number c.is_some.result c.match-loss.moment c.self.inside.bytes c.self.invariant.stored;
+      newest = newest-put_back c.self.inside.tags r.number c.is_some.result c.match-loss.moment items c.self.invariant.newest;
+    })
 
 pub returns : goal.returns
 returns c = λ d at.
@@ -33,7 +37,7 @@ returns c = λ d at.
       | in-None w ↦ w.moment-is ∙ ap (moment_after v) (sym w.in-None.is)
       | in-Some w ↦ w.moment-is ∙ w.max-moment.ensures ∙ ap (moment_after v) (sym w.in-Some.is)
     ] in
-    (λ i. record v { chunks = (ap (slice_set items c.args.place) c.put_back.ensures ∙ set-changed items c.args.place r (put_back c.is_some.result c.match-loss.moment) c.self.invariant.sound.in_order e) i; moment = c.match-loss.moment })
+    (λ i. record v { chunks = (ap (slice_set items c.args.place) c.put_back.ensures ∙ set-changed items c.args.place r (put_back c.is_some.result c.match-loss.moment) c.self.invariant.stored.sound.in_order e) i; moment = c.match-loss.moment })
     ∙ (λ i. record v { chunks = changed (is_at r.number) (put_back (lost i) (moment i)) items; moment = moment i })
     ∙ frees-is v r.number c.args.loss
     ∙ ap (λ n. live_frees v n c.args.loss) (number_of found)
