@@ -1,19 +1,27 @@
 #!/usr/bin/python3
-"""MessagePack values as python3-msgpack spells them, as a source file of Rattle.
+"""The cases of crates/relay_values: bytes, and what is to be read of them.
 
 Run at the top of the repository, with Debian's python3-msgpack:
 
-    /usr/bin/python3 tools/vectors.py > crates/relay_tests/src/spellings.rt
+    /usr/bin/python3 tools/vectors.py crates/relay_values
 
-A line says what the packer was given (its kind, and its number, its payload's length or its count of members), and then
-the packer's bytes: a front, and a unit of bytes that is repeated behind it some number of times, so that long values stay
-short in the file. A payload stands at the end of its value. The word `raw` is a str that the packer writes in the old
-format, which has no length of one byte, and so not in the shortest way.
+It writes the program's stdin and stdout anew. The first lines are values as python3-msgpack spells them; what is to be
+read of each is what the packer was given, and the head that it wrote. Behind them stand a value of every first byte, by the
+table of formats of the MessagePack specification, and bytes that are no value within the limits of a source.
+
+A line of stdin is a front in hex, and where more follow, a unit of bytes and how many times it stands behind the front, so
+that long values stay short in the file. A line of stdout is a kind with its number, its payload's length or its count of
+members, and the shortest spelling of the head, in hex; or `short`; or the fault.
 """
+
+import pathlib
+import sys
 
 import msgpack
 
 SHORT = 40  # bytes: a longer tail of one repeated unit is written as a count
+NEVER = b"\xc1"  # stands in no value, so that a payload that is read as values is found out
+LONG = {1: 255, 2: 300, 4: 70_000}  # a length for each width of one
 
 
 def given(value, how):
@@ -31,13 +39,33 @@ def given(value, how):
     if isinstance(value, bytes) and how.get("use_bin_type", True):
         return f"bin {len(value)}", value
     if isinstance(value, bytes):
-        return f"{'raw' if 32 <= len(value) < 256 else 'str'} {len(value)}", value
+        return f"str {len(value)}", value
     if isinstance(value, list):
         return f"arr {len(value)}", b""
     if isinstance(value, dict):
         return f"map {len(value)}", b""
     kind, data = (-1, value.to_bytes()) if isinstance(value, msgpack.Timestamp) else (value.code, value.data)
     return f"ext {kind} {len(data)}", data
+
+
+def head_of(words):
+    """The shortest spelling of a head."""
+    kind, *numbers = words.split()
+    number = int(numbers[-1]) if numbers else 0
+    if kind == "float":
+        return {4: b"\xca", 8: b"\xcb"}[number]
+    if kind == "str":
+        return msgpack.packb("a" * number)[: -number or None]
+    if kind == "bin":
+        return msgpack.packb(b"a" * number)[: -number or None]
+    if kind == "ext":
+        return msgpack.packb(msgpack.ExtType(int(numbers[0]) % 128, b"a" * number))[: -number or None][:-1] + (
+            int(numbers[0]).to_bytes(1, "big", signed=True)
+        )
+    if kind in ("arr", "map"):
+        packer = msgpack.Packer()
+        return packer.pack_array_header(number) if kind == "arr" else packer.pack_map_header(number)
+    return msgpack.packb({"nil": None, "true": True, "false": False}.get(kind, number))
 
 
 def packed(value, **how):
@@ -122,6 +150,60 @@ def requests():
     yield packed(["HELO", {"nonce": b"\x01" * 16, "auth": b"", "keepalive": True}])
 
 
+def each_first_byte():
+    """A value of every first byte, by the specification's table; where a length stands behind it, three lengths."""
+    for first in range(0x80):
+        yield f"int {first}", bytes([first])
+    for size in range(16):
+        yield f"map {size}", bytes([0x80 + size]) + b"\xc0" * (2 * size)
+        yield f"arr {size}", bytes([0x90 + size]) + b"\xc0" * size
+    for size in range(32):
+        yield f"str {size}", bytes([0xA0 + size]) + NEVER * size
+    yield "nil", b"\xc0"
+    yield "false", b"\xc2"
+    yield "true", b"\xc3"
+    for first, size in ((0xCA, 4), (0xCB, 8)):
+        yield f"float {size}", bytes([first]) + NEVER * size
+    for at, width in enumerate((1, 2, 4, 8)):
+        for payload in (NEVER * width, b"\x7f" + b"\xff" * (width - 1), b"\x80" + bytes(width - 1)):
+            yield f"int {int.from_bytes(payload, 'big')}", bytes([0xCC + at]) + payload
+            yield f"int {int.from_bytes(payload, 'big', signed=True)}", bytes([0xD0 + at]) + payload
+    for at, size in enumerate((1, 2, 4, 8, 16)):
+        yield f"ext -63 {size}", bytes([0xD4 + at]) + NEVER * (1 + size)
+    for kind, first, each in (("bin", 0xC4, NEVER), ("ext", 0xC7, NEVER), ("str", 0xD9, NEVER)):
+        for at, width in enumerate((1, 2, 4)):
+            for size in (0, 1, LONG[width]):
+                words, behind = (f"ext -63 {size}", NEVER) if kind == "ext" else (f"{kind} {size}", b"")
+                yield words, bytes([first + at]) + size.to_bytes(width, "big") + behind + each * size
+    for kind, first, each in (("arr", 0xDC, b"\xc0"), ("map", 0xDE, b"\xc0\xc0")):
+        for at, width in enumerate((2, 4)):
+            for size in (0, 1, LONG[width]):
+                yield f"{kind} {size}", bytes([first + at]) + size.to_bytes(width, "big") + each * size
+    for first in range(0xE0, 0x100):
+        yield f"int {first - 256}", bytes([first])
+    for kind, payload in ((127, 256), (-128, 65536)):
+        width = 2 if payload < 65536 else 4
+        front = bytes([0xC7 + {2: 1, 4: 2}[width]]) + payload.to_bytes(width, "big")
+        yield f"ext {kind} {payload}", front + kind.to_bytes(1, "big", signed=True) + NEVER * payload
+
+
+def no_values():
+    """Bytes that are no value within 16,777,216 bytes and 64 containers: less than one, or the first fault."""
+    def nested(arrays):
+        return bytes.fromhex("93a1610181a16b") + b"\x91" * arrays + b"\x90"
+
+    yield "short", b""
+    yield "short", bytes.fromhex("db00fffffb")
+    yield "too long", bytes.fromhex("db00fffffc")
+    yield "map 1", nested(61)[4:]
+    yield "arr 3", nested(61)
+    yield "too deep", nested(62)
+    yield "short", bytes.fromhex("ddffffff")
+    yield "too long", bytes.fromhex("ddffffffff")
+    yield "reserved", bytes.fromhex("c1")
+    yield "reserved", bytes.fromhex("92c0c1")
+
+
 def split(value):
     """A front, a unit and a count: front + unit * count is the value."""
     for width in (1, 2):
@@ -134,38 +216,25 @@ def split(value):
     return value, b"", 0
 
 
-def line(words, value):
+def line(value):
     front, unit, count = split(value)
     assert front + unit * count == value
-    return f"{words}:{front.hex()} {unit.hex()} {count}" if count else f"{words}:{front.hex()}"
+    return f"{front.hex()} {unit.hex()} {count}" if count else front.hex()
 
 
-def literal(text):
-    """A line of the literal, in lines of at most 100 columns: where one ends in a backslash, the next one goes on."""
-    parts = []
-    while len(text) > 97:
-        end = 96 if text[97] == " " else 97
-        parts.append(text[:end] + "\\\n")
-        text = text[end:]
-    return "".join(parts) + text + "\\n\\"
+def told(words):
+    return words if words in ("short", "too long", "too deep", "reserved") else f"{words} {head_of(words).hex()}"
 
 
 def main():
     values = [packed(None), packed(True), packed(False)]
-    for kind in (integers, floats, texts, extensions, containers, requests):
+    for kind in (integers, floats, texts, extensions, containers, requests, each_first_byte, no_values):
         values += kind()
-    print("//! Values as python3-msgpack spells them, written by `/usr/bin/python3 tools/vectors.py`: do not")
-    print("//! edit.")
-    print()
-    print("/// A value a line: what the packer was given, and behind a colon its bytes in hex, a front, and")
-    print("/// where more follow, a unit and how many times it stands behind the front.")
-    print('pub static SPELLINGS: &str = "\\')
-    seen = set()
-    for words, value in values:
-        if value not in seen:
-            seen.add(value)
-            print(literal(line(words, value)))
-    print('";')
+    cases = {value: words for words, value in values}
+    assert len(cases) == len({*values}), "bytes with two meanings"
+    folder = pathlib.Path(sys.argv[1])
+    folder.joinpath("stdin").write_text("".join(f"{line(value)}\n" for value in cases))
+    folder.joinpath("stdout").write_text("".join(f"{told(words)}\n" for words in cases.values()))
 
 
 if __name__ == "__main__":

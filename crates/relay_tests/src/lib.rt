@@ -1,5 +1,6 @@
-//! Tests of what no contract says: each layer, events through the relay's library, and MessagePack
-//! as others spell it. Scripts are replayed by the program `relay_scripts`.
+//! Tests of what no contract says: each layer, and events through the relay's library. Scripts are
+//! replayed by the program `relay_scripts`, and MessagePack as others spell it is read by
+//! `relay_values`.
 #![tactic(auto)]
 
 #[cfg(test)]
@@ -8,8 +9,6 @@ mod connections;
 mod edges;
 #[cfg(test)]
 mod handshakes;
-#[cfg(test)]
-mod msgpack_values;
 #[cfg(test)]
 mod patterns;
 #[cfg(test)]
@@ -26,7 +25,5 @@ mod servers;
 mod settings;
 #[cfg(test)]
 mod settings_text;
-#[cfg(test)]
-mod spellings;
 #[cfg(test)]
 mod values;
