@@ -44,6 +44,13 @@ impl<T> Seq<T> {
         Seq { items }
     }
 
+    /// The items as a vector, in the same memory.
+    pub fn into_vec(self) -> Vec<T>
+        ensures { result.items ≡ self }
+    {
+        self.items
+    }
+
     /// The items as a slice.
     pub fn as_slice(&self) -> &[T]
         ensures { result.now ≡ self.now }
