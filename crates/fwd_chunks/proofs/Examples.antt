@@ -1,5 +1,5 @@
 -- The definitions at work: small buffers, from their first entry to the last.
-use Rattle.std.proofs.Common.{◌≡◌, ℕ, List, [], ◌∷◌, Some, None, refl}
+use Rattle.std.proofs.Common.{◌≡◌, ℕ, List, [], ◌∷◌, Some, None, refl, arith}
 use Rattle.std.specs.Prelude.{replicate}
 use Rattle.fwd_source.specs.declared.origin.Origin.{Origin}
 use Rattle.fwd_modes.specs.Requests.{Request}
@@ -15,7 +15,7 @@ use Rattle.fwd_chunks.specs.Live.{live_buffer}
 -- limits in bytes, an interval of a second, waits of half a second to four
 abbrev setting : ℕ → ℕ → ℕ → BufferSetting
 setting chunk total first = record {
-  limits = record { chunk = chunk; total = total; interval = 1000; retry_wait = 500; retry_max = 4000; first = first };
+  limits = record { chunk = chunk; total = total; interval = 1000; retry_wait = 500; retry_max = 4000; first = first; bounded = omega arith };
   run = replicate 6 0;
   output = 0;
 }

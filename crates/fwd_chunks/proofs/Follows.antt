@@ -609,6 +609,18 @@ only_one k (n ∷ ns) d e = by (only_one k ns d.1) (n == k) refl e
         none ms g = any-false (λ j. j == k) ms g
     by rest false f g = rest g
 
+-- what a worker has holds as many entries as its number has
+pub count-live : (h : BufferHistory) (n : ℕ) → IsSane h → is_carried n h.carried ≡ true
+    → held_in (filter (is_at n) (live_buffer h).chunks) ≡ length (contents n h.cells)
+unfolding live_buffer
+count-live h n own has =
+    let there : has_number n (live_numbers h) ≡ true = is_live h n (own.carried_has n has) (own.carried_unacked n has) in
+    ap held_in (filter-map (is_at n) (live_chunk h) (live_numbers h) ∙ ap (map (live_chunk h)) (only_one n (live_numbers h) (numbers-distinct (unsettled h)) there))
+    ∙ plus_zero (length (contents n h.cells))
+  where
+    plus_zero : (m : ℕ) → m + 0 ≡ m
+    plus_zero m = omega arith
+
 settled-push : (n : ℕ) (acked : List ℕ) (cells : List Cell) → has_number n acked ≡ false
     → length (filter (λ c. has_number c.number (acked ++ n ∷ [])) cells) ≡ length (filter (λ c. has_number c.number acked) cells) + length (cells_at n cells)
 settled-push n acked [] e = refl
@@ -620,7 +632,6 @@ unfolding live_buffer
 settles-live h n own has =
     let after = settles h n in
     let unacked = own.carried_unacked n has in
-    let there : has_number n (live_numbers h) ≡ true = is_live h n (own.carried_has n has) unacked in
     let numbers : live_numbers (settles h n) ≡ filter (λ k. not (k == n)) (live_numbers h) =
     live_numbers-is (settles h n)
     ∙ filter-same (λ k. not (has_number k (h.acknowledged ++ n ∷ []))) (λ k. not (has_number k h.acknowledged) && not (k == n)) (numbers_of h.cells) (λ k e. one_more k)
@@ -631,8 +642,7 @@ settles-live h n own has =
     ∙ map-same (live_chunk after) (live_chunk h) (filter (λ k. not (k == n)) (live_numbers h)) (λ k e. other k (and_parts (has_number k (live_numbers h)) (not (k == n)) (sym (has_number-filter k (λ j. not (j == n)) (live_numbers h)) ∙ e)).1)
     ∙ sym (filter-map (λ c. not (is_at n c)) (live_chunk h) (live_numbers h)) in
     let left : held_in (filter (is_at n) (map (live_chunk h) (live_numbers h))) ≡ length (cells_at n h.cells) =
-    ap held_in (filter-map (is_at n) (live_chunk h) (live_numbers h) ∙ ap (map (live_chunk h)) (only_one n (live_numbers h) (numbers-distinct (unsettled h)) there))
-    ∙ plus_zero (length (contents n h.cells)) ∙ length-map (cells_at n h.cells) (λ c. c.entry) in
+    count-live h n own has ∙ length-map (cells_at n h.cells) (λ c. c.entry) in
     λ i. record {
       setting = h.setting;
       chunks = chunks i;
@@ -642,9 +652,6 @@ settles-live h n own has =
       moment = h.moment;
     }
   where
-    plus_zero : (m : ℕ) → m + 0 ≡ m
-    plus_zero m = omega arith
-
     one_more : (k : ℕ) → not (has_number k (h.acknowledged ++ n ∷ [])) ≡ (not (has_number k h.acknowledged) && not (k == n))
     one_more k = ap not (has_number-push k n h.acknowledged) ∙ at (has_number k h.acknowledged) (n == k) refl
       where

@@ -83,7 +83,8 @@ impl Carried {
 
     /// The chunk's name: 24 bytes of Base64.
     pub fn name(&self) -> &[u8]
-        ensures { result.now ≡ self.now.name }
+        ensures value { result.now ≡ self.now.name }
+        ensures bound { length result.now ≡ 24 }
     {
         &self.name
     }
@@ -103,8 +104,9 @@ impl Carried {
             && self.name == *name
     }
 
-    /// The chunk is no more.
-    pub(crate) fn spend(self) {
+    /// The chunk is no more, and its buffer does not learn of it: for what ends together with its
+    /// buffer. Where the buffer goes on, the chunk is settled or given back.
+    pub fn spend(self) {
         let Carried {
             number: _,
             tag: _,

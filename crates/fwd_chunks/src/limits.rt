@@ -1,3 +1,5 @@
+ghost use Rattle.std.specs.Prelude.{◌<◌, ◌^◌};
+
 /// What a buffer is limited to. Sizes are in bytes, times in milliseconds.
 #[derive(Clone, Copy, Debug, PartialEq, Eq)]
 pub struct BufferLimits {
@@ -11,6 +13,7 @@ pub struct BufferLimits {
     pub retry_wait: u64,
     /// The longest wait.
     pub retry_max: u64,
+    ghost bounded: { retry_max < 2 ^ 64 },
     /// The number of the first chunk.
     pub first: u64,
 }
