@@ -1,12 +1,13 @@
--- Definitions. A reader who asks what a buffer promises must believe these six: the public calls and
--- laws speak of them.
+-- Definitions. A reader who asks what a buffer promises must believe these six: the public calls
+-- and laws speak of them.
 pub mod Cells
 pub mod Waits
 pub mod History
 pub mod Events
 pub mod Live
 pub mod Soundness
--- These five only describe how the code keeps chunks and fills them. No public clause speaks of them.
+-- These five only describe how the code keeps chunks and fills them. No public clause speaks of
+-- them.
 pub mod Newest
 pub mod Stored
 pub mod Filling
