@@ -189,6 +189,19 @@ impl Buffer {
         self.exceeds(plan.needed, batch.len())
     }
 
+    /// Why a request would be refused, whatever the moment, if it would.
+    pub fn fault(&self, batch: &Batch) -> Option<AdmitError>
+        ensures { (now : ℕ) → result ≡ live_refusal self.now batch.now now }
+    {
+        if self.is_full(batch) {
+            return Some(AdmitError::Full);
+        }
+        if self.is_spent(batch, self.plan(batch)) {
+            return Some(AdmitError::NumbersSpent);
+        }
+        None
+    }
+
     /// The run of the entries that go to the open chunk at a place, if there are some.
     fn joined_span(&self, place: Option<usize>, front: Part<'_>) -> Option<Span>
         requires { IfSome place (λ i. i < length self.now.chunks) }
@@ -276,13 +289,10 @@ impl Buffer {
         ensures memory { live_refusal self.old batch.now now ≡ None
             → IfErr result (λ error. error ≡ AdmitError.Memory) }
     {
-        if self.is_full(batch) {
-            return Err(AdmitError::Full);
+        if let Some(fault) = self.fault(batch) {
+            return Err(fault);
         }
         let plan = self.plan(batch);
-        if self.is_spent(batch, plan) {
-            return Err(AdmitError::NumbersSpent);
-        }
         self.enter(alloc, batch, plan, now)
             .map_err(|_| AdmitError::Memory)
     }

@@ -1,7 +1,7 @@
-pub mod FitsLemmas
 pub mod PlaceLemmas
 pub mod RelayLemmas
 pub mod OpeningLemmas
 pub mod RunLemmas
 pub mod DueLemmas
-pub mod SpentLemmas
+pub mod HeldLemmas
+pub mod LaneLemmas

@@ -8,7 +8,7 @@ use Rattle.fwd_model.specs.Sessions.{LiveSession}
 use Rattle.fwd_model.specs.Live.{LiveConnection, LiveLane, LiveRelay}
 use Rattle.fwd_model.specs.Live.{with_live_lane, with_live_connection, with_live_worker}
 use Rattle.fwd_model.specs.declared.fault.Refusal.TheVariants.{NoSuch}
-use Rattle.fwd_model.specs.Outcome.{Outcome, Stays, Goes, state_of, within, found, ◌>>=◌}
+use Rattle.fwd_model.specs.Outcome.{Outcome, Stays, Goes, answer_of, state_of, within, found, ◌>>=◌}
 use Rattle.fwd_model.specs.Step.{at_source, at_lane, at_both, at_worker}
 use Rattle.fwd_model.specs.Live.{lives}
 use Rattle.fwd_core.specs.Places.{IsPlace}
@@ -55,6 +55,22 @@ worker_done k l same w place at_w x new here f e =
     ∙ put_state (with_live_worker k w) x k (f x) (worker_stays k w x here_w)
     ∙ ap (λ y. state_of k (found y NoSuch >>= λ z. within (with_live_worker k w) (f z))) (sym here_w)
     ∙ ap (λ y. state_of y (at_worker lives y w f)) same
+
+-- what is answered at a worker is what its part answers
+within_answer : {S T : Type 0} (put : S → T) (x : Outcome S)
+    → answer_of (within put x) ≡ answer_of x
+within_answer put (Stays a) = refl
+within_answer put (Goes a t) = refl
+
+pub worker_told : (k l : LiveLane) (same : k ≡ l) (w place : ℕ) → place ≡ w
+    → (x : Worker LiveSession) → slice_get k.workers place ≡ Some x
+    → (f : Worker LiveSession → Outcome (Worker LiveSession))
+    → answer_of (f x) ≡ answer_of (at_worker lives l w f)
+worker_told k l same w place at_w x here f =
+    let here_w : slice_get k.workers w ≡ Some x = subst (λ n. slice_get k.workers n ≡ Some x) at_w here in
+    sym (within_answer (with_live_worker k w) (f x))
+    ∙ ap (λ y. answer_of (found y NoSuch >>= λ z. within (with_live_worker k w) (f z))) (sym here_w)
+    ∙ ap (λ y. answer_of (at_worker lives y w f)) same
 
 -- ---- as the relay's methods meet them
 

@@ -5,7 +5,7 @@ use Rattle.std.proofs.lemmas.List.{append-nil, length-append}
 use Rattle.std.proofs.lemmas.List.Elements.{filter-append}
 use Rattle.fwd_model.specs.declared.event.Event.{Event}
 use Rattle.fwd_model.specs.declared.answer.Answer.{Answer}
-use Rattle.fwd_model.specs.declared.answer.Answer.TheVariants.{Memory, Accepted, Requests, Faulted, Admitted, NoRoute, NumbersSpent, Closed, Done, Took, TookNothing, Frame, Quiet, Acked, SessionFaulted, Settled, Told, Refused}
+use Rattle.fwd_model.specs.declared.answer.Answer.TheVariants.{Memory, Accepted, Requests, Faulted, Admitted, NoRoute, Full, NumbersSpent, Closed, Done, Took, TookNothing, Frame, Quiet, Acked, SessionFaulted, Settled, Told, Forgot, Refused}
 use Rattle.fwd_model.specs.Live.{LiveRelay}
 use Rattle.fwd_model.specs.Outcome.{answer_of, state_of}
 use Rattle.fwd_model.specs.Step.{step, answers as answers_to, after}
@@ -49,6 +49,7 @@ is_want (Requests waiting out) t = absurd cc
 is_want (Faulted fault waiting out) t = absurd cc
 is_want (Admitted request entries) t = absurd cc
 is_want NoRoute t = absurd cc
+is_want Full t = absurd cc
 is_want NumbersSpent t = absurd cc
 is_want (Closed chunks) t = absurd cc
 is_want Done t = absurd cc
@@ -60,6 +61,7 @@ is_want (Acked out) t = absurd cc
 is_want (SessionFaulted fault) t = absurd cc
 is_want (Settled entries) t = absurd cc
 is_want (Told requests out) t = absurd cc
+is_want (Forgot requests) t = absurd cc
 is_want (Refused refusal) t = absurd cc
 
 -- what was told, and the state, are those of the events that count

@@ -1,6 +1,5 @@
 pub mod Answering
 pub mod Due
-pub mod Fits
 pub mod Lanes
 pub mod Places
 pub mod Relays

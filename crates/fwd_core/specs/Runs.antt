@@ -1,9 +1,9 @@
 -- Which events of a run counted: those not answered by want of memory.
 use Rattle.std.specs.Prelude.{Bool, true, false, not, List, [], ◌∷◌, filter, if◌then◌else◌}
 use Rattle.fwd_model.specs.declared.event.Event.{Event}
-use Rattle.fwd_model.specs.declared.event.Event.TheVariants.{Flush, Up, Wrote, Settle, Drained, Shut}
+use Rattle.fwd_model.specs.declared.event.Event.TheVariants.{Flush, Up, Wrote, Settle, Forget, Drained, Shut}
 use Rattle.fwd_model.specs.declared.answer.Answer.{Answer}
-use Rattle.fwd_model.specs.declared.answer.Answer.TheVariants.{Memory, Refused, NoRoute, NumbersSpent}
+use Rattle.fwd_model.specs.declared.answer.Answer.TheVariants.{Memory, Refused, NoRoute, Full, NumbersSpent}
 
 -- want of memory
 abbrev pub is_memory : Answer → Bool
@@ -26,6 +26,7 @@ takes_none (Flush output now kind) = true
 takes_none (Up output worker server salt now) = true
 takes_none (Wrote output worker count) = true
 takes_none (Settle output worker) = true
+takes_none (Forget conn output) = true
 takes_none (Drained conn count) = true
 takes_none (Shut conn) = true
 takes_none _ = false
@@ -34,5 +35,6 @@ takes_none _ = false
 abbrev pub is_free : Answer → Bool
 is_free (Refused why) = true
 is_free NoRoute = true
+is_free Full = true
 is_free NumbersSpent = true
 is_free _ = false

@@ -3,8 +3,6 @@
 ghost use Rattle.std.specs.Prelude.{
   ◌≡◌,
   ◌<◌,
-  ◌≤◌,
-  ◌&&◌,
   ◌++◌,
   ◌∷◌,
   [],
@@ -13,33 +11,24 @@ ghost use Rattle.std.specs.Prelude.{
   map,
   not,
   IfOk,
+  IfSome,
+  IfNone,
   OnOk,
-  OnErr,
 };
-ghost use Rattle.fwd_model.specs.Books.{
-  has_cell,
-  is_of,
-  none_left,
-  numbers_of,
-  acks_of,
-  ack_of,
-  spans_of,
-  entered_as,
-};
-ghost use Rattle.fwd_modes.specs.Requests.{Request};
-ghost use Rattle.fwd_core.specs.Due.{is_among, is_due_among, due_among, origins_of};
+ghost use Rattle.fwd_model.specs.Books.{is_of, numbers_of, acks_of, book_settles, book_owed, settled_in};
+ghost use Rattle.fwd_core.specs.Due.{is_among, is_one, is_due_among, due_among, origins_of};
 
-use fwd_model::{Cell, Entered, Origin, Span};
-use fwd_modes::{Batch, write_ack};
+use crate::pending::Pending;
+use fwd_model::Origin;
 use fwd_msgpack::{Bytes, Seq};
 use std::alloc::{AllocError, Global};
 use std::marker::Model;
 
 /// The requests that an output entered and that were not told yet, in the order in which they
-/// were entered.
+/// were entered, each with the runs of its entries that are not settled.
 #[derive(Drop)]
-pub struct Book {
-    requests: Vec<Entered>,
+pub(crate) struct Book {
+    requests: Vec<Pending>,
 }
 
 impl Model for Book {
@@ -57,7 +46,7 @@ impl Model for Book {
 
 impl Book {
     /// A book without requests.
-    pub fn new(alloc: Global) -> Self
+    pub(crate) fn new(alloc: Global) -> Self
         ensures { result.requests ≡ [] }
     {
         Book {
@@ -66,7 +55,7 @@ impl Book {
     }
 
     /// Makes room for one more request. On an error nothing has changed.
-    pub fn reserve(&mut self) -> Result<(), AllocError>
+    pub(crate) fn reserve(&mut self) -> Result<(), AllocError>
         ensures ok { OnOk result (0 < self.new.room) }
         ensures same { self.new.requests ≡ self.old.requests }
     {
@@ -74,73 +63,85 @@ impl Book {
     }
 
     /// A request is entered, into room that was made for it.
-    pub fn enter(&mut self, request: Entered)
+    pub(crate) fn enter(&mut self, request: Pending)
         requires { 0 < self.old.room }
         ensures { self.new.requests ≡ self.old.requests ++ request ∷ [] }
     {
         self.requests.push_reserved(request);
     }
 
+    /// The chunk of a number is settled.
+    #[tactic(auto, unfolding(fwd_model::specs::Books::book_settles))]
+    pub(crate) fn settle(&mut self, number: u64)
+        ensures { self.new.requests ≡ book_settles self.old.requests number }
+    {
+        settle(number, &mut self.requests);
+    }
+
     /// The origins of a connection's requests, in the order in which they were entered.
-    pub fn untold(&self, alloc: Global, conn: u64) -> Result<Vec<Origin>, AllocError>
+    pub(crate) fn untold(&self, alloc: Global, conn: u64) -> Result<Vec<Origin>, AllocError>
         ensures { IfOk result (λ origins. origins.items ≡ origins_of conn self.now.requests) }
     {
         let mut origins = Vec::new(alloc);
         for request in &self.requests {
-            if request.origin.conn == conn {
-                origins.push(request.origin)?;
+            if request.origin().conn == conn {
+                origins.push(request.origin())?;
             }
         }
         Ok(origins)
     }
 
+    /// How many requests of a connection there are.
+    pub(crate) fn owed(&self, conn: u64) -> usize
+        ensures { result ≡ book_owed self.now.requests conn }
+    {
+        owed(conn, &self.requests)
+    }
+
+    /// The origin of a connection's first request, if it has one.
+    pub(crate) fn first(&self, conn: u64) -> Option<Origin>
+        ensures some { IfSome result (λ origin. (origin.conn ≡ conn)
+            × (0 < length (filter (is_one (origin ∷ [])) self.now.requests))) }
+        ensures none { IfNone result (filter (is_of conn) self.now.requests ≡ []) }
+    {
+        first(conn, &self.requests)
+    }
+
     /// The numbers of the requests of these origins whose entries are all settled.
-    pub fn due_numbers(
+    pub(crate) fn due_numbers(
         &self,
         alloc: Global,
         origins: &[Origin],
-        cells: &[Cell],
     ) -> Result<Seq<u64>, AllocError>
         ensures { IfOk result (λ numbers.
-            numbers ≡ numbers_of (due_among origins.now cells.now self.now.requests)) }
+            numbers ≡ numbers_of (due_among origins.now self.now.requests)) }
     {
-        due_numbers(alloc, origins, cells, &self.requests)
+        due_numbers(alloc, origins, &self.requests)
     }
 
     /// The acknowledgements that they asked for, one after the other.
-    pub fn due_acks(
-        &self,
-        alloc: Global,
-        origins: &[Origin],
-        cells: &[Cell],
-    ) -> Result<Bytes, AllocError>
+    pub(crate) fn due_acks(&self, alloc: Global, origins: &[Origin]) -> Result<Bytes, AllocError>
         ensures { IfOk result (λ out.
-            out ≡ acks_of (due_among origins.now cells.now self.now.requests)) }
+            out ≡ acks_of (due_among origins.now self.now.requests)) }
     {
-        due_acks(alloc, origins, cells, &self.requests)
+        due_acks(alloc, origins, &self.requests)
     }
 
     /// The requests of these origins whose entries are all settled leave the book.
-    pub fn tell(&mut self, origins: &[Origin], cells: &[Cell])
+    pub(crate) fn tell(&mut self, origins: &[Origin])
         ensures { self.new.requests
-            ≡ filter (λ q. not (is_due_among origins.now cells.now q)) self.old.requests }
+            ≡ filter (λ q. not (is_due_among origins.now q)) self.old.requests }
     {
-        tell(origins, cells, &mut self.requests);
+        tell(origins, &mut self.requests);
     }
-}
 
-fn has_cell(number: u64, cells: &[Cell]) -> bool
-    ensures { result ≡ has_cell number cells.now }
-{
-    cells.iter().any(|c| c.number == number)
-}
-
-/// Whether no entry of the request is among the cells.
-fn none_left(cells: &[Cell], request: &Entered) -> bool
-    ensures { result ≡ none_left cells.now request.now }
-{
-    let spans = request.spans.as_slice();
-    spans.iter().all(|s| !has_cell(s.number, cells))
+    /// The requests of these origins leave the book.
+    pub(crate) fn forget(&mut self, origins: &[Origin])
+        ensures { self.new.requests
+            ≡ filter (λ q. not (is_one origins.now q)) self.old.requests }
+    {
+        forget(origins, &mut self.requests);
+    }
 }
 
 /// Whether the origin is one of these.
@@ -153,100 +154,90 @@ fn is_among(origins: &[Origin], origin: Origin) -> bool
 }
 
 /// Whether the request has one of these origins, and its entries are all settled.
-fn is_due(origins: &[Origin], cells: &[Cell], request: &Entered) -> bool
-    ensures { result ≡ is_due_among origins.now cells.now request.now }
+fn is_due(origins: &[Origin], request: &Pending) -> bool
+    ensures { result ≡ is_due_among origins.now request.now }
 {
-    is_among(origins, request.origin) && none_left(cells, request)
+    is_among(origins, request.origin()) && request.is_settled()
+}
+
+/// The chunk of a number is settled in each request.
+fn settle(number: u64, requests: &mut [Pending])
+    ensures { requests.new ≡ map (settled_in number) requests.old }
+{
+    for request in requests.iter_mut() {
+        request.settle(number);
+    }
+}
+
+/// How many requests of a connection there are.
+fn owed(conn: u64, requests: &[Pending]) -> usize
+    ensures { result ≡ length (filter (is_of conn) requests.now) }
+{
+    let mut count = 0;
+    for request in requests {
+        if request.origin().conn == conn {
+            count += 1;
+        }
+    }
+    count
+}
+
+/// The origin of a connection's first request, if it has one.
+fn first(conn: u64, requests: &[Pending]) -> Option<Origin>
+    ensures some { IfSome result (λ origin. (origin.conn ≡ conn)
+        × (0 < length (filter (is_one (origin ∷ [])) requests.now))) }
+    ensures none { IfNone result (filter (is_of conn) requests.now ≡ []) }
+{
+    for request in requests {
+        if request.origin().conn == conn {
+            return Some(request.origin());
+        }
+    }
+    None
 }
 
 /// The numbers of the requests that are to be told.
 fn due_numbers(
     alloc: Global,
     origins: &[Origin],
-    cells: &[Cell],
-    requests: &[Entered],
+    requests: &[Pending],
 ) -> Result<Seq<u64>, AllocError>
     ensures { IfOk result (λ numbers.
-        numbers ≡ numbers_of (due_among origins.now cells.now requests.now)) }
+        numbers ≡ numbers_of (due_among origins.now requests.now)) }
 {
     let mut numbers = Seq::new(alloc);
     for request in requests {
-        if is_due(origins, cells, request) {
-            numbers.push(request.origin.request)?;
+        if is_due(origins, request) {
+            numbers.push(request.origin().request)?;
         }
     }
     Ok(numbers)
 }
 
-/// Adds the acknowledgement that a request asked for, if it asked for one.
-fn push_ack(alloc: Global, out: &mut Bytes, request: &Entered) -> Result<(), AllocError>
-    ensures { OnOk result (out.new ≡ out.old ++ ack_of request.now) }
-{
-    match &request.chunk {
-        Some(chunk) => out.extend_from_slice(&write_ack(alloc, chunk.as_slice())?),
-        None => Ok(()),
-    }
-}
-
 /// The acknowledgements of the requests that are to be told, one after the other.
-fn due_acks(
-    alloc: Global,
-    origins: &[Origin],
-    cells: &[Cell],
-    requests: &[Entered],
-) -> Result<Bytes, AllocError>
-    ensures { IfOk result (λ out. out ≡ acks_of (due_among origins.now cells.now requests.now)) }
+fn due_acks(alloc: Global, origins: &[Origin], requests: &[Pending]) -> Result<Bytes, AllocError>
+    ensures { IfOk result (λ out. out ≡ acks_of (due_among origins.now requests.now)) }
 {
     let mut out = Bytes::new(alloc);
     for request in requests {
-        if is_due(origins, cells, request) {
-            push_ack(alloc, &mut out, request)?;
+        if is_due(origins, request) {
+            request.push_ack(alloc, &mut out)?;
         }
     }
     Ok(out)
 }
 
 /// What is told leaves.
-fn tell(origins: &[Origin], cells: &[Cell], requests: &mut Vec<Entered>)
+fn tell(origins: &[Origin], requests: &mut Vec<Pending>)
     ensures { requests.new.items
-        ≡ filter (λ q. not (is_due_among origins.now cells.now q)) requests.old.items }
+        ≡ filter (λ q. not (is_due_among origins.now q)) requests.old.items }
 {
-    requests.retain(|q| !is_due(origins, cells, q));
+    requests.retain(|q| !is_due(origins, q));
 }
 
-/// The runs of a request's entries, which all take an unused number.
-fn spans_of(alloc: Global, count: usize, number: u64) -> Result<Seq<Span>, AllocError>
-    ensures { (r : Request) → length r.entries ≡ count
-        → IfOk result (λ spans. spans ≡ spans_of r number) }
+/// What is forgotten leaves.
+fn forget(origins: &[Origin], requests: &mut Vec<Pending>)
+    ensures { requests.new.items ≡ filter (λ q. not (is_one origins.now q)) requests.old.items }
 {
-    let mut spans = Seq::new(alloc);
-    if count > 0 {
-        let count = count as u64;
-        spans.push(Span {
-            number,
-            from: 0,
-            count,
-        })?;
-    }
-    Ok(spans)
-}
-
-/// A request whose entries all take an unused number.
-pub fn entered(
-    alloc: Global,
-    batch: &Batch,
-    origin: Origin,
-    number: u64,
-) -> Result<Entered, AllocError>
-    ensures { IfOk result (λ entered. entered ≡ entered_as batch.now origin number) }
-{
-    let chunk = match batch.chunk() {
-        Some(chunk) => Some(Bytes::from_slice(alloc, chunk)?),
-        None => None,
-    };
-    Ok(Entered {
-        origin,
-        spans: spans_of(alloc, batch.len(), number)?,
-        chunk,
-    })
+    requests.retain(|q| !is_among(origins, q.origin()));
 }

@@ -2,17 +2,17 @@
 #![tactic(auto)]
 
 mod book;
-mod buffer;
-mod chunks;
 mod connection;
 mod lane;
 mod output;
+mod pending;
 mod relay;
 mod replies;
 mod session;
 
+pub use fwd_chunks::{AdmitError, BufferLimits, Carried, Counts};
 pub use fwd_model::{
     Answer, Config, Event, FlushKind, OutputConfig, Refusal, SessionFault, SourceFault,
 };
-pub use output::{AdmitError, Due, OutputState};
+pub use output::{Due, OutputState};
 pub use relay::Relay;

@@ -1,50 +1,49 @@
-//! One output's state, which will lie under one lock: its entries, and the requests that they
-//! came with.
+//! One output's state, which will lie under one lock: its chunks, and the requests whose entries
+//! they have.
 
 ghost use Rattle.std.specs.Prelude.{
   ◌≡◌,
-  true,
-  false,
+  ◌∷◌,
+  [],
   Err,
-  IsErrOf,
+  None,
+  IfErr,
   OnOk,
   OnErr,
   IfOk,
   IfSome,
+  IfNone,
+  IsOk,
   filter,
   length,
   not,
+  option_map,
+  ◌<◌,
 };
-ghost use Rattle.fwd_core.specs.Due.{due_among, is_due_among, origins_of};
-ghost use Rattle.fwd_core.specs.Fits.{FitsFrame};
-ghost use Rattle.fwd_model.specs.Books.{numbers_of, acks_of};
-ghost use Rattle.fwd_model.specs.Chunks.{cells_at};
-ghost use Rattle.fwd_model.specs.Buffers.{
-  no_entries,
-  buffer_is_spent,
-  buffer_closing,
-  buffer_flushes,
-  buffer_takes,
-  buffer_free,
-  buffer_settles,
+ghost use Rattle.fwd_core.specs.Due.{is_one, due_among, is_due_among, origins_of};
+ghost use Rattle.fwd_chunks.specs.Live.{
+  IsCarried,
+  live_refusal,
+  live_closing,
+  live_flushes,
+  live_given,
+  live_load,
+  live_looks,
+  live_takes,
+  live_counts,
 };
-ghost use Rattle.fwd_model.specs.Outputs.{no_requests, output_enters};
+ghost use Rattle.fwd_chunks.specs.Soundness.{IsSound};
+ghost use Rattle.fwd_model.specs.Books.{is_of, numbers_of, acks_of, book_owed, entered_as};
+ghost use Rattle.fwd_model.specs.Outputs.{no_requests, output_enters, output_settles, live_count_at};
 
-use crate::book::{self, Book};
-use crate::buffer::Buffer;
-use fwd_model::{Chunk, FlushKind, Origin};
+use crate::book::Book;
+use crate::pending::Pending;
+use fwd_chunks::{AdmitError, Buffer, BufferLimits, Carried, Counts, FlushKind};
+use fwd_model::Origin;
 use fwd_modes::Batch;
 use fwd_msgpack::{Bytes, Seq};
 use std::alloc::{AllocError, Global};
 use std::marker::Model;
-
-/// Why an output did not enter a request.
-#[derive(Clone, Copy, Debug, PartialEq, Eq)]
-pub enum AdmitError {
-    Memory,
-    /// No chunk number or no count is left for the request's entries.
-    NumbersSpent,
-}
 
 /// What is to be told: the numbers of requests, and the bytes that are appended for them.
 #[derive(Drop)]
@@ -53,7 +52,7 @@ pub struct Due {
     pub out: Bytes,
 }
 
-/// The entries of one output that are not yet settled, and the requests that were not yet told.
+/// The chunks of one output that are not yet settled, and the requests that were not yet told.
 #[derive(Drop)]
 pub struct OutputState {
     buffer: Buffer,
@@ -69,19 +68,34 @@ impl Model for OutputState {
 }
 
 impl OutputState {
-    /// An output without entries.
-    pub fn new(alloc: Global) -> Self
-        ensures { result ≡ no_requests }
+    /// An output without entries, by its limits, its run and its number.
+    pub fn new(alloc: Global, limits: BufferLimits, run: [u8; 6], output: u16) -> Self
+        ensures { result
+            ≡ no_requests (record { limits = limits; run = run; output = output }) }
     {
         OutputState {
-            buffer: Buffer::new(alloc),
+            buffer: Buffer::new(alloc, limits, run, output),
             book: Book::new(alloc),
         }
     }
 
-    /// Enters a request at a moment (milliseconds): its entries take the next unused number, and
-    /// its tag's old number is closed. A request without entries takes no number and closes none.
-    /// On an error nothing has changed.
+    /// What is true of every output's chunks.
+    pub fn is_sound(&self)
+        ensures { IsSound self.now.buffer }
+    {
+        self.buffer.is_sound();
+    }
+
+    /// The entries accepted, settled and held, with the bytes held and the chunks that hold them.
+    pub fn counts(&self) -> Counts
+        ensures { result ≡ live_counts self.now.buffer }
+    {
+        self.buffer.held()
+    }
+
+    /// Enters a request at a moment (milliseconds): each of its entries joins its tag's open
+    /// chunk, or begins a new one. It is refused as `Full` where the bytes held would be more
+    /// than the total limit, and then as `NumbersSpent`. On an error nothing has changed.
     pub fn admit(
         &mut self,
         alloc: Global,
@@ -89,52 +103,48 @@ impl OutputState {
         batch: &Batch,
         now: u64,
     ) -> Result<(), AdmitError>
+        ensures refused { IfSome (live_refusal self.old.buffer batch.now now) (λ fault.
+            result ≡ Err fault) }
         ensures ok { OnOk result (self.new ≡ output_enters self.old origin batch.now now) }
-        ensures room { OnOk result (buffer_is_spent self.old.buffer batch.now ≡ false) }
-        ensures spent { IsErrOf result AdmitError.NumbersSpent
-            → buffer_is_spent self.old.buffer batch.now ≡ true }
-        ensures first { buffer_is_spent self.old.buffer batch.now ≡ true
-            → result ≡ Err AdmitError.NumbersSpent }
+        ensures memory { live_refusal self.old.buffer batch.now now ≡ None
+            → IfErr result (λ error. error ≡ AdmitError.Memory) }
         ensures err { OnErr result (self.new ≡ self.old) }
     {
-        let Some(number) = self.buffer.number_for(batch) else {
-            return Err(AdmitError::NumbersSpent);
-        };
-        let Ok(request) = book::entered(alloc, batch, origin, number) else {
-            return Err(AdmitError::Memory);
+        let Ok(mut pending) = Pending::new(alloc, origin, batch) else {
+            return Err(self.buffer.fault(batch).unwrap_or(AdmitError::Memory));
         };
         let Ok(()) = self.book.reserve() else {
-            return Err(AdmitError::Memory);
+            return Err(self.buffer.fault(batch).unwrap_or(AdmitError::Memory));
         };
-        let Ok(()) = self.buffer.admit(alloc, origin, batch, now) else {
-            return Err(AdmitError::Memory);
-        };
-        self.book.enter(request);
+        let spans = self.buffer.admit(alloc, origin, batch, now)?;
+        pending.enter(spans.into_vec());
+        self.book.enter(pending);
         Ok(())
     }
 
-    /// Closes the open numbers that a flush closes, and answers how many.
-    pub fn flush(&mut self, interval: u64, now: u64, kind: FlushKind) -> usize
-        ensures count { result ≡ buffer_closing self.old.buffer interval now kind }
+    /// Closes the open chunks that a flush closes, and answers how many.
+    pub fn flush(&mut self, now: u64, kind: FlushKind) -> usize
+        ensures count { result ≡ length (live_closing self.old.buffer now kind) }
         ensures flushed { self.new ≡ record {
-          buffer = buffer_flushes self.old.buffer interval now kind;
+          buffer = live_flushes self.old.buffer now kind;
           book = self.old.book;
         } }
     {
-        self.buffer.flush(interval, now, kind)
+        self.buffer.flush(now, kind)
     }
 
-    /// Gives a worker the least free chunk, if there is one. On an error nothing has changed.
+    /// Gives a worker the free chunk of the least number, if there is one. On an error nothing
+    /// has changed.
     pub fn take(
         &mut self,
         alloc: Global,
         worker: u16,
         now: u64,
-    ) -> Result<Option<Chunk>, AllocError>
-        ensures found { IfOk result (λ chunk. chunk ≡ buffer_free self.old.buffer) }
-        ensures fits { IfOk result (λ chunk. IfSome chunk FitsFrame) }
+    ) -> Result<Option<Carried>, AllocError>
+        ensures given { IfOk result (λ carried. carried ≡ option_map
+            (live_load self.old.buffer) (live_given (live_looks self.old.buffer now))) }
         ensures ok { OnOk result (self.new ≡ record {
-          buffer = buffer_takes self.old.buffer worker now;
+          buffer = live_takes self.old.buffer worker now;
           book = self.old.book;
         }) }
         ensures err { OnErr result (self.new ≡ self.old) }
@@ -142,16 +152,23 @@ impl OutputState {
         self.buffer.take(alloc, worker, now)
     }
 
-    /// The entries of a number that a server acknowledged leave, and its worker carries nothing
-    /// any more. Answers how many entries left.
-    pub fn settle(&mut self, worker: u16, number: u64) -> usize
-        ensures count { result ≡ length (cells_at number self.old.buffer.cells) }
-        ensures settled { self.new ≡ record {
-          buffer = buffer_settles self.old.buffer worker number;
-          book = self.old.book;
-        } }
+    /// A server acknowledged the chunk: its entries are settled, and so are the runs of requests
+    /// in it. Answers how many entries those are. A chunk that no worker has from this output is
+    /// only spent.
+    pub fn settle(&mut self, carried: Carried) -> usize
+        ensures here { IsCarried self.old.buffer carried
+            → self.new ≡ output_settles self.old carried.number }
+        ensures count { IsCarried self.old.buffer carried
+            → result ≡ live_count_at carried.number self.old }
+        ensures elsewhere { ¬ (IsCarried self.old.buffer carried) → self.new ≡ self.old }
+        ensures none { ¬ (IsCarried self.old.buffer carried) → result ≡ 0 }
     {
-        self.buffer.settle(worker, number)
+        let before = self.buffer.held().settled;
+        if self.buffer.carries(&carried) {
+            self.book.settle(carried.number());
+        }
+        self.buffer.settle(carried);
+        (self.buffer.held().settled - before) as usize
     }
 
     /// The origins of a connection's requests that were not told yet, by rising number.
@@ -161,18 +178,33 @@ impl OutputState {
         self.book.untold(alloc, conn)
     }
 
+    /// How many requests of a connection were not told yet.
+    pub fn owed(&self, conn: u64) -> usize
+        ensures { result ≡ book_owed self.now.book conn }
+    {
+        self.book.owed(conn)
+    }
+
+    /// The origin of a connection's first request that was not told yet, if there is one.
+    pub fn first_untold(&self, conn: u64) -> Option<Origin>
+        ensures some { IfSome result (λ origin. (origin.conn ≡ conn)
+            × (0 < length (filter (is_one (origin ∷ [])) self.now.book))) }
+        ensures none { IfNone result (filter (is_of conn) self.now.book ≡ []) }
+    {
+        self.book.first(conn)
+    }
+
     /// What is to be told of the requests of these origins: the numbers of those whose entries
     /// are all settled, and the acknowledgements that they asked for.
     pub fn due(&self, alloc: Global, origins: &[Origin]) -> Result<Due, AllocError>
         ensures numbers { IfOk result (λ due. due.requests ≡
-            numbers_of (due_among origins.now self.now.buffer.cells self.now.book)) }
+            numbers_of (due_among origins.now self.now.book)) }
         ensures acks { IfOk result (λ due. due.out ≡
-            acks_of (due_among origins.now self.now.buffer.cells self.now.book)) }
+            acks_of (due_among origins.now self.now.book)) }
     {
-        let cells = self.buffer.cells();
         Ok(Due {
-            requests: self.book.due_numbers(alloc, origins, cells)?,
-            out: self.book.due_acks(alloc, origins, cells)?,
+            requests: self.book.due_numbers(alloc, origins)?,
+            out: self.book.due_acks(alloc, origins)?,
         })
     }
 
@@ -180,10 +212,19 @@ impl OutputState {
     pub fn tell(&mut self, origins: &[Origin])
         ensures { self.new ≡ record {
           buffer = self.old.buffer;
-          book = filter (λ q.
-              not (is_due_among origins.now self.old.buffer.cells q)) self.old.book;
+          book = filter (λ q. not (is_due_among origins.now q)) self.old.book;
         } }
     {
-        self.book.tell(origins, self.buffer.cells());
+        self.book.tell(origins);
+    }
+
+    /// Nobody is to be told of the requests of these origins any more: they leave.
+    pub fn forget(&mut self, origins: &[Origin])
+        ensures { self.new ≡ record {
+          buffer = self.old.buffer;
+          book = filter (λ q. not (is_one origins.now q)) self.old.book;
+        } }
+    {
+        self.book.forget(origins);
     }
 }

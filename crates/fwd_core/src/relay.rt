@@ -1,14 +1,15 @@
 //! The relay: connections, outputs, and one step at a time.
 
-ghost use Rattle.std.specs.Prelude.{◌≡◌, ◌≢◌, ◌++◌, ℕ, List, true, map, IfOk, IsOk, OnOk, OnErr, []};
+ghost use Rattle.std.specs.Prelude.{◌≡◌, ◌≢◌, ◌≤◌, ◌^◌, ◌++◌, ℕ, List, true, map, IfOk, IsOk, OnOk, OnErr, []};
 ghost use Rattle.fwd_model.specs.History.{opening};
-ghost use Rattle.fwd_model.specs.Live.{live};
+ghost use Rattle.fwd_model.specs.Live.{live, live_relay_counts};
 ghost use Rattle.std.specs.Prelude.{length};
 ghost use Rattle.fwd_model.specs.declared.config.Config.{Config as Settings};
 ghost use Rattle.fwd_model.specs.History.{History};
-ghost use Rattle.fwd_model.specs.History.{histories, IsReached};
+ghost use Rattle.fwd_model.specs.History.{histories, counts as counts_of, IsReached};
+ghost use Rattle.fwd_chunks.specs.Live.{live_counts};
 ghost use Rattle.fwd_core.specs.Runs.{told, kept, takes_none, is_free};
-ghost use Rattle.fwd_core.specs.Lanes.{new_live_lane};
+ghost use Rattle.fwd_core.specs.Lanes.{new_live_lanes};
 ghost use Rattle.fwd_model.specs.declared.event.Event.{Event as AbstractEvent};
 ghost use Rattle.fwd_model.specs.declared.event.Event.TheVariants as event;
 ghost use Rattle.fwd_model.specs.Delivered.{IsDelivered, IsToldAmong, reached};
@@ -18,12 +19,13 @@ ghost use Rattle.fwd_model.specs.Live.{lives};
 
 use crate::connection::{Connection, drain, give, hear_piece, leave, place_of};
 use crate::lane::Lane;
-use crate::output::{AdmitError, Due};
+use crate::output::Due;
+use fwd_chunks::{AdmitError, Counts};
 use fwd_handshake::{Nonces, Security};
 use fwd_match::Routes;
 use fwd_model::{
-    Answer, Config, Event, FlushKind, Origin, OutputConfig, Refusal, live_run_follows,
-    told_among_is_delivered,
+    Answer, Config, Event, FlushKind, Origin, OutputConfig, Refusal, live_follows,
+    live_run_follows, told_among_is_delivered,
 };
 use fwd_msgpack::Bytes;
 use fwd_source::Source;
@@ -63,7 +65,7 @@ impl Relay {
     pub fn new(alloc: Global, config: Config) -> Result<Self, AllocError>
         ensures { IfOk result (λ r. r ≡ live (opening config)) }
     {
-        let lanes = lanes_of(alloc, config.outputs.as_slice())?;
+        let lanes = lanes_of(alloc, config.run, config.outputs.as_slice())?;
         let security = Arc::new(alloc, config.security)?;
         let connections = Vec::new(alloc);
         Ok(Relay {
@@ -122,6 +124,7 @@ impl Relay {
             } => self.heard(alloc, *output, *worker, bytes.as_slice()),
             Event::Settle { output, worker } => Ok(self.settle(*output, *worker)),
             Event::Collect { conn, output } => self.collect(alloc, *conn, *output),
+            Event::Forget { conn, output } => Ok(self.forget(*conn, *output)),
             Event::Drained { conn, count } => Ok(self.drained(*conn, *count)),
             Event::Shut { conn } => Ok(self.shut(*conn)),
         };
@@ -158,6 +161,18 @@ impl Relay {
             answers.push(answer).unwrap();
         }
         Ok(answers)
+    }
+
+    /// The entries accepted, settled and held, with the bytes held and the chunks that hold them,
+    /// of each output.
+    pub fn counts(&self, alloc: Global) -> Result<Vec<Counts>, AllocError>
+        ensures live { IfOk result (λ counts. counts.items ≡ live_relay_counts self.now) }
+        // They are those of any history whose live part this relay is.
+        ensures history { IfOk result (λ counts. (h : History) → self.now ≡ live h
+            → counts.items ≡ counts_of h) }
+    {
+        live_follows();
+        counts_of(alloc, &self.lanes)
     }
 
     /// A connection comes. On an error nothing has changed.
@@ -343,9 +358,8 @@ impl Relay {
         if place >= self.lanes.len() {
             return Ok(Answer::Refused(Refusal::NoSuch));
         }
-        let run = self.run;
         let lane = &mut self.lanes[place];
-        lane.load(alloc, &run, output, worker, now)
+        lane.load(alloc, worker, now)
     }
 
     /// The link took so many bytes of a worker's session.
@@ -403,6 +417,20 @@ impl Relay {
         lane.settle(worker)
     }
 
+    /// Nobody is to be told of a connection's requests at an output any more.
+    fn forget(&mut self, conn: u64, output: u16) -> Answer
+        ensures answer { result ≡ answer_of (step lives self.old (event.Forget conn output)) }
+        ensures next { self.new
+            ≡ state_of self.old (step lives self.old (event.Forget conn output)) }
+    {
+        let place = usize::from(output);
+        if place >= self.lanes.len() {
+            return Answer::Refused(Refusal::NoSuch);
+        }
+        let lane = &mut self.lanes[place];
+        lane.forget(conn)
+    }
+
     /// A connection is told of its requests at an output whose entries are all settled. On an
     /// error nothing has changed.
     fn collect(&mut self, alloc: Global, conn: u64, output: u16) -> Result<Answer, AllocError>
@@ -427,12 +455,25 @@ impl Relay {
     }
 }
 
-fn lanes_of(alloc: Global, configs: &[OutputConfig]) -> Result<Vec<Lane>, AllocError>
-    ensures { IfOk result (λ lanes. lanes.items ≡ map new_live_lane configs.now) }
+/// The counts of each output.
+fn counts_of(alloc: Global, lanes: &[Lane]) -> Result<Vec<Counts>, AllocError>
+    ensures { IfOk result (λ counts.
+        counts.items ≡ map (λ l. live_counts l.output.buffer) lanes.now) }
+{
+    let mut counts = Vec::new(alloc);
+    for lane in lanes {
+        counts.push(lane.counts())?;
+    }
+    Ok(counts)
+}
+
+fn lanes_of(alloc: Global, run: [u8; 6], configs: &[OutputConfig]) -> Result<Vec<Lane>, AllocError>
+    requires { length configs.now ≤ 2 ^ 16 }
+    ensures { IfOk result (λ lanes. lanes.items ≡ new_live_lanes run 0 configs.now) }
 {
     let mut lanes = Vec::new(alloc);
-    for config in configs {
-        lanes.push(Lane::new(alloc, *config)?)?;
+    for place in 0..configs.len() {
+        lanes.push(Lane::new(alloc, run, place as u16, configs[place])?)?;
     }
     Ok(lanes)
 }
@@ -481,6 +522,10 @@ fn admit_from(
         Ok(()) => {
             give(source);
             Ok(Answer::Admitted { request, entries })
+        }
+        Err(AdmitError::Full) => {
+            source.shut();
+            Ok(Answer::Full)
         }
         Err(AdmitError::NumbersSpent) => {
             source.shut();

@@ -99,6 +99,7 @@ impl Session {
     pub fn wrote(&mut self, count: u64) -> bool
         ensures within { result ≡ not (nat_lt (length self.old.waiting) count) }
         ensures sent { self.new ≡ state_of self.old (wrote lives count self.old) }
+        ensures loaded { self.new.loaded ≡ self.old.loaded }
     {
         if count > self.waiting.len() as u64 {
             return false;
@@ -137,6 +138,7 @@ impl Session {
             → IsOk result }
         ensures next { OnOk result (self.new
             ≡ state_of self.old (heard lives run.now output bytes.now self.old)) }
+        ensures loaded { self.new.loaded ≡ self.old.loaded }
         ensures err { OnErr result (self.new ≡ self.old) }
     {
         if self.down {

@@ -1,25 +1,27 @@
 -- What the events so far did to each session, each number and each request that an output has.
 use Rattle.std.proofs.Common.{◌≡◌, ℕ, ◌+◌, ◌≤◌, Bool, true, false, eqb, List, [], ◌∷◌, ◌++◌, Some, refl, sym, ap, subst, ◌∙◌, inl, inr, arith}
 use Rattle.std.specs.Prelude.{◌⊎◌, is_some, not, nat_lt, option_map, ◌&&◌, ◌==◌, slice_get, slice_set}
-use Rattle.std.specs.List.{list_any}
+use Rattle.std.specs.List.{list_all, list_any}
 use Rattle.std.proofs.lemmas.Bool.Decides.{nat_tests}
 use Rattle.std.proofs.lemmas.List.{append_assoc, append-nil}
 use Rattle.fwd_modes.specs.Requests.{Request}
-use Rattle.fwd_modes.specs.Frames.{chunk_name}
-use Rattle.fwd_model.specs.declared.cell.Cell.{Cell}
+use Rattle.fwd_modes.specs.Frames.{chunk_frame, chunk_name}
+use Rattle.fwd_chunks.specs.Cells.{Cell, cells_at, contents, entries_of, first_tag, has_number}
+use Rattle.fwd_chunks.specs.History.{BufferHistory, load_of}
+use Rattle.fwd_chunks.proofs.CellLemmas.{has_cell}
+use Rattle.fwd_chunks.proofs.News.{AreOf}
 use Rattle.fwd_model.specs.declared.cell.Entered.{Entered}
 use Rattle.fwd_model.specs.declared.config.Config.{Config}
 use Rattle.fwd_model.specs.declared.event.Event.{Event}
 use Rattle.fwd_model.specs.declared.event.Event.TheVariants as event
-use Rattle.fwd_model.specs.Chunks.{greatest, cells_at, cells_of, chunk_of, first_tag, has_number}
 use Rattle.fwd_match.specs.Patterns.{route}
 use Rattle.fwd_source.specs.History.{SourceHistory, judged}
 use Rattle.fwd_model.specs.declared.answer.Answer.TheVariants as answer
 use Rattle.fwd_model.specs.declared.fault.Refusal.TheVariants.{NoSuch, NotNow}
 use Rattle.fwd_model.specs.Outcome.{Goes, answer_of, state_of, within, found, refuse_if, ◌>>=◌, ◌>>◌}
 use Rattle.fwd_model.specs.Step.{step, after, at_worker, up, with_session}
-use Rattle.fwd_model.specs.Chunks.{frame_of}
-use Rattle.fwd_model.specs.Books.{Admission, entered_as, has_cell}
+use Rattle.fwd_model.specs.Outputs.{frame_of}
+use Rattle.fwd_model.specs.Books.{Admission}
 use Rattle.fwd_model.specs.Sessions.{SessionHistory, is_handed_on}
 use Rattle.fwd_model.specs.History.{Connection, ever_at, source_at, with_source, with_gone, Lane, History, with_lane, history_worker, histories}
 use Rattle.fwd_model.specs.Delivered.{reached, answered, NoneBegan, HasBegun, WasLoaded, WasSent, WasAcknowledged, cells_from}
@@ -140,7 +142,16 @@ module _ (config : Config) (es : List Event) (e : Event) where
 
 -- the frame of what stands under a number
 abbrev pub frame_at : Config → ℕ → List Cell → ℕ → List ℕ
-frame_at config o cells k = frame_of config.run o (chunk_of k cells)
+frame_at config o cells k = chunk_frame (first_tag (cells_at k cells)) (contents k cells) (chunk_name config.run o k)
+
+-- the buffer is named for the run and the output
+abbrev pub IsNamed : Config → ℕ → BufferHistory → Type 0
+IsNamed config o b = (b.setting.run ≡ config.run) × (b.setting.output ≡ o)
+
+-- that is the frame of the chunk
+pub frame_is : (config : Config) (o k : ℕ) (b : BufferHistory) → IsNamed config o b
+    → frame_of (load_of b k) ≡ frame_at config o b.cells k
+frame_is config o k b named = λ i. chunk_frame (first_tag (cells_at k b.cells)) (contents k b.cells) (chunk_name (named.0 i) (named.1 i) k)
 
 -- what was done with the chunk that a session has
 pub record ChunkStory (config : Config) (es : List Event) (o w : ℕ) (cells : List Cell) (s : SessionHistory) (k : ℕ) : Type 0 where
@@ -188,18 +199,18 @@ Admitted cs id r = (s : SourceHistory) × (ever_at id cs ≡ Some s) × (r ≤ s
 
 pub record RequestStory (routes : List (List (List ℕ))) (cs : List Connection) (o : ℕ) (cells : List Cell) (a : Entered) : Type 0 where
   pub request : Request
-  pub number : ℕ
-  pub moment : ℕ
   pub place : ℕ
   pub source : SourceHistory
-  pub entered : a ≡ entered_as request a.origin number
+  pub mine : List Cell
   pub stands : ever_at a.origin.conn cs ≡ Some source
   pub nth : a.origin.request ≡ place + 1
   pub admitted : a.origin.request ≤ source.admitted
   pub asked : slice_get (judged source).requests place ≡ Some request
   pub first_match : route routes request.tag ≡ Some o
-  pub own : cells_from a.origin.conn a.origin.request cells ≡ cells_of request a.origin number moment
-  pub under : (k : ℕ) → has_cell k (cells_of request a.origin number moment) ≡ true → (k ≤ greatest cells) × (first_tag (cells_at k cells) ≡ request.tag)
+  pub own : cells_from a.origin.conn a.origin.request cells ≡ mine
+  pub entries : entries_of mine ≡ request.entries
+  pub tags : AreOf request.tag a.origin mine
+  pub runs : (p : ℕ → Bool) (k : ℕ) → list_all (λ s. p s.number) a.spans ≡ true → has_cell k mine ≡ true → p k ≡ true
 
 abbrev pub AllTold : List (List (List ℕ)) → List Connection → ℕ → List Cell
     → List Admission → Type 0
@@ -212,7 +223,8 @@ pub record LaneStory (config : Config) (es : List Event) (cs : List Connection) 
   pub sessions : (w : ℕ) (s : SessionHistory) → slice_get l.sessions w ≡ Some (Some s) → SessionStory config es o w l.output.buffer.cells s
   pub numbers : (k : ℕ) → has_number k l.output.buffer.acknowledged ≡ true → NumberStory config es o l.output.buffer.cells k
   pub own : (id r : ℕ) → has_origin id r l.output.buffer.cells ≡ true → Admitted cs id r
-  pub requests : AllTold config.routes cs o l.output.buffer.cells l.output.book
+  pub requests : AllTold config.routes cs o l.output.buffer.cells l.output.book.admissions
+  pub named : IsNamed config o l.output.buffer
 
 pub record Story (config : Config) (es : List Event) (h : History) : Type 0 where
   pub run : h.run ≡ config.run
@@ -290,18 +302,18 @@ request_still routes cs ds o cells a ext t =
     let g = ext a.origin.conn t.source t.stands in
     record {
       request = t.request;
-      number = t.number;
-      moment = t.moment;
       place = t.place;
       source = g.0;
-      entered = t.entered;
+      mine = t.mine;
       stands = g.1;
       nth = t.nth;
       admitted = omega (arith, t.admitted, g.2.0);
       asked = g.2.1 t.place t.request t.asked;
       first_match = t.first_match;
       own = t.own;
-      under = t.under;
+      entries = t.entries;
+      tags = t.tags;
+      runs = t.runs;
     }
 
 pub all_still : (routes : List (List (List ℕ))) (cs ds : List Connection) (o : ℕ)
@@ -317,7 +329,8 @@ lane_still config es e cs ds o l ext quiet t = record {
   sessions = λ w s h. session_still config es e o l.output.buffer.cells w s (quiet w s h) (t.sessions w s h);
   numbers = λ k h. number_still config es e o l.output.buffer.cells k (t.numbers k h);
   own = λ id r h. admitted_still cs ds id r ext (t.own id r h);
-  requests = all_still config.routes cs ds o l.output.buffer.cells l.output.book ext t.requests;
+  requests = all_still config.routes cs ds o l.output.buffer.cells l.output.book.admissions ext t.requests;
+  named = t.named;
 }
 
 -- ---- an event that leaves the outputs, and one that changes one of them

@@ -11,14 +11,13 @@ use Rattle.fwd_msgpack.specs.Scans.Split.{Open, Broken}
 use Rattle.fwd_modes.specs.Frames.{chunk_name, chunk_frame}
 use Rattle.fwd_modes.specs.Acks.{ack_name}
 use Rattle.fwd_modes.specs.Kinds.{is_nil}
-use Rattle.fwd_model.specs.declared.cell.Cell.{Cell}
-use Rattle.fwd_model.specs.declared.cell.Carry.{Carry}
+use Rattle.fwd_chunks.specs.Cells.{Cell, Carry}
 use Rattle.fwd_model.specs.declared.config.Config.{Config}
 use Rattle.fwd_model.specs.declared.event.Event.{Event}
 use Rattle.fwd_model.specs.declared.event.Event.TheVariants as event
 use Rattle.fwd_model.specs.declared.answer.Answer.TheVariants as answer
 use Rattle.fwd_model.specs.declared.fault.SessionFault.TheVariants.{BadReply, WrongAck}
-use Rattle.fwd_model.specs.Chunks.{carry_of}
+use Rattle.fwd_model.specs.Outputs.{carry_of}
 use Rattle.fwd_model.specs.Replies.{Replies, Reply, reply_of, reply_named, reply_then, replies, replies_in, silence, failing}
 use Rattle.fwd_model.specs.Replies.Reply.{Skipped, Accepted, Failed}
 use Rattle.fwd_model.specs.Replies.{is_loaded}
@@ -101,6 +100,7 @@ put_session config es e o cs l w s quiet t story =
       numbers = still.numbers;
       own = still.own;
       requests = still.requests;
+      named = still.named;
     }
   where
     at : (j : ℕ) (u : SessionHistory) → ((w ≡ j) × (Some s ≡ Some u)) ⊎ ((w ≡ j → ⊥) × (slice_get l.sessions j ≡ Some (Some u))) → SessionStory config (es ++ e ∷ []) o j l.output.buffer.cells u

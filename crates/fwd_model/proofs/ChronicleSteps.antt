@@ -9,35 +9,36 @@ use Rattle.fwd_source.specs.declared.piece.Piece.TheVariants as verdict
 use Rattle.fwd_source.specs.History.{Setup, SourceHistory, IsSane as IsSaneSource, judged, is_closed, waiting, opened, hears, gives, appends, drains, shuts, told, new_pong, unsent}
 use Rattle.fwd_source.specs.Live.{live_source, judged_piece}
 use Rattle.fwd_source.proofs.Following.{heard}
-use Rattle.fwd_model.specs.declared.cell.Chunk.{Chunk}
+use Rattle.fwd_chunks.specs.declared.fault.AdmitError.{AdmitError}
+use Rattle.fwd_chunks.specs.declared.fault.AdmitError.TheVariants.{Full, NumbersSpent, Memory}
+use Rattle.fwd_chunks.specs.declared.flush.FlushKind.{FlushKind}
+use Rattle.fwd_chunks.specs.History as buffer
+use Rattle.fwd_chunks.specs.History.{Load, load_of}
 use Rattle.fwd_model.specs.declared.config.Config.{Config}
 use Rattle.fwd_model.specs.declared.event.Event.{Event}
 use Rattle.fwd_model.specs.declared.event.Event.TheVariants as event
-use Rattle.fwd_model.specs.declared.event.FlushKind.{FlushKind}
 use Rattle.fwd_model.specs.declared.answer.Answer.{Answer}
 use Rattle.fwd_model.specs.declared.answer.Answer.TheVariants as answer
 use Rattle.fwd_model.specs.declared.fault.Refusal.TheVariants.{NoSuch, NotNow}
 use Rattle.fwd_model.specs.Outcome.{Outcome, Stays, Goes, answer_of, state_of, of_piece, first_of, chunk_answer}
 use Rattle.fwd_model.specs.Layers.{Worker}
-use Rattle.fwd_model.specs.Books.{acks_of}
+use Rattle.fwd_model.specs.Books as book
 use Rattle.fwd_model.specs.Step as steps
 use Rattle.fwd_model.specs.Step.{step}
 use Rattle.fwd_model.specs.Setups.{setup_of}
-use Rattle.fwd_model.specs.Chunks.{frame_of}
 use Rattle.fwd_model.specs.Replies.{is_loaded}
-use Rattle.fwd_model.specs.Buffers as buffer
-use Rattle.fwd_model.specs.Outputs.{output_history_enters, output_history_due, output_history_tells}
+use Rattle.fwd_model.specs.Outputs.{frame_of, output_history_enters, output_history_settles}
 use Rattle.fwd_model.specs.Sessions as session
 use Rattle.fwd_model.specs.Sessions.{SessionHistory}
-use Rattle.fwd_model.specs.History.{Connection, ever_at, source_at, with_source, with_gone, Lane, History, with_connection, with_lane, with_output, with_buffer, with_session, histories}
+use Rattle.fwd_model.specs.History.{Connection, ever_at, source_at, with_source, with_gone, Lane, History, with_connection, with_lane, with_output, with_buffer, with_book, with_session, histories}
 use Rattle.fwd_model.specs.Delivered.{reached, answered, session_of, standing, session_at}
-use Rattle.fwd_model.proofs.Onward.{Onward, to, past, past_found, past_either, at_next, source_on, lane_on, both_on, worker_on, session_on}
+use Rattle.fwd_model.proofs.Onward.{Onward, to, past, past_found, at_next, source_on, lane_on, both_on, worker_on, session_on}
 use Rattle.fwd_model.proofs.Places.{slice_get-set_same}
 use Rattle.fwd_model.proofs.Reached.{IsSaneLane, IsSane, AllSources-at, AllSane-at}
 use Rattle.fwd_model.proofs.Workers.{IsWorker, worker_is, IsCarriedBy, carried_is, session_here}
-use Rattle.fwd_model.proofs.Chronicle.{frame_at, SessionStory, LaneStory, Story, Grows, ever_from, extends_push, extends_with, extends_gone, extends_same, lanes_stay, lane_put, quiet, still, after-push}
+use Rattle.fwd_model.proofs.Chronicle.{frame_at, frame_is, SessionStory, LaneStory, Story, Grows, ever_from, extends_push, extends_with, extends_gone, extends_same, lanes_stay, lane_put, quiet, still, after-push}
 use Rattle.fwd_model.proofs.ChronicleSessions.{put_session, begins, loads, sends, hears as hears_story}
-use Rattle.fwd_model.proofs.ChronicleSettles.{lane_settles, lane_tells}
+use Rattle.fwd_model.proofs.ChronicleSettles.{lane_forgets, lane_settles, lane_tells}
 use Rattle.fwd_model.proofs.ChronicleAdmits.{lane_enters}
 
 slice_get-append : {X : Type 0} (xs ys : List X) (i : ℕ) (x : X) → slice_get xs i ≡ Some x
@@ -161,40 +162,48 @@ module _ (config : Config) (es : List Event) (sane : IsSane (reached config es))
       P : SourceHistory × Lane → Type 0
       P two = Story config (es ++ e ∷ []) (with_lane o two.1 (with_connection id two.0 h))
 
+      unless : (s : SourceHistory) (q : Request) (l : Lane) → source_at id h.connections ≡ Some s → slice_get h.lanes o ≡ Some l → first_of (waiting s) ≡ Some q → route h.routes q.tag ≡ Some o → (fault : Option AdmitError)
+          → Onward (λ a two. P two) (steps.enter_unless histories fault s q (record { conn = id; request = s.admitted + 1 }) l now)
+      unless s q l here lane wait way None = to (enters_story e id o now s q l here lane wait way)
+      unless s q l here lane wait way (Some Full) = to (shuts_story e id o s l here lane)
+      unless s q l here lane wait way (Some NumbersSpent) = to (shuts_story e id o s l here lane)
+      unless s q l here lane wait way (Some Memory) = record { holds = tt }
+
       by : (s : SourceHistory) (q : Request) (l : Lane) (first : Option ℕ) → source_at id h.connections ≡ Some s → slice_get h.lanes o ≡ Some l → first_of (waiting s) ≡ Some q → route h.routes q.tag ≡ first
           → Onward (λ a two. P two) (steps.routed histories first s q id o l now)
       by s q l None here lane wait way = to (shuts_story e id o s l here lane)
       by s q l (Some first) here lane wait way =
-          past _ (λ this. past_either (λ spent. to (shuts_story e id o s l here lane)) (λ room. to (enters_story e id o now s q l here lane wait (way ∙ ap Some (same_place first o this)))))
+          past _ (λ this. unless s q l here lane wait (way ∙ ap Some (same_place first o this)) (histories.refusal l (record { conn = id; request = s.admitted + 1 }) q now))
 
   collect_on : (e : Event) (id o : ℕ) → Onward (λ a k. Story config (es ++ e ∷ []) k) (steps.at_both histories h id o (steps.collect histories id))
   collect_on e id o =
       both_on histories h id o _ (steps.collect histories id) (λ s l here lane. past _ (λ (up : s.shut ≡ false). to (
-      let more = appends s (acks_of (output_history_due l.output id)) in
+      let more = appends s (histories.due l id).acks in
       let ext = extends_with id s more h.connections (ever_from id h.connections s here) (grows_more s more refl (omega arith)) in
-      lane_put config es e t (with_source id more h.connections) o (with_output l (output_history_tells l.output id)) ext
+      lane_put config es e t (with_source id more h.connections) o (with_book l (book.tells l.output.book id)) ext
       (lane_tells config es e h.connections (with_source id more h.connections) o id l ext (quiet config es e t o l lane) (t.lanes o l lane)))))
 
   -- ---- an output and its workers
 
-  flushed_story : (e : Event) (o now : ℕ) (kind : FlushKind) (l : Lane) → slice_get h.lanes o ≡ Some l → LaneStory config (es ++ e ∷ []) h.connections o (with_buffer l (buffer.flushes l.output.buffer l.config.flush_interval now kind))
-  unfolding buffer.flushes
+  forget_on : (e : Event) (id o : ℕ) → Onward (λ a k. Story config (es ++ e ∷ []) k) (steps.at_lane histories h o (λ l. steps.forget histories l id))
+  forget_on e id o = lane_on histories h o _ (λ l. steps.forget histories l id) (λ l lane. to (lane_next e o _ (lane_forgets config es e h.connections o id l (quiet config es e t o l lane) (t.lanes o l lane))))
+
+  flushed_story : (e : Event) (o now : ℕ) (kind : FlushKind) (l : Lane) → slice_get h.lanes o ≡ Some l → LaneStory config (es ++ e ∷ []) h.connections o (with_buffer l (buffer.flushes l.output.buffer now kind))
   flushed_story e o now kind l lane =
       let s = still config es e t h.connections o l (extends_same h.connections) lane in
-      record { sessions = s.sessions; numbers = s.numbers; own = s.own; requests = s.requests }
+      record { sessions = s.sessions; numbers = s.numbers; own = s.own; requests = s.requests; named = s.named }
 
   flush_on : (e : Event) (o now : ℕ) (kind : FlushKind) → Onward (λ a k. Story config (es ++ e ∷ []) k) (steps.at_lane histories h o (λ l. steps.flush histories l now kind))
   flush_on e o now kind = lane_on histories h o _ (λ l. steps.flush histories l now kind) (λ l lane. to (lane_next e o _ (flushed_story e o now kind l lane)))
 
   taken_story : (e : Event) (o w now : ℕ) (l : Lane) → slice_get h.lanes o ≡ Some l → LaneStory config (es ++ e ∷ []) h.connections o (with_buffer l (buffer.takes l.output.buffer w now))
-  unfolding buffer.takes
   taken_story e o w now l lane =
       let s = still config es e t h.connections o l (extends_same h.connections) lane in
-      record { sessions = s.sessions; numbers = s.numbers; own = s.own; requests = s.requests }
+      record { sessions = s.sessions; numbers = s.numbers; own = s.own; requests = s.requests; named = s.named }
 
   take_on : (e : Event) (o w now : ℕ) → Onward (λ a k. Story config (es ++ e ∷ []) k) (steps.at_lane histories h o (λ l. steps.take histories l w now))
   take_on e o w now = lane_on histories h o _ (λ l. steps.take histories l w now) (λ l lane.
-      past_found NoSuch {x = histories.worker_at l w} (λ x at. past NotNow {b = is_some x.chunk} (λ none. to {a = chunk_answer (histories.free l)} (lane_next e o _ (taken_story e o w now l lane)))))
+      past_found NoSuch {x = histories.worker_at l w} (λ x at. past NotNow {b = is_some x.chunk} (λ none. to {a = chunk_answer (histories.given l now)} (lane_next e o _ (taken_story e o w now l lane)))))
 
   settle_on : (e : Event) (o w : ℕ) → Onward (λ a k. Story config (es ++ e ∷ []) k) (steps.at_lane histories h o (λ l. steps.settle histories l w))
   settle_on e o w =
@@ -202,7 +211,7 @@ module _ (config : Config) (es : List Event) (sane : IsSane (reached config es))
       past_found _ (λ x at.
       past_found _ (λ s f.
       past_found _ (λ k acked. to (
-      lane_next e o (with_session w (session.unloads s) (with_buffer l (buffer.settles l.output.buffer w k)))
+      lane_next e o (with_session w (session.unloads s) (with_output l (output_history_settles l.output k)))
       (lane_settles config es e h.connections o w l s k (session_here l w x s at f) acked (quiet config es e t o l lane) (t.lanes o l lane)))))))
 
   -- ---- sessions: what is answered and where it leads count
@@ -215,22 +224,23 @@ module _ (config : Config) (es : List Event) (sane : IsSane (reached config es))
       past NotNow {b = is_some x.session} (λ none. to {a = answer.Done} {s = steps.with_session x (session.begins server now)} (λ done leads.
       session_put (event.Up o w server salt now) o w l (session.begins server now) lane (begins config es o w l.output.buffer.cells server salt now done))))))
 
-  loaded_story : (o w now : ℕ) (l : Lane) (x : Worker SessionHistory) (s : SessionHistory) (c : Chunk) → slice_get h.lanes o ≡ Some l → IsWorker l w x → x.session ≡ Some s → IsCarriedBy l w c → is_loaded s.loaded c.number ≡ false
-      → answered config es (event.Load o w now) ≡ answer.Frame (frame_of h.run o c)
-      → Story config (es ++ event.Load o w now ∷ []) (with_lane o (with_session w (session.loads s c.number (frame_of h.run o c) now) l) h)
+  loaded_story : (o w now : ℕ) (l : Lane) (x : Worker SessionHistory) (s : SessionHistory) (c : Load) → slice_get h.lanes o ≡ Some l → IsWorker l w x → x.session ≡ Some s → IsCarriedBy l w c → is_loaded s.loaded c.number ≡ false
+      → answered config es (event.Load o w now) ≡ answer.Frame (frame_of c)
+      → Story config (es ++ event.Load o w now ∷ []) (with_lane o (with_session w (session.loads s c.number (frame_of c) now) l) h)
   loaded_story o w now l x s c lane at f by fresh done =
       let here : slice_get l.sessions w ≡ Some (Some s) = at.here ∙ ap Some f in
-      let same : frame_of h.run o c ≡ frame_at config o l.output.buffer.cells c.number = (λ i. frame_of (t.run i) o (sym by.chunk_is i)) ∙ ap (frame_at config o l.output.buffer.cells) by.number in
+      let same : frame_of c ≡ frame_at config o l.output.buffer.cells c.number =
+      ap frame_of (sym by.chunk_is) ∙ frame_is config o by.carry.number l.output.buffer (t.lanes o l lane).named ∙ ap (frame_at config o l.output.buffer.cells) by.number in
       let story = loads config es o w l.output.buffer.cells s l.output.buffer.carried by.carry now ((t.lanes o l lane).sessions w s here) ((own_lane o l lane).sessions w s here) by.here (subst (λ n. is_loaded s.loaded n ≡ false) (sym by.number) fresh)
       (subst (λ n. answered config es (event.Load o w now) ≡ answer.Frame (frame_at config o l.output.buffer.cells n)) (sym by.number) (done ∙ ap answer.Frame same)) in
-      session_put (event.Load o w now) o w l (session.loads s c.number (frame_of h.run o c) now) lane
+      session_put (event.Load o w now) o w l (session.loads s c.number (frame_of c) now) lane
       (subst (λ f. SessionStory config (es ++ event.Load o w now ∷ []) o w l.output.buffer.cells (session.loads s c.number f now)) (sym same)
       (subst (λ n. SessionStory config (es ++ event.Load o w now ∷ []) o w l.output.buffer.cells (session.loads s n (frame_at config o l.output.buffer.cells n) now)) by.number story))
 
   load_on : (o w now : ℕ) → Onward (Next (event.Load o w now)) (step histories h (event.Load o w now))
   load_on o w now =
-      lane_on histories h o _ (λ l. steps.at_worker histories l w (steps.load histories h.run o now)) (λ l lane.
-      worker_on histories l w _ (steps.load histories h.run o now) (λ x at.
+      lane_on histories h o _ (λ l. steps.at_worker histories l w (steps.load histories now)) (λ l lane.
+      worker_on histories l w _ (steps.load histories now) (λ x at.
       past_found _ (λ s f.
       past_found _ (λ c g.
       past _ (λ fresh.
@@ -277,6 +287,7 @@ module _ (config : Config) (es : List Event) (sane : IsSane (reached config es))
   event_on (event.Heard o w bytes) = heard_on o w bytes
   event_on (event.Settle o w) = anyhow _ _ (settle_on (event.Settle o w) o w)
   event_on (event.Collect id o) = anyhow _ _ (collect_on (event.Collect id o) id o)
+  event_on (event.Forget id o) = anyhow _ _ (forget_on (event.Forget id o) id o)
   event_on (event.Drained id count) = anyhow _ _ (drained_on (event.Drained id count) id count)
   event_on (event.Shut id) = anyhow _ _ (shut_on (event.Shut id) id)
 

@@ -5,26 +5,27 @@ use Rattle.std.specs.List.{list_all}
 use Rattle.std.specs.Str.{bytes_eq}
 use Rattle.std.proofs.lemmas.Slice.Eq.{bytes_eq-Decides}
 use Rattle.std.proofs.lemmas.Bool.Decides.{nat_tests}
-use Rattle.fwd_modes.specs.Requests.{Request}
 use Rattle.fwd_modes.specs.Frames.{chunk_frame, chunk_name}
-use Rattle.fwd_model.specs.declared.cell.Cell.{Cell}
+use Rattle.fwd_chunks.specs.Cells.{Cell, cells_at, contents, entries_of, first_tag, has_entry, has_number}
+use Rattle.fwd_chunks.specs.Cells as cells
+use Rattle.fwd_chunks.proofs.CellLemmas.{has_cell, numbers-has}
+use Rattle.fwd_chunks.proofs.News.{AreOf}
 use Rattle.fwd_model.specs.declared.cell.Entered.{Entered}
 use Rattle.fwd_source.specs.declared.origin.Origin.{Origin}
-use Rattle.fwd_model.specs.declared.cell.Span.{Span}
 use Rattle.fwd_model.specs.declared.config.Config.{Config}
 use Rattle.fwd_model.specs.declared.event.Event.{Event}
 use Rattle.fwd_model.specs.declared.answer.Answer.TheVariants as answer
 use Rattle.fwd_model.specs.declared.event.Event.TheVariants as event
-use Rattle.fwd_model.specs.Chunks.{cells_at, cells_of, chunk_of, first_tag, has_number}
 use Rattle.fwd_source.specs.History.{SourceHistory}
 use Rattle.fwd_model.specs.declared.fault.Refusal.TheVariants.{Closed, NoSuch}
 use Rattle.fwd_model.specs.Outcome.{answer_of, state_of, within, found as sought, refuse_if, Goes, ◌>>=◌, ◌>>◌}
 use Rattle.fwd_model.specs.Step as steps
 use Rattle.fwd_model.specs.Step.{step}
-use Rattle.fwd_model.specs.Books.{Admission, entered_as, is_settled, is_of, is_due, numbers_of, acks_of, has_cell}
-use Rattle.fwd_model.specs.Outputs.{OutputHistory, output_history_due}
-use Rattle.fwd_model.specs.History.{Connection, ever_at, source_at, Lane, History, opening, new_lane, with_connection, with_lane, histories}
+use Rattle.fwd_model.specs.Books.{Admission, is_settled, is_of, is_untold, is_owed, is_due, numbers_of}
+use Rattle.fwd_model.specs.Outputs.{OutputHistory}
+use Rattle.fwd_model.specs.History.{Connection, ever_at, source_at, Lane, History, opening, new_lane, new_lanes, with_connection, with_lane, histories}
 use Rattle.fwd_model.specs.Delivered.{reached, cells_from, whole_frame, WasAcknowledged, IsDelivered, IsTold, IsToldAmong}
+use Rattle.fwd_model.proofs.Reached.{IsSaneLane, AllSane-at}
 use Rattle.fwd_model.proofs.Follows.{reached_sane}
 use Rattle.fwd_model.proofs.Chronicle.{ever_from, frame_at, RequestStory, AllTold, LaneStory, Story, by_last, after-push}
 use Rattle.fwd_model.proofs.ChronicleSteps.{goes_on}
@@ -39,24 +40,27 @@ no_sessions (suc n) zero t e = cc
 no_sessions (suc n) (suc w) t e = no_sessions n w t e
 
 new_lane_story : (config : Config) (cs : List Connection) (o : ℕ) (c : OutputConfig)
-    → LaneStory config [] cs o (new_lane c)
+    → LaneStory config [] cs o (new_lane config.run o c)
 new_lane_story config cs o c = record {
   sessions = λ w s h. absurd (no_sessions c.workers w s h);
   numbers = λ k h. absurd cc;
   own = λ id r h. absurd cc;
   requests = tt;
+  named = (refl, refl);
 }
 
-new_lanes : (config : Config) (cs : List Connection) (configs : List OutputConfig) (base o : ℕ)
-    (l : Lane) → slice_get (map new_lane configs) o ≡ Some l
+new_stories : (config : Config) (cs : List Connection) (configs : List OutputConfig)
+    (base o : ℕ) (l : Lane) → slice_get (new_lanes config.run base configs) o ≡ Some l
     → LaneStory config [] cs (base + o) l
-new_lanes config cs [] base o l h = absurd cc
-new_lanes config cs (c ∷ configs) base zero l h = let same : new_lane c ≡ l = cc in subst (λ x. LaneStory config [] cs (base + 0) x) same (new_lane_story config cs (base + 0) c)
-new_lanes config cs (c ∷ configs) base (suc o) l h = subst (λ n. LaneStory config [] cs n l) (omega arith) (new_lanes config cs configs (base + 1) o l h)
+new_stories config cs [] base o l h = absurd cc
+new_stories config cs (c ∷ configs) base zero l h =
+    let same : new_lane config.run base c ≡ l = cc in
+    subst (λ n. LaneStory config [] cs n l) (omega arith) (subst (λ x. LaneStory config [] cs base x) same (new_lane_story config cs base c))
+new_stories config cs (c ∷ configs) base (suc o) l h = subst (λ n. LaneStory config [] cs n l) (omega arith) (new_stories config cs configs (suc base) o l h)
 
 opening_story : (config : Config) → Story config [] (reached config [])
 unfolding opening
-opening_story config = record { run = refl; routes = refl; lanes = λ o l h. subst (λ n. LaneStory config [] [] n l) (omega arith) (new_lanes config [] config.outputs 0 o l h) }
+opening_story config = record { run = refl; routes = refl; lanes = λ o l h. subst (λ n. LaneStory config [] [] n l) (omega arith) (new_stories config [] config.outputs 0 o l h) }
 
 pub every_story : (config : Config) (es : List Event) → Story config es (reached config es)
 every_story config es =
@@ -71,7 +75,7 @@ pub record IsFound (routes : List (List (List ℕ))) (cs : List Connection) (o i
   pub story : RequestStory routes cs o output.buffer.cells entered
   pub conn : entered.origin.conn ≡ id
   pub number : entered.origin.request ≡ r
-  pub settled : is_settled output.buffer.acknowledged entered ≡ true
+  pub settled : is_settled output.book.settled entered ≡ true
 
 and_parts : (a b : Bool) → (a && b) ≡ true → (a ≡ true) × (b ≡ true)
 and_parts true b h = (refl, h)
@@ -82,19 +86,19 @@ eq_from a b e = grind (arith, nat_tests, e)
 
 found_by : (routes : List (List (List ℕ))) (cs : List Connection) (o id r : ℕ)
     (output : OutputHistory) (a : Admission) (rest : List Entered) (b c : Bool)
-    → is_due id output.buffer.acknowledged a ≡ b → eqb a.request.origin.request r ≡ c
+    → is_due id output.book.settled a ≡ b → eqb a.request.origin.request r ≡ c
     → RequestStory routes cs o output.buffer.cells a.request
     → (has_number r (numbers_of rest) ≡ true → IsFound routes cs o id r output) → has_number r (numbers_of (cond b (a.request ∷ rest) rest)) ≡ true → IsFound routes cs o id r output
 found_by routes cs o id r output a rest true true due_is same one later h =
-    let parts = and_parts (not a.told) (is_of id a.request && is_settled output.buffer.acknowledged a.request) due_is in
-    let both = and_parts (is_of id a.request) (is_settled output.buffer.acknowledged a.request) parts.1 in
-    record { entered = a.request; story = one; conn = eq_from a.request.origin.conn id both.0; number = eq_from a.request.origin.request r same; settled = both.1 }
+    let parts = and_parts (is_owed id a) (is_settled output.book.settled a.request) due_is in
+    let its = and_parts (is_untold a.fate) (is_of id a.request) parts.0 in
+    record { entered = a.request; story = one; conn = eq_from a.request.origin.conn id its.1; number = eq_from a.request.origin.request r same; settled = parts.1 }
 found_by routes cs o id r output a rest true false due_is same one later h = later (grind (arith, nat_tests, h, same))
 found_by routes cs o id r output a rest false c due_is same one later h = later h
 
 due_map : (id : ℕ) (output : OutputHistory) (a : Admission) (admissions : List Admission)
     (b : Bool)
-    → map (λ (x : Admission). x.request) (cond b (a ∷ filter (is_due id output.buffer.acknowledged) admissions) (filter (is_due id output.buffer.acknowledged) admissions)) ≡ cond b (a.request ∷ map (λ x. x.request) (filter (is_due id output.buffer.acknowledged) admissions)) (map (λ x. x.request) (filter (is_due id output.buffer.acknowledged) admissions))
+    → map (λ (x : Admission). x.request) (cond b (a ∷ filter (is_due id output.book.settled) admissions) (filter (is_due id output.book.settled) admissions)) ≡ cond b (a.request ∷ map (λ x. x.request) (filter (is_due id output.book.settled) admissions)) (map (λ x. x.request) (filter (is_due id output.book.settled) admissions))
 due_map id output a admissions true = refl
 due_map id output a admissions false = refl
 
@@ -102,60 +106,61 @@ found : (routes : List (List (List ℕ))) (cs : List Connection) (o id r : ℕ)
     (output : OutputHistory) (admissions : List Admission)
     → AllTold routes cs o output.buffer.cells admissions
     → has_number r (numbers_of (map (λ a.
-    a.request) (filter (is_due id output.buffer.acknowledged) admissions))) ≡ true
+    a.request) (filter (is_due id output.book.settled) admissions))) ≡ true
     → IsFound routes cs o id r output
 found routes cs o id r output [] all h = absurd cc
 found routes cs o id r output (a ∷ admissions) all h =
-    found_by routes cs o id r output a (map (λ x. x.request) (filter (is_due id output.buffer.acknowledged) admissions)) (is_due id output.buffer.acknowledged a) (eqb a.request.origin.request r) refl refl all.0 (λ g. found routes cs o id r output admissions all.1 g)
-    (subst (λ xs. has_number r (numbers_of xs) ≡ true) (due_map id output a admissions (is_due id output.buffer.acknowledged a)) h)
+    found_by routes cs o id r output a (map (λ x. x.request) (filter (is_due id output.book.settled) admissions)) (is_due id output.book.settled a) (eqb a.request.origin.request r) refl refl all.0 (λ g. found routes cs o id r output admissions all.1 g)
+    (subst (λ xs. has_number r (numbers_of xs) ≡ true) (due_map id output a admissions (is_due id output.book.settled a)) h)
 
 -- ---- what is found was delivered
 
-module _ (q : Request) (origin : Origin) (number moment : ℕ) where
-  abbrev mk : List ℕ → Cell
-  mk e = record { tag = q.tag; entry = e; origin = origin; number = number; moment = moment }
+tags_are : (tag : List ℕ) (origin : Origin) (mine : List Cell) → AreOf tag origin mine
+    → list_all (λ c. bytes_eq c.tag tag) mine ≡ true
+tags_are tag origin [] all = refl
+tags_are tag origin (c ∷ mine) all =
+    let same : bytes_eq c.tag tag ≡ true = (bytes_eq-Decides c.tag tag).1 all.0 in
+    λ i. same i && tags_are tag origin mine all.2 i
 
-  entries_are : (es : List (List ℕ)) → map (λ c. c.entry) (map mk es) ≡ es
-  entries_are [] = refl
-  entries_are (e ∷ es) = ap (λ xs. e ∷ xs) (entries_are es)
+-- a number of cells that all have a tag is an entry's of that tag
+entry_of : (tag : List ℕ) (k : ℕ) (mine : List Cell)
+    → list_all (λ c. bytes_eq c.tag tag) mine ≡ true → has_cell k mine ≡ true
+    → has_entry tag k mine ≡ true
+entry_of tag k [] all h = absurd cc
+entry_of tag k (c ∷ mine) all h = grind (arith, nat_tests, entry_of tag k mine)
 
-  tags_are : (es : List (List ℕ)) → list_all (λ c. bytes_eq c.tag q.tag) (map mk es) ≡ true
-  tags_are [] = refl
-  tags_are (e ∷ es) = grind (arith, nat_tests, tags_are es, (bytes_eq-Decides q.tag q.tag).1 refl)
-
-  number_is-by : (k : ℕ) (rest a : Bool) → eqb number k ≡ a → (rest ≡ true → number ≡ k) → (a || rest) ≡ true → number ≡ k
-  number_is-by k rest true f later h = eq_from number k f
-  number_is-by k rest false f later h = later h
-
-  number_is : (k : ℕ) (es : List (List ℕ)) → has_cell k (map mk es) ≡ true → number ≡ k
-  number_is k [] h = absurd cc
-  number_is k (e ∷ es) h = number_is-by k (has_cell k (map mk es)) (eqb number k) refl (λ g. number_is k es g) h
-
-  settled_is : (acked : List ℕ) (k : ℕ) (es : List (List ℕ)) → has_cell k (map mk es) ≡ true
-      → list_all (λ (s : Span). has_number s.number acked) (cond (eqb (length es) 0) [] (record { number = number; from = 0; count = length es } ∷ [])) ≡ true → has_number number acked ≡ true
-  settled_is acked k [] h g = absurd cc
-  settled_is acked k (e ∷ es) h g = grind (arith, nat_tests, g)
+-- and an entry of some cells is one of all
+entry_in : (p : Cell → Bool) (tag : List ℕ) (k : ℕ) (all : List Cell)
+    → has_entry tag k (filter p all) ≡ true → has_entry tag k all ≡ true
+entry_in p tag k [] h = h
+entry_in p tag k (c ∷ all) h = grind (arith, nat_tests, entry_in p tag k all)
 
 frame_is : (config : Config) (o : ℕ) (tag : List ℕ) (cells : List Cell) (k : ℕ)
     → first_tag (cells_at k cells) ≡ tag
     → frame_at config o cells k ≡ whole_frame config o tag cells k
-unfolding chunk_of
-frame_is config o tag cells k e = ap (λ x. chunk_frame x (map (λ c. c.entry) (cells_at k cells)) (chunk_name config.run o k)) e
+frame_is config o tag cells k e = ap (λ x. chunk_frame x (contents k cells) (chunk_name config.run o k)) e
 
-module _ (config : Config) (es : List Event) (id r o : ℕ) (l : Lane) (here : slice_get (reached config es).lanes o ≡ Some l) (story : LaneStory config es (reached config es).connections o l) (f : IsFound config.routes (reached config es).connections o id r l.output)
+module _ (config : Config) (es : List Event) (id r o : ℕ) (l : Lane) (here : slice_get (reached config es).lanes o ≡ Some l) (story : LaneStory config es (reached config es).connections o l) (f : IsFound config.routes (reached config es).connections o id r l.output) (sane : IsSaneLane l)
     (s : SourceHistory) (known : source_at id (reached config es).connections ≡ Some s) where
   abbrev t : RequestStory config.routes (reached config es).connections o l.output.buffer.cells f.entered
   t = f.story
 
-  own : cells_from id r l.output.buffer.cells ≡ cells_of t.request f.entered.origin t.number t.moment
+  own : cells_from id r l.output.buffer.cells ≡ t.mine
   own = (λ i. cells_from (sym f.conn i) (sym f.number i) l.output.buffer.cells) ∙ t.own
 
-  acked : (k : ℕ) → has_cell k (cells_from id r l.output.buffer.cells) ≡ true → has_number k l.output.buffer.acknowledged ≡ true
+  tags : list_all (λ c. bytes_eq c.tag t.request.tag) (cells_from id r l.output.buffer.cells) ≡ true
+  tags = ap (list_all (λ c. bytes_eq c.tag t.request.tag)) own ∙ tags_are t.request.tag f.entered.origin t.mine t.tags
+
+  has : (k : ℕ) → has_number k (cells.numbers_of (cells_from id r l.output.buffer.cells)) ≡ true → has_cell k (cells_from id r l.output.buffer.cells) ≡ true
+  has k h = sym (numbers-has k (cells_from id r l.output.buffer.cells)) ∙ h
+
+  acked : (k : ℕ) → has_number k (cells.numbers_of (cells_from id r l.output.buffer.cells)) ≡ true → has_number k l.output.buffer.acknowledged ≡ true
   acked k h =
-      let g : has_cell k (cells_of t.request f.entered.origin t.number t.moment) ≡ true = subst (λ cs. has_cell k cs ≡ true) own h in
-      let same = number_is t.request f.entered.origin t.number t.moment k t.request.entries g in
-      let settled : is_settled l.output.buffer.acknowledged (entered_as t.request f.entered.origin t.number) ≡ true = subst (λ e. is_settled l.output.buffer.acknowledged e ≡ true) t.entered f.settled in
-      subst (λ n. has_number n l.output.buffer.acknowledged ≡ true) same (settled_is t.request f.entered.origin t.number t.moment l.output.buffer.acknowledged k t.request.entries g settled)
+      ap (has_number k) (sym sane.marks) ∙ t.runs (λ j. has_number j l.output.book.settled) k f.settled (subst (λ cs. has_cell k cs ≡ true) own (has k h))
+
+  tag_of : (k : ℕ) → has_number k (cells.numbers_of (cells_from id r l.output.buffer.cells)) ≡ true → first_tag (cells_at k l.output.buffer.cells) ≡ t.request.tag
+  tag_of k h =
+      sane.buffer.one_tag k t.request.tag (entry_in (λ c. (c.origin.conn == id) && (c.origin.request == r)) t.request.tag k l.output.buffer.cells (entry_of t.request.tag k (cells_from id r l.output.buffer.cells) tags (has k h)))
 
   pub found_delivered : IsDelivered config es id r o
   found_delivered = record {
@@ -168,13 +173,12 @@ module _ (config : Config) (es : List Event) (id r o : ℕ) (l : Lane) (here : s
     first_match = t.first_match;
     lane = l;
     here = here;
-    entries = ap (map (λ c. c.entry)) own ∙ entries_are t.request f.entered.origin t.number t.moment t.request.entries;
-    tags = ap (list_all (λ c. bytes_eq c.tag t.request.tag)) own ∙ tags_are t.request f.entered.origin t.number t.moment t.request.entries;
+    entries = ap entries_of own ∙ t.entries;
+    tags = tags;
     settled = acked;
     sent = λ k h.
-        let g : has_cell k (cells_of t.request f.entered.origin t.number t.moment) ≡ true = subst (λ cs. has_cell k cs ≡ true) own h in
         let n = story.numbers k (acked k h) in
-        (n.0, subst (λ frame. WasAcknowledged config es o n.0 frame (chunk_name config.run o k)) (frame_is config o t.request.tag l.output.buffer.cells k (t.under k g).1) n.1);
+        (n.0, subst (λ frame. WasAcknowledged config es o n.0 frame (chunk_name config.run o k)) (frame_is config o t.request.tag l.output.buffer.cells k (tag_of k h)) n.1);
   }
 
 told_by : (config : Config) (es : List Event) (id r o : ℕ) (numbers out : List ℕ)
@@ -188,12 +192,13 @@ told_by config es id r o numbers out (Some s) None known here story told among =
 told_by config es id r o numbers out (Some s) (Some l) known here story told among = at s.shut told
   where
     at : (b : Bool) → answer_of (within (λ (two : SourceHistory × Lane). with_lane o two.1 (with_connection id two.0 (reached config es))) (refuse_if b Closed
-        >> Goes (answer.Told (numbers_of (output_history_due l.output id)) (acks_of (output_history_due l.output id))) (histories.appends s (acks_of (output_history_due l.output id)), histories.tells l id))) ≡ answer.Told numbers out → IsDelivered config es id r o
+        >> Goes (answer.Told (histories.due l id).numbers (histories.due l id).acks) (histories.appends s (histories.due l id).acks, histories.tells l id))) ≡ answer.Told numbers out → IsDelivered config es id r o
     at true e = absurd cc
     at false e =
-        let same : numbers_of (output_history_due l.output id) ≡ numbers = cc in
+        let same : (histories.due l id).numbers ≡ numbers = cc in
         let lane = story.lanes o l here in
-        found_delivered config es id r o l here lane (found config.routes (reached config es).connections o id r l.output l.output.book lane.requests (subst (λ ns. has_number r ns ≡ true) (sym same) among)) s known
+        let own = AllSane-at (reached config es).lanes o l (reached_sane config (reached config es) (es, refl)).lanes here in
+        found_delivered config es id r o l here lane (found config.routes (reached config es).connections o id r l.output l.output.book.admissions lane.requests (subst (λ ns. has_number r ns ≡ true) (sym same) among)) own s known
 
 pub told_delivered : (config : Config) (es : List Event) (id r o : ℕ)
     (t : IsTold config es id r o) → IsDelivered config t.before id r o

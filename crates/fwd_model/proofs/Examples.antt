@@ -3,6 +3,7 @@ use Rattle.std.proofs.Common.{◌≡◌, ℕ, List, [], ◌∷◌, ◌++◌, Non
 use Rattle.std.specs.Prelude.{replicate, codes}
 use Rattle.fwd_msgpack.specs.Heads.{row_of, named_rows, reading_of, head_bytes}
 use Rattle.fwd_msgpack.specs.Scans.{first_of, fault_at, item_begun, payload_ended, split_of, row_of_values, parts_of}
+use Rattle.fwd_modes.specs.Entries.{listed_entries, entry_of}
 use Rattle.fwd_modes.specs.Requests.{request_of}
 use Rattle.fwd_modes.specs.Frames.{chunk_frame, chunk_name, encode_symbols}
 use Rattle.fwd_modes.specs.Acks.{ack_text, ack_name}
@@ -10,7 +11,10 @@ use Rattle.fwd_match.specs.Patterns.{route, pattern_matches, matches}
 use Rattle.fwd_model.specs.declared.answer.Answer.TheVariants as answer
 use Rattle.fwd_model.specs.declared.event.Event.{Event}
 use Rattle.fwd_model.specs.declared.event.Event.TheVariants as event
-use Rattle.fwd_model.specs.declared.event.FlushKind.TheVariants.{All, Due}
+use Rattle.fwd_chunks.specs.declared.flush.FlushKind.TheVariants.{All, Due}
+use Rattle.fwd_chunks.specs.declared.limits.BufferLimits.{BufferLimits}
+use Rattle.fwd_chunks.specs.History.{adds}
+use Rattle.fwd_chunks.specs.Waits.{wait_after}
 use Rattle.fwd_model.specs.declared.fault.Refusal.TheVariants.{NoSuch, NotNow, NotUp, Closed}
 use Rattle.fwd_model.specs.declared.fault.SessionFault.TheVariants.{BadReply, WrongAck, EarlyAck}
 use Rattle.fwd_model.specs.declared.config.Config.{Config}
@@ -18,24 +22,39 @@ use Rattle.fwd_handshake.specs.declared.credentials.Security.{Security}
 use Rattle.fwd_msgpack.specs.declared.fault.ScanFault.TheVariants.{Reserved}
 use Rattle.fwd_source.specs.declared.fault.SourceFault.TheVariants.{Scan}
 use Rattle.fwd_source.specs.Judged.{judged_of}
-use Rattle.fwd_model.specs.Chunks.{chunk_of}
 use Rattle.fwd_model.specs.Replies.{reply_stream}
 use Rattle.fwd_model.specs.Step.{answers, after}
-use Rattle.fwd_model.specs.Buffers.{enters, flushes, takes, settles}
-use Rattle.fwd_model.specs.Books.{tells}
+use Rattle.fwd_model.specs.Books.{tells, forgets}
 use Rattle.fwd_model.specs.History.{opening, histories}
 
 -- no shared key is set
 abbrev nobody : Security
 nobody = record { hostname = []; shared_key = None; users = []; hostname_fits = omega arith }
 
-abbrev settings : Config
-settings = record {
+-- chunks of so many bytes, and so many bytes in all
+abbrev limits : (chunk total : ℕ) → BufferLimits
+limits chunk total = record {
+  chunk = chunk;
+  total = total;
+  interval = 1000;
+  retry_wait = 500;
+  retry_max = 4000;
+  bounded = omega arith;
+  first = 1;
+}
+
+-- one output that every tag matches
+abbrev limited : (chunk total : ℕ) → Config
+limited chunk total = record {
   run = replicate 6 0;
   routes = ((42 ∷ 42 ∷ []) ∷ []) ∷ [];
   security = nobody;
-  outputs = record { workers = 2; servers = 2; flush_interval = 1000 } ∷ [];
+  outputs = record { workers = 2; servers = 2; limits = limits chunk total } ∷ [];
+  few = omega arith;
 }
+
+abbrev settings : Config
+settings = limited 1000 100000
 
 abbrev events : List Event
 events =
@@ -69,7 +88,7 @@ answered : answers histories (opening settings) events ≡
     answer.Refused NoSuch ∷
     answer.Refused NotNow ∷
     answer.Refused NotNow ∷ []
-unfolding opening route pattern_matches matches enters flushes takes chunk_of judged_of request_of parts_of row_of_values split_of first_of fault_at item_begun payload_ended reading_of row_of named_rows
+unfolding opening route pattern_matches matches adds judged_of request_of parts_of row_of_values split_of first_of fault_at item_begun payload_ended reading_of row_of named_rows
 answered = refl
 
 -- ---- the way back: the source is told once the server acknowledged its chunk
@@ -146,7 +165,7 @@ brought_back : answers histories (opening settings) whole_way ≡
     answer.SessionFaulted EarlyAck ∷
     answer.Refused NotNow ∷
     answer.Refused NotUp ∷ []
-unfolding opening route pattern_matches matches enters flushes takes settles tells chunk_of chunk_frame chunk_name encode_symbols ack_text ack_name head_bytes reply_stream judged_of request_of parts_of row_of_values split_of first_of fault_at item_begun payload_ended reading_of row_of named_rows
+unfolding opening route pattern_matches matches adds tells chunk_frame chunk_name encode_symbols ack_text ack_name head_bytes reply_stream judged_of request_of parts_of row_of_values split_of first_of fault_at item_begun payload_ended reading_of row_of named_rows
 brought_back = refl
 
 -- a second acknowledgement is early, and the first one stands
@@ -158,20 +177,20 @@ acknowledged_twice : answers histories (after histories (opening settings) until
     answer.SessionFaulted EarlyAck ∷
     answer.Settled 1 ∷
     answer.Told (1 ∷ []) (0x81 ∷ 0xa3 ∷ 0x61 ∷ 0x63 ∷ 0x6b ∷ 0xa1 ∷ 0x78 ∷ []) ∷ []
-unfolding opening route pattern_matches matches enters flushes takes settles tells chunk_of chunk_frame chunk_name encode_symbols ack_text ack_name head_bytes reply_stream judged_of request_of parts_of row_of_values split_of first_of fault_at item_begun payload_ended reading_of row_of named_rows
+unfolding opening route pattern_matches matches adds tells chunk_frame chunk_name encode_symbols ack_text ack_name head_bytes reply_stream judged_of request_of parts_of row_of_values split_of first_of fault_at item_begun payload_ended reading_of row_of named_rows
 acknowledged_twice = refl
 
 -- another name, and a value that is no acknowledgement
 wrong_name : answers histories (after histories (opening settings) until_sent)
     (event.Heard 0 0 (0x81 ∷ 0xa3 ∷ 0x61 ∷ 0x63 ∷ 0x6b ∷ 0xa1 ∷ 0x41 ∷ [])
     ∷ event.Settle 0 0 ∷ []) ≡ answer.SessionFaulted WrongAck ∷ answer.Refused NotNow ∷ []
-unfolding opening route pattern_matches matches enters flushes takes settles tells chunk_of chunk_frame chunk_name encode_symbols ack_text ack_name head_bytes reply_stream judged_of request_of parts_of row_of_values split_of first_of fault_at item_begun payload_ended reading_of row_of named_rows
+unfolding opening route pattern_matches matches adds tells chunk_frame chunk_name encode_symbols ack_text ack_name head_bytes reply_stream judged_of request_of parts_of row_of_values split_of first_of fault_at item_begun payload_ended reading_of row_of named_rows
 wrong_name = refl
 
 no_acknowledgement : answers histories (after histories (opening settings) until_sent)
     (event.Heard 0 0 (0xc0 ∷ []) ∷ event.Heard 0 0 (0xc3 ∷ []) ∷ event.Settle 0 0 ∷ [])
     ≡ answer.Quiet [] ∷ answer.SessionFaulted BadReply ∷ answer.Refused NotNow ∷ []
-unfolding opening route pattern_matches matches enters flushes takes settles tells chunk_of chunk_frame chunk_name encode_symbols ack_text ack_name head_bytes reply_stream judged_of request_of parts_of row_of_values split_of first_of fault_at item_begun payload_ended reading_of row_of named_rows
+unfolding opening route pattern_matches matches adds tells chunk_frame chunk_name encode_symbols ack_text ack_name head_bytes reply_stream judged_of request_of parts_of row_of_values split_of first_of fault_at item_begun payload_ended reading_of row_of named_rows
 no_acknowledgement = refl
 
 -- ---- which output an event goes to
@@ -182,7 +201,8 @@ two_outputs = record {
   run = replicate 6 0;
   routes = ((98 ∷ []) ∷ []) ∷ ((42 ∷ []) ∷ []) ∷ [];
   security = nobody;
-  outputs = record { workers = 1; servers = 1; flush_interval = 1000 } ∷ record { workers = 1; servers = 1; flush_interval = 1000 } ∷ [];
+  outputs = record { workers = 1; servers = 1; limits = limits 1000 100000 } ∷ record { workers = 1; servers = 1; limits = limits 1000 100000 } ∷ [];
+  few = omega arith;
 }
 
 routed : answers histories (opening two_outputs) (
@@ -207,7 +227,7 @@ routed : answers histories (opening two_outputs) (
     answer.NoRoute ∷
     answer.Refused NotNow ∷
     answer.Refused Closed ∷ []
-unfolding opening route pattern_matches matches enters judged_of request_of parts_of row_of_values split_of first_of fault_at item_begun payload_ended reading_of row_of named_rows
+unfolding opening route pattern_matches matches adds judged_of request_of parts_of row_of_values split_of first_of fault_at item_begun payload_ended reading_of row_of named_rows
 routed = refl
 
 -- ---- a connection's end
@@ -238,5 +258,153 @@ ended : answers histories (opening settings) (
     answer.Refused NoSuch ∷
     answer.Refused NotNow ∷
     answer.Accepted [] ∷ []
-unfolding opening route pattern_matches matches enters judged_of request_of parts_of row_of_values split_of first_of fault_at item_begun payload_ended reading_of row_of named_rows
+unfolding opening route pattern_matches matches adds judged_of request_of parts_of row_of_values split_of first_of fault_at item_begun payload_ended reading_of row_of named_rows
 ended = refl
+
+-- ---- chunks by tag
+
+abbrev ack_x : List ℕ
+ack_x = 0x81 ∷ 0xa3 ∷ 0x61 ∷ 0x63 ∷ 0x6b ∷ 0xa1 ∷ 0x78 ∷ []
+
+-- what a server answers to the chunk of the last symbol
+abbrev reply_to : ℕ → List ℕ
+reply_to symbol = 0x81 ∷ 0xa3 ∷ 0x61 ∷ 0x63 ∷ 0x6b ∷ 0xb8 ∷ (codes "AAAAAAAAAAAAAAAAAAAAA" ++ symbol ∷ codes "==")
+
+-- three entries of three bytes each, where a chunk has six, under the chunk `a1 78`
+abbrev three_entries : List ℕ
+three_entries =
+    0x93 ∷ 0xa1 ∷ 0x61 ∷ 0x93 ∷ 0x92 ∷ 0x01 ∷ 0x80 ∷ 0x92 ∷ 0x01 ∷ 0x80 ∷ 0x92 ∷ 0x01 ∷ 0x80 ∷
+    0x81 ∷ 0xa5 ∷ 0x63 ∷ 0x68 ∷ 0x75 ∷ 0x6e ∷ 0x6b ∷ 0xa1 ∷ 0x78 ∷ []
+
+-- a large request goes into two chunks
+abbrev until_taken : List Event
+until_taken =
+    event.Accept 1 (replicate 16 0) (replicate 16 0) ∷
+    event.Piece 1 three_entries ∷
+    event.Admit 1 0 0 ∷
+    event.Flush 0 0 All ∷
+    event.Take 0 0 0 ∷
+    event.Take 0 1 0 ∷ []
+
+split_in_two : answers histories (opening (limited 6 100000)) until_taken ≡
+    answer.Accepted [] ∷
+    answer.Requests 1 [] ∷
+    answer.Admitted 1 3 ∷
+    answer.Closed 1 ∷
+    answer.Took 1 2 ∷
+    answer.Took 2 1 ∷ []
+unfolding opening route pattern_matches matches adds wait_after tells chunk_frame chunk_name encode_symbols ack_text ack_name head_bytes reply_stream judged_of listed_entries entry_of request_of parts_of row_of_values split_of first_of fault_at item_begun payload_ended reading_of row_of named_rows
+split_in_two = refl
+
+-- it is told once both are settled
+told_after_both : answers histories (after histories (opening (limited 6 100000)) until_taken) (
+    event.Up 0 0 0 [] 0 ∷
+    event.Up 0 1 0 [] 0 ∷
+    event.Load 0 0 0 ∷
+    event.Load 0 1 0 ∷
+    event.Wrote 0 0 49 ∷
+    event.Wrote 0 1 46 ∷
+    event.Heard 0 1 (reply_to 103) ∷
+    event.Settle 0 1 ∷
+    event.Collect 1 0 ∷
+    event.Heard 0 0 (reply_to 81) ∷
+    event.Settle 0 0 ∷
+    event.Collect 1 0 ∷ []
+    ) ≡
+    answer.Done ∷
+    answer.Done ∷
+    answer.Frame (0x93 ∷ 0xa1 ∷ 0x61 ∷ 0xc4 ∷ 0x06 ∷ 0x92 ∷ 0x01 ∷ 0x80 ∷ 0x92 ∷ 0x01 ∷ 0x80 ∷ 0x82 ∷ 0xa4 ∷ 0x73 ∷ 0x69 ∷ 0x7a ∷ 0x65 ∷ 0x02 ∷ 0xa5 ∷ 0x63 ∷ 0x68 ∷ 0x75 ∷ 0x6e ∷ 0x6b ∷ 0xb8 ∷ codes "AAAAAAAAAAAAAAAAAAAAAQ==") ∷
+    answer.Frame (0x93 ∷ 0xa1 ∷ 0x61 ∷ 0xc4 ∷ 0x03 ∷ 0x92 ∷ 0x01 ∷ 0x80 ∷ 0x82 ∷ 0xa4 ∷ 0x73 ∷ 0x69 ∷ 0x7a ∷ 0x65 ∷ 0x01 ∷ 0xa5 ∷ 0x63 ∷ 0x68 ∷ 0x75 ∷ 0x6e ∷ 0x6b ∷ 0xb8 ∷ codes "AAAAAAAAAAAAAAAAAAAAAg==") ∷
+    answer.Done ∷
+    answer.Done ∷
+    answer.Acked [] ∷
+    answer.Settled 1 ∷
+    answer.Told [] [] ∷
+    answer.Acked [] ∷
+    answer.Settled 2 ∷
+    answer.Told (1 ∷ []) ack_x ∷ []
+unfolding opening route pattern_matches matches adds wait_after tells chunk_frame chunk_name encode_symbols ack_text ack_name head_bytes reply_stream judged_of listed_entries entry_of request_of parts_of row_of_values split_of first_of fault_at item_begun payload_ended reading_of row_of named_rows
+told_after_both = refl
+
+-- small requests of one tag leave as one chunk, and each source is told
+joined_in_one : answers histories (opening settings) (
+    event.Accept 1 (replicate 16 0) (replicate 16 0) ∷
+    event.Accept 2 (replicate 16 0) (replicate 16 0) ∷
+    event.Piece 1 message ∷
+    event.Piece 2 message ∷
+    event.Admit 1 0 0 ∷
+    event.Admit 2 0 0 ∷
+    event.Flush 0 0 All ∷
+    event.Take 0 0 0 ∷
+    event.Up 0 0 0 [] 0 ∷
+    event.Load 0 0 0 ∷
+    event.Wrote 0 0 49 ∷
+    event.Heard 0 0 (reply_to 81) ∷
+    event.Settle 0 0 ∷
+    event.Collect 1 0 ∷
+    event.Collect 2 0 ∷ []
+    ) ≡
+    answer.Accepted [] ∷
+    answer.Accepted [] ∷
+    answer.Requests 1 [] ∷
+    answer.Requests 1 [] ∷
+    answer.Admitted 1 1 ∷
+    answer.Admitted 1 1 ∷
+    answer.Closed 1 ∷
+    answer.Took 1 2 ∷
+    answer.Done ∷
+    answer.Frame (0x93 ∷ 0xa1 ∷ 0x61 ∷ 0xc4 ∷ 0x06 ∷ 0x92 ∷ 0x01 ∷ 0x80 ∷ 0x92 ∷ 0x01 ∷ 0x80 ∷ 0x82 ∷ 0xa4 ∷ 0x73 ∷ 0x69 ∷ 0x7a ∷ 0x65 ∷ 0x02 ∷ 0xa5 ∷ 0x63 ∷ 0x68 ∷ 0x75 ∷ 0x6e ∷ 0x6b ∷ 0xb8 ∷ codes "AAAAAAAAAAAAAAAAAAAAAQ==") ∷
+    answer.Done ∷
+    answer.Acked [] ∷
+    answer.Settled 2 ∷
+    answer.Told (1 ∷ []) ack_x ∷
+    answer.Told (1 ∷ []) ack_x ∷ []
+unfolding opening route pattern_matches matches adds wait_after tells chunk_frame chunk_name encode_symbols ack_text ack_name head_bytes reply_stream judged_of request_of parts_of row_of_values split_of first_of fault_at item_begun payload_ended reading_of row_of named_rows
+joined_in_one = refl
+
+-- a request that would take the output past its total limit closes its connection, and leaves the
+-- output as it was
+filled_up : answers histories (opening (limited 1000 6)) (
+    event.Accept 1 (replicate 16 0) (replicate 16 0) ∷
+    event.Piece 1 (0x93 ∷ 0xa1 ∷ 0x61 ∷ 0x01 ∷ 0x80 ∷ []) ∷
+    event.Admit 1 0 0 ∷
+    event.Accept 2 (replicate 16 0) (replicate 16 0) ∷
+    event.Piece 2 (0x93 ∷ 0xa1 ∷ 0x61 ∷ 0xcc ∷ 0x80 ∷ 0x80 ∷ []) ∷
+    event.Admit 2 0 0 ∷
+    event.Piece 2 (0xc0 ∷ []) ∷
+    event.Accept 3 (replicate 16 0) (replicate 16 0) ∷
+    event.Piece 3 (0x93 ∷ 0xa1 ∷ 0x61 ∷ 0x01 ∷ 0x80 ∷ []) ∷
+    event.Admit 3 0 0 ∷ []
+    ) ≡
+    answer.Accepted [] ∷
+    answer.Requests 1 [] ∷
+    answer.Admitted 1 1 ∷
+    answer.Accepted [] ∷
+    answer.Requests 1 [] ∷
+    answer.Full ∷
+    answer.Refused Closed ∷
+    answer.Accepted [] ∷
+    answer.Requests 1 [] ∷
+    answer.Admitted 1 1 ∷ []
+unfolding opening route pattern_matches matches adds judged_of request_of parts_of row_of_values split_of first_of fault_at item_begun payload_ended reading_of row_of named_rows
+filled_up = refl
+
+-- a source leaves: its entries stay, and nobody is told
+forgotten : answers histories (after histories (opening settings) until_sent) (
+    event.Shut 1 ∷
+    event.Forget 1 0 ∷
+    event.Forget 1 0 ∷
+    event.Forget 1 1 ∷
+    event.Heard 0 0 (reply_front ++ reply_rest) ∷
+    event.Settle 0 0 ∷
+    event.Collect 1 0 ∷ []
+    ) ≡
+    answer.Done ∷
+    answer.Forgot 1 ∷
+    answer.Forgot 0 ∷
+    answer.Refused NoSuch ∷
+    answer.Acked [] ∷
+    answer.Settled 1 ∷
+    answer.Refused NoSuch ∷ []
+unfolding opening route pattern_matches matches adds wait_after forgets tells chunk_frame chunk_name encode_symbols ack_text ack_name head_bytes reply_stream judged_of request_of parts_of row_of_values split_of first_of fault_at item_begun payload_ended reading_of row_of named_rows
+forgotten = refl

@@ -10,39 +10,41 @@ use Rattle.fwd_source.specs.declared.piece.Piece.TheVariants as verdict
 use Rattle.fwd_source.specs.History.{Setup, SourceHistory, IsSane as IsSaneSource, judged, is_closed, waiting, hears, told, new_pong}
 use Rattle.fwd_source.specs.Live.{LiveSource, live_source, judged_piece, source_hears, source_appends}
 use Rattle.fwd_source.proofs.Following.{heard, hears-live, hears-sane, gives-live, gives-sane, appends-live, appends-sane, drains-live, shuts-live, shuts-sane}
-use Rattle.fwd_model.specs.declared.cell.Carry.{Carry}
-use Rattle.fwd_model.specs.declared.cell.Chunk.{Chunk}
+use Rattle.fwd_chunks.specs.declared.fault.AdmitError.{AdmitError}
+use Rattle.fwd_chunks.specs.declared.fault.AdmitError.TheVariants.{Full, NumbersSpent, Memory}
+use Rattle.fwd_chunks.specs.declared.flush.FlushKind.{FlushKind}
+use Rattle.fwd_chunks.specs.Cells.{Carry}
+use Rattle.fwd_chunks.specs.History.{Load, counts as buffer_counts}
+use Rattle.fwd_chunks.specs.Live.{live_counts}
+use Rattle.fwd_chunks.proofs.Follows as buffer
+use Rattle.fwd_chunks.proofs.Sane.{opening-sane}
 use Rattle.fwd_model.specs.declared.config.Config.{Config}
 use Rattle.fwd_model.specs.declared.config.OutputConfig.{OutputConfig}
 use Rattle.fwd_model.specs.declared.event.Event.{Event}
 use Rattle.fwd_model.specs.declared.event.Event.TheVariants as event
-use Rattle.fwd_model.specs.declared.event.FlushKind.{FlushKind}
 use Rattle.fwd_model.specs.declared.answer.Answer.TheVariants as answer
 use Rattle.fwd_model.specs.Outcome.{Outcome, Stays, Goes, answer_of, state_of, of_piece, first_of, chunk_answer}
 use Rattle.fwd_model.specs.Layers.{Worker}
-use Rattle.fwd_model.specs.Books.{numbers_of, acks_of}
 use Rattle.fwd_model.specs.Step as steps
 use Rattle.fwd_model.specs.Step.{step, answers, after, with_session}
 use Rattle.fwd_model.specs.Setups.{setup_of}
-use Rattle.fwd_model.specs.Chunks.{frame_of}
 use Rattle.fwd_model.specs.Replies.{is_loaded, reply_answer}
-use Rattle.fwd_model.specs.Buffers.{is_closed_by, live_buffer, buffer_closes}
-use Rattle.fwd_model.specs.Outputs.{live_output, output_history_due}
+use Rattle.fwd_model.specs.Outputs.{frame_of, live_output}
 use Rattle.fwd_model.specs.Sessions.{SessionHistory, LiveSession, live_session, loads}
-use Rattle.fwd_model.specs.History.{Lane, History, histories, source_at, new_lane, opening, is_fresh, with_connection, IsReached}
-use Rattle.fwd_model.specs.Live.{LiveLane, live, live_lane, lives, last_id, is_above, live_source_at, with_live_lane, with_live_worker}
-use Rattle.fwd_model.proofs.Agree.{Agrees, Leads, stays, goes, checked, either, sought, inside}
+use Rattle.fwd_model.specs.History.{Lane, History, histories, source_at, setting_of, new_lane, new_lanes, counts, opening, is_fresh, with_connection, IsReached}
+use Rattle.fwd_model.specs.Live.{LiveLane, live, live_lane, lives, last_id, is_above, live_source_at, with_live_lane, with_live_worker, live_relay_counts}
+use Rattle.fwd_model.proofs.Agree.{Agrees, Leads, stays, goes, checked, sought, inside}
 use Rattle.fwd_model.proofs.Places.{source_at-live}
-use Rattle.fwd_model.proofs.Settling.{filter-same, cells_at-unsettled}
 use Rattle.fwd_model.proofs.Reached.{IsSaneSession, IsSaneLane, AllSane, IsSane, AllSources-at, AllSane-at}
 use Rattle.fwd_model.proofs.FollowsSources.{accepts-live, accepts-sane, with_connection-live, with_connection-sane, drained-sane, leaves-live, leaves-sane}
-use Rattle.fwd_model.proofs.FollowsOutputs.{lane_at-live, with_lane-live, with_lane-sane, worker_at-live, closing-live, flushes-live, flushes-sane}
+use Rattle.fwd_model.proofs.FollowsOutputs.{lane_at-live, with_lane-live, with_lane-sane, worker_at-live, flushes-live, flushes-sane}
 use Rattle.fwd_model.proofs.FollowsSessions.{with_session-live, with_session-sane, is_some-option_map, begins-live, begins-sane, loads-live, loads-sane, sends-live, sends-sane}
 use Rattle.fwd_model.proofs.FollowsReplies.{down-live, replies-live, listens-live, listens-sane}
-use Rattle.fwd_model.proofs.FollowsTakes.{free-same, takes-live, takes-sane}
+use Rattle.fwd_model.proofs.FollowsTakes.{given-same, takes-live, takes-sane}
 use Rattle.fwd_model.proofs.FollowsAdmits.{enters-live, enters-sane}
-use Rattle.fwd_model.proofs.FollowsSettles.{acked_is, settles-live, settles-sane}
-use Rattle.fwd_model.proofs.FollowsCollects.{due-same, tells-live, tells-sane}
+use Rattle.fwd_model.proofs.FollowsSettles.{acked_is, count-same, settles-live, settles-sane}
+use Rattle.fwd_model.proofs.FollowsBooks.{telling-same, owed-same}
+use Rattle.fwd_model.proofs.FollowsCollects.{tells-live, tells-sane, forgets-live, forgets-sane}
 use Rattle.fwd_model.proofs.Workers.{worker_map, worker_seen, IsWorker, worker_is, session_here, none_carried, carried_is}
 
 option_id : {X : Type 0} (o : Option X) → o ≡ option_map (λ x. x) o
@@ -181,9 +183,18 @@ gives_leads : (s : SourceHistory) (q : Request) (rs : List Request) → waiting 
 gives_leads s q [] e first sane = absurd cc
 gives_leads s q (r ∷ rs) e first sane = (gives-live s, gives-sane s r rs sane e)
 
-spent_here : (l : Lane) (q : Request) → lives.is_spent (live_lane l) q ≡ histories.is_spent l q
-unfolding live_lane live_output live_buffer
-spent_here l q = refl
+refusal_here : (l : Lane) (origin : Origin) (q : Request) (now : ℕ) → IsSaneLane l
+    → lives.refusal (live_lane l) origin q now ≡ histories.refusal l origin q now
+unfolding live_lane live_output
+refusal_here l origin q now own = sym (buffer.refusal-live l.output.buffer origin q now own.buffer)
+
+enter_unless : (fault : Option AdmitError) (s : SourceHistory) (q : Request) (origin : Origin)
+    (l : Lane) (now : ℕ) → IsSaneSource s → IsSaneLane l → first_of (waiting s) ≡ Some q
+    → Agrees both SaneBoth (steps.enter_unless histories fault s q origin l now) (steps.enter_unless lives fault (live_source s) q origin (live_lane l) now)
+enter_unless None s q origin l now sane own first = goes refl (both_lead (gives_leads s q (waiting s) refl first sane) (enters-live l origin q now own, enters-sane l origin q now own))
+enter_unless (Some Full) s q origin l now sane own first = goes refl (both_lead (shuts-live s, shuts-sane s sane) (refl, own))
+enter_unless (Some NumbersSpent) s q origin l now sane own first = goes refl (both_lead (shuts-live s, shuts-sane s sane) (refl, own))
+enter_unless (Some Memory) s q origin l now sane own first = stays
 
 enter : (s : SourceHistory) (q : Request) (id : ℕ) (l : Lane) (now : ℕ) → IsSaneSource s
     → IsSaneLane l → first_of (waiting s) ≡ Some q
@@ -191,8 +202,8 @@ enter : (s : SourceHistory) (q : Request) (id : ℕ) (l : Lane) (now : ℕ) → 
 unfolding live_source
 enter s q id l now sane own first =
     let origin : Origin = record { conn = id; request = s.admitted + 1 } in
-    either (spent_here l q) (goes refl (both_lead (shuts-live s, shuts-sane s sane) (refl, own)))
-    (goes refl (both_lead (gives_leads s q (waiting s) refl first sane) (enters-live l origin q now own, enters-sane l origin q now own)))
+    subst (λ fault. Agrees both SaneBoth (steps.enter histories s q id l now) (steps.enter_unless lives fault (live_source s) q origin (live_lane l) now)) (sym (refusal_here l origin q now own))
+    (enter_unless (histories.refusal l origin q now) s q origin l now sane own first)
 
 routed : (to : Option ℕ) (s : SourceHistory) (q : Request) (id o : ℕ) (l : Lane) (now : ℕ)
     → IsSaneSource s → IsSaneLane l → first_of (waiting s) ≡ Some q
@@ -208,26 +219,40 @@ admit patterns id o now s l sane own =
     sought {g = λ (q : Request). q} _ _ (option_id (first_of (waiting s))) (λ q e.
     routed (route patterns q.tag) s q id o l now sane own e)
 
+due_here : (l : Lane) (id : ℕ) → histories.due l id ≡ lives.due (live_lane l) id
+unfolding live_lane live_output
+due_here l id = telling-same l.output.book id
+
+owed_here : (l : Lane) (id : ℕ) → histories.owed l id ≡ lives.owed (live_lane l) id
+unfolding live_lane live_output
+owed_here l id = owed-same l.output.book id
+
 collect : (id : ℕ) (s : SourceHistory) (l : Lane) → IsSaneSource s → IsSaneLane l
     → Agrees both SaneBoth (steps.collect histories id s l)
     (steps.collect lives id (live_source s) (live_lane l))
-unfolding live_source live_lane
+unfolding live_source
 collect id s l sane own =
-    let same = due-same id l own in
+    let acks = (histories.due l id).acks in
     checked _ refl (λ up.
-    goes (ap (λ qs. answer.Told (numbers_of qs) (acks_of qs)) same) (both_lead
-    (appends-live s (acks_of (output_history_due l.output id)) sane up ∙ ap (λ qs. source_appends (live_source s) (acks_of qs)) same, appends-sane s (acks_of (output_history_due l.output id)) sane)
-    (tells-live id l own, tells-sane id l own)))
+    goes (ap (λ t. answer.Told t.numbers t.acks) (due_here l id)) (both_lead
+    (appends-live s acks sane up ∙ ap (λ t. source_appends (live_source s) t.acks) (due_here l id), appends-sane s acks sane)
+    (tells-live id l, tells-sane id l own)))
+
+forget : (l : Lane) (id : ℕ) → IsSaneLane l
+    → Agrees live_lane IsSaneLane (steps.forget histories l id) (steps.forget lives (live_lane l) id)
+forget l id own = goes (ap answer.Forgot (owed_here l id)) (forgets-live id l, forgets-sane id l own)
 
 -- ---- an output and its workers
+
+closing_here : (l : Lane) (now : ℕ) (kind : FlushKind) → IsSaneLane l
+    → histories.closing l now kind ≡ lives.closing (live_lane l) now kind
+unfolding live_lane live_output
+closing_here l now kind own = buffer.closing-live l.output.buffer now kind own.buffer
 
 flush : (l : Lane) (now : ℕ) (kind : FlushKind) → IsSaneLane l
     → Agrees live_lane IsSaneLane (steps.flush histories l now kind)
     (steps.flush lives (live_lane l) now kind)
-unfolding live_lane live_output live_buffer
-flush l now kind own =
-    goes (ap (λ ns. answer.Closed (length ns)) (filter-same (is_closed_by l.output.buffer l.config.flush_interval now kind) (buffer_closes (live_buffer l.output.buffer) l.config.flush_interval now kind) l.output.buffer.opened (closing-live l now kind own)))
-    (flushes-live l now kind own, flushes-sane l now kind own)
+flush l now kind own = goes (ap answer.Closed (closing_here l now kind own)) (flushes-live l now kind own, flushes-sane l now kind own)
 
 up : (l : Lane) (w servers server now : ℕ) (x : Worker SessionHistory)
     → Agrees (worker_map live_session) (SaneWorker l w x) (steps.up histories servers server now x) (steps.up lives servers server now (worker_map live_session x))
@@ -241,10 +266,6 @@ config_here : (l : Lane) → (live_lane l).config ≡ l.config
 unfolding live_lane
 config_here l = refl
 
-free_here : (l : Lane) → histories.free l ≡ lives.free (live_lane l)
-unfolding live_lane live_output
-free_here l = free-same l.output
-
 take : (l : Lane) (w now : ℕ) → IsSaneLane l
     → Agrees live_lane IsSaneLane (steps.take histories l w now)
     (steps.take lives (live_lane l) w now)
@@ -253,8 +274,8 @@ take l w now own =
     checked _ refl (λ none.
     let at = worker_is l w x e in
     let free = none_carried l w x at none in
-    goes (ap chunk_answer (free_here l)) (
-      takes-live l w now x.session at.here free ∙ ap (λ y. lives.takes (live_lane l) w (worker_map live_session y) now) at.is,
+    goes (ap chunk_answer (given-same l now own)) (
+      takes-live l w now x.session at.here free own ∙ ap (λ y. lives.takes (live_lane l) w (worker_map live_session y) now) at.is,
       takes-sane l w now free own,
     )))
 
@@ -262,17 +283,17 @@ loaded_here : (s : SessionHistory) → (live_session s).loaded ≡ s.loaded
 unfolding live_session
 loaded_here s = refl
 
-load : (run : List ℕ) (o now : ℕ) (l : Lane) (w : ℕ) (x : Worker SessionHistory)
+load : (now : ℕ) (l : Lane) (w : ℕ) (x : Worker SessionHistory)
     → IsSaneLane l → histories.worker_at l w ≡ Some x
-    → Agrees (worker_map live_session) (SaneWorker l w x) (steps.load histories run o now x) (steps.load lives run o now (worker_map live_session x))
-load run o now l w x own e =
+    → Agrees (worker_map live_session) (SaneWorker l w x) (steps.load histories now x) (steps.load lives now (worker_map live_session x))
+load now l w x own e =
     sought {g = live_session} _ _ refl (λ s f.
-    sought {g = λ (c : Chunk). c} _ _ (option_id x.chunk) (λ c g.
+    sought {g = λ (c : Load). c} _ _ (option_id x.chunk) (λ c g.
     checked _ (ap (λ k. is_loaded k c.number) (loaded_here s)) (λ fresh.
     checked _ (down-live s) (λ up.
-    goes refl (with_session-leads l w x _ _ (leads s c (frame_of run o c) (own.sessions w s (session_here l w x s e f)) (carried_is l w x c (worker_is l w x e) g) up))))))
+    goes refl (with_session-leads l w x _ _ (leads s c (frame_of c) (own.sessions w s (session_here l w x s e f)) (carried_is l w x c (worker_is l w x e) g) up))))))
   where
-    leads : (s : SessionHistory) (c : Chunk) (frame : List ℕ) → IsSaneSession w l.output.buffer.carried s → Rattle.fwd_model.proofs.Workers.IsCarriedBy l w c → s.down ≡ false
+    leads : (s : SessionHistory) (c : Load) (frame : List ℕ) → IsSaneSession w l.output.buffer.carried s → Rattle.fwd_model.proofs.Workers.IsCarriedBy l w c → s.down ≡ false
         → Leads live_session (IsSaneSession w l.output.buffer.carried) (loads s c.number frame now) (lives.loads (live_session s) c.number frame now)
     leads s c frame fits by up = (
       loads-live s c.number frame now fits.sent up,
@@ -295,15 +316,14 @@ hear run o bytes cs w s fits =
 settle : (l : Lane) (w : ℕ) → IsSaneLane l
     → Agrees live_lane IsSaneLane (steps.settle histories l w)
     (steps.settle lives (live_lane l) w)
-unfolding live_lane live_output live_buffer live_session
+unfolding live_session
 settle l w own =
     sought {g = worker_map live_session} _ _ (worker_here w l) (λ x e.
     sought {g = live_session} _ _ refl (λ s f.
     sought {g = λ (k : ℕ). k} _ _ (option_id (steps.acked histories s)) (λ k g.
     let here = session_here l w x s e f in
-    let is = acked_is l w s k own (own.sessions w s here) g in
-    goes (ap (λ cs. answer.Settled (length cs)) (sym (cells_at-unsettled k l.output.buffer.acknowledged l.output.buffer.cells is.unacked)))
-    (settles-live l w s k here, settles-sane l w s k here own is))))
+    let is = acked_is l w s k (own.sessions w s here) g in
+    goes (ap answer.Settled (count-same l w k own is)) (settles-live l w s k here own is, settles-sane l w s k here own is))))
 
 -- ---- the step
 
@@ -336,7 +356,7 @@ event_agrees h (event.Up o w server salt now) sane = at_lane h sane o _ (λ l. s
     (λ l own. subst (λ c. Agrees live_lane IsSaneLane (steps.at_worker histories l w (steps.up histories l.config.servers server now)) (steps.at_worker lives (live_lane l) w (steps.up lives c.servers server now))) (sym (config_here l))
     (at_worker l w _ (steps.up lives l.config.servers server now) own (λ x e. up l w l.config.servers server now x)))
 event_agrees h (event.Take o w now) sane = at_lane h sane o _ (λ l. steps.take lives l w now) (λ l own. take l w now own)
-event_agrees h (event.Load o w now) sane = at_lane h sane o _ (λ l. steps.at_worker lives l w (steps.load lives h.run o now)) (λ l own. at_worker l w _ (steps.load lives h.run o now) own (λ x e. load h.run o now l w x own e))
+event_agrees h (event.Load o w now) sane = at_lane h sane o _ (λ l. steps.at_worker lives l w (steps.load lives now)) (λ l own. at_worker l w _ (steps.load lives now) own (λ x e. load now l w x own e))
 event_agrees h (event.Wrote o w count) sane =
     at_lane h sane o _ (λ l. steps.at_worker lives l w (λ x. steps.at_session lives x (steps.wrote lives count)))
     (λ l own. at_worker l w _ (λ x. steps.at_session lives x (steps.wrote lives count)) own (λ x e. at_session l w x _ (steps.wrote lives count) own e (λ s fits. wrote l.output.buffer.carried w count s fits)))
@@ -345,8 +365,25 @@ event_agrees h (event.Heard o w bytes) sane =
     (λ l own. at_worker l w _ (λ x. steps.at_session lives x (steps.heard lives h.run o bytes)) own (λ x e. at_session l w x _ (steps.heard lives h.run o bytes) own e (λ s fits. hear h.run o bytes l.output.buffer.carried w s fits)))
 event_agrees h (event.Settle o w) sane = at_lane h sane o _ (λ l. steps.settle lives l w) (λ l own. settle l w own)
 event_agrees h (event.Collect id o) sane = at_both h sane id o _ (steps.collect lives id) (λ s l own its. collect id s l own its)
+event_agrees h (event.Forget id o) sane = at_lane h sane o _ (λ l. steps.forget lives l id) (λ l own. forget l id own)
 event_agrees h (event.Drained id count) sane = at_source h sane id _ (λ s. steps.drained lives s count) (λ s own. drained s count own)
 event_agrees h (event.Shut id) sane = shut h id sane
+
+-- ---- counts
+
+lane_counts : (l : Lane) → buffer_counts l.output.buffer ≡ live_counts (live_lane l).output.buffer
+unfolding live_lane live_output
+lane_counts l = buffer.counts-live l.output.buffer
+
+all_counts : (ls : List Lane)
+    → map (λ l. buffer_counts l.output.buffer) ls
+    ≡ map (λ l. live_counts l.output.buffer) (map live_lane ls)
+all_counts [] = refl
+all_counts (l ∷ ls) = λ i. lane_counts l i ∷ all_counts ls i
+
+pub counts_follow : (h : History) → counts h ≡ live_relay_counts (live h)
+unfolding live
+counts_follow h = all_counts h.lanes
 
 -- ---- runs
 
@@ -356,29 +393,21 @@ no_sessions zero w t e = cc
 no_sessions (suc n) zero t e = cc
 no_sessions (suc n) (suc w) t e = no_sessions n w t e
 
-new_lane_sane : (c : OutputConfig) → IsSaneLane (new_lane c)
-new_lane_sane c = record {
-  opened_below = λ k h. absurd (no h);
-  acked_below = λ k h. absurd (no h);
-  carried_below = λ k h. absurd (no h);
-  opened_unacked = λ k h. refl;
-  opened_uncarried = λ k h. refl;
-  carried_unacked = λ k h. refl;
-  carried_once = λ w d h. refl;
-  spans = refl;
+new_lane_sane : (run : List ℕ) (o : ℕ) (c : OutputConfig) → IsSaneLane (new_lane run o c)
+new_lane_sane run o c = record {
+  buffer = opening-sane (setting_of run o c);
+  apart = tt;
+  marks = refl;
   sessions = λ w t e. absurd (no_sessions c.workers w t e);
 }
-  where
-    no : false ≡ true → ⊥
-    no e = cc
 
-opening_lanes : (cs : List OutputConfig) → AllSane (map new_lane cs)
-opening_lanes [] = tt
-opening_lanes (c ∷ cs) = (new_lane_sane c, opening_lanes cs)
+opening_lanes : (run : List ℕ) (o : ℕ) (cs : List OutputConfig) → AllSane (new_lanes run o cs)
+opening_lanes run o [] = tt
+opening_lanes run o (c ∷ cs) = (new_lane_sane run o c, opening_lanes run (suc o) cs)
 
 opening_sane : (config : Config) → IsSane (opening config)
 unfolding opening
-opening_sane config = record { ids = λ id. refl; once = tt; sources = tt; lanes = opening_lanes config.outputs }
+opening_sane config = record { ids = λ id. refl; once = tt; sources = tt; lanes = opening_lanes config.run 0 config.outputs }
 
 -- what holds of a run: its answers, what it leads to, and that this is sane
 pub record RunsAgree (h : History) (es : List Event) : Type 0 where

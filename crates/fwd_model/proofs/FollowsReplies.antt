@@ -7,7 +7,7 @@ use Rattle.fwd_msgpack.specs.Scans.{Split, split_of, continued, with_front, valu
 use Rattle.fwd_msgpack.specs.Scans.Split.{Open, Broken}
 use Rattle.fwd_msgpack.proofs.Rows.{split_append}
 use Rattle.fwd_modes.specs.Frames.{chunk_name}
-use Rattle.fwd_model.specs.declared.cell.Carry.{Carry}
+use Rattle.fwd_chunks.specs.Cells.{Carry}
 use Rattle.fwd_model.specs.declared.fault.SessionFault.{SessionFault}
 use Rattle.fwd_model.specs.declared.fault.SessionFault.TheVariants.{BadReply}
 use Rattle.fwd_model.specs.Replies.{Replies, Reply, reply_of, replies, replies_in, failing, reply_then, reply_stream, ended_by, behind, rest_of}

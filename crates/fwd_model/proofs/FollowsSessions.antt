@@ -5,8 +5,8 @@ use Rattle.std.specs.Prelude.{option_map, is_some, nat_lt, slice_get}
 use Rattle.std.proofs.lemmas.Bool.Decides.{nat_tests}
 use Rattle.std.proofs.lemmas.List.{length-append, length-drop, drop-append-le, drop-drop}
 use Rattle.fwd_msgpack.specs.Scans.{split_of}
-use Rattle.fwd_model.specs.declared.cell.Carry.{Carry}
-use Rattle.fwd_model.specs.Chunks.{carry_of}
+use Rattle.fwd_chunks.specs.Cells.{Carry}
+use Rattle.fwd_model.specs.Outputs.{carry_of}
 use Rattle.fwd_model.specs.Replies.{reply_stream, rest_of}
 use Rattle.fwd_model.specs.Step as steps
 use Rattle.fwd_model.specs.Outputs.{live_output}
@@ -42,14 +42,9 @@ put_sane w j s t l own fits h =
 pub with_session-sane : (w : ℕ) (s : SessionHistory) (l : Lane) → IsSaneLane l
     → IsSaneSession w l.output.buffer.carried s → IsSaneLane (with_session w s l)
 with_session-sane w s l own fits = record {
-  opened_below = own.opened_below;
-  acked_below = own.acked_below;
-  carried_below = own.carried_below;
-  opened_unacked = own.opened_unacked;
-  opened_uncarried = own.opened_uncarried;
-  carried_unacked = own.carried_unacked;
-  carried_once = own.carried_once;
-  spans = own.spans;
+  buffer = own.buffer;
+  apart = own.apart;
+  marks = own.marks;
   sessions = λ j t h. put_sane w j s t l own fits h;
 }
 

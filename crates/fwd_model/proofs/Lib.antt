@@ -8,6 +8,7 @@ pub mod FollowsOutputs
 pub mod FollowsSessions
 pub mod FollowsReplies
 pub mod Replying
+pub mod FollowsBooks
 pub mod FollowsTakes
 pub mod FollowsAdmits
 pub mod FollowsSettles
@@ -23,5 +24,4 @@ pub mod Deliver
 pub mod WayBack
 pub mod Marks
 pub mod Refusals
-pub mod Least
 mod Examples

@@ -1,6 +1,6 @@
 -- A request that is marked as told was told by a collect.
-use Rattle.std.proofs.Common.{◌≡◌, ◌≢◌, ℕ, zero, suc, ◌+◌, Bool, true, false, List, [], ◌∷◌, ◌++◌, length, Option, Some, None, refl, sym, ap, subst, ◌∙◌, inl, inr, arith}
-use Rattle.std.specs.Prelude.{◌⊎◌, map, not, is_some, ◌&&◌, ◌||◌, ◌==◌, option_map, slice_get}
+use Rattle.std.proofs.Common.{◌≡◌, ◌≢◌, ℕ, zero, suc, ◌+◌, Bool, true, false, List, [], ◌∷◌, ◌++◌, Option, Some, None, refl, sym, ap, subst, ◌∙◌, inl, inr, arith}
+use Rattle.std.specs.Prelude.{◌⊎◌, not, is_some, ◌&&◌, ◌||◌, ◌==◌, option_map, slice_get}
 use Rattle.std.proofs.lemmas.Bool.Decides.{nat_tests}
 use Rattle.std.proofs.lemmas.List.{append_assoc}
 use Rattle.std.proofs.lemmas.Option.{slice_get-map}
@@ -9,7 +9,10 @@ use Rattle.fwd_model.specs.declared.config.Config.{Config}
 use Rattle.fwd_model.specs.declared.config.OutputConfig.{OutputConfig}
 use Rattle.fwd_model.specs.declared.event.Event.{Event}
 use Rattle.fwd_model.specs.declared.event.Event.TheVariants as event
-use Rattle.fwd_model.specs.declared.event.FlushKind.{FlushKind}
+use Rattle.fwd_chunks.specs.declared.fault.AdmitError.{AdmitError}
+use Rattle.fwd_chunks.specs.declared.fault.AdmitError.TheVariants.{Full, NumbersSpent, Memory}
+use Rattle.fwd_chunks.specs.declared.flush.FlushKind.{FlushKind}
+use Rattle.fwd_chunks.specs.History.{spans_of}
 use Rattle.fwd_model.specs.declared.answer.Answer.TheVariants as answer
 use Rattle.fwd_match.specs.Patterns.{route}
 use Rattle.fwd_source.specs.History as source
@@ -21,23 +24,22 @@ use Rattle.fwd_model.specs.Layers.{Worker}
 use Rattle.fwd_model.specs.Step as steps
 use Rattle.fwd_model.specs.Step.{step}
 use Rattle.fwd_model.specs.Setups.{setup_of}
-use Rattle.fwd_model.specs.Buffers.{next_number}
-use Rattle.fwd_model.specs.Books.{Admission, entered_as, is_of, is_settled, is_due, told_if, tells, numbers_of, acks_of}
-use Rattle.fwd_model.specs.Outputs.{output_history_enters, output_history_due, output_history_tells}
+use Rattle.fwd_model.specs.Books.{Untold, Told, Forgotten, Admission, entered_as, is_untold, is_of, is_owed, is_settled, is_due, becomes, tells, forgets}
+use Rattle.fwd_model.specs.Outputs.{output_history_enters}
 use Rattle.fwd_model.specs.Sessions.{SessionHistory}
-use Rattle.fwd_model.specs.History.{source_at, Lane, History, opening, new_lane, with_connection, leaves, with_lane, with_output, histories}
+use Rattle.fwd_model.specs.History.{source_at, Lane, History, opening, new_lane, new_lanes, with_connection, leaves, with_lane, with_output, with_book, histories}
 use Rattle.fwd_model.specs.Delivered.{reached, IsTold}
-use Rattle.fwd_model.proofs.Onward.{Onward, to, past, past_found, past_either, at_next, source_on, lane_on, both_on, worker_on}
+use Rattle.fwd_model.proofs.Onward.{Onward, to, past, past_found, at_next, source_on, lane_on, both_on, worker_on}
 use Rattle.fwd_model.proofs.Reached.{slice_get-set}
 use Rattle.fwd_model.proofs.Chronicle.{by_last, after-push}
 use Rattle.fwd_model.proofs.WayBack.{told_as, listed}
 
 -- each request of an output that is marked was told
 abbrev AllMarked : Config → List Event → ℕ → List Admission → Type 0
-AllMarked config es o admissions = (i : ℕ) (a : Admission) → slice_get admissions i ≡ Some a → a.told ≡ true → IsTold config es a.request.origin.conn a.request.origin.request o
+AllMarked config es o admissions = (i : ℕ) (a : Admission) → slice_get admissions i ≡ Some a → a.fate ≡ Told → IsTold config es a.request.origin.conn a.request.origin.request o
 
 abbrev Marked : Config → List Event → History → Type 0
-Marked config es h = (o : ℕ) (l : Lane) → slice_get h.lanes o ≡ Some l → AllMarked config es o l.output.book
+Marked config es h = (o : ℕ) (l : Lane) → slice_get h.lanes o ≡ Some l → AllMarked config es o l.output.book.admissions
 
 told_still : (config : Config) (es : List Event) (e : Event) (id r o : ℕ)
     → IsTold config es id r o → IsTold config (es ++ e ∷ []) id r o
@@ -84,28 +86,28 @@ module _ (config : Config) (es : List Event) (e : Event) (m : Marked config es (
   nothing : (k : History) → k.lanes ≡ h.lanes → On k
   nothing k same o l here i a at told = told_still config es e a.request.origin.conn a.request.origin.request o (m o l (subst (λ ls. slice_get ls o ≡ Some l) same here) i a at told)
 
-  put : (o : ℕ) (l : Lane) (k : History) → k.lanes ≡ h.lanes → AllMarked config (es ++ e ∷ []) o l.output.book → On (with_lane o l k)
+  put : (o : ℕ) (l : Lane) (k : History) → k.lanes ≡ h.lanes → AllMarked config (es ++ e ∷ []) o l.output.book.admissions → On (with_lane o l k)
   put o l k same all j x here i a at told = by (slice_get-set k.lanes o j l x here)
     where
       by : ((o ≡ j) × (l ≡ x)) ⊎ ((o ≢ j) × (slice_get k.lanes j ≡ Some x)) → IsTold config (es ++ e ∷ []) a.request.origin.conn a.request.origin.request j
       by (inl s) =
           subst (λ n. IsTold config (es ++ e ∷ []) a.request.origin.conn a.request.origin.request n) s.0
-          (all i a (subst (λ y. slice_get y.output.book i ≡ Some a) (sym s.1) at) told)
+          (all i a (subst (λ y. slice_get y.output.book.admissions i ≡ Some a) (sym s.1) at) told)
       by (inr d) = nothing k same j x d.1 i a at told
 
-  still : (o : ℕ) (l : Lane) (book : List Admission) → slice_get h.lanes o ≡ Some l → book ≡ l.output.book → AllMarked config (es ++ e ∷ []) o book
+  still : (o : ℕ) (l : Lane) (book : List Admission) → slice_get h.lanes o ≡ Some l → book ≡ l.output.book.admissions → AllMarked config (es ++ e ∷ []) o book
   still o l book here same i a at told = told_still config es e a.request.origin.conn a.request.origin.request o (m o l here i a (subst (λ as'. slice_get as' i ≡ Some a) same at) told)
 
   -- an output whose requests stay
-  keeps : (o : ℕ) (l x : Lane) (k : History) → k.lanes ≡ h.lanes → slice_get h.lanes o ≡ Some l → x.output.book ≡ l.output.book → On (with_lane o x k)
-  keeps o l x k lanes here same = put o x k lanes (still o l x.output.book here same)
+  keeps : (o : ℕ) (l x : Lane) (k : History) → k.lanes ≡ h.lanes → slice_get h.lanes o ≡ Some l → x.output.book.admissions ≡ l.output.book.admissions → On (with_lane o x k)
+  keeps o l x k lanes here same = put o x k lanes (still o l x.output.book.admissions here same)
 
-  enters_marks : (o : ℕ) (origin : Origin) (now : ℕ) (q : Request) (l : Lane) → slice_get h.lanes o ≡ Some l → AllMarked config (es ++ e ∷ []) o (output_history_enters l.output origin q now).book
-  enters_marks o origin now q l here i a at told = by (pushed l.output.book (record { request = entered_as q origin (next_number l.output.buffer); told = false }) a i at)
+  enters_marks : (o : ℕ) (origin : Origin) (now : ℕ) (q : Request) (l : Lane) → slice_get h.lanes o ≡ Some l → AllMarked config (es ++ e ∷ []) o (output_history_enters l.output origin q now).book.admissions
+  enters_marks o origin now q l here i a at told = by (pushed l.output.book.admissions (record { request = entered_as q origin (spans_of l.output.buffer origin q now); fate = Untold }) a i at)
     where
-      by : (slice_get l.output.book i ≡ Some a) ⊎ (record { request = entered_as q origin (next_number l.output.buffer); told = false } ≡ a) → IsTold config (es ++ e ∷ []) a.request.origin.conn a.request.origin.request o
-      by (inl old) = still o l l.output.book here refl i a old told
-      by (inr new) = let f : false ≡ true = ap (λ (x : Admission). x.told) new ∙ told in absurd cc
+      by : (slice_get l.output.book.admissions i ≡ Some a) ⊎ (record { request = entered_as q origin (spans_of l.output.buffer origin q now); fate = Untold } ≡ a) → IsTold config (es ++ e ∷ []) a.request.origin.conn a.request.origin.request o
+      by (inl old) = still o l l.output.book.admissions here refl i a old told
+      by (inr new) = let f : Untold ≡ Told = ap (λ (x : Admission). x.fate) new ∙ told in absurd cc
 
   -- ---- where it happens
 
@@ -116,29 +118,29 @@ module _ (config : Config) (es : List Event) (e : Event) (m : Marked config es (
       each (Stays a) = record { holds = tt }
       each (Goes a u) = to (nothing (with_connection id u h) refl)
 
-  at_lane_on : (o : ℕ) (p : Lane → Outcome Lane) → ((l : Lane) → Onward (λ a x. x.output.book ≡ l.output.book) (p l)) → Onward (λ a k. On k) (steps.at_lane histories h o p)
+  at_lane_on : (o : ℕ) (p : Lane → Outcome Lane) → ((l : Lane) → Onward (λ a x. x.output.book.admissions ≡ l.output.book.admissions) (p l)) → Onward (λ a k. On k) (steps.at_lane histories h o p)
   at_lane_on o p holds = lane_on histories h o _ p (λ l here. each l here (p l) (holds l))
     where
-      each : (l : Lane) → slice_get h.lanes o ≡ Some l → (x : Outcome Lane) → Onward (λ a y. y.output.book ≡ l.output.book) x → Onward (λ a y. On (with_lane o y h)) x
+      each : (l : Lane) → slice_get h.lanes o ≡ Some l → (x : Outcome Lane) → Onward (λ a y. y.output.book.admissions ≡ l.output.book.admissions) x → Onward (λ a y. On (with_lane o y h)) x
       each l here (Stays a) same = record { holds = tt }
       each l here (Goes a y) same = to (keeps o l y h refl here same.holds)
 
-  at_worker_on : (l : Lane) (w : ℕ) (p : Worker SessionHistory → Outcome (Worker SessionHistory)) → Onward (λ a x. x.output.book ≡ l.output.book) (steps.at_worker histories l w p)
-  at_worker_on l w p = worker_on histories l w (λ a x. x.output.book ≡ l.output.book) p (λ x at. each (p x))
+  at_worker_on : (l : Lane) (w : ℕ) (p : Worker SessionHistory → Outcome (Worker SessionHistory)) → Onward (λ a x. x.output.book.admissions ≡ l.output.book.admissions) (steps.at_worker histories l w p)
+  at_worker_on l w p = worker_on histories l w (λ a x. x.output.book.admissions ≡ l.output.book.admissions) p (λ x at. each (p x))
     where
-      each : (x : Outcome (Worker SessionHistory)) → Onward (λ a y. (histories.puts_worker l w y).output.book ≡ l.output.book) x
+      each : (x : Outcome (Worker SessionHistory)) → Onward (λ a y. (histories.puts_worker l w y).output.book.admissions ≡ l.output.book.admissions) x
       each (Stays a) = record { holds = tt }
       each (Goes a y) = to refl
 
   -- ---- the events of an output
 
-  flushed_same : (l : Lane) (now : ℕ) (kind : FlushKind) → Onward (λ a x. x.output.book ≡ l.output.book) (steps.flush histories l now kind)
+  flushed_same : (l : Lane) (now : ℕ) (kind : FlushKind) → Onward (λ a x. x.output.book.admissions ≡ l.output.book.admissions) (steps.flush histories l now kind)
   flushed_same l now kind = to refl
 
-  taken_same : (l : Lane) (w now : ℕ) → Onward (λ a x. x.output.book ≡ l.output.book) (steps.take histories l w now)
-  taken_same l w now = past_found NoSuch {x = histories.worker_at l w} (λ x at. past NotNow {b = is_some x.chunk} (λ none. to {a = chunk_answer (histories.free l)} refl))
+  taken_same : (l : Lane) (w now : ℕ) → Onward (λ a x. x.output.book.admissions ≡ l.output.book.admissions) (steps.take histories l w now)
+  taken_same l w now = past_found NoSuch {x = histories.worker_at l w} (λ x at. past NotNow {b = is_some x.chunk} (λ none. to {a = chunk_answer (histories.given l now)} refl))
 
-  settled_same : (l : Lane) (w : ℕ) → Onward (λ a x. x.output.book ≡ l.output.book) (steps.settle histories l w)
+  settled_same : (l : Lane) (w : ℕ) → Onward (λ a x. x.output.book.admissions ≡ l.output.book.admissions) (steps.settle histories l w)
   settled_same l w = past_found NoSuch {x = histories.worker_at l w} (λ x at. past_found NotNow {x = x.session} (λ s f. past_found NotNow {x = steps.acked histories s} (λ k acked. to {a = answer.Settled (histories.entries_at l k)} refl)))
 
   -- ---- a connection and an output
@@ -147,47 +149,71 @@ module _ (config : Config) (es : List Event) (e : Event) (m : Marked config es (
   admit_on id o now =
       both_on histories h id o _ (steps.admit histories h.routes id o now) (λ s l here lane. past_found _ (λ q first. by s q l lane (route h.routes q.tag)))
     where
+      unless : (s : SourceHistory) (q : Request) (l : Lane) → slice_get h.lanes o ≡ Some l → (fault : Option AdmitError) → Onward (λ a two. On (with_lane o two.1 (with_connection id two.0 h))) (steps.enter_unless histories fault s q (record { conn = id; request = s.admitted + 1 }) l now)
+      unless s q l lane None = to (put o (with_output l (output_history_enters l.output (record { conn = id; request = s.admitted + 1 }) q now)) (with_connection id (source.gives s) h) refl (enters_marks o (record { conn = id; request = s.admitted + 1 }) now q l lane))
+      unless s q l lane (Some Full) = to (keeps o l l (with_connection id (source.shuts s) h) refl lane refl)
+      unless s q l lane (Some NumbersSpent) = to (keeps o l l (with_connection id (source.shuts s) h) refl lane refl)
+      unless s q l lane (Some Memory) = record { holds = tt }
+
       by : (s : SourceHistory) (q : Request) (l : Lane) → slice_get h.lanes o ≡ Some l → (first : Option ℕ) → Onward (λ a two. On (with_lane o two.1 (with_connection id two.0 h))) (steps.routed histories first s q id o l now)
       by s q l lane None = to (keeps o l l (with_connection id (source.shuts s) h) refl lane refl)
       by s q l lane (Some first) =
-          past NotNow {b = not (first == o)} (λ this. past_either {b = histories.is_spent l q} (λ spent. to {a = answer.NumbersSpent} {s = (source.shuts s, l)} (keeps o l l (with_connection id (source.shuts s) h) refl lane refl))
-          (λ room. to {a = answer.Admitted (s.admitted + 1) (length q.entries)} {s = (source.gives s, histories.enters l (record { conn = id; request = s.admitted + 1 }) q now)} (put o (with_output l (output_history_enters l.output (record { conn = id; request = s.admitted + 1 }) q now)) (with_connection id (source.gives s) h) refl (enters_marks o (record { conn = id; request = s.admitted + 1 }) now q l lane))))
+          past NotNow {b = not (first == o)} (λ this. unless s q l lane (histories.refusal l (record { conn = id; request = s.admitted + 1 }) q now))
 
 -- what a collect marks it tells
 module _ (config : Config) (es : List Event) (id o : ℕ) (m : Marked config es (reached config es)) where
   abbrev asked : Event
   asked = event.Collect id o
 
-  told_marks : (s : SourceHistory) (l : Lane) → source_at id (reached config es).connections ≡ Some s → s.shut ≡ false → slice_get (reached config es).lanes o ≡ Some l → AllMarked config (es ++ asked ∷ []) o (output_history_tells l.output id).book
+  told_marks : (s : SourceHistory) (l : Lane) → source_at id (reached config es).connections ≡ Some s → s.shut ≡ false → slice_get (reached config es).lanes o ≡ Some l → AllMarked config (es ++ asked ∷ []) o (tells l.output.book id).admissions
   unfolding tells
-  told_marks s l stands open_still here i b at told = by_source (mapped (λ a. told_if (is_due id l.output.buffer.acknowledged a) a) (slice_get l.output.book i) b (sym (slice_get-map (λ a. told_if (is_due id l.output.buffer.acknowledged a) a) l.output.book i) ∙ at))
+  told_marks s l stands open_still here i b at told = by_source (mapped (λ a. becomes Told (is_due id l.output.book.settled a) a) (slice_get l.output.book.admissions i) b (sym (slice_get-map (λ a. becomes Told (is_due id l.output.book.settled a) a) l.output.book.admissions i) ∙ at))
     where
-      by_mark : (a : Admission) → slice_get l.output.book i ≡ Some a → (a.told ≡ true) ⊎ (is_due id l.output.buffer.acknowledged a ≡ true) → IsTold config (es ++ asked ∷ []) a.request.origin.conn a.request.origin.request o
-      by_mark a old (inl e) = still config es asked m o l l.output.book here refl i a old e
-      by_mark a old (inr e) =
-          let parts = and_parts (not a.told) (is_of id a.request && is_settled l.output.buffer.acknowledged a.request) e in
-          let its = and_parts (is_of id a.request) (is_settled l.output.buffer.acknowledged a.request) parts.1 in
-          let conn : id ≡ a.request.origin.conn = grind (arith, nat_tests, its.0) in
+      by_due : (a : Admission) → slice_get l.output.book.admissions i ≡ Some a → (t : Bool) → is_due id l.output.book.settled a ≡ t → (becomes Told t a).fate ≡ Told → IsTold config (es ++ asked ∷ []) (becomes Told t a).request.origin.conn (becomes Told t a).request.origin.request o
+      by_due a old false e marked = still config es asked m o l l.output.book.admissions here refl i a old marked
+      by_due a old true e marked =
+          let parts = and_parts (is_owed id a) (is_settled l.output.book.settled a.request) e in
+          let its = and_parts (is_untold a.fate) (is_of id a.request) parts.0 in
+          let conn : id ≡ a.request.origin.conn = grind (arith, nat_tests, its.1) in
           subst (λ n. IsTold config (es ++ asked ∷ []) n a.request.origin.request o) conn (record {
             before = es;
-            numbers = numbers_of (output_history_due l.output id);
-            out = acks_of (output_history_due l.output id);
+            numbers = (histories.due l id).numbers;
+            out = (histories.due l id).acks;
             later = [];
             split = refl;
             told = told_as (reached config es) o id s l stands here open_still;
-            among = listed id l.output.buffer.acknowledged l.output.book i a old e;
+            among = listed id l.output.book.settled l.output.book.admissions i a old e;
           })
 
-      by_source : (a : Admission) × (slice_get l.output.book i ≡ Some a) × (told_if (is_due id l.output.buffer.acknowledged a) a ≡ b) → IsTold config (es ++ asked ∷ []) b.request.origin.conn b.request.origin.request o
+      by_source : (a : Admission) × (slice_get l.output.book.admissions i ≡ Some a) × (becomes Told (is_due id l.output.book.settled a) a ≡ b) → IsTold config (es ++ asked ∷ []) b.request.origin.conn b.request.origin.request o
       by_source x =
-          let marked : (x.0.told || is_due id l.output.buffer.acknowledged x.0) ≡ true = ap (λ (y : Admission). y.told) x.2 ∙ told in
+          let marked : (becomes Told (is_due id l.output.book.settled x.0) x.0).fate ≡ Told = ap (λ (y : Admission). y.fate) x.2 ∙ told in
           subst (λ (y : Admission). IsTold config (es ++ asked ∷ []) y.request.origin.conn y.request.origin.request o) x.2
-          (by_mark x.0 x.1 (either x.0.told (is_due id l.output.buffer.acknowledged x.0) marked))
+          (by_due x.0 x.1 (is_due id l.output.book.settled x.0) refl marked)
 
   collect_on : Onward (λ a k. Marked config (es ++ asked ∷ []) k) (steps.at_both histories (reached config es) id o (steps.collect histories id))
   collect_on =
       both_on histories (reached config es) id o _ (steps.collect histories id) (λ s l stands here. past _ (λ still_open. to (
-      put config es asked m o (with_output l (output_history_tells l.output id)) (with_connection id (source.appends s (acks_of (output_history_due l.output id))) (reached config es)) refl (told_marks s l stands still_open here))))
+      put config es asked m o (with_book l (tells l.output.book id)) (with_connection id (source.appends s (histories.due l id).acks) (reached config es)) refl (told_marks s l stands still_open here))))
+
+-- what is forgotten is not marked as told
+forget_on : (config : Config) (es : List Event) (e : Event) (id o : ℕ)
+    → Marked config es (reached config es)
+    → Onward (λ a k. Marked config (es ++ e ∷ []) k) (steps.at_lane histories (reached config es) o (λ l. steps.forget histories l id))
+unfolding forgets
+forget_on config es e id o m = lane_on histories (reached config es) o _ (λ l. steps.forget histories l id) (λ l here. to (put config es e m o (with_book l (forgets l.output.book id)) (reached config es) refl (forgotten l here)))
+  where
+    forgotten : (l : Lane) → slice_get (reached config es).lanes o ≡ Some l → AllMarked config (es ++ e ∷ []) o (forgets l.output.book id).admissions
+    forgotten l here i b at told = by_source (mapped (λ a. becomes Forgotten (is_owed id a) a) (slice_get l.output.book.admissions i) b (sym (slice_get-map (λ a. becomes Forgotten (is_owed id a) a) l.output.book.admissions i) ∙ at))
+      where
+        by_owed : (a : Admission) → slice_get l.output.book.admissions i ≡ Some a → (t : Bool) → (becomes Forgotten t a).fate ≡ Told → IsTold config (es ++ e ∷ []) (becomes Forgotten t a).request.origin.conn (becomes Forgotten t a).request.origin.request o
+        by_owed a old false marked = still config es e m o l l.output.book.admissions here refl i a old marked
+        by_owed a old true marked = absurd cc
+
+        by_source : (a : Admission) × (slice_get l.output.book.admissions i ≡ Some a) × (becomes Forgotten (is_owed id a) a ≡ b) → IsTold config (es ++ e ∷ []) b.request.origin.conn b.request.origin.request o
+        by_source x =
+            subst (λ (y : Admission). IsTold config (es ++ e ∷ []) y.request.origin.conn y.request.origin.request o) x.2
+            (by_owed x.0 x.1 (is_owed id x.0) (ap (λ (y : Admission). y.fate) x.2 ∙ told))
 
 event_on : (config : Config) (es : List Event) (e : Event) → Marked config es (reached config es)
     → Onward (λ a k. Marked config (es ++ e ∷ []) k) (step histories (reached config es) e)
@@ -197,11 +223,12 @@ event_on config es (event.Admit id o now) m = admit_on config es (event.Admit id
 event_on config es (event.Flush o now kind) m = at_lane_on config es (event.Flush o now kind) m o (λ l. steps.flush histories l now kind) (λ l. flushed_same config es (event.Flush o now kind) m l now kind)
 event_on config es (event.Up o w server salt now) m = at_lane_on config es (event.Up o w server salt now) m o _ (λ l. at_worker_on config es (event.Up o w server salt now) m l w (steps.up histories l.config.servers server now))
 event_on config es (event.Take o w now) m = at_lane_on config es (event.Take o w now) m o (λ l. steps.take histories l w now) (λ l. taken_same config es (event.Take o w now) m l w now)
-event_on config es (event.Load o w now) m = at_lane_on config es (event.Load o w now) m o _ (λ l. at_worker_on config es (event.Load o w now) m l w (steps.load histories (reached config es).run o now))
+event_on config es (event.Load o w now) m = at_lane_on config es (event.Load o w now) m o _ (λ l. at_worker_on config es (event.Load o w now) m l w (steps.load histories now))
 event_on config es (event.Wrote o w count) m = at_lane_on config es (event.Wrote o w count) m o _ (λ l. at_worker_on config es (event.Wrote o w count) m l w (λ x. steps.at_session histories x (steps.wrote histories count)))
 event_on config es (event.Heard o w bytes) m = at_lane_on config es (event.Heard o w bytes) m o _ (λ l. at_worker_on config es (event.Heard o w bytes) m l w (λ x. steps.at_session histories x (steps.heard histories (reached config es).run o bytes)))
 event_on config es (event.Settle o w) m = at_lane_on config es (event.Settle o w) m o (λ l. steps.settle histories l w) (λ l. settled_same config es (event.Settle o w) m l w)
 event_on config es (event.Collect id o) m = collect_on config es id o m
+event_on config es (event.Forget id o) m = forget_on config es (event.Forget id o) id o m
 event_on config es (event.Drained id count) m = at_source_on config es (event.Drained id count) m id (λ s. steps.drained histories s count)
 event_on config es (event.Shut id) m = past_found _ (λ s here. to (nothing config es (event.Shut id) m (leaves id (reached config es)) refl))
 
@@ -212,19 +239,20 @@ marks_on : (config : Config) (es : List Event) (e : Event)
 marks_on config es e m =
     at_next (reached config es) (step histories (reached config es) e) (λ k. Marked config (es ++ e ∷ []) k) (nothing config es e m (reached config es) refl) (event_on config es e m) (λ a k is next. next)
 
-new_lanes_unmarked : (config : Config) (configs : List OutputConfig) (o : ℕ) (l : Lane)
-    → slice_get (map new_lane configs) o ≡ Some l → l.output.book ≡ []
-new_lanes_unmarked config [] o l h = absurd cc
-new_lanes_unmarked config (c ∷ configs) zero l h = let same : new_lane c ≡ l = some_is h in ap (λ (x : Lane). x.output.book) (sym same)
-new_lanes_unmarked config (c ∷ configs) (suc o) l h = new_lanes_unmarked config configs o l h
+new_lanes_unmarked : (run : List ℕ) (base : ℕ) (configs : List OutputConfig) (o : ℕ)
+    (l : Lane) → slice_get (new_lanes run base configs) o ≡ Some l
+    → l.output.book.admissions ≡ []
+new_lanes_unmarked run base [] o l h = absurd cc
+new_lanes_unmarked run base (c ∷ configs) zero l h = let same : new_lane run base c ≡ l = some_is h in ap (λ (x : Lane). x.output.book.admissions) (sym same)
+new_lanes_unmarked run base (c ∷ configs) (suc o) l h = new_lanes_unmarked run (suc base) configs o l h
 
 opening_marked : (config : Config) → Marked config [] (reached config [])
 unfolding opening
-opening_marked config o l here i a at told = let none : slice_get [] i ≡ Some a = subst (λ xs. slice_get xs i ≡ Some a) (new_lanes_unmarked config config.outputs o l here) at in absurd cc
+opening_marked config o l here i a at told = let none : slice_get [] i ≡ Some a = subst (λ xs. slice_get xs i ≡ Some a) (new_lanes_unmarked config.run 0 config.outputs o l here) at in absurd cc
 
 pub marked-told : (config : Config) (es : List Event) (o i : ℕ) (l : Lane) (a : Admission)
-    → slice_get (reached config es).lanes o ≡ Some l → slice_get l.output.book i ≡ Some a
-    → a.told ≡ true
+    → slice_get (reached config es).lanes o ≡ Some l → slice_get l.output.book.admissions i ≡ Some a
+    → a.fate ≡ Told
     → IsTold config es a.request.origin.conn a.request.origin.request o
 marked-told config es o i l a here at told =
     by_last (λ es. Marked config es (reached config es)) (opening_marked config)

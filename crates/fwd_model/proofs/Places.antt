@@ -1,17 +1,13 @@
 -- Places in the lists of a history and of its live part.
-use Rattle.std.proofs.Common.{◌≡◌, ℕ, zero, suc, ◌+◌, ◌<◌, ◌≤◌, Bool, true, false, cond, eqb, List, [], ◌∷◌, ◌++◌, length, Option, Some, None, refl, sym, ap, subst, ◌∙◌, add-zero, min, max, arith}
+use Rattle.std.proofs.Common.{◌≡◌, ℕ, zero, suc, ◌+◌, ◌<◌, Bool, true, false, cond, eqb, List, [], ◌∷◌, ◌++◌, length, Option, Some, None, refl, ap, subst, ◌∙◌, add-zero, arith}
 use Rattle.std.proofs.Math.ListN.{set}
-use Rattle.std.specs.Prelude.{map, option_map, slice_get, ◌&&◌, not, nat_lt, ◌==◌, if◌then◌else◌}
+use Rattle.std.specs.Prelude.{map, option_map, slice_get, ◌&&◌, not, nat_lt, ◌==◌}
 use Rattle.std.specs.List.{list_all}
 use Rattle.std.proofs.lemmas.Bool.Decides.{nat_tests}
-use Rattle.std.proofs.lemmas.List.{append-nil}
-use Rattle.fwd_model.specs.declared.cell.Cell.{Cell}
-use Rattle.fwd_model.specs.declared.cell.Carry.{Carry}
-use Rattle.fwd_source.specs.declared.origin.Origin.{Origin}
-use Rattle.fwd_model.specs.Chunks.{greatest, cells_at, chunk_of, first_tag, carry_of, least_free, is_free, lesser}
+use Rattle.fwd_chunks.specs.History.{load_of}
 use Rattle.fwd_source.specs.History.{SourceHistory}
 use Rattle.fwd_source.specs.Live.{live_source}
-use Rattle.fwd_model.specs.Outputs.{OutputHistory}
+use Rattle.fwd_model.specs.Outputs.{OutputHistory, carry_of}
 use Rattle.fwd_model.specs.Sessions.{SessionHistory, live_session}
 use Rattle.fwd_model.specs.History.{Connection, source_at, with_source, with_gone, is_fresh}
 use Rattle.fwd_model.specs.Live.{live_connection, known, last_id, live_worker, live_workers, live_source_at, with_live_source, without}
@@ -158,8 +154,8 @@ slice_get-set_same (a ∷ xs) (suc i) x y h = slice_get-set_same xs i x y h
 -- what a worker has behind more cells, and behind more that is carried
 pub live_workers-same : (o p : OutputHistory) (w : ℕ) (ss : List (Option SessionHistory))
     → ((k : ℕ)
-    → option_map (λ c. chunk_of c.number o.buffer.cells) (carry_of k o.buffer.carried)
-    ≡ option_map (λ c. chunk_of c.number p.buffer.cells) (carry_of k p.buffer.carried))
+    → option_map (λ c. load_of o.buffer c.number) (carry_of k o.buffer.carried)
+    ≡ option_map (λ c. load_of p.buffer c.number) (carry_of k p.buffer.carried))
     → live_workers o w ss ≡ live_workers p w ss
 live_workers-same o p w [] h = refl
 live_workers-same o p w (s ∷ ss) h = λ i. record { chunk = h w i; session = option_map live_session s } ∷ live_workers-same o p (suc w) ss h i
@@ -184,78 +180,3 @@ pub length-live_workers : (o : OutputHistory) (b : ℕ) (ss : List (Option Sessi
     → length (live_workers o b ss) ≡ length ss
 length-live_workers o b [] = refl
 length-live_workers o b (s ∷ ss) = ap suc (length-live_workers o (suc b) ss)
-
--- ---- cells
-
-pub greatest-append : (xs ys : List Cell)
-    → greatest (xs ++ ys) ≡ max (greatest xs) (greatest ys)
-greatest-append [] ys = omega arith
-greatest-append (c ∷ xs) ys = omega (arith, greatest-append xs ys)
-
-greatest-same_below : (es : List (List ℕ)) (tag : List ℕ) (origin : Origin)
-    (number moment : ℕ)
-    → greatest (map (λ e.
-    record {
-      tag = tag;
-      entry = e;
-      origin = origin;
-      number = number;
-      moment = moment;
-    }) es) ≤ number
-greatest-same_below [] tag origin number moment = omega arith
-greatest-same_below (e ∷ es) tag origin number moment = omega (arith, greatest-same_below es tag origin number moment)
-
-past_zero : (n a b : ℕ) → cond (eqb (suc n) 0) a b ≡ b
-past_zero n a b = grind (arith, nat_tests)
-
--- the greatest number once entries have taken a greater one
-pub greatest-entered : (xs : List Cell) (es : List (List ℕ)) (tag : List ℕ) (origin : Origin)
-    (number moment : ℕ) → greatest xs < number
-    → greatest (xs
-    ++ map (λ e.
-    record { tag = tag; entry = e; origin = origin; number = number; moment = moment }) es)
-    ≡ (if length es == 0 then greatest xs else number)
-greatest-entered xs [] tag origin number moment lt = ap greatest (append-nil xs)
-greatest-entered xs (e ∷ es) tag origin number moment lt =
-    let joined = greatest-append xs (map (λ e. record { tag = tag; entry = e; origin = origin; number = number; moment = moment }) (e ∷ es)) in
-    let least : max (greatest xs) (max number (greatest (map (λ e. record { tag = tag; entry = e; origin = origin; number = number; moment = moment }) es))) ≡ number = omega (arith, greatest-same_below es tag origin number moment) in
-    joined ∙ least ∙ sym (past_zero (length es) (greatest xs) number)
-
--- no cell has the number
-pub cells_at-append_past : (k : ℕ) (xs : List Cell) (es : List (List ℕ)) (tag : List ℕ)
-    (origin : Origin) (number moment : ℕ) → k < number
-    → cells_at k (xs
-    ++ map (λ e.
-    record { tag = tag; entry = e; origin = origin; number = number; moment = moment }) es)
-    ≡ cells_at k xs
-cells_at-append_past k [] [] tag origin number moment lt = refl
-cells_at-append_past k [] (e ∷ es) tag origin number moment lt = grind (arith, nat_tests, cells_at-append_past k [] es tag origin number moment lt)
-cells_at-append_past k (c ∷ xs) es tag origin number moment lt = grind (arith, nat_tests, cells_at-append_past k xs es tag origin number moment lt)
-
-pub chunk_of-append_past : (k : ℕ) (xs : List Cell) (es : List (List ℕ)) (tag : List ℕ)
-    (origin : Origin) (number moment : ℕ) → k < number
-    → chunk_of k (xs
-    ++ map (λ e.
-    record { tag = tag; entry = e; origin = origin; number = number; moment = moment }) es)
-    ≡ chunk_of k xs
-unfolding chunk_of
-chunk_of-append_past k xs es tag origin number moment lt =
-    let e = cells_at-append_past k xs es tag origin number moment lt in
-    λ i. record { number = k; tag = first_tag (e i); entries = map (λ c. c.entry) (e i) }
-
-lesser-below : (n : ℕ) (o : Option ℕ) (g k : ℕ) → lesser n o ≡ Some k
-    → ((m : ℕ) → o ≡ Some m → m ≤ g) → k ≤ max n g
-lesser-below n None g k h f = let e : n ≡ k = cc in omega (arith, e)
-lesser-below n (Some m) g k h f = let e : min n m ≡ k = cc in omega (arith, e, f m refl)
-
-least_at : (g n k : ℕ) (o : Option ℕ) (b : Bool) → cond b (lesser n o) o ≡ Some k
-    → ((m : ℕ) → o ≡ Some m → m ≤ g) → k ≤ max n g
-least_at g n k o true h f = lesser-below n o g k h f
-least_at g n k o false h f = omega (arith, f k h)
-
--- the least free number is that of a cell
-pub least_free-below : (opened : List ℕ) (carried : List Carry) (cells : List Cell) (k : ℕ)
-    → least_free opened carried cells ≡ Some k → k ≤ greatest cells
-least_free-below opened carried [] k h = absurd cc
-least_free-below opened carried (c ∷ cells) k h =
-    least_at (greatest cells) c.number k (least_free opened carried cells) (is_free opened carried c.number) h (λ m p. least_free-below opened carried cells m p)

@@ -2,19 +2,17 @@
 use Rattle.std.proofs.Common.{◌≡◌, ◌≢◌, ℕ, zero, suc, ◌≤◌, Bool, true, false, cond, eqb, List, [], ◌∷◌, ◌++◌, length, Option, Some, None, refl, sym, ap, ◌∙◌, subst, inl, inr, arith}
 use Rattle.std.proofs.Math.ListN.{set}
 use Rattle.std.specs.Prelude.{◌⊎◌, slice_get}
-use Rattle.std.specs.List.{list_all}
 use Rattle.fwd_msgpack.specs.Scans.{Split}
 use Rattle.fwd_msgpack.specs.Scans.Split.{Open, Broken}
-use Rattle.fwd_model.specs.declared.cell.Span.{Span}
-use Rattle.fwd_model.specs.declared.cell.Carry.{Carry}
+use Rattle.fwd_chunks.specs.Cells.{Carry}
+use Rattle.fwd_chunks.proofs.Sane.{IsSane as IsSaneBuffer}
 use Rattle.fwd_source.specs.History.{SourceHistory, IsSane as IsSaneSource}
-use Rattle.fwd_model.specs.Books.{has_cell}
 use Rattle.fwd_model.specs.Sessions.{SessionHistory}
 use Rattle.fwd_model.specs.History.{Connection, source_at, with_source, with_gone, Lane, History, is_fresh}
 use Rattle.fwd_model.specs.Live.{last_id, is_above}
 use Rattle.fwd_model.proofs.Places.{Once}
-use Rattle.fwd_model.specs.declared.cell.Cell.{Cell}
-use Rattle.fwd_model.specs.Chunks.{greatest, carry_of, is_carried, has_number, put_down}
+use Rattle.fwd_model.specs.Outputs.{carry_of}
+use Rattle.fwd_model.proofs.Settling.{AreApart}
 use Rattle.fwd_model.specs.Replies.{reply_stream}
 
 abbrev pub AllSources : List Connection → Type 0
@@ -25,9 +23,6 @@ abbrev pub is_open : Split → Bool
 is_open (Open values rest) = true
 is_open (Broken values fault) = false
 
-abbrev pub have_cells : List Span → List Cell → Bool
-have_cells spans cells = list_all (λ s. has_cell s.number cells) spans
-
 -- what holds of a session: its chunk is the one that its worker has, no more was sent than was
 -- appended, and what was heard while it was up is no broken stream
 pub record IsSaneSession (w : ℕ) (carried : List Carry) (s : SessionHistory) : Type 0 where
@@ -35,17 +30,12 @@ pub record IsSaneSession (w : ℕ) (carried : List Carry) (s : SessionHistory) :
   pub sent : s.sent ≤ length s.appended
   pub opened : s.down ≡ false → is_open (reply_stream s.heard) ≡ true
 
--- what holds of an output and its sessions: a number is open, carried or acknowledged, one of
--- them only, once it was given, and carried once
+-- what holds of an output and its sessions: its buffer is sane, its workers carry apart, and its
+-- book knows of the numbers that were acknowledged
 pub record IsSaneLane (l : Lane) : Type 0 where
-  pub opened_below : (k : ℕ) → has_number k l.output.buffer.opened ≡ true → k ≤ greatest l.output.buffer.cells
-  pub acked_below : (k : ℕ) → has_number k l.output.buffer.acknowledged ≡ true → k ≤ greatest l.output.buffer.cells
-  pub carried_below : (k : ℕ) → is_carried k l.output.buffer.carried ≡ true → k ≤ greatest l.output.buffer.cells
-  pub opened_unacked : (k : ℕ) → has_number k l.output.buffer.opened ≡ true → has_number k l.output.buffer.acknowledged ≡ false
-  pub opened_uncarried : (k : ℕ) → has_number k l.output.buffer.opened ≡ true → is_carried k l.output.buffer.carried ≡ false
-  pub carried_unacked : (k : ℕ) → is_carried k l.output.buffer.carried ≡ true → has_number k l.output.buffer.acknowledged ≡ false
-  pub carried_once : (w : ℕ) (c : Carry) → carry_of w l.output.buffer.carried ≡ Some c → is_carried c.number (put_down w l.output.buffer.carried) ≡ false
-  pub spans : list_all (λ a. have_cells a.request.spans l.output.buffer.cells) l.output.book ≡ true
+  pub buffer : IsSaneBuffer l.output.buffer
+  pub apart : AreApart l.output.buffer.carried
+  pub marks : l.output.book.settled ≡ l.output.buffer.acknowledged
   pub sessions : (w : ℕ) (s : SessionHistory) → slice_get l.sessions w ≡ Some (Some s) → IsSaneSession w l.output.buffer.carried s
 
 abbrev pub AllSane : List Lane → Type 0

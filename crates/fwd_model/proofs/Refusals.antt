@@ -7,7 +7,10 @@ use Rattle.fwd_match.specs.Patterns.{route}
 use Rattle.fwd_source.specs.declared.piece.Piece.{Piece}
 use Rattle.fwd_source.specs.declared.piece.Piece.TheVariants as verdict
 use Rattle.fwd_source.specs.History.{Setup, opening_text}
-use Rattle.fwd_model.specs.declared.cell.Chunk.{Chunk}
+use Rattle.fwd_chunks.specs.declared.fault.AdmitError.{AdmitError}
+use Rattle.fwd_chunks.specs.declared.fault.AdmitError.TheVariants.{Full, NumbersSpent, Memory}
+use Rattle.fwd_chunks.specs.History.{Load}
+use Rattle.fwd_source.specs.declared.origin.Origin.{Origin}
 use Rattle.fwd_model.specs.declared.event.Event.{Event}
 use Rattle.fwd_model.specs.declared.event.Event.TheVariants as event
 use Rattle.fwd_model.specs.declared.answer.Answer.{Answer}
@@ -20,14 +23,14 @@ use Rattle.fwd_model.specs.Step as steps
 use Rattle.fwd_model.specs.Step.{step}
 use Rattle.fwd_model.specs.Setups.{setup_of}
 use Rattle.fwd_model.specs.Replies.{is_loaded, reply_answer}
-use Rattle.fwd_model.specs.Chunks.{frame_of}
-use Rattle.fwd_model.proofs.Onward.{Onward, to, past, past_found, past_either, source_on, lane_on, both_on, worker_on, session_on}
+use Rattle.fwd_model.specs.Outputs.{frame_of}
+use Rattle.fwd_model.proofs.Onward.{Onward, to, past, past_found, source_on, lane_on, both_on, worker_on, session_on}
 
 -- what is gone on to is no refusal
 abbrev Answered : {S : Type 0} → Answer → S → Type 0
 Answered a s = is_refusal a ≡ false
 
-chunk_counts : (c : Option Chunk) → is_refusal (chunk_answer c) ≡ false
+chunk_counts : (c : Option Load) → is_refusal (chunk_answer c) ≡ false
 chunk_counts None = refl
 chunk_counts (Some c) = refl
 
@@ -48,10 +51,16 @@ module _ (L : Layers) where
   drained_counts : (s : L.Source) (count : ℕ) → Onward Answered (steps.drained L s count)
   drained_counts s count = past NotNow {b = nat_lt (length (L.unsent s)) count} (λ few. to {a = answer.Done} refl)
 
+  enter_counts : (fault : Option AdmitError) (s : L.Source) (q : Request) (origin : Origin) (l : L.Lane) (now : ℕ) → Onward Answered (steps.enter_unless L fault s q origin l now)
+  enter_counts None s q origin l now = to refl
+  enter_counts (Some Full) s q origin l now = to refl
+  enter_counts (Some NumbersSpent) s q origin l now = to refl
+  enter_counts (Some Memory) s q origin l now = record { holds = tt }
+
   routed_counts : (first : Option ℕ) (s : L.Source) (q : Request) (id o : ℕ) (l : L.Lane) (now : ℕ) → Onward Answered (steps.routed L first s q id o l now)
   routed_counts None s q id o l now = to refl
   routed_counts (Some first) s q id o l now =
-      past NotNow {b = not (first == o)} (λ this. past_either {b = L.is_spent l q} (λ spent. to {a = answer.NumbersSpent} refl) (λ room. to {a = answer.Admitted (L.admitted s + 1) (length q.entries)} refl))
+      past NotNow {b = not (first == o)} (λ this. enter_counts (L.refusal l (record { conn = id; request = L.admitted s + 1 }) q now) s q (record { conn = id; request = L.admitted s + 1 }) l now)
 
   admit_counts : (patterns : List (List (List ℕ))) (id o now : ℕ) (s : L.Source) (l : L.Lane) → Onward Answered (steps.admit L patterns id o now s l)
   admit_counts patterns id o now s l = past_found NotNow {x = first_of (L.waiting s)} (λ q first. routed_counts (route patterns q.tag) s q id o l now)
@@ -63,11 +72,11 @@ module _ (L : Layers) where
   up_counts servers server now x = past NoSuch {b = not (nat_lt server servers)} (λ known. past NotNow {b = is_some x.session} (λ none. to {a = answer.Done} refl))
 
   take_counts : (l : L.Lane) (w now : ℕ) → Onward Answered (steps.take L l w now)
-  take_counts l w now = past_found NoSuch {x = L.worker_at l w} (λ x at. past NotNow {b = is_some x.chunk} (λ none. to {a = chunk_answer (L.free l)} (chunk_counts (L.free l))))
+  take_counts l w now = past_found NoSuch {x = L.worker_at l w} (λ x at. past NotNow {b = is_some x.chunk} (λ none. to {a = chunk_answer (L.given l now)} (chunk_counts (L.given l now))))
 
-  load_counts : (name : List ℕ) (o now : ℕ) (x : Worker L.Session) → Onward Answered (steps.load L name o now x)
-  load_counts name o now x =
-      past_found NotNow {x = x.session} (λ s f. past_found NotNow {x = x.chunk} (λ c g. past NotNow {b = is_loaded (L.loaded s) c.number} (λ fresh. past NotUp {b = L.is_down s} (λ up. to {a = answer.Frame (frame_of name o c)} refl))))
+  load_counts : (now : ℕ) (x : Worker L.Session) → Onward Answered (steps.load L now x)
+  load_counts now x =
+      past_found NotNow {x = x.session} (λ s f. past_found NotNow {x = x.chunk} (λ c g. past NotNow {b = is_loaded (L.loaded s) c.number} (λ fresh. past NotUp {b = L.is_down s} (λ up. to {a = answer.Frame (frame_of c)} refl))))
 
   wrote_counts : (count : ℕ) (s : L.Session) → Onward Answered (steps.wrote L count s)
   wrote_counts count s = past NotNow {b = nat_lt (length (L.to_send s)) count} (λ few. to {a = answer.Done} refl)
@@ -91,11 +100,12 @@ module _ (L : Layers) where
   event_counts r (event.Flush o now kind) = lane_on L r o Answered (λ l. steps.flush L l now kind) (λ l here. to refl)
   event_counts r (event.Up o w server salt now) = lane_on L r o Answered _ (λ l here. worker_on L l w Answered _ (λ x at. up_counts (L.config l).servers server now x))
   event_counts r (event.Take o w now) = lane_on L r o Answered _ (λ l here. take_counts l w now)
-  event_counts r (event.Load o w now) = lane_on L r o Answered _ (λ l here. worker_on L l w Answered _ (λ x at. load_counts (L.run r) o now x))
+  event_counts r (event.Load o w now) = lane_on L r o Answered _ (λ l here. worker_on L l w Answered _ (λ x at. load_counts now x))
   event_counts r (event.Wrote o w count) = lane_on L r o Answered _ (λ l here. worker_on L l w Answered _ (λ x at. session_on L x Answered _ (λ s f. wrote_counts count s)))
   event_counts r (event.Heard o w bytes) = lane_on L r o Answered _ (λ l here. worker_on L l w Answered _ (λ x at. session_on L x Answered _ (λ s f. heard_counts (L.run r) o bytes s)))
   event_counts r (event.Settle o w) = lane_on L r o Answered _ (λ l here. settle_counts l w)
   event_counts r (event.Collect id o) = both_on L r id o Answered _ (λ s l here lane. collect_counts id s l)
+  event_counts r (event.Forget id o) = lane_on L r o Answered (λ l. steps.forget L l id) (λ l here. to refl)
   event_counts r (event.Drained id count) = source_on L r id Answered _ (λ s here. drained_counts s count)
   event_counts r (event.Shut id) = shut_counts r id
 

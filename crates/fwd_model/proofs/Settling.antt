@@ -1,116 +1,129 @@
--- What stays of cells, numbers and carries where numbers are settled.
-use Rattle.std.proofs.Common.{◌≡◌, ◌≢◌, ℕ, ◌+◌, ◌≤◌, Bool, true, false, cond, List, [], ◌∷◌, ◌++◌, length, Option, Some, None, refl, min, inl, inr, arith}
-use Rattle.std.specs.Prelude.{◌⊎◌, filter, find, not, ◌&&◌, ◌||◌, ◌==◌}
+-- What is carried, where a worker takes a number, and where a number is settled.
+use Rattle.std.proofs.Common.{◌≡◌, ◌≢◌, ℕ, Bool, true, false, cond, eqb, List, [], ◌∷◌, ◌++◌, Some, None, refl, sym, ap, ◌∙◌, arith}
+use Rattle.std.specs.Prelude.{not, ◌||◌, ◌==◌}
 use Rattle.std.proofs.lemmas.Bool.Decides.{nat_tests}
-use Rattle.std.proofs.lemmas.Bool.{cases_lt}
-use Rattle.fwd_model.specs.declared.cell.Cell.{Cell}
-use Rattle.fwd_model.specs.declared.cell.Carry.{Carry}
-use Rattle.fwd_model.specs.Chunks.{greatest, cells_at, has_entry, has_number, is_carried, carry_of, put_down, unsettled, least_free, is_free, lesser}
-use Rattle.fwd_model.specs.Buffers.{settled_cells}
-use Rattle.fwd_model.specs.Books.{has_cell}
+use Rattle.fwd_chunks.specs.Cells.{Carry, is_carried, without}
+use Rattle.fwd_model.specs.Outputs.{carry_of}
 
--- ---- numbers
-
-pub has_number-push : (k n : ℕ) (ns : List ℕ)
-    → has_number k (ns ++ n ∷ []) ≡ (has_number k ns || (n == k))
-has_number-push k n [] = grind (arith, nat_tests)
-has_number-push k n (x ∷ ns) = grind (arith, nat_tests, has_number-push k n ns)
-
-pub has_number-filter : (k : ℕ) (p : ℕ → Bool) (ns : List ℕ)
-    → has_number k (filter p ns) ≡ true → has_number k ns ≡ true
-has_number-filter k p [] h = h
-has_number-filter k p (x ∷ ns) h = grind (arith, nat_tests, has_number-filter k p ns)
-
-pub filter-same : (p q : ℕ → Bool) (ns : List ℕ)
-    → ((k : ℕ) → has_number k ns ≡ true → p k ≡ q k) → filter p ns ≡ filter q ns
-filter-same p q [] h = refl
-filter-same p q (n ∷ ns) h =
-    let here : p n ≡ q n = h n (grind (arith, nat_tests)) in
-    let rest = filter-same p q ns (λ k e. h k (grind (arith, nat_tests, e))) in
-    λ i. cond (here i) (n ∷ rest i) (rest i)
-
--- ---- cells
-
-pub cells_at-unsettled : (k : ℕ) (acked : List ℕ) (cells : List Cell)
-    → has_number k acked ≡ false → cells_at k (unsettled acked cells) ≡ cells_at k cells
-cells_at-unsettled k acked [] h = refl
-cells_at-unsettled k acked (c ∷ cells) h = grind (arith, nat_tests, cells_at-unsettled k acked cells h)
-
-pub find-unsettled : (k : ℕ) (acked : List ℕ) (cells : List Cell)
-    → has_number k acked ≡ false
-    → find (λ c. c.number == k) (unsettled acked cells) ≡ find (λ c. c.number == k) cells
-find-unsettled k acked [] h = refl
-find-unsettled k acked (c ∷ cells) h = grind (arith, nat_tests, find-unsettled k acked cells h)
-
-pub has_entry-unsettled : (tag : List ℕ) (k : ℕ) (acked : List ℕ) (cells : List Cell)
-    → has_number k acked ≡ false
-    → has_entry tag k (unsettled acked cells) ≡ has_entry tag k cells
-has_entry-unsettled tag k acked [] h = refl
-has_entry-unsettled tag k acked (c ∷ cells) h = grind (arith, nat_tests, has_entry-unsettled tag k acked cells h)
-
-pub has_cell-unsettled : (k : ℕ) (acked : List ℕ) (cells : List Cell)
-    → has_cell k (unsettled acked cells) ≡ (has_cell k cells && not (has_number k acked))
-has_cell-unsettled k acked [] = refl
-has_cell-unsettled k acked (c ∷ cells) = grind (arith, nat_tests, has_cell-unsettled k acked cells)
-
-pub has_cell-append : (k : ℕ) (xs ys : List Cell)
-    → has_cell k (xs ++ ys) ≡ (has_cell k xs || has_cell k ys)
-has_cell-append k [] ys = refl
-has_cell-append k (c ∷ xs) ys = grind (arith, nat_tests, has_cell-append k xs ys)
-
-pub has_cell-below : (k : ℕ) (cells : List Cell) → has_cell k cells ≡ true
-    → k ≤ greatest cells
-has_cell-below k [] h = absurd cc
-has_cell-below k (c ∷ cells) h = grind (arith, nat_tests, has_cell-below k cells)
-
-pub unsettled-push : (n : ℕ) (acked : List ℕ) (cells : List Cell)
-    → unsettled (acked ++ n ∷ []) cells
-    ≡ filter (λ c. not (c.number == n)) (unsettled acked cells)
-unsettled-push n acked [] = refl
-unsettled-push n acked (c ∷ cells) = grind (arith, nat_tests, unsettled-push n acked cells, has_number-push c.number n acked)
-
-pub settled-push : (n : ℕ) (acked : List ℕ) (cells : List Cell)
-    → length (settled_cells (acked ++ n ∷ []) cells)
-    ≡ length (settled_cells acked cells) + length (cells_at n (unsettled acked cells))
-settled-push n acked [] = refl
-settled-push n acked (c ∷ cells) = grind (arith, nat_tests, settled-push n acked cells, has_number-push c.number n acked)
-
--- ---- carries
-
-pub carry_of-put_down_same : (w : ℕ) (cs : List Carry) → carry_of w (put_down w cs) ≡ None
-carry_of-put_down_same w [] = refl
-carry_of-put_down_same w (c ∷ cs) = grind (arith, nat_tests, carry_of-put_down_same w cs)
-
-pub carry_of-put_down_other : (w j : ℕ) (cs : List Carry) → w ≢ j
-    → carry_of j (put_down w cs) ≡ carry_of j cs
-carry_of-put_down_other w j [] differ = refl
-carry_of-put_down_other w j (c ∷ cs) differ = grind (arith, nat_tests, carry_of-put_down_other w j cs differ)
-
-pub is_carried-put_down : (k w : ℕ) (cs : List Carry) → is_carried k (put_down w cs) ≡ true
-    → is_carried k cs ≡ true
-is_carried-put_down k w [] h = h
-is_carried-put_down k w (c ∷ cs) h = grind (arith, nat_tests, is_carried-put_down k w cs)
+-- each worker carries one number, and each number is carried by one worker
+abbrev pub AreApart : List Carry → Type 0
+AreApart [] = Unit {0}
+AreApart (c ∷ cs) = (is_carried c.number cs ≡ false) × (carry_of c.worker cs ≡ None) × AreApart cs
 
 pub carry_of-carried : (w : ℕ) (cs : List Carry) (c : Carry) → carry_of w cs ≡ Some c
     → is_carried c.number cs ≡ true
 carry_of-carried w [] c h = absurd cc
 carry_of-carried w (d ∷ cs) c h = grind (arith, nat_tests, carry_of-carried w cs c)
 
--- ---- the least free number
+-- ---- one more carry
 
-least_of : (n m k : ℕ) → lesser n (Some m) ≡ Some k → (k ≡ n) ⊎ (k ≡ m)
-least_of n m k h = let e : min n m ≡ k = cc in elim (cases_lt n m) [ inl lt ↦ inl (omega (arith, e, lt)) | inr ge ↦ inr (omega (arith, e, ge)) ]
+pub carry_of-push_other : (w j k : ℕ) (cs : List Carry) → w ≢ j
+    → carry_of j (cs ++ record { worker = w; number = k } ∷ []) ≡ carry_of j cs
+carry_of-push_other w j k [] differ = grind (arith, nat_tests)
+carry_of-push_other w j k (c ∷ cs) differ = ap (cond (eqb c.worker j) (Some c)) (carry_of-push_other w j k cs differ)
 
-least_at : (opened : List ℕ) (carried : List Carry) (c : Cell) (cells : List Cell) (k : ℕ)
-    (b : Bool) (o : Option ℕ) → is_free opened carried c.number ≡ b
-    → ((m : ℕ) → o ≡ Some m → (is_free opened carried m && has_cell m cells) ≡ true) → cond b (lesser c.number o) o ≡ Some k → (is_free opened carried k && has_cell k (c ∷ cells)) ≡ true
-least_at opened carried c cells k true None f rec h = let n : c.number ≡ k = cc in grind (arith, nat_tests, n, f)
-least_at opened carried c cells k true (Some m) f rec h = elim (least_of c.number m k h) [ inl e ↦ grind (arith, nat_tests, e, f) | inr e ↦ grind (arith, nat_tests, e, rec m refl) ]
-least_at opened carried c cells k false o f rec h = grind (arith, nat_tests, rec k h)
+pub carry_of-push_same : (w k : ℕ) (cs : List Carry) → carry_of w cs ≡ None
+    → carry_of w (cs ++ record { worker = w; number = k } ∷ [])
+    ≡ Some (record { worker = w; number = k })
+carry_of-push_same w k [] none = grind (arith, nat_tests)
+carry_of-push_same w k (c ∷ cs) none = at (eqb c.worker w) none (λ h. carry_of-push_same w k cs h)
+  where
+    at : (b : Bool) → cond b (Some c) (carry_of w cs) ≡ None → (carry_of w cs ≡ None → carry_of w (cs ++ record { worker = w; number = k } ∷ []) ≡ Some (record { worker = w; number = k })) → cond b (Some c) (carry_of w (cs ++ record { worker = w; number = k } ∷ [])) ≡ Some (record { worker = w; number = k })
+    at true e rec = absurd cc
+    at false e rec = rec e
 
-pub least_free-free : (opened : List ℕ) (carried : List Carry) (cells : List Cell) (k : ℕ)
-    → least_free opened carried cells ≡ Some k
-    → (is_free opened carried k && has_cell k cells) ≡ true
-least_free-free opened carried [] k h = absurd cc
-least_free-free opened carried (c ∷ cells) k h =
-    least_at opened carried c cells k (is_free opened carried c.number) (least_free opened carried cells) refl (λ m e. least_free-free opened carried cells m e) h
+is_carried-push : (j w k : ℕ) (cs : List Carry)
+    → is_carried j (cs ++ record { worker = w; number = k } ∷ [])
+    ≡ (is_carried j cs || (k == j))
+is_carried-push j w k [] = grind (arith, nat_tests)
+is_carried-push j w k (c ∷ cs) = grind (arith, nat_tests, is_carried-push j w k cs)
+
+pub apart-push : (w k : ℕ) (cs : List Carry) → AreApart cs → carry_of w cs ≡ None
+    → is_carried k cs ≡ false → AreApart (cs ++ record { worker = w; number = k } ∷ [])
+apart-push w k [] apart none free = (refl, refl, tt)
+apart-push w k (c ∷ cs) apart none free =
+    let worker : eqb c.worker w ≡ false = grind (arith, nat_tests, none) in
+    let number : eqb c.number k ≡ false = grind (arith, nat_tests, free) in
+    let rest_none : carry_of w cs ≡ None = grind (arith, nat_tests, none) in
+    let rest_free : is_carried k cs ≡ false = grind (arith, nat_tests, free) in (
+      grind (arith, nat_tests, is_carried-push c.number w k cs, apart.0, number),
+      carry_of-push_other w c.worker k cs (λ e. grind (arith, nat_tests, e, worker)) ∙ apart.1,
+      apart-push w k cs apart.2 rest_none rest_free,
+    )
+
+-- ---- one carry less
+
+is_carried-without : (j k : ℕ) (cs : List Carry) → is_carried j cs ≡ false
+    → is_carried j (without k cs) ≡ false
+is_carried-without j k [] h = refl
+is_carried-without j k (c ∷ cs) h = grind (arith, nat_tests, is_carried-without j k cs)
+
+none-without : (w k : ℕ) (cs : List Carry) → carry_of w cs ≡ None
+    → carry_of w (without k cs) ≡ None
+none-without w k [] h = refl
+none-without w k (c ∷ cs) h = grind (arith, nat_tests, none-without w k cs)
+
+pub apart-without : (k : ℕ) (cs : List Carry) → AreApart cs → AreApart (without k cs)
+apart-without k [] apart = tt
+apart-without k (c ∷ cs) apart = by (not (c.number == k)) (apart-without k cs apart.2)
+  where
+    by : (b : Bool) → AreApart (without k cs) → AreApart (cond b (c ∷ without k cs) (without k cs))
+    by true rest = (is_carried-without c.number k cs apart.0, none-without c.worker k cs apart.1, rest)
+    by false rest = rest
+
+-- where no worker has the number, nothing goes
+without-none : (k : ℕ) (cs : List Carry) → is_carried k cs ≡ false → without k cs ≡ cs
+without-none k [] h = refl
+without-none k (c ∷ cs) h = grind (arith, nat_tests, without-none k cs)
+
+-- the worker that had the number has nothing any more
+pub carry_of-without_same : (w : ℕ) (c : Carry) (cs : List Carry) → AreApart cs
+    → carry_of w cs ≡ Some c → carry_of w (without c.number cs) ≡ None
+carry_of-without_same w c [] apart h = absurd cc
+carry_of-without_same w c (d ∷ cs) apart h = by (carry_of-without_same w c cs apart.2) (eqb d.worker w) refl h
+  where
+    by : (carry_of w cs ≡ Some c → carry_of w (without c.number cs) ≡ None) → (b : Bool) → eqb d.worker w ≡ b → cond b (Some d) (carry_of w cs) ≡ Some c → carry_of w (without c.number (d ∷ cs)) ≡ None
+    by rest true e h =
+        let same : d ≡ c = cc in
+        let numbers : d.number ≡ c.number = ap (λ x. x.number) same in
+        let number : eqb d.number c.number ≡ true = grind (arith, nat_tests, numbers) in
+        let worker : d.worker ≡ w = grind (arith, nat_tests, e) in
+        let none : carry_of w cs ≡ None = ap (λ x. carry_of x cs) (sym worker) ∙ apart.1 in
+        ap (λ b. carry_of w (cond (not b) (d ∷ without c.number cs) (without c.number cs))) number ∙ none-without w c.number cs none
+    by rest false e h = at (eqb d.number c.number)
+      where
+        at : (b : Bool) → carry_of w (cond (not b) (d ∷ without c.number cs) (without c.number cs)) ≡ None
+        at true = rest h
+        at false = ap (λ b. cond b (Some d) (carry_of w (without c.number cs))) e ∙ rest h
+
+-- another number than one that is not carried
+other_number : (j k : ℕ) (cs : List Carry) → is_carried j cs ≡ false → is_carried k cs ≡ true
+    → eqb j k ≡ false
+other_number j k cs free held = by (eqb j k) refl
+  where
+    by : (b : Bool) → eqb j k ≡ b → b ≡ false
+    by true e =
+        let same : j ≡ k = grind (arith, nat_tests, e) in
+        let no : false ≡ true = sym free ∙ ap (λ x. is_carried x cs) same ∙ held in absurd cc
+    by false e = refl
+
+-- and the others have what they had
+pub carry_of-without_other : (w v : ℕ) (c : Carry) (cs : List Carry) → AreApart cs
+    → carry_of w cs ≡ Some c → w ≢ v → carry_of v (without c.number cs) ≡ carry_of v cs
+carry_of-without_other w v c [] apart h differ = refl
+carry_of-without_other w v c (d ∷ cs) apart h differ = by (λ g. carry_of-without_other w v c cs apart.2 g differ) (eqb d.worker w) refl h
+  where
+    by : (carry_of w cs ≡ Some c → carry_of v (without c.number cs) ≡ carry_of v cs) → (b : Bool) → eqb d.worker w ≡ b → cond b (Some d) (carry_of w cs) ≡ Some c → carry_of v (without c.number (d ∷ cs)) ≡ carry_of v (d ∷ cs)
+    by rest true e h =
+        let same : d ≡ c = cc in
+        let numbers : d.number ≡ c.number = ap (λ x. x.number) same in
+        let number : eqb d.number c.number ≡ true = grind (arith, nat_tests, numbers) in
+        let worker : d.worker ≡ w = grind (arith, nat_tests, e) in
+        let another : eqb d.worker v ≡ false = grind (arith, nat_tests, worker, differ) in
+        let free : is_carried c.number cs ≡ false = ap (λ x. is_carried x cs) (sym numbers) ∙ apart.0 in
+        ap (λ b. carry_of v (cond (not b) (d ∷ without c.number cs) (without c.number cs))) number
+        ∙ ap (carry_of v) (without-none c.number cs free) ∙ sym (ap (λ b. cond b (Some d) (carry_of v cs)) another)
+    by rest false e h =
+        let number = other_number d.number c.number cs apart.0 (carry_of-carried w cs c h) in
+        ap (λ b. carry_of v (cond (not b) (d ∷ without c.number cs) (without c.number cs))) number
+        ∙ ap (cond (eqb d.worker v) (Some d)) (rest h)

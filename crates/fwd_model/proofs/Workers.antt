@@ -2,9 +2,9 @@
 -- carries.
 use Rattle.std.proofs.Common.{◌≡◌, ℕ, Option, Some, None, false, refl, sym, ap, ◌∙◌}
 use Rattle.std.specs.Prelude.{option_map, is_some, slice_get}
-use Rattle.fwd_model.specs.declared.cell.Carry.{Carry}
-use Rattle.fwd_model.specs.declared.cell.Chunk.{Chunk}
-use Rattle.fwd_model.specs.Chunks.{chunk_of, carry_of}
+use Rattle.fwd_chunks.specs.Cells.{Carry}
+use Rattle.fwd_chunks.specs.History.{Load, load_of}
+use Rattle.fwd_model.specs.Outputs.{carry_of}
 use Rattle.fwd_model.specs.Layers.{Worker}
 use Rattle.fwd_model.specs.Sessions.{SessionHistory, live_session}
 use Rattle.fwd_model.specs.History.{Lane, history_worker, histories}
@@ -42,24 +42,23 @@ pub none_carried : (l : Lane) (w : ℕ) (x : Worker SessionHistory) → IsWorker
     → is_some x.chunk ≡ false → carry_of w l.output.buffer.carried ≡ None
 none_carried l w x at none = by (carry_of w l.output.buffer.carried) (ap (λ y. is_some y.chunk) at.is ∙ none)
   where
-    by : (c : Option Carry) → is_some (option_map (λ c. chunk_of c.number l.output.buffer.cells) c) ≡ false → c ≡ None
+    by : (c : Option Carry) → is_some (option_map (λ c. load_of l.output.buffer c.number) c) ≡ false → c ≡ None
     by None e = refl
     by (Some c) e = absurd cc
 
 -- the number that a worker's chunk has is the one that it carries
-pub record IsCarriedBy (l : Lane) (w : ℕ) (c : Chunk) : Type 0 where
+pub record IsCarriedBy (l : Lane) (w : ℕ) (c : Load) : Type 0 where
   pub carry : Carry
   pub here : carry_of w l.output.buffer.carried ≡ Some carry
   pub number : carry.number ≡ c.number
-  pub chunk_is : chunk_of carry.number l.output.buffer.cells ≡ c
+  pub chunk_is : load_of l.output.buffer carry.number ≡ c
 
-pub carried_is : (l : Lane) (w : ℕ) (x : Worker SessionHistory) (c : Chunk) → IsWorker l w x
+pub carried_is : (l : Lane) (w : ℕ) (x : Worker SessionHistory) (c : Load) → IsWorker l w x
     → x.chunk ≡ Some c → IsCarriedBy l w c
-unfolding chunk_of
 carried_is l w x c at e = by (carry_of w l.output.buffer.carried) refl (ap (λ y. y.chunk) at.is ∙ e)
   where
-    by : (d : Option Carry) → carry_of w l.output.buffer.carried ≡ d → option_map (λ d. chunk_of d.number l.output.buffer.cells) d ≡ Some c → IsCarriedBy l w c
+    by : (d : Option Carry) → carry_of w l.output.buffer.carried ≡ d → option_map (λ d. load_of l.output.buffer d.number) d ≡ Some c → IsCarriedBy l w c
     by None f e = absurd cc
     by (Some d) f e =
-        let same : chunk_of d.number l.output.buffer.cells ≡ c = cc in
+        let same : load_of l.output.buffer d.number ≡ c = cc in
         record { carry = d; here = f; number = ap (λ y. y.number) same; chunk_is = same }

@@ -1,32 +1,24 @@
--- Who is to be told: the requests that an output entered, and when their entries are settled.
-use Rattle.std.specs.Prelude.{ℕ, Bool, not, ◌&&◌, ◌||◌, List, [], ◌∷◌, length, map, filter, Option, Some, None, ◌==◌, if◌then◌else◌}
-use Rattle.std.specs.List.{list_all, list_any, concat}
+-- Who is to be told: the requests that an output entered, when all their entries are settled, and
+-- what became of them. A book learns of a chunk only that its number is settled.
+use Rattle.std.specs.Prelude.{ℕ, Bool, true, false, not, ◌&&◌, List, [], ◌∷◌, ◌++◌, length, map, filter, Option, Some, None, ◌==◌}
+use Rattle.std.specs.List.{list_all, concat}
 use Rattle.fwd_modes.specs.Requests.{Request}
 use Rattle.fwd_modes.specs.Acks.{ack_text}
-use Rattle.fwd_model.specs.declared.cell.Cell.{Cell}
 use Rattle.fwd_model.specs.declared.cell.Entered.{Entered}
 use Rattle.fwd_source.specs.declared.origin.Origin.{Origin}
-use Rattle.fwd_model.specs.declared.cell.Span.{Span}
-use Rattle.fwd_model.specs.Chunks.{has_number}
-
--- the runs of a request's entries, which all have one number that was unused before
-abbrev pub spans_of : Request → ℕ → List Span
-spans_of r number =
-    if length r.entries == 0 then []
-    else record { number = number; from = 0; count = length r.entries } ∷ []
+use Rattle.fwd_chunks.specs.declared.span.Span.{Span}
+use Rattle.fwd_chunks.specs.Cells.{has_number}
 
 -- a request as an output's book has it: its connection and number, where its entries went, its
 -- `chunk`
-abbrev pub entered_as : Request → Origin → ℕ → Entered
-entered_as r origin number = record { origin = origin; spans = spans_of r number; chunk = r.chunk }
-
--- all its entries are acknowledged
-abbrev pub is_settled : List ℕ → Entered → Bool
-is_settled acknowledged q = list_all (λ s. has_number s.number acknowledged) q.spans
+abbrev pub entered_as : Request → Origin → List Span → Entered
+entered_as r origin spans = record { origin = origin; spans = spans; chunk = r.chunk }
 
 -- the request came from the connection
 abbrev pub is_of : ℕ → Entered → Bool
 is_of conn q = q.origin.conn == conn
+
+-- ---- what is told
 
 -- the acknowledgement that a request asked for, if it asked for one
 abbrev pub ack_asked : Option (List ℕ) → List ℕ
@@ -46,55 +38,131 @@ acks_of qs = concat (map ack_of qs)
 abbrev pub numbers_of : List Entered → List ℕ
 numbers_of qs = map (λ q. q.origin.request) qs
 
--- some entry has the number
-abbrev pub has_cell : ℕ → List Cell → Bool
-has_cell number cells = list_any (λ c. c.number == number) cells
+-- what a connection is told: the numbers of its requests, and the acknowledgements that they
+-- asked for
+pub record Telling : Type 0 where
+  pub numbers : List ℕ
+  pub acks : List ℕ
 
--- none of its entries is among these
-abbrev pub none_left : List Cell → Entered → Bool
-none_left cells q = list_all (λ s. not (has_cell s.number cells)) q.spans
+-- what is told of requests
+abbrev pub telling : List Entered → Telling
+telling qs = record { numbers = numbers_of qs; acks = acks_of qs }
 
 -- ---- the history
 
--- a request that was entered at an output, and whether its connection was told that all its
--- entries were acknowledged
+-- what became of a request: nothing yet, its connection was told that all its entries were
+-- acknowledged, or nobody is to be told any more
+pub data Fate : Type 0 where
+  Untold : Fate
+  Told : Fate
+  Forgotten : Fate
+
+-- a request that was entered, and what became of it
 pub record Admission : Type 0 where
   pub request : Entered
-  pub told : Bool
+  pub fate : Fate
 
--- a collect tells a request of the connection that was not told, once all its entries are
--- acknowledged
+-- every request ever entered, in order, and the numbers of the chunks that were settled
+pub record BookHistory : Type 0 where
+  pub admissions : List Admission
+  pub settled : List ℕ
+
+-- before any event
+abbrev pub no_admissions : BookHistory
+no_admissions = record { admissions = []; settled = [] }
+
+-- a request is entered
+abbrev pub enters : BookHistory → Entered → BookHistory
+enters b q = record b { admissions = b.admissions ++ record { request = q; fate = Untold } ∷ [] }
+
+-- a chunk is settled
+abbrev pub settles : BookHistory → ℕ → BookHistory
+settles b number = record b { settled = b.settled ++ number ∷ [] }
+
+-- all its entries are settled
+abbrev pub is_settled : List ℕ → Entered → Bool
+is_settled settled q = list_all (λ s. has_number s.number settled) q.spans
+
+-- nothing became of the request yet
+abbrev pub is_untold : Fate → Bool
+is_untold Untold = true
+is_untold _ = false
+
+-- nothing became yet of the request, which is the connection's
+abbrev pub is_owed : ℕ → Admission → Bool
+is_owed conn a = is_untold a.fate && is_of conn a.request
+
+-- a collect tells a request of the connection that was not told, once all its entries are settled
 abbrev pub is_due : ℕ → List ℕ → Admission → Bool
-is_due conn acknowledged a =
-    not a.told && (is_of conn a.request && is_settled acknowledged a.request)
+is_due conn settled a = is_owed conn a && is_settled settled a.request
 
 -- the requests that a collect tells, in the order in which they were entered, which is that of
 -- their numbers
-abbrev pub due : ℕ → List ℕ → List Admission → List Entered
-due conn acknowledged book = map (λ a. a.request) (filter (is_due conn acknowledged) book)
+abbrev pub due : BookHistory → ℕ → List Entered
+due b conn = map (λ a. a.request) (filter (is_due conn b.settled) b.admissions)
 
--- the request is told where the test holds
-abbrev pub told_if : Bool → Admission → Admission
-told_if b a = record a { told = a.told || b }
+-- what becomes of a request where the test holds
+abbrev pub becomes : Fate → Bool → Admission → Admission
+becomes fate true a = record a { fate = fate }
+becomes fate false a = a
 
 -- the requests that a collect tells are told
-unfoldable pub tells : ℕ → List ℕ → List Admission → List Admission
-tells conn acknowledged book = map (λ a. told_if (is_due conn acknowledged a) a) book
+unfoldable pub tells : BookHistory → ℕ → BookHistory
+tells b conn = record b {
+  admissions = map (λ a. becomes Told (is_due conn b.settled a) a) b.admissions;
+}
+
+-- how many requests of the connection are owed an answer
+abbrev pub owed : BookHistory → ℕ → ℕ
+owed b conn = length (filter (is_owed conn) b.admissions)
+
+-- they are forgotten
+unfoldable pub forgets : BookHistory → ℕ → BookHistory
+forgets b conn = record b {
+  admissions = map (λ a. becomes Forgotten (is_owed conn a) a) b.admissions;
+}
 
 -- ---- what still matters
 
--- the requests that were not told
-abbrev pub untold : List Admission → List Entered
-untold book = map (λ a. a.request) (filter (λ a. not a.told) book)
+-- a request with the runs of its entries that are not settled
+abbrev pub unsettled_of : List ℕ → Entered → Entered
+unsettled_of settled q =
+    record q { spans = filter (λ s. not (has_number s.number settled)) q.spans }
 
--- none of a request's entries is left, by the entries that are
-abbrev pub book_is_due : ℕ → List Cell → Entered → Bool
-book_is_due conn cells q = is_of conn q && none_left cells q
+-- the live part of a history: the requests of which nothing became yet, each with the runs of its
+-- entries that are not settled
+unfoldable pub live_book : BookHistory → List Entered
+live_book b =
+    map (λ a. unsettled_of b.settled a.request) (filter (λ a. is_untold a.fate) b.admissions)
+
+-- a request is entered
+abbrev pub book_enters : List Entered → Entered → List Entered
+book_enters book q = book ++ q ∷ []
+
+-- a request, once a chunk is settled
+abbrev pub settled_in : ℕ → Entered → Entered
+settled_in number q = record q { spans = filter (λ s. not (s.number == number)) q.spans }
+
+-- a chunk is settled
+unfoldable pub book_settles : List Entered → ℕ → List Entered
+book_settles book number = map (settled_in number) book
+
+-- nothing of the request, which is the connection's, is left to be settled
+abbrev pub book_is_due : ℕ → Entered → Bool
+book_is_due conn q = is_of conn q && (length q.spans == 0)
 
 -- the requests that a collect tells
-abbrev pub book_due : ℕ → List Cell → List Entered → List Entered
-book_due conn cells requests = filter (book_is_due conn cells) requests
+abbrev pub book_due : List Entered → ℕ → List Entered
+book_due book conn = filter (book_is_due conn) book
 
 -- what is told leaves
-unfoldable pub book_tells : ℕ → List Cell → List Entered → List Entered
-book_tells conn cells requests = filter (λ q. not (book_is_due conn cells q)) requests
+unfoldable pub book_tells : List Entered → ℕ → List Entered
+book_tells book conn = filter (λ q. not (book_is_due conn q)) book
+
+-- how many requests of the connection are owed an answer
+abbrev pub book_owed : List Entered → ℕ → ℕ
+book_owed book conn = length (filter (is_of conn) book)
+
+-- what is forgotten leaves
+unfoldable pub book_forgets : List Entered → ℕ → List Entered
+book_forgets book conn = filter (λ q. not (is_of conn q)) book

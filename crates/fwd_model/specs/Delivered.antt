@@ -1,23 +1,22 @@
 -- What it means that a request was delivered, and that its connection was told so.
-use Rattle.std.specs.Prelude.{◌≡◌, ℕ, ◌+◌, ◌≤◌, true, false, ◌&&◌, List, [], ◌∷◌, ◌++◌, length, map, filter, Option, Some, None, ◌==◌, slice_get}
+use Rattle.std.specs.Prelude.{◌≡◌, ℕ, ◌+◌, ◌≤◌, true, false, ◌&&◌, List, [], ◌∷◌, ◌++◌, length, filter, Option, Some, None, ◌==◌, slice_get}
 use Rattle.std.specs.List.{list_all}
 use Rattle.std.specs.Str.{bytes_eq}
 use Rattle.fwd_msgpack.specs.Scans.{values_of}
 use Rattle.fwd_modes.specs.Requests.{Request}
 use Rattle.fwd_modes.specs.Frames.{chunk_frame, chunk_name}
 use Rattle.fwd_modes.specs.Acks.{ack_name}
-use Rattle.fwd_model.specs.declared.cell.Cell.{Cell}
+use Rattle.fwd_chunks.specs.Cells.{Cell, contents, entries_of, has_number}
+use Rattle.fwd_chunks.specs.Cells as cells
 use Rattle.fwd_model.specs.declared.config.Config.{Config}
 use Rattle.fwd_model.specs.declared.event.Event.{Event}
 use Rattle.fwd_model.specs.declared.event.Event.TheVariants as event
 use Rattle.fwd_model.specs.declared.answer.Answer.TheVariants as answer
-use Rattle.fwd_model.specs.Chunks.{cells_at, has_number}
 use Rattle.fwd_match.specs.Patterns.{route}
 use Rattle.fwd_source.specs.History.{SourceHistory, judged}
 use Rattle.fwd_model.specs.declared.answer.Answer.{Answer}
 use Rattle.fwd_model.specs.Outcome.{answer_of}
 use Rattle.fwd_model.specs.Step.{step, after}
-use Rattle.fwd_model.specs.Books.{has_cell}
 use Rattle.fwd_model.specs.Sessions.{SessionHistory, newly_heard}
 use Rattle.fwd_model.specs.History.{source_at, Lane, History, opening, histories}
 
@@ -115,7 +114,7 @@ cells_from id r cells = filter (λ c. (c.origin.conn == id) && (c.origin.request
 -- the frame of all entries under a number and a tag
 abbrev pub whole_frame : Config → ℕ → List ℕ → List Cell → ℕ → List ℕ
 whole_frame config o tag cells number =
-    chunk_frame tag (map (λ c. c.entry) (cells_at number cells)) (chunk_name config.run o number)
+    chunk_frame tag (contents number cells) (chunk_name config.run o number)
 
 -- The request of number r of a connection, which numbers its requests from 1, was delivered by an
 -- output: it is the first output whose pattern matches the request's tag; the output has its
@@ -132,12 +131,14 @@ pub record IsDelivered (config : Config) (es : List Event) (id r o : ℕ) : Type
   pub first_match : route config.routes request.tag ≡ Some o
   pub lane : Lane
   pub here : slice_get (reached config es).lanes o ≡ Some lane
-  pub entries : map (λ c. c.entry) (cells_from id r lane.output.buffer.cells) ≡ request.entries
+  pub entries : entries_of (cells_from id r lane.output.buffer.cells) ≡ request.entries
   pub tags : list_all (λ c. bytes_eq c.tag request.tag) (cells_from id r lane.output.buffer.cells)
       ≡ true
-  pub settled : (k : ℕ) → has_cell k (cells_from id r lane.output.buffer.cells) ≡ true
+  pub settled : (k : ℕ)
+      → has_number k (cells.numbers_of (cells_from id r lane.output.buffer.cells)) ≡ true
       → has_number k lane.output.buffer.acknowledged ≡ true
-  pub sent : (k : ℕ) → has_cell k (cells_from id r lane.output.buffer.cells) ≡ true →
+  pub sent : (k : ℕ)
+      → has_number k (cells.numbers_of (cells_from id r lane.output.buffer.cells)) ≡ true →
       (w : ℕ) × WasAcknowledged config es o w
       (whole_frame config o request.tag lane.output.buffer.cells k) (chunk_name config.run o k)
 

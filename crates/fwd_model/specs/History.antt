@@ -1,6 +1,6 @@
 -- The history of a relay: all that ever came, with nothing removed. It is one reading of the
 -- layers of a step.
-use Rattle.std.specs.Prelude.{◌≡◌, ℕ, Bool, true, false, List, [], ◌∷◌, ◌++◌, length, map, replicate, Option, Some, None, option_map, nat_lt, ◌==◌, if◌then◌else◌, slice_get, slice_set}
+use Rattle.std.specs.Prelude.{◌≡◌, ℕ, suc, Bool, true, false, List, [], ◌∷◌, ◌++◌, length, map, replicate, Option, Some, None, option_map, nat_lt, ◌==◌, if◌then◌else◌, slice_get, slice_set}
 use Rattle.std.specs.List.{list_all}
 use Rattle.fwd_handshake.specs.declared.credentials.Security.{Security}
 use Rattle.fwd_source.specs.History.{Setup, SourceHistory, opened}
@@ -8,10 +8,12 @@ use Rattle.fwd_source.specs.Layer.{source_histories}
 use Rattle.fwd_model.specs.declared.config.Config.{Config}
 use Rattle.fwd_model.specs.declared.config.OutputConfig.{OutputConfig}
 use Rattle.fwd_model.specs.declared.event.Event.{Event}
-use Rattle.fwd_model.specs.Chunks.{chunk_of, carry_of, cells_at}
-use Rattle.fwd_model.specs.Buffers as buffer
-use Rattle.fwd_model.specs.Buffers.{BufferHistory, chunk_at, no_cells}
-use Rattle.fwd_model.specs.Outputs.{OutputHistory, output_history_enters, output_history_due, output_history_tells}
+use Rattle.fwd_chunks.specs.declared.counts.Counts.{Counts}
+use Rattle.fwd_chunks.specs.History as buffer
+use Rattle.fwd_chunks.specs.History.{BufferSetting, BufferHistory, load_of, looks}
+use Rattle.fwd_model.specs.Books as book
+use Rattle.fwd_model.specs.Books.{BookHistory, telling}
+use Rattle.fwd_model.specs.Outputs.{OutputHistory, carry_of, no_history, output_history_enters, output_history_settles, count_at}
 use Rattle.fwd_model.specs.Sessions.{SessionHistory, unloads, session_histories}
 use Rattle.fwd_model.specs.Layers.{Worker, Lanes, Layers}
 use Rattle.fwd_model.specs.Step.{after}
@@ -39,13 +41,23 @@ pub record History : Type 0 where
   pub connections : List Connection
   pub lanes : List Lane
 
+-- what an output's buffer is set to: its limits, and the run and the output's number, which its
+-- chunks' names tell
+abbrev pub setting_of : List ℕ → ℕ → OutputConfig → BufferSetting
+setting_of run o c = record { limits = c.limits; run = run; output = o }
+
 -- an output before any event
-abbrev pub new_lane : OutputConfig → Lane
-new_lane c = record {
+abbrev pub new_lane : List ℕ → ℕ → OutputConfig → Lane
+new_lane run o c = record {
   config = c;
-  output = record { buffer = no_cells; book = [] };
+  output = no_history (setting_of run o c);
   sessions = replicate c.workers None;
 }
+
+-- the outputs from this number on
+abbrev pub new_lanes : List ℕ → ℕ → List OutputConfig → List Lane
+new_lanes run o [] = []
+new_lanes run o (c ∷ cs) = new_lane run o c ∷ new_lanes run (suc o) cs
 
 -- before any event
 unfoldable pub opening : Config → History
@@ -54,7 +66,7 @@ opening config = record {
   routes = config.routes;
   security = config.security;
   connections = [];
-  lanes = map new_lane config.outputs;
+  lanes = new_lanes config.run 0 config.outputs;
 }
 
 -- ---- connections
@@ -113,6 +125,10 @@ with_output l o = record l { output = o }
 abbrev pub with_buffer : Lane → BufferHistory → Lane
 with_buffer l b = with_output l (record { buffer = b; book = l.output.book })
 
+-- the output has another book
+abbrev pub with_book : Lane → BookHistory → Lane
+with_book l b = with_output l (record { buffer = l.output.buffer; book = b })
+
 -- the worker has this session
 abbrev pub with_session : ℕ → SessionHistory → Lane → Lane
 with_session w s l = record l { sessions = slice_set l.sessions w (Some s) }
@@ -127,8 +143,7 @@ with_lane o l h = record h { lanes = slice_set h.lanes o l }
 abbrev pub history_worker : Lane → ℕ → Option SessionHistory → Worker SessionHistory
 history_worker l w s = record {
   chunk =
-      option_map (λ c. chunk_of c.number l.output.buffer.cells)
-      (carry_of w l.output.buffer.carried);
+      option_map (λ c. load_of l.output.buffer c.number) (carry_of w l.output.buffer.carried);
   session = s;
 }
 
@@ -137,20 +152,22 @@ abbrev pub lane_histories : Lanes SessionHistory
 lane_histories = record {
   Lane = Lane;
   config = λ l. l.config;
-  is_spent = λ l q. buffer.has_no_number l.output.buffer q;
-  closing = λ l now kind. buffer.closing l.output.buffer l.config.flush_interval now kind;
-  flushes = λ l now kind.
-      with_buffer l (buffer.flushes l.output.buffer l.config.flush_interval now kind);
+  refusal = λ l origin q now. buffer.refusal l.output.buffer origin q now;
+  closing = λ l now kind. length (buffer.closing l.output.buffer now kind);
+  flushes = λ l now kind. with_buffer l (buffer.flushes l.output.buffer now kind);
   enters = λ l origin q now. with_output l (output_history_enters l.output origin q now);
-  due = λ l conn. output_history_due l.output conn;
-  tells = λ l conn. with_output l (output_history_tells l.output conn);
+  due = λ l conn. telling (book.due l.output.book conn);
+  tells = λ l conn. with_book l (book.tells l.output.book conn);
+  owed = λ l conn. book.owed l.output.book conn;
+  forgets = λ l conn. with_book l (book.forgets l.output.book conn);
   worker_at = λ l w. option_map (history_worker l w) (slice_get l.sessions w);
   puts_worker = λ l w x. record l { sessions = slice_set l.sessions w x.session };
-  free = λ l. chunk_at (buffer.free_number l.output.buffer) l.output.buffer.cells;
+  given = λ l now.
+      option_map (load_of l.output.buffer) (buffer.given (looks l.output.buffer now));
   takes = λ l w x now. with_buffer l (buffer.takes l.output.buffer w now);
-  entries_at = λ l number. length (cells_at number l.output.buffer.cells);
+  entries_at = λ l number. count_at number l.output;
   settles = λ l w s number.
-      with_session w (unloads s) (with_buffer l (buffer.settles l.output.buffer w number));
+      with_session w (unloads s) (with_output l (output_history_settles l.output number));
 }
 
 -- the relay as all that ever came to it
@@ -171,6 +188,10 @@ histories = record {
   lane_at = λ h o. slice_get h.lanes o;
   puts_lane = λ h o l. with_lane o l h;
 }
+
+-- entries accepted, settled and held, the bytes held and the chunks, of each output
+abbrev pub counts : History → List Counts
+counts h = map (λ l. buffer.counts l.output.buffer) h.lanes
 
 -- a list of events leads from the opening state of the settings to this one
 abbrev pub IsReached : Config → History → Type 0

@@ -6,15 +6,16 @@ use Rattle.fwd_modes.specs.Requests.{Request}
 use Rattle.fwd_source.specs.declared.origin.Origin.{Origin}
 use Rattle.fwd_source.specs.History.{Setup}
 use Rattle.fwd_source.specs.Layer.{Sources}
-use Rattle.fwd_model.specs.declared.cell.Chunk.{Chunk}
-use Rattle.fwd_model.specs.declared.cell.Entered.{Entered}
+use Rattle.fwd_chunks.specs.declared.fault.AdmitError.{AdmitError}
+use Rattle.fwd_chunks.specs.declared.flush.FlushKind.{FlushKind}
+use Rattle.fwd_chunks.specs.History.{Load}
 use Rattle.fwd_model.specs.declared.config.OutputConfig.{OutputConfig}
-use Rattle.fwd_model.specs.declared.event.FlushKind.{FlushKind}
 use Rattle.fwd_model.specs.Replies.{Replies}
+use Rattle.fwd_model.specs.Books.{Telling}
 
 -- a worker: the chunk that it has, with its entries, and its session
 pub record Worker (Session : Type 0) : Type 0 where
-  pub chunk : Option Chunk
+  pub chunk : Option Load
   pub session : Option Session
 
 -- a session of a worker with a server
@@ -40,21 +41,24 @@ pub record Sessions : Type 1 where
 pub record Lanes (Session : Type 0) : Type 1 where
   pub Lane : Type 0
   pub config : Lane → OutputConfig
-  -- no number, or no count, is left for the request's entries
-  pub is_spent : Lane → Request → Bool
+  -- why it has no place for a request, if it has none
+  pub refusal : Lane → Origin → Request → ℕ → Option AdmitError
   -- how many open numbers a flush closes, and the flush
   pub closing : Lane → ℕ → FlushKind → ℕ
   pub flushes : Lane → ℕ → FlushKind → Lane
   -- a request is entered
   pub enters : Lane → Origin → Request → ℕ → Lane
-  -- the requests of a connection that are to be told, and that they are
-  pub due : Lane → ℕ → List Entered
+  -- what a connection is to be told, and that it is
+  pub due : Lane → ℕ → Telling
   pub tells : Lane → ℕ → Lane
+  -- how many requests of a connection are owed an answer, and that they are forgotten
+  pub owed : Lane → ℕ → ℕ
+  pub forgets : Lane → ℕ → Lane
   -- a worker, and that another stands in its place
   pub worker_at : Lane → ℕ → Option (Worker Session)
   pub puts_worker : Lane → ℕ → Worker Session → Lane
-  -- the chunk with the least free number, and that the worker has it
-  pub free : Lane → Option Chunk
+  -- the chunk that has the least free number at a moment, and that the worker has it
+  pub given : Lane → ℕ → Option Load
   pub takes : Lane → ℕ → Worker Session → ℕ → Lane
   -- how many entries a number has, and that they are settled
   pub entries_at : Lane → ℕ → ℕ

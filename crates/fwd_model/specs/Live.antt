@@ -6,9 +6,13 @@ use Rattle.fwd_source.specs.History.{Setup}
 use Rattle.fwd_source.specs.Live.{LiveSource, live_source, opened_source}
 use Rattle.fwd_source.specs.Layer.{live_sources}
 use Rattle.fwd_model.specs.declared.config.OutputConfig.{OutputConfig}
-use Rattle.fwd_model.specs.Chunks.{chunk_of, carry_of, cells_at}
-use Rattle.fwd_model.specs.Buffers.{LiveBuffer, buffer_is_spent, buffer_closing, buffer_flushes, buffer_free, buffer_takes, buffer_settles}
-use Rattle.fwd_model.specs.Outputs.{OutputHistory, LiveOutput, live_output, output_enters, output_due, output_tells}
+use Rattle.fwd_model.specs.declared.cell.Entered.{Entered}
+use Rattle.fwd_chunks.specs.declared.counts.Counts.{Counts}
+use Rattle.fwd_chunks.specs.History.{Load, load_of}
+use Rattle.fwd_chunks.specs.Live as buffer
+use Rattle.fwd_chunks.specs.Live.{LiveBuffer, live_refusal, live_closing, live_flushes, live_given, live_load, live_looks, live_counts}
+use Rattle.fwd_model.specs.Books.{telling, book_due, book_tells, book_owed, book_forgets}
+use Rattle.fwd_model.specs.Outputs.{OutputHistory, carry_of, LiveOutput, live_output, output_enters, output_settles, live_count_at}
 use Rattle.fwd_model.specs.Sessions.{SessionHistory, LiveSession, live_session, session_unloads, live_sessions}
 use Rattle.fwd_model.specs.Layers.{Worker, Lanes, Layers}
 use Rattle.fwd_model.specs.History.{Connection, Lane, History}
@@ -52,7 +56,7 @@ last_id (c ∷ d ∷ cs) = last_id (d ∷ cs)
 -- the live part of a worker: the chunk that it carries, with its entries, and its session
 abbrev pub live_worker : OutputHistory → ℕ → Option SessionHistory → Worker LiveSession
 live_worker o w s = record {
-  chunk = option_map (λ c. chunk_of c.number o.buffer.cells) (carry_of w o.buffer.carried);
+  chunk = option_map (λ c. load_of o.buffer c.number) (carry_of w o.buffer.carried);
   session = option_map live_session s;
 }
 
@@ -128,24 +132,30 @@ with_live_output l o = record l { output = o }
 abbrev pub with_live_buffer : LiveLane → LiveBuffer → LiveLane
 with_live_buffer l b = with_live_output l (record { buffer = b; book = l.output.book })
 
+-- the output has another book
+abbrev pub with_live_book : LiveLane → List Entered → LiveLane
+with_live_book l b = with_live_output l (record { buffer = l.output.buffer; book = b })
+
 -- another worker stands in this place
 abbrev pub with_live_worker : LiveLane → ℕ → Worker LiveSession → LiveLane
 with_live_worker l w x = record l { workers = slice_set l.workers w x }
 
--- the worker has the chunk with the least free number, if there is one
-abbrev pub live_takes : LiveLane → ℕ → Worker LiveSession → ℕ → LiveLane
-live_takes l w x now = record l {
-  output = record { buffer = buffer_takes l.output.buffer w now; book = l.output.book };
-  workers = slice_set l.workers w (record {
-    chunk = buffer_free l.output.buffer;
-    session = x.session;
-  });
+-- the chunk that has the least free number at a moment
+abbrev pub lane_gives : LiveLane → ℕ → Option Load
+lane_gives l now =
+    option_map (live_load l.output.buffer) (live_given (live_looks l.output.buffer now))
+
+-- the worker has that chunk, if there is one
+abbrev pub lane_takes : LiveLane → ℕ → Worker LiveSession → ℕ → LiveLane
+lane_takes l w x now = record l {
+  output = record { buffer = buffer.live_takes l.output.buffer w now; book = l.output.book };
+  workers = slice_set l.workers w (record { chunk = lane_gives l now; session = x.session });
 }
 
 -- the worker's chunk is settled
-abbrev pub live_settles : LiveLane → ℕ → LiveSession → ℕ → LiveLane
-live_settles l w s number = record l {
-  output = record { buffer = buffer_settles l.output.buffer w number; book = l.output.book };
+abbrev pub lane_settles : LiveLane → ℕ → LiveSession → ℕ → LiveLane
+lane_settles l w s number = record l {
+  output = output_settles l.output number;
   workers = slice_set l.workers w (record { chunk = None; session = Some (session_unloads s) });
 }
 
@@ -160,19 +170,20 @@ abbrev pub live_lanes : Lanes LiveSession
 live_lanes = record {
   Lane = LiveLane;
   config = λ l. l.config;
-  is_spent = λ l q. buffer_is_spent l.output.buffer q;
-  closing = λ l now kind. buffer_closing l.output.buffer l.config.flush_interval now kind;
-  flushes = λ l now kind.
-      with_live_buffer l (buffer_flushes l.output.buffer l.config.flush_interval now kind);
+  refusal = λ l origin q now. live_refusal l.output.buffer q now;
+  closing = λ l now kind. length (live_closing l.output.buffer now kind);
+  flushes = λ l now kind. with_live_buffer l (live_flushes l.output.buffer now kind);
   enters = λ l origin q now. with_live_output l (output_enters l.output origin q now);
-  due = λ l conn. output_due l.output conn;
-  tells = λ l conn. with_live_output l (output_tells l.output conn);
+  due = λ l conn. telling (book_due l.output.book conn);
+  tells = λ l conn. with_live_book l (book_tells l.output.book conn);
+  owed = λ l conn. book_owed l.output.book conn;
+  forgets = λ l conn. with_live_book l (book_forgets l.output.book conn);
   worker_at = λ l w. slice_get l.workers w;
   puts_worker = with_live_worker;
-  free = λ l. buffer_free l.output.buffer;
-  takes = live_takes;
-  entries_at = λ l number. length (cells_at number l.output.buffer.cells);
-  settles = live_settles;
+  given = lane_gives;
+  takes = lane_takes;
+  entries_at = λ l number. live_count_at number l.output;
+  settles = lane_settles;
 }
 
 -- the relay as what still matters of it
@@ -193,3 +204,7 @@ lives = record {
   lane_at = λ r o. slice_get r.lanes o;
   puts_lane = λ r o l. with_live_lane o l r;
 }
+
+-- entries accepted, settled and held, the bytes held and the chunks, of each output
+abbrev pub live_relay_counts : LiveRelay → List Counts
+live_relay_counts r = map (λ l. live_counts l.output.buffer) r.lanes

@@ -3,7 +3,9 @@ use Rattle.std.specs.Prelude.{ℕ, Bool, true, false, List, [], ◌∷◌, lengt
 use Rattle.fwd_modes.specs.Requests.{Request}
 use Rattle.fwd_source.specs.declared.piece.Piece.{Piece}
 use Rattle.fwd_source.specs.declared.piece.Piece.TheVariants as told
-use Rattle.fwd_model.specs.declared.cell.Chunk.{Chunk}
+use Rattle.fwd_chunks.specs.declared.fault.AdmitError.{AdmitError}
+use Rattle.fwd_chunks.specs.declared.fault.AdmitError.TheVariants as unfit
+use Rattle.fwd_chunks.specs.History.{Load}
 use Rattle.fwd_model.specs.declared.answer.Answer.{Answer}
 use Rattle.fwd_model.specs.declared.answer.Answer.TheVariants as answer
 use Rattle.fwd_model.specs.declared.fault.Refusal.{Refusal}
@@ -70,12 +72,18 @@ of_piece told.Closed count out s = Stays (answer.Refused Closed)
 of_piece (told.Waiting waiting) count out s = Goes (answer.Requests waiting out) s
 of_piece (told.Fault fault) count out s = Goes (answer.Faulted fault count out) s
 
+-- a request that its output has no place for, and that its source is shut
+abbrev pub of_fault : {S : Type 0} → AdmitError → S → Outcome S
+of_fault unfit.Full s = Goes answer.Full s
+of_fault unfit.NumbersSpent s = Goes answer.NumbersSpent s
+of_fault unfit.Memory s = Stays answer.Memory
+
 -- the first request that waits
 abbrev pub first_of : List Request → Option Request
 first_of [] = None
 first_of (q ∷ qs) = Some q
 
 -- what is told of the least free chunk
-abbrev pub chunk_answer : Option Chunk → Answer
+abbrev pub chunk_answer : Option Load → Answer
 chunk_answer None = answer.TookNothing
 chunk_answer (Some c) = answer.Took c.number (length c.entries)

@@ -4,18 +4,19 @@
 use Rattle.std.specs.Prelude.{ℕ, ◌+◌, not, List, [], ◌∷◌, length, Option, Some, None, is_some, nat_lt, ◌==◌, if◌then◌else◌}
 use Rattle.fwd_modes.specs.Requests.{Request}
 use Rattle.fwd_match.specs.Patterns.{route}
+use Rattle.fwd_source.specs.declared.origin.Origin.{Origin}
 use Rattle.fwd_source.specs.History.{Setup, opening_text}
 use Rattle.fwd_model.specs.declared.event.Event.{Event}
 use Rattle.fwd_model.specs.declared.event.Event.TheVariants as event
-use Rattle.fwd_model.specs.declared.event.FlushKind.{FlushKind}
+use Rattle.fwd_chunks.specs.declared.fault.AdmitError.{AdmitError}
+use Rattle.fwd_chunks.specs.declared.flush.FlushKind.{FlushKind}
 use Rattle.fwd_model.specs.declared.answer.Answer.{Answer}
 use Rattle.fwd_model.specs.declared.answer.Answer.TheVariants as answer
 use Rattle.fwd_model.specs.declared.fault.Refusal.TheVariants.{Closed, NoSuch, NotNow, NotUp}
-use Rattle.fwd_model.specs.Books.{numbers_of, acks_of}
-use Rattle.fwd_model.specs.Outcome.{Outcome, Goes, answer_of, state_of, within, ◌>>=◌, ◌>>◌, found, refuse_if, of_piece, first_of, chunk_answer}
+use Rattle.fwd_model.specs.Outcome.{Outcome, Goes, answer_of, state_of, within, ◌>>=◌, ◌>>◌, found, refuse_if, of_piece, of_fault, first_of, chunk_answer}
 use Rattle.fwd_model.specs.Layers.{Worker, Layers}
 use Rattle.fwd_model.specs.Setups.{setup_of}
-use Rattle.fwd_model.specs.Chunks.{frame_of}
+use Rattle.fwd_model.specs.Outputs.{frame_of}
 use Rattle.fwd_model.specs.Replies.{reply_answer, is_loaded}
 
 -- the worker with this session
@@ -23,7 +24,7 @@ abbrev pub with_session : {S : Type 0} → Worker S → S → Worker S
 with_session x s = record { chunk = x.chunk; session = Some s }
 
 module _ (L : Layers) where
-  open L use {Relay, Source, Lane, Session, run, routes, security, is_fresh, source_at, lane_at, accepts, leaves, puts_source, puts_lane, is_shut, waiting, admitted, unsent, piece_answer, pong, hears, gives, appends, drains, shuts, config, is_spent, closing, free, entries_at, due, worker_at, enters, flushes, takes, settles, tells, puts_worker, begins, loaded, is_acked, is_down, to_send, replies, loads, sends, listens}
+  open L use {Relay, Source, Lane, Session, run, routes, security, is_fresh, source_at, lane_at, accepts, leaves, puts_source, puts_lane, is_shut, waiting, admitted, unsent, piece_answer, pong, hears, gives, appends, drains, shuts, config, refusal, closing, given, entries_at, due, owed, worker_at, enters, flushes, takes, settles, tells, forgets, puts_worker, begins, loaded, is_acked, is_down, to_send, replies, loads, sends, listens}
 
   -- at the connection of this id
   abbrev pub at_source : Relay → ℕ → (Source → Outcome Source) → Outcome Relay
@@ -88,12 +89,19 @@ module _ (L : Layers) where
 
   -- ---- a connection and an output
 
-  -- a request's entries become cells; where no number is left for them, its source is shut
+  -- a request's entries go into chunks; where the output has no place for them, its source is
+  -- shut
+  abbrev pub enter_unless : Option AdmitError → Source → Request → Origin → Lane → ℕ
+      → Outcome (Source × Lane)
+  enter_unless (Some fault) s q origin l now = of_fault fault (shuts s, l)
+  enter_unless None s q origin l now =
+      Goes (answer.Admitted origin.request (length q.entries)) (gives s, enters l origin q now)
+
+  -- a request is the next one of its connection
   abbrev pub enter : Source → Request → ℕ → Lane → ℕ → Outcome (Source × Lane)
   enter s q id l now =
-      if is_spent l q then Goes answer.NumbersSpent (shuts s, l)
-      else Goes (answer.Admitted (admitted s + 1) (length q.entries))
-      (gives s, enters l (record { conn = id; request = admitted s + 1 }) q now)
+      let origin : Origin = record { conn = id; request = admitted s + 1 } in
+      enter_unless (refusal l origin q now) s q origin l now
 
   -- a request goes to the first output whose pattern matches its tag, and to no other; where none
   -- does, its source is shut
@@ -115,10 +123,14 @@ module _ (L : Layers) where
   abbrev pub collect : ℕ → Source → Lane → Outcome (Source × Lane)
   collect id s l = do
     refuse_if (is_shut s) Closed
-    Goes (answer.Told (numbers_of (due l id)) (acks_of (due l id)))
-        (appends s (acks_of (due l id)), tells l id)
+    Goes (answer.Told (due l id).numbers (due l id).acks)
+        (appends s (due l id).acks, tells l id)
 
   -- ---- an output and its workers
+
+  -- nobody is to be told of a connection's requests any more; their entries stay
+  abbrev pub forget : Lane → ℕ → Outcome Lane
+  forget l id = Goes (answer.Forgot (owed l id)) (forgets l id)
 
   -- open numbers are closed
   abbrev pub flush : Lane → ℕ → FlushKind → Outcome Lane
@@ -136,17 +148,16 @@ module _ (L : Layers) where
   take l w now = do
     x ← found (worker_at l w) NoSuch
     refuse_if (is_some x.chunk) NotNow
-    Goes (chunk_answer (free l)) (takes l w x now)
+    Goes (chunk_answer (given l now)) (takes l w x now)
 
   -- a worker's chunk is put into its session
-  abbrev pub load : List ℕ → ℕ → ℕ → Worker Session → Outcome (Worker Session)
-  load name o now x = do
+  abbrev pub load : ℕ → Worker Session → Outcome (Worker Session)
+  load now x = do
     s ← found x.session NotNow
     c ← found x.chunk NotNow
     refuse_if (is_loaded (loaded s) c.number) NotNow
     refuse_if (is_down s) NotUp
-    Goes (answer.Frame (frame_of name o c))
-        (with_session x (loads s c.number (frame_of name o c) now))
+    Goes (answer.Frame (frame_of c)) (with_session x (loads s c.number (frame_of c) now))
 
   -- a session's link took some of the bytes that wait to be sent
   abbrev pub wrote : ℕ → Session → Outcome Session
@@ -182,13 +193,14 @@ module _ (L : Layers) where
   step r (event.Up o w server salt now) =
       at_lane r o (λ l. at_worker l w (up (config l).servers server now))
   step r (event.Take o w now) = at_lane r o (λ l. take l w now)
-  step r (event.Load o w now) = at_lane r o (λ l. at_worker l w (load (run r) o now))
+  step r (event.Load o w now) = at_lane r o (λ l. at_worker l w (load now))
   step r (event.Wrote o w count) =
       at_lane r o (λ l. at_worker l w (λ x. at_session x (wrote count)))
   step r (event.Heard o w bytes) =
       at_lane r o (λ l. at_worker l w (λ x. at_session x (heard (run r) o bytes)))
   step r (event.Settle o w) = at_lane r o (λ l. settle l w)
   step r (event.Collect id o) = at_both r id o (collect id)
+  step r (event.Forget id o) = at_lane r o (λ l. forget l id)
   step r (event.Drained id count) = at_source r id (λ s. drained s count)
   step r (event.Shut id) = shut r id
 

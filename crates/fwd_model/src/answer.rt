@@ -29,6 +29,9 @@ pub enum Answer {
     /// No output's pattern matches the tag of the connection's first waiting request. The
     /// connection is closed without an answer to its source.
     NoRoute,
+    /// The bytes that the output holds, with the request's, would be more than its total limit.
+    /// The connection is closed without an answer to its source.
+    Full,
     /// The output has no numbers left. The connection is closed without an answer to its source.
     NumbersSpent,
     /// So many chunks were closed.
@@ -67,6 +70,10 @@ pub enum Answer {
     Told {
         requests: Seq<u64>,
         out: Bytes,
+    },
+    /// So many requests of the connection are owed no answer any more.
+    Forgot {
+        requests: usize,
     },
     /// The event changed nothing.
     Refused(Refusal),

@@ -1,3 +1,6 @@
+ghost use Rattle.std.specs.Prelude.{◌≤◌, ◌^◌, length};
+
+use fwd_chunks::BufferLimits;
 use fwd_handshake::Security;
 use fwd_match::Routes;
 use fwd_msgpack::Seq;
@@ -9,8 +12,8 @@ pub struct OutputConfig {
     pub workers: u16,
     /// How many servers it has.
     pub servers: u16,
-    /// How old the first entry of a chunk is when a flush closes it, in milliseconds.
-    pub flush_interval: u64,
+    /// What its buffer is limited to.
+    pub limits: BufferLimits,
 }
 
 /// What a relay is set to.
@@ -23,6 +26,7 @@ pub struct Config {
     pub routes: Routes,
     /// What a source has to prove, and the name under which the relay answers it.
     pub security: Security,
-    /// The outputs, in file order.
+    /// The outputs, in file order: at most 65,536, since events name them by sixteen bits.
     pub outputs: Seq<OutputConfig>,
+    ghost few: { length outputs ≤ 2 ^ 16 },
 }

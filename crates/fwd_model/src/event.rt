@@ -1,13 +1,5 @@
+use fwd_chunks::FlushKind;
 use fwd_msgpack::Bytes;
-
-/// Which open chunks a flush closes.
-#[derive(Clone, Copy, Debug, PartialEq, Eq)]
-pub enum FlushKind {
-    /// Those whose first entry is at least the flush interval old.
-    Due,
-    /// All of them.
-    All,
-}
 
 /// What happens to the relay. Moments are in milliseconds.
 #[derive(Debug, Drop)]
@@ -74,6 +66,11 @@ pub enum Event {
     },
     /// A connection's requests whose entries are all acknowledged are told so.
     Collect {
+        conn: u64,
+        output: u16,
+    },
+    /// Nobody is to be told of a connection's requests at an output any more. Their entries stay.
+    Forget {
         conn: u64,
         output: u16,
     },

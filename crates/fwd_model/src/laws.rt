@@ -29,9 +29,9 @@ ghost use Rattle.fwd_model.specs.declared.fault.SessionFault.{SessionFault};
 ghost use Rattle.fwd_model.specs.declared.fault.SessionFault.TheVariants.{BadReply};
 ghost use Rattle.fwd_model.specs.Outcome.{answer_of, state_of, within, is_refusal};
 ghost use Rattle.fwd_model.specs.Step.{step, answers, after};
-ghost use Rattle.fwd_model.specs.Chunks.{cells_at, has_number};
-ghost use Rattle.fwd_model.specs.Books.{Admission};
-ghost use Rattle.fwd_model.specs.Buffers.{BufferHistory, IsFree, free_number};
+ghost use Rattle.fwd_chunks.specs.Cells.{has_number};
+ghost use Rattle.fwd_model.specs.Outputs.{count_at};
+ghost use Rattle.fwd_model.specs.Books.{Untold, Told, Admission};
 ghost use Rattle.fwd_model.specs.Replies.{
   reply_of,
   reply_then,
@@ -42,15 +42,16 @@ ghost use Rattle.fwd_model.specs.Replies.{
   failing,
 };
 ghost use Rattle.fwd_model.specs.Sessions.{SessionHistory, is_handed_on, replies_to};
-ghost use Rattle.fwd_model.specs.History.{History, Lane, histories, source_at, IsReached};
+ghost use Rattle.fwd_model.specs.History.{History, Lane, histories, source_at, counts, IsReached};
 ghost use Rattle.fwd_model.specs.Delivered.{IsTold, IsToldAmong, IsDelivered, reached};
-ghost use Rattle.fwd_model.specs.Live.{LiveRelay, live, lives};
+ghost use Rattle.fwd_model.specs.Live.{LiveRelay, live, lives, live_relay_counts};
 
 /// The live part is enough: from a history that a run reaches, what an event comes to, seen in
 /// its live part, is what it comes to at the history's live part.
 pub fn live_follows()
-    ensures { (config : Config) (h : History) (e : Event) → IsReached config h →
+    ensures step { (config : Config) (h : History) (e : Event) → IsReached config h →
         within live (step histories h e) ≡ step lives (live h) e }
+    ensures counts { (h : History) → counts h ≡ live_relay_counts (live h) }
 {}
 
 /// The same over a list of events.
@@ -106,19 +107,11 @@ pub fn told_among_is_delivered()
         IsDelivered config (es ++ t.before) id r o }
 {}
 
-/// The number that a worker takes is free, and no free number is below it; where it takes none,
-/// no number is free.
-pub fn taken_is_least()
-    ensures some { (b : BufferHistory) (k : ℕ) → free_number b ≡ Some k →
-        IsFree b k × ((j : ℕ) → IsFree b j → k ≤ j) }
-    ensures none { (b : BufferHistory) → free_number b ≡ None → (j : ℕ) → ¬ IsFree b j }
-{}
-
 /// A request that a run has marked as told was told by a collect of that run, to its connection.
 pub fn marked_is_told()
     ensures { (config : Config) (es : List Event) (o i : ℕ) (l : Lane) (a : Admission) →
-        slice_get (reached config es).lanes o ≡ Some l → slice_get l.output.book i ≡ Some a
-        → a.told ≡ true →
+        slice_get (reached config es).lanes o ≡ Some l
+        → slice_get l.output.book.admissions i ≡ Some a → a.fate ≡ Told →
         IsTold config es a.request.origin.conn a.request.origin.request o }
 {}
 
@@ -126,8 +119,8 @@ pub fn marked_is_told()
 pub fn told_without_entries()
     ensures { (h : History) (o i : ℕ) (s : SourceHistory) (l : Lane) (a : Admission) →
         source_at a.request.origin.conn h.connections ≡ Some s → s.shut ≡ false →
-        slice_get h.lanes o ≡ Some l → slice_get l.output.book i ≡ Some a
-        → a.told ≡ false →
+        slice_get h.lanes o ≡ Some l → slice_get l.output.book.admissions i ≡ Some a
+        → a.fate ≡ Untold →
         a.request.spans ≡ [] → (numbers out : List ℕ)
         × (answer_of (step histories h (event.Collect a.request.origin.conn o))
         ≡ answer.Told numbers out)
@@ -159,5 +152,5 @@ pub fn acknowledgement_before_fault_stands()
         × (answer_of
         (step histories (state_of h (step histories h (event.Heard o w bytes)))
         (event.Settle o w))
-        ≡ answer.Settled (length (cells_at k l.output.buffer.cells))) }
+        ≡ answer.Settled (count_at k l.output)) }
 {}

@@ -10,13 +10,14 @@ mod fault;
 mod laws;
 
 pub use answer::Answer;
-pub use cell::{Carry, Cell, Chunk, Entered, Span};
+pub use cell::Entered;
 pub use config::{Config, OutputConfig};
-pub use event::{Event, FlushKind};
+pub use event::Event;
 pub use fault::{Refusal, SessionFault};
+pub use fwd_chunks::{BufferLimits, Counts, FlushKind, Span};
 pub use fwd_source::{Origin, SourceFault};
 pub use laws::{
     acknowledgement_before_fault_stands, early_reply_settles_nothing, live_follows,
-    live_run_follows, marked_is_told, refusal_changes_nothing, replies_by_front, taken_is_least,
+    live_run_follows, marked_is_told, refusal_changes_nothing, replies_by_front,
     told_among_is_delivered, told_is_delivered, told_without_entries,
 };

@@ -11,7 +11,7 @@ use Rattle.std.proofs.lemmas.Str.Parse.{digit_from_value}
 use Rattle.std.proofs.lemmas.List.Splits.{join_with_byte-slice_split}
 use Rattle.hex.specs.Hex.{IsBytes, encode_lower, encode_with}
 use Rattle.fwd_model.specs.declared.event.Event.{Event}
-use Rattle.fwd_model.specs.declared.event.Event.TheVariants.{Accept, Piece, Admit, Flush, Up, Take, Load, Wrote, Heard, Settle, Collect, Drained, Shut}
+use Rattle.fwd_model.specs.declared.event.Event.TheVariants.{Accept, Piece, Admit, Flush, Up, Take, Load, Wrote, Heard, Settle, Collect, Forget, Drained, Shut}
 use Rattle.fwd_model.specs.declared.event.FlushKind.{FlushKind}
 use Rattle.fwd_model.specs.declared.event.FlushKind.TheVariants.{Due, All}
 use Rattle.fwd_script.specs.Words.{words, hex_text}
@@ -197,8 +197,9 @@ named-some name ws e =
     if_named name (codes "heard") (Short ∷ Short ∷ Hex ∷ []) Heard (λ xs. refl) _ ws e (
     if_named name (codes "settle") (Short ∷ Short ∷ []) Settle (λ xs. refl) _ ws e (
     if_named name (codes "collect") (Long ∷ Short ∷ []) Collect (λ xs. refl) _ ws e (
+    if_named name (codes "forget") (Long ∷ Short ∷ []) Forget (λ xs. refl) _ ws e (
     if_named name (codes "drained") (Long ∷ Long ∷ []) Drained (λ xs. refl) _ ws e (
-    if_named name (codes "shut") (Long ∷ []) Shut (λ xs. refl) None ws e (λ none. absurd cc)))))))))))))
+    if_named name (codes "shut") (Long ∷ []) Shut (λ xs. refl) None ws e (λ none. absurd cc))))))))))))))
 
 of_words-some : (ws : List (List ℕ)) (e : Event) → of_words ws ≡ Some e → InRange e
     × (ws ≡ words_of e)
@@ -227,6 +228,7 @@ spelled (Wrote output worker count) r = record { is_read = read_as-texts (Short 
 spelled (Heard output worker bytes) r = record { is_read = read_as-texts (Short ∷ Short ∷ Hex ∷ []) Heard (output, (worker, (bytes, tt))) r; is_ascii = refl; has_no_space = refl }
 spelled (Settle output worker) r = record { is_read = read_as-texts (Short ∷ Short ∷ []) Settle (output, (worker, tt)) r; is_ascii = refl; has_no_space = refl }
 spelled (Collect conn output) r = record { is_read = read_as-texts (Long ∷ Short ∷ []) Collect (conn, (output, tt)) r; is_ascii = refl; has_no_space = refl }
+spelled (Forget conn output) r = record { is_read = read_as-texts (Long ∷ Short ∷ []) Forget (conn, (output, tt)) r; is_ascii = refl; has_no_space = refl }
 spelled (Drained conn count) r = record { is_read = read_as-texts (Long ∷ Long ∷ []) Drained (conn, (count, tt)) r; is_ascii = refl; has_no_space = refl }
 spelled (Shut conn) r = record { is_read = read_as-texts (Long ∷ []) Shut (conn, tt) r; is_ascii = refl; has_no_space = refl }
 

@@ -39,10 +39,42 @@ abbrev pub settings_text : List ℕ → List ℕ
 settings_text [] = row_text
 settings_text (byte ∷ more) = byte ∷ more
 
--- an output, as the relay has to know it
-abbrev pub output_config : OutputSettings → OutputConfig
-output_config o =
-    record { workers = o.workers; servers = length o.servers; flush_interval = o.flush_interval }
+-- the numbers that an output is set to
+pub record OutputNumbers : Type 0 where
+  pub workers : ℕ
+  pub servers : ℕ
+  pub chunk : ℕ
+  pub total : ℕ
+  pub interval : ℕ
+  pub retry_wait : ℕ
+  pub retry_max : ℕ
+  pub first : ℕ
+
+-- those that the relay knows
+abbrev pub numbers_known : OutputConfig → OutputNumbers
+numbers_known c = record {
+  workers = c.workers;
+  servers = c.servers;
+  chunk = c.limits.chunk;
+  total = c.limits.total;
+  interval = c.limits.interval;
+  retry_wait = c.limits.retry_wait;
+  retry_max = c.limits.retry_max;
+  first = c.limits.first;
+}
+
+-- those that settings set; the first chunk has number 1
+abbrev pub numbers_set : OutputSettings → OutputNumbers
+numbers_set o = record {
+  workers = o.workers;
+  servers = length o.servers;
+  chunk = o.chunk_limit;
+  total = o.total_limit;
+  interval = o.flush_interval;
+  retry_wait = o.retry_wait;
+  retry_max = o.retry_max;
+  first = 1;
+}
 
 -- a user that a source may name
 abbrev pub user_of : UserSettings → User
@@ -55,7 +87,7 @@ pub record IsConfig (s : Settings) (config : Config) : Type 0 where
   pub hostname : config.security.hostname ≡ s.relay.hostname
   pub shared_key : config.security.shared_key ≡ s.relay.shared_key
   pub users : config.security.users ≡ map user_of s.relay.users
-  pub outputs : config.outputs ≡ map output_config s.outputs
+  pub outputs : map numbers_known config.outputs ≡ map numbers_set s.outputs
 
 -- what a script's text of settings sets the relay to, or its first fault
 abbrev pub Configures : List ℕ → Result Config SettingsFault → Type 0

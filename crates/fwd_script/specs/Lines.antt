@@ -5,7 +5,7 @@ use Rattle.std.specs.Str.{bytes_eq}
 use Rattle.std.specs.Fmt.{decimal}
 use Rattle.hex.specs.Hex.{encode_lower, IsBytes}
 use Rattle.fwd_model.specs.declared.event.Event.{Event}
-use Rattle.fwd_model.specs.declared.event.Event.TheVariants.{Accept, Piece, Admit, Flush, Up, Take, Load, Wrote, Heard, Settle, Collect, Drained, Shut}
+use Rattle.fwd_model.specs.declared.event.Event.TheVariants.{Accept, Piece, Admit, Flush, Up, Take, Load, Wrote, Heard, Settle, Collect, Forget, Drained, Shut}
 use Rattle.fwd_model.specs.declared.event.FlushKind.{FlushKind}
 use Rattle.fwd_model.specs.declared.event.FlushKind.TheVariants.{Due, All}
 use Rattle.fwd_script.specs.Words.{◌>>=◌, words, hex_text, number_of, bytes_of, sixteen_of}
@@ -80,6 +80,7 @@ form_of (Heard output worker bytes) =
     (codes "heard", (Short, output) ∷ (Short, worker) ∷ (Hex, bytes) ∷ [])
 form_of (Settle output worker) = (codes "settle", (Short, output) ∷ (Short, worker) ∷ [])
 form_of (Collect conn output) = (codes "collect", (Long, conn) ∷ (Short, output) ∷ [])
+form_of (Forget conn output) = (codes "forget", (Long, conn) ∷ (Short, output) ∷ [])
 form_of (Drained conn count) = (codes "drained", (Long, conn) ∷ (Long, count) ∷ [])
 form_of (Shut conn) = (codes "shut", (Long, conn) ∷ [])
 
@@ -147,6 +148,7 @@ named name rest =
     else if bytes_eq name (codes "heard") then read_as (Short ∷ Short ∷ Hex ∷ []) Heard rest
     else if bytes_eq name (codes "settle") then read_as (Short ∷ Short ∷ []) Settle rest
     else if bytes_eq name (codes "collect") then read_as (Long ∷ Short ∷ []) Collect rest
+    else if bytes_eq name (codes "forget") then read_as (Long ∷ Short ∷ []) Forget rest
     else if bytes_eq name (codes "drained") then read_as (Long ∷ Long ∷ []) Drained rest
     else if bytes_eq name (codes "shut") then read_as (Long ∷ []) Shut rest
     else None

@@ -13,7 +13,7 @@ use Rattle.fwd_model.specs.declared.fault.SessionFault.TheVariants.{BadReply, Wr
 use Rattle.fwd_model.specs.declared.fault.Refusal.{Refusal}
 use Rattle.fwd_model.specs.declared.fault.Refusal.TheVariants as refusal
 use Rattle.fwd_model.specs.declared.answer.Answer.{Answer}
-use Rattle.fwd_model.specs.declared.answer.Answer.TheVariants.{Accepted, Requests, Faulted, Admitted, NoRoute, NumbersSpent, Closed, Done, Took, TookNothing, Frame, Quiet, Acked, SessionFaulted, Settled, Told, Refused, Memory}
+use Rattle.fwd_model.specs.declared.answer.Answer.TheVariants.{Accepted, Requests, Faulted, Admitted, NoRoute, Full, NumbersSpent, Closed, Done, Took, TookNothing, Frame, Quiet, Acked, SessionFaulted, Settled, Told, Forgot, Refused, Memory}
 use Rattle.fwd_script.specs.Words.{hex_text}
 
 -- the name of each fault of a value's spelling
@@ -82,6 +82,7 @@ answer_words (Faulted fault waiting out) = faulted_words fault waiting out
 answer_words (Admitted request entries) =
     codes "admitted" ∷ decimal request ∷ codes "entries" ∷ decimal entries ∷ []
 answer_words NoRoute = codes "fault" ∷ codes "NoRoute" ∷ []
+answer_words Full = codes "fault" ∷ codes "Full" ∷ []
 answer_words NumbersSpent = codes "fault" ∷ codes "NumbersSpent" ∷ []
 answer_words (Closed chunks) = codes "closed" ∷ decimal chunks ∷ []
 answer_words Done = codes "done" ∷ []
@@ -94,6 +95,7 @@ answer_words (Acked out) = out_words (codes "acked") out
 answer_words (SessionFaulted fault) = codes "fault" ∷ session_name fault ∷ []
 answer_words (Settled entries) = codes "settled" ∷ decimal entries ∷ []
 answer_words (Told requests out) = told_words requests out
+answer_words (Forgot requests) = codes "forgot" ∷ decimal requests ∷ []
 answer_words (Refused refused) = codes "refused" ∷ refusal_name refused ∷ []
 answer_words Memory = codes "memory" ∷ []
 

@@ -3,11 +3,11 @@
 ghost use Rattle.std.specs.Prelude.{◌≡◌, ◌≢◌, ◌≤◌, ◌^◌, ◌<◌, true, map, length, vec_len, IfOk, Err};
 ghost use Rattle.std.specs.List.{list_all};
 ghost use Rattle.fwd_settings.specs.Ranges.{in_range, output_in_range, relay_in_range};
-ghost use Rattle.fwd_script.specs.Configs.{settings_text, output_config, user_of, IsConfig, Configures};
+ghost use Rattle.fwd_script.specs.Configs.{settings_text, numbers_known, numbers_set, user_of, IsConfig, Configures};
 
 use fwd_handshake::{Security, User};
 use fwd_match::{Pattern, Routes};
-use fwd_model::{Config, OutputConfig};
+use fwd_model::{BufferLimits, Config, OutputConfig};
 use fwd_msgpack::{Bytes, Seq};
 use fwd_settings::{
     OutputSettings, RelaySettings, Settings, SettingsFault, Text, UserSettings,
@@ -45,19 +45,28 @@ fn settings_text(text: &[u8]) -> &[u8]
 /// What an output is set to.
 fn config_for(output: &OutputSettings) -> OutputConfig
     requires { output_in_range output.now ≡ true }
-    ensures { result ≡ output_config output.now }
+    ensures { numbers_known result ≡ numbers_set output.now }
 {
     OutputConfig {
         workers: output.workers,
         servers: output.servers.len() as u16,
-        flush_interval: output.flush_interval,
+        limits: BufferLimits {
+            chunk: output.chunk_limit as u32,
+            total: output.total_limit,
+            interval: output.flush_interval,
+            retry_wait: output.retry_wait,
+            retry_max: output.retry_max,
+            first: 1,
+        },
     }
 }
 
 /// What each output is set to.
 fn configs_of(alloc: Global, outputs: &[OutputSettings]) -> Result<Vec<OutputConfig>, AllocError>
     requires { list_all output_in_range outputs.now ≡ true }
-    ensures { IfOk result (λ configs. configs.items ≡ map output_config outputs.now) }
+    ensures numbers { IfOk result (λ configs.
+        map numbers_known configs.items ≡ map numbers_set outputs.now) }
+    ensures count { IfOk result (λ configs. length configs.items ≡ length outputs.now) }
 {
     let mut configs = Vec::new(alloc);
     for output in outputs {

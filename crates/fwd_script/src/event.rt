@@ -13,6 +13,7 @@ ghost use Rattle.fwd_model.specs.declared.event.Event.TheVariants.{
   Heard,
   Settle,
   Collect,
+  Forget,
   Drained,
   Shut,
 };
@@ -86,6 +87,8 @@ fn event_named(alloc: Global, name: &[u8], rest: &[&[u8]]) -> Result<Option<Even
         Ok(settle(rest))
     } else if name == b"collect".as_slice() {
         Ok(collect(rest))
+    } else if name == b"forget".as_slice() {
+        Ok(forget(rest))
     } else if name == b"drained".as_slice() {
         Ok(drained(rest))
     } else if name == b"shut".as_slice() {
@@ -284,6 +287,19 @@ fn collect(words: &[&[u8]]) -> Option<Event>
         return None;
     };
     Some(Event::Collect {
+        conn: number(conn)?,
+        output: small_number(output)?,
+    })
+}
+
+#[tactic(auto, unfolding(crate::specs::Lines::read_as))]
+fn forget(words: &[&[u8]]) -> Option<Event>
+    ensures { result ≡ read_as (Long ∷ Short ∷ []) Forget (map (λ w. w.now) words.now) }
+{
+    let [conn, output] = words else {
+        return None;
+    };
+    Some(Event::Forget {
         conn: number(conn)?,
         output: small_number(output)?,
     })

@@ -26,6 +26,7 @@ pub fn print_answer(alloc: Global, answer: &Answer) -> Result<String, AllocError
             format!(in alloc; "admitted {request} entries {entries}")
         }
         Answer::NoRoute => String::from_str(alloc, "fault NoRoute"),
+        Answer::Full => String::from_str(alloc, "fault Full"),
         Answer::NumbersSpent => String::from_str(alloc, "fault NumbersSpent"),
         Answer::Closed { chunks } => format!(in alloc; "closed {chunks}"),
         Answer::Done => String::from_str(alloc, "done"),
@@ -43,6 +44,7 @@ pub fn print_answer(alloc: Global, answer: &Answer) -> Result<String, AllocError
         }
         Answer::Settled { entries } => format!(in alloc; "settled {entries}"),
         Answer::Told { requests, out } => told(alloc, requests.as_slice(), out.as_slice()),
+        Answer::Forgot { requests } => format!(in alloc; "forgot {requests}"),
         Answer::Refused(refusal) => {
             let name = refusal_name(*refusal);
             format!(in alloc; "refused {name}")

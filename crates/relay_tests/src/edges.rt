@@ -1,6 +1,6 @@
 //! The relay where many requests wait.
 
-use crate::settings::{open_to_all, routes_of};
+use crate::settings::{LIMITS, open_to_all, routes_of};
 use fwd_core::Relay;
 use fwd_model::{Answer, Config, Event, OutputConfig};
 use fwd_msgpack::{Bytes, Seq};
@@ -13,17 +13,16 @@ const REQUEST: &[u8] = b"\x93\xa1a\x01\x80";
 
 /// A relay of one output that takes each tag.
 fn one_output(alloc: Global) -> Result<Relay, Fail> {
-    let mut outputs = Seq::new(alloc);
-    outputs.push(OutputConfig {
+    let output = OutputConfig {
         workers: 1,
         servers: 1,
-        flush_interval: 1000,
-    })?;
+        limits: LIMITS,
+    };
     let config = Config {
         run: [0; 6],
         routes: routes_of(alloc, &["**"])?,
         security: open_to_all(alloc)?,
-        outputs,
+        outputs: Seq::from_slice(alloc, &[output])?,
     };
     Ok(Relay::new(alloc, config)?)
 }

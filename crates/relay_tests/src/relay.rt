@@ -1,6 +1,6 @@
 //! The relay, called as a library.
 
-use crate::settings::{open_to_all, routes_of};
+use crate::settings::{LIMITS, open_to_all, routes_of};
 use fwd_core::Relay;
 use fwd_model::{Answer, Config, Event, FlushKind, OutputConfig, Refusal};
 use fwd_msgpack::{Bytes, Seq};
@@ -15,19 +15,21 @@ const ASKING_REQUEST: &[u8] = b"\x94\xa1a\x01\x80\x81\xa5chunk\xa1x";
 
 /// The first output takes the tag `a`, the second each other.
 fn two_outputs(alloc: Global) -> Result<Config, Fail> {
-    let mut outputs = Seq::new(alloc);
-    for workers in [2, 1] {
-        outputs.push(OutputConfig {
-            workers,
-            servers: 1,
-            flush_interval: 1000,
-        })?;
-    }
+    let first = OutputConfig {
+        workers: 2,
+        servers: 1,
+        limits: LIMITS,
+    };
+    let second = OutputConfig {
+        workers: 1,
+        servers: 1,
+        limits: LIMITS,
+    };
     Ok(Config {
         run: [0xff; 6],
         routes: routes_of(alloc, &["a", "**"])?,
         security: open_to_all(alloc)?,
-        outputs,
+        outputs: Seq::from_slice(alloc, &[first, second])?,
     })
 }
 

@@ -2,7 +2,7 @@ ghost use Rattle.std.specs.Prelude.{◌+◌, ◌%◌, ℕ};
 ghost use Rattle.fwd_model.specs.declared.event.Event.{Event};
 ghost use Rattle.fwd_model.specs.declared.answer.Answer.TheVariants.{Closed};
 
-use fwd_model::{Answer, Event, OutputConfig, Refusal, SessionFault, SourceFault};
+use fwd_model::{Answer, BufferLimits, Event, OutputConfig, Refusal, SessionFault, SourceFault};
 use fwd_modes::InputFault;
 use fwd_msgpack::{Bytes, ScanFault, Seq};
 use fwd_script::{
@@ -236,7 +236,14 @@ fn reads_configs(rt: HostRuntime) -> Result<(), Fail> {
     let two_of_each = OutputConfig {
         workers: 2,
         servers: 2,
-        flush_interval: 1000,
+        limits: BufferLimits {
+            chunk: 1000,
+            total: 100_000,
+            interval: 1000,
+            retry_wait: 500,
+            retry_max: 4000,
+            first: 1,
+        },
     };
     assert_eq!(rt; row.outputs.as_slice(), [two_of_each].as_slice());
     let text = b"[relay]\nrun_id = \"0123456789aB\"\n\
@@ -253,12 +260,26 @@ address = \"1.2.3.4:5\"\n";
     let first = OutputConfig {
         workers: 1,
         servers: 1,
-        flush_interval: 5000,
+        limits: BufferLimits {
+            chunk: 8_000_000,
+            total: 512_000_000,
+            interval: 5000,
+            retry_wait: 1000,
+            retry_max: 60_000,
+            first: 1,
+        },
     };
     let second = OutputConfig {
         workers: 16,
         servers: 1,
-        flush_interval: 0,
+        limits: BufferLimits {
+            chunk: 8_000_000,
+            total: 512_000_000,
+            interval: 0,
+            retry_wait: 1000,
+            retry_max: 60_000,
+            first: 1,
+        },
     };
     assert_eq!(rt; config.outputs.as_slice(), [first, second].as_slice());
     Ok(())

@@ -2,9 +2,20 @@
 
 use fwd_handshake::Security;
 use fwd_match::{Pattern, Routes};
+use fwd_model::BufferLimits;
 use fwd_msgpack::{Bytes, Seq};
 use std::alloc::{AllocError, Global};
 use std::test::Fail;
+
+/// The limits of the settings that an empty text stands for.
+pub const LIMITS: BufferLimits = BufferLimits {
+    chunk: 1000,
+    total: 100_000,
+    interval: 1000,
+    retry_wait: 500,
+    retry_max: 4000,
+    first: 1,
+};
 
 /// The routes of these patterns.
 pub fn routes_of(alloc: Global, texts: &[&str]) -> Result<Routes, Fail> {

@@ -12,6 +12,6 @@ loop-request-preserved c =
     let q = c.request-item.result in
     let more : take (i + 1) qs ≡ take i qs ++ q ∷ [] = take_more qs i q c.loop-request-test.true ∙ ap (λ x. take i qs ++ x ∷ []) (sym c.request-item.is) in
     rw more (elim c.if-is_due.branch [
-      | then-is_due+in_ok-push_ack w ↦ w.out-is ∙ w.in_ok-push_ack.ensures ∙ ap (λ out. out ++ ack_of q) c.loop-request.invariant ∙ sym (acks-due c.args.origins.now c.args.cells.now (take i qs) q (sym c.is_due.ensures ∙ w.if-is_due.true))
-      | else-is_due w ↦ w.out-is ∙ c.loop-request.invariant ∙ sym (acks-not_due c.args.origins.now c.args.cells.now (take i qs) q (sym c.is_due.ensures ∙ w.if-is_due.false))
+      | then-is_due+in_ok-push_ack w ↦ w.out-is ∙ w.in_ok-push_ack.ensures ∙ ap (λ out. out ++ ack_of q) c.loop-request.invariant ∙ sym (acks-due c.args.origins.now (take i qs) q (sym c.is_due.ensures ∙ w.if-is_due.true))
+      | else-is_due w ↦ w.out-is ∙ c.loop-request.invariant ∙ sym (acks-not_due c.args.origins.now (take i qs) q (sym c.is_due.ensures ∙ w.if-is_due.false))
     ])

@@ -1,5 +1,8 @@
-use Rattle.fwd_model.proofs.Follows.{event_agrees, reached_sane}
+use Rattle.fwd_model.proofs.Follows.{event_agrees, reached_sane, counts_follow}
 use Rattle.fwd_model.proofs.laws.live_follows.Goals as goal
 
-pub returns : goal.returns
-returns c config h e r = (event_agrees h e (reached_sane config h r)).same
+pub returns-clause-step : goal.returns-clause-step
+returns-clause-step c config h e r = (event_agrees h e (reached_sane config h r)).same
+
+pub returns-clause-counts : goal.returns-clause-counts
+returns-clause-counts c h = counts_follow h

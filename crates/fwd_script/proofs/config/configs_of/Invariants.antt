@@ -1,6 +1,8 @@
-use Rattle.std.proofs.Common.{◌≡◌, map, take}
-use Rattle.fwd_script.specs.Configs.{output_config}
+use Rattle.std.proofs.Common.{◌≡◌, length, map, take}
+use Rattle.fwd_script.specs.Configs.{numbers_known, numbers_set}
 use Rattle.fwd_script.proofs.config.configs_of.Given as goal
 
 abbrev pub invariant-loop-output : goal.invariant-loop-output
-invariant-loop-output l = l.configs.items ≡ map output_config (take l.output-index l.outputs)
+invariant-loop-output l =
+    (map numbers_known l.configs.items ≡ map numbers_set (take l.output-index l.outputs))
+    × (length l.configs.items ≡ l.output-index)
