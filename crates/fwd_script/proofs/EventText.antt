@@ -10,8 +10,8 @@ use Rattle.std.proofs.lemmas.Fmt.{IsAscii-decimal}
 use Rattle.hex.specs.Hex.{encode_lower, lower_digits}
 use Rattle.hex.proofs.HexLemmas.{IsAscii-encode_with}
 use Rattle.fwd_model.specs.declared.event.Event.{Event}
-use Rattle.fwd_model.specs.declared.event.FlushKind.{FlushKind}
-use Rattle.fwd_model.specs.declared.event.FlushKind.TheVariants.{Due, All}
+use Rattle.fwd_chunks.specs.declared.flush.FlushKind.{FlushKind}
+use Rattle.fwd_chunks.specs.declared.flush.FlushKind.TheVariants.{Due, All}
 use Rattle.fwd_script.specs.Words.{hex_text}
 use Rattle.fwd_script.specs.Lines.{Kind, Long, Short, Hex, Sixteen, Closing, Meaning, Fits, text_at, Field, kind_text, form_of, words_of, line_of, AllFit, InRange, event_of}
 use Rattle.fwd_script.proofs.Spelling.{spelled, event_of-some}

@@ -12,8 +12,8 @@ use Rattle.std.proofs.lemmas.List.Splits.{join_with_byte-slice_split}
 use Rattle.hex.specs.Hex.{IsBytes, encode_lower, encode_with}
 use Rattle.fwd_model.specs.declared.event.Event.{Event}
 use Rattle.fwd_model.specs.declared.event.Event.TheVariants.{Accept, Piece, Admit, Flush, Up, Take, Load, Wrote, Heard, Settle, Collect, Forget, Drained, Shut}
-use Rattle.fwd_model.specs.declared.event.FlushKind.{FlushKind}
-use Rattle.fwd_model.specs.declared.event.FlushKind.TheVariants.{Due, All}
+use Rattle.fwd_chunks.specs.declared.flush.FlushKind.{FlushKind}
+use Rattle.fwd_chunks.specs.declared.flush.FlushKind.TheVariants.{Due, All}
 use Rattle.fwd_script.specs.Words.{words, hex_text}
 use Rattle.fwd_script.specs.Lines.{Kind, Long, Short, Hex, Sixteen, Closing, Meaning, Fits, text_at, Field, kind_text, form_of, words_of, line_of, AllFit, InRange, kind_of, read_at, Makes, read_as, named, of_words, event_of}
 use Rattle.fwd_script.proofs.WordLemmas.{bytes_eq-true, number_of-some, number_of-decimal}
