@@ -1,6 +1,6 @@
 -- A request's entries, joined one by one, fill the tag's open chunk and then new ones.
 use Rattle.std.proofs.Common.{◌≡◌, ℕ, zero, suc, ◌+◌, ◌<◌, ◌≤◌, Bool, true, false, cond, eqb, List, [], ◌∷◌, ◌++◌, length, take, drop, max, Option, Some, None, refl, sym, ap, ◌∙◌, subst, inl, inr, arith}
-use Rattle.std.specs.Prelude.{◌-◌, ◌^◌, map, find, ◌==◌, nat_le, position, slice_get, IfSome, IfNone, unwrap_or, nat_lt, ◌||◌}
+use Rattle.std.specs.Prelude.{◌-◌, ◌^◌, map, find, ◌==◌, nat_le, option_map, IfSome, IfNone, unwrap_or, nat_lt, ◌||◌}
 use Rattle.std.specs.List.{AllByRecursion}
 use Rattle.std.specs.Str.{bytes_eq}
 use Rattle.std.proofs.lemmas.Bool.Decides.{nat_tests}
@@ -18,12 +18,13 @@ use Rattle.fwd_chunks.specs.declared.plan.Plan.{Plan}
 use Rattle.fwd_chunks.specs.declared.fault.AdmitError.TheVariants.{Full, NumbersSpent}
 use Rattle.fwd_chunks.specs.Parts.{entries_in}
 use Rattle.fwd_chunks.specs.Plans.{IsPlan}
+use Rattle.fwd_chunks.specs.Slots.{last_of, AreAbove}
+use Rattle.fwd_chunks.proofs.CellLemmas.{size_of-push}
 use Rattle.fwd_chunks.specs.History.{before_runs}
 use Rattle.fwd_chunks.specs.Live.{LiveBuffer, is_open, staged, changed, is_at, is_open_of, may_take, first_chunk, live_next_number, live_adds_to, live_adds, live_adds_all, live_runs, live_looks, live_enters, live_refusal, live_is_full, live_is_spent, live_spans, bytes_in}
 use Rattle.fwd_chunks.specs.Soundness.{IsBefore, AreInOrder, IsSound}
-use Rattle.fwd_chunks.specs.Filling.{fitting, fresh_of, extra, span_of, stage_before, stage_last, needed, cut_count, joining_to, joined_by, joined_chunks, joined_span, greatest_with, filled, filled_spans, chunk_at, filled_by, filled_at}
+use Rattle.fwd_chunks.specs.Filling.{fitting, open_chunk, fresh_from, fresh_of, extra, span_of, stage_before, stage_last, needed, cut_count, joining_to, joined_by, joined_chunks, joined_span, greatest_with, filled, filled_spans, filled_in}
 use Rattle.fwd_chunks.proofs.Numbers.{true_false, not_from, eq_from, eq_same}
-use Rattle.fwd_chunks.proofs.Places.{set-changed, place-found, place-none, place-within}
 use Rattle.fwd_chunks.proofs.Sounding.{all-push, enters-sound, adds_all-added, sorted, all-map, found-all}
 use Rattle.fwd_chunks.proofs.Filling.{runs-fresh, begun-all, begun-runs, find-no_open, with_entries, joined, order-joined, open-joined, may_not_join, join-all, join-runs, adds_all-append, fitting-over, fitting-within, fitting-fits, fitting-rest, fresh-cut, fresh-count}
 
@@ -304,37 +305,13 @@ pub last-stage : (entries : List (List ℕ))
 last-stage [] = refl
 last-stage (e ∷ entries) = (let some : eqb (suc (length entries)) 0 ≡ false = grind (arith, nat_tests) in ap stage_last some)
 
--- ---- by places
+-- ---- by numbers
 
-pub find-place : (p : Chunk → Bool) (chunks : List Chunk)
-    → chunk_at chunks (position p chunks) ≡ find p chunks
-find-place p chunks = by (position p chunks) refl
-  where
-    by : (o : Option ℕ) → position p chunks ≡ o → chunk_at chunks o ≡ find p chunks
-    by None e = sym (place-none p chunks e)
-    by (Some i) e = sym (place-found p chunks i e)
-
-pub filled-place : (p : Chunk → Bool) (chunks : List Chunk) (front back : List (List ℕ))
-    → AreInOrder chunks
-    → filled_at chunks (position p chunks) front (stage_before back)
-    ≡ joined_chunks (find p chunks) front back chunks
-filled-place p chunks front back order = by (position p chunks) refl
-  where
-    by : (o : Option ℕ) → position p chunks ≡ o → filled_at chunks o front (stage_before back) ≡ joined_chunks (find p chunks) front back chunks
-    by None e = ap (λ o. joined_chunks o front back chunks) (sym (place-none p chunks e))
-    by (Some i) e = at (slice_get chunks i) refl ∙ ap (λ o. joined_chunks o front back chunks) (sym (place-found p chunks i e))
-      where
-        at : (o : Option Chunk) → slice_get chunks i ≡ o → filled_by chunks i front (stage_before back) o ≡ joined_chunks o front back chunks
-        at None f = refl
-        at (Some c) f = set-changed chunks i c (joined_by front (stage_before back)) order f
-
-pub place-in : (p : Chunk → Bool) (chunks : List Chunk)
-    → IfSome (position p chunks) (λ i. i < length chunks)
-place-in p chunks = by (position p chunks) refl
-  where
-    by : (o : Option ℕ) → position p chunks ≡ o → IfSome o (λ i. i < length chunks)
-    by None e = tt
-    by (Some i) e = place-within p chunks i e
+filled-joins : (o : Option Chunk) (chunks : List Chunk) (front back : List (List ℕ))
+    → filled_in (option_map (λ c. c.number) o) front (stage_before back) chunks
+    ≡ joined_chunks o front back chunks
+filled-joins None chunks one two = refl
+filled-joins (Some c) chunks one two = refl
 
 pub joins-fit : (limit size : ℕ) (entries : List (List ℕ)) → limit < 2 ^ 32 → size < 2 ^ 32
     → size + size_of (take (fitting limit size entries) entries) < 2 ^ 32
@@ -356,17 +333,6 @@ joining-within limit (Some c) entries = fitting-within limit (size_of c.entries)
 pub length-cut : (n : ℕ) (entries : List (List ℕ))
     → length (take n entries) + length (drop n entries) ≡ length entries
 length-cut n entries = sym (length-append (take n entries) (drop n entries)) ∙ ap length (take-append-drop n entries)
-
-pub greatest-is : (b : LiveBuffer) (back : List (List ℕ)) (first needs : ℕ)
-    → needs ≡ needed b.setting.limits.chunk back
-    → (0 < needs → first ≡ live_next_number b) → (g : Option ℕ)
-    → (0 < needs → g ≡ Some (first + (needs - 1))) → (needs ≤ 0 → g ≡ b.greatest)
-    → g ≡ greatest_with b back
-greatest-is b [] first needs e next g some none = none (omega (arith, e))
-greatest-is b (x ∷ back) first needs e next g some none =
-    let up : 0 < needs = omega (arith, e) in
-    let same : first + (needs - 1) ≡ live_next_number b + extra b.setting.limits.chunk (length x) back = omega (arith, e, next up) in
-    some up ∙ ap Some same
 
 -- what is spent
 pub spent-filled : (b : LiveBuffer) (back : List (List ℕ)) (first : ℕ)
@@ -406,6 +372,59 @@ enters-stored b r now size own fits e =
       tags = adds_all-tags r.entries (live_looks b now) r.tag fits own.tags;
       bytes = omega (arith, own.bytes, is.bytes);
     }
+
+-- ---- the numbers of the new chunks
+
+-- the greatest number once the new chunks are there, and that they rise from the one before
+last-fresh : (limit : ℕ) (tag : List ℕ) (since n : ℕ) (current entries : List (List ℕ))
+    (last : Option ℕ) → last_of last (fresh_from limit tag since n current entries)
+    ≡ Some (n + extra limit (size_of current) entries)
+last-fresh limit tag since n current [] last = (let same : n ≡ n + 0 = omega arith in ap Some same)
+last-fresh limit tag since n current (e ∷ entries) last =
+    by (last-fresh limit tag since n (current ++ e ∷ []) entries last) (last-fresh limit tag since (n + 1) (e ∷ []) entries (Some n)) (nat_le (size_of current + length e) limit)
+  where
+    by : last_of last (fresh_from limit tag since n (current ++ e ∷ []) entries) ≡ Some (n + extra limit (size_of (current ++ e ∷ [])) entries)
+        → last_of (Some n) (fresh_from limit tag since (n + 1) (e ∷ []) entries) ≡ Some (n + 1 + extra limit (size_of (e ∷ [])) entries)
+        → (b : Bool) → last_of last (cond b (fresh_from limit tag since n (current ++ e ∷ []) entries) (staged Closed (open_chunk tag since n current) ∷ fresh_from limit tag since (n + 1) (e ∷ []) entries))
+        ≡ Some (n + cond b (extra limit (size_of current + length e) entries) (suc (extra limit (length e) entries)))
+    by one two true = one ∙ ap (λ k. Some (n + extra limit k entries)) (size_of-push current e)
+    by one two false =
+        let alone : size_of (e ∷ []) ≡ length e = omega arith in
+        let next : n + 1 + extra limit (length e) entries ≡ n + suc (extra limit (length e) entries) = omega arith in
+        two ∙ ap (λ k. Some (n + 1 + extra limit k entries)) alone ∙ ap Some next
+
+above-from : (limit : ℕ) (tag : List ℕ) (since n : ℕ) (current entries : List (List ℕ))
+    (last : Option ℕ) → number_after 0 last ≤ n
+    → AreAbove last (fresh_from limit tag since n current entries)
+above-from limit tag since n current [] last le = (le, tt)
+above-from limit tag since n current (e ∷ entries) last le =
+    by (above-from limit tag since n (current ++ e ∷ []) entries last le) (above-from limit tag since (n + 1) (e ∷ []) entries (Some n) (omega arith)) (nat_le (size_of current + length e) limit)
+  where
+    by : AreAbove last (fresh_from limit tag since n (current ++ e ∷ []) entries) → AreAbove (Some n) (fresh_from limit tag since (n + 1) (e ∷ []) entries)
+        → (b : Bool) → AreAbove last (cond b (fresh_from limit tag since n (current ++ e ∷ []) entries) (staged Closed (open_chunk tag since n current) ∷ fresh_from limit tag since (n + 1) (e ∷ []) entries))
+    by one two true = one
+    by one two false = (le, two)
+
+after-first : (first : ℕ) (o : Option ℕ) → number_after 0 o ≤ number_after first o
+after-first first None = omega arith
+after-first first (Some n) = omega arith
+
+pub fresh-above : (b : LiveBuffer) (tag : List ℕ) (since first : ℕ) (back : List (List ℕ))
+    → (0 < needed b.setting.limits.chunk back → first ≡ live_next_number b)
+    → AreAbove b.greatest (fresh_of b.setting.limits.chunk tag since first back)
+fresh-above b tag since first [] next = tt
+fresh-above b tag since first (e ∷ back) next =
+    above-from b.setting.limits.chunk tag since first (e ∷ []) back b.greatest
+    (omega (arith, next (omega arith), after-first b.setting.limits.first b.greatest))
+
+pub fresh-last_number : (b : LiveBuffer) (tag : List ℕ) (since first : ℕ)
+    (back : List (List ℕ)) → (0 < needed b.setting.limits.chunk back → first ≡ live_next_number b)
+    → last_of b.greatest (fresh_of b.setting.limits.chunk tag since first back) ≡ greatest_with b back
+fresh-last_number b tag since first [] next = refl
+fresh-last_number b tag since first (e ∷ back) next =
+    let alone : size_of (e ∷ []) ≡ length e = omega arith in
+    last-fresh b.setting.limits.chunk tag since first (e ∷ []) back b.greatest
+    ∙ (λ i. Some (next (omega arith) i + extra b.setting.limits.chunk (alone i) back))
 
 -- ---- the plan of a request
 
@@ -465,31 +484,30 @@ module _ (b : LiveBuffer) (r : Request) (now : ℕ) (p : Plan) (own : IsSound b)
       let parts = or_parts (nat_lt (2 ^ 64) (live_next_number b + p.needed)) (nat_le (2 ^ 64) (b.accepted + length r.entries)) (sym spent-plan ∙ free.1) in
       (ltb-false (2 ^ 64) (live_next_number b + p.needed) parts.0, leb-false (2 ^ 64) (b.accepted + length r.entries) parts.1, ltb-false b.setting.limits.total (bytes_in b.chunks + size_of r.entries) free.0)
 
-  pub entered : (first : ℕ) (fresh : List Chunk) (greatest : Option ℕ) (count : ℕ) → fresh ≡ fresh_of b.setting.limits.chunk r.tag (max b.moment now) first (entries_in p.back) → (0 < p.needed → first ≡ live_next_number b)
-      → (0 < p.needed → greatest ≡ Some (first + (p.needed - 1))) → (p.needed ≤ 0 → greatest ≡ b.greatest) → count ≡ length r.entries
-      → record b { chunks = filled_at b.chunks p.place (entries_in p.front) (stage_last (length fresh == 0)) ++ fresh; greatest = greatest; accepted = b.accepted + count; moment = max b.moment now } ≡ live_enters b r now
-  entered first fresh greatest count made next some none counted =
+  pub entered : (first : ℕ) (fresh : List Chunk) (count : ℕ) → fresh ≡ fresh_of b.setting.limits.chunk r.tag (max b.moment now) first (entries_in p.back) → (0 < p.needed → first ≡ live_next_number b) → count ≡ length r.entries
+      → record b { chunks = filled_in p.joins (entries_in p.front) (stage_last (length fresh == 0)) b.chunks ++ fresh; greatest = last_of b.greatest fresh; accepted = b.accepted + count; moment = max b.moment now } ≡ live_enters b r now
+  entered first fresh count made next counted =
       let back = entries_in p.back in
       let front = entries_in p.front in
       let needs : 0 < needed b.setting.limits.chunk (entries_in p.back) → first ≡ live_next_number b = λ up. next (omega (arith, up, is.needs)) in
       let fresh_is : fresh ≡ fresh_of b.setting.limits.chunk r.tag (max b.moment now) (live_next_number b) (entries_in p.back) = made ∙ fresh-next b.setting.limits.chunk r.tag (max b.moment now) first (live_next_number b) back needs in
       let last : stage_last (length fresh == 0) ≡ stage_before (entries_in p.back) = ap (λ l. stage_last (length l == 0)) fresh_is ∙ fresh-last b.setting.limits.chunk r.tag (max b.moment now) (live_next_number b) back in
-      let chunks : filled_at b.chunks p.place (entries_in p.front) (stage_last (length fresh == 0)) ≡ joined_chunks (find (is_open_of r.tag) b.chunks) (entries_in p.front) (entries_in p.back) b.chunks =
-      (λ i. filled_at b.chunks (is.place i) front (last i)) ∙ filled-place (is_open_of r.tag) b.chunks front back own.in_order in
+      let chunks : filled_in p.joins (entries_in p.front) (stage_last (length fresh == 0)) b.chunks ≡ joined_chunks (find (is_open_of r.tag) b.chunks) (entries_in p.front) (entries_in p.back) b.chunks =
+      (λ i. filled_in (is.joins i) front (last i) b.chunks) ∙ filled-joins (find (is_open_of r.tag) b.chunks) b.chunks front back in
       (λ i. record b {
         chunks = chunks i ++ fresh_is i;
-        greatest = greatest-is (live_looks b now) back first p.needed is.needs next greatest some none i;
+        greatest = (ap (last_of b.greatest) made ∙ fresh-last_number b r.tag (max b.moment now) first back needs) i;
         accepted = b.accepted + (counted ∙ sym both-length) i;
         moment = max b.moment now;
       })
       ∙ sym enters-filled
 
   pub entered-spans : (first : ℕ) (fresh : List Chunk) (spans : List Span) → fresh ≡ fresh_of b.setting.limits.chunk r.tag (max b.moment now) first (entries_in p.back) → (0 < p.needed → first ≡ live_next_number b)
-      → spans ≡ joined_span (chunk_at b.chunks p.place) (entries_in p.front) ++ map span_of fresh → spans ≡ live_spans b r now
+      → spans ≡ joined_span (find (is_open_of r.tag) b.chunks) (entries_in p.front) ++ map span_of fresh → spans ≡ live_spans b r now
   entered-spans first fresh spans made next e =
       let needs : 0 < needed b.setting.limits.chunk (entries_in p.back) → first ≡ live_next_number b = λ up. next (omega (arith, up, is.needs)) in
       e
-      ∙ (λ i. joined_span ((ap (chunk_at b.chunks) is.place ∙ find-place (is_open_of r.tag) b.chunks) i) (entries_in p.front) ++ map span_of ((made ∙ fresh-next b.setting.limits.chunk r.tag (max b.moment now) first (live_next_number b) (entries_in p.back) needs) i))
+      ∙ (λ i. joined_span (find (is_open_of r.tag) b.chunks) (entries_in p.front) ++ map span_of ((made ∙ fresh-next b.setting.limits.chunk r.tag (max b.moment now) first (live_next_number b) (entries_in p.back) needs) i))
       ∙ (λ i. filled_spans (live_looks b now) r.tag (is.front i) (is.back i))
       ∙ sym (runs-filled (live_looks b now) r.tag own.in_order own.below r.entries)
 

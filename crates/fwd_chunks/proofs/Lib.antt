@@ -16,3 +16,10 @@ pub mod Admission
 pub mod Taken
 pub mod Opened
 pub mod Runs
+pub mod Slotting
+pub mod Halves
+pub mod Towers
+pub mod Descent
+pub mod Within
+pub mod Slotted
+pub mod Closing

@@ -1,15 +1,14 @@
 -- What entering a request adds to a history, and what it leaves.
-use Rattle.std.proofs.Common.{◌≡◌, ℕ, ◌+◌, Bool, true, false, cond, eqb, List, [], ◌∷◌, ◌++◌, length, drop, refl, sym, ap, ◌∙◌, subst, inl, inr, arith, append_assoc}
-use Rattle.std.specs.Prelude.{filter, not, ◌&&◌, ◌||◌, ◌==◌}
+use Rattle.std.proofs.Common.{◌≡◌, ℕ, ◌+◌, Bool, true, false, cond, List, [], ◌∷◌, ◌++◌, length, drop, refl, sym, ap, ◌∙◌, subst, inl, inr, append_assoc}
+use Rattle.std.specs.Prelude.{not, ◌&&◌, ◌||◌, ◌==◌}
 use Rattle.std.specs.List.{list_all}
-use Rattle.std.proofs.lemmas.Bool.Decides.{nat_tests}
 use Rattle.std.proofs.lemmas.List.{append-nil, drop_at}
 use Rattle.std.proofs.lemmas.List.Elements.{filter-append}
 use Rattle.fwd_modes.specs.Requests.{Request}
 use Rattle.fwd_source.specs.declared.origin.Origin.{Origin}
 use Rattle.fwd_chunks.specs.declared.span.Span.{Span}
 use Rattle.fwd_chunks.specs.Cells.{Cell, entries_of, cells_at, has_number, is_carried}
-use Rattle.fwd_chunks.specs.History.{BufferSetting, BufferHistory, next_number, joins, adds, adds_all, looks, enters, before_runs, runs_after, spans_of}
+use Rattle.fwd_chunks.specs.History.{BufferHistory, joins, adds, adds_all, looks, enters, before_runs, runs_after, spans_of}
 use Rattle.fwd_chunks.proofs.Numbers.{eq_from}
 use Rattle.fwd_chunks.proofs.CellLemmas.{has_cell, cells_at-none}
 use Rattle.fwd_chunks.proofs.Sane.{IsSane, cell_at, joins_or_begins, joins-for, next-for, adds-sane, looks-sane}

@@ -1,9 +1,8 @@
 -- Each open chunk is found by its tag's number.
-use Rattle.std.proofs.Common.{◌≡◌, ◌≢◌, ℕ, suc, zero, ◌+◌, ◌-◌, ◌<◌, ◌≤◌, Bool, true, false, cond, List, [], ◌∷◌, ◌++◌, length, Option, Some, None, IfSome, IfNone, refl, sym, ap, ◌∙◌, subst, arith}
-use Rattle.std.specs.Prelude.{find, filter, not, ◌==◌, nat_le, slice_get, position}
+use Rattle.std.proofs.Common.{◌≡◌, ◌≢◌, ℕ, suc, ◌+◌, ◌-◌, ◌<◌, ◌≤◌, Bool, true, false, cond, List, [], ◌∷◌, ◌++◌, length, Option, Some, None, IfSome, IfNone, refl, sym, ap, ◌∙◌, subst, arith}
+use Rattle.std.specs.Prelude.{find, filter, not, ◌==◌, nat_le, option_map}
 use Rattle.std.specs.List.{AllByRecursion}
 use Rattle.std.specs.Str.{bytes_eq}
-use Rattle.std.proofs.Math.ListN.{set}
 use Rattle.std.proofs.lemmas.Bool.{and_parts}
 use Rattle.std.proofs.lemmas.List.{append-nil}
 use Rattle.std.proofs.lemmas.Slice.Eq.{bytes_eq-Decides}
@@ -14,26 +13,13 @@ use Rattle.fwd_chunks.specs.Live.{is_open, is_at, is_open_of, staged, changed}
 use Rattle.fwd_chunks.specs.Soundness.{IsBefore, AreInOrder}
 use Rattle.fwd_chunks.specs.Stored.{put_back}
 use Rattle.fwd_chunks.specs.Newest.{tag_number, HasNumber, AreNewest}
-use Rattle.fwd_chunks.specs.Filling.{open_chunk, fresh_from, fresh_of, extra, needed, stage_last, joined_by, filled_at, filled_by}
-use Rattle.fwd_chunks.proofs.Numbers.{not_from, true_false, eq_same}
+use Rattle.fwd_chunks.specs.Filling.{open_chunk, fresh_from, fresh_of, extra, needed, stage_last, joined_by, filled_in}
+use Rattle.fwd_chunks.proofs.Numbers.{not_from, true_false, eq_from, eq_same}
 use Rattle.fwd_chunks.proofs.CellLemmas.{size_of-push}
 use Rattle.fwd_chunks.proofs.Sounding.{all-map, found-all, found-passes}
-use Rattle.fwd_chunks.proofs.Places.{one_chunk, none_some, place-found}
-use Rattle.fwd_chunks.proofs.Search.{same-place, position-only, position-none, number-absent, number-read}
+use Rattle.fwd_chunks.proofs.Places.{one_chunk, unchanged}
 
 -- ---- what holds of all chunks
-
-pub all-at : (P : Chunk → Type 0) (xs : List Chunk) (i : ℕ) (c : Chunk) → AllByRecursion P xs
-    → slice_get xs i ≡ Some c → P c
-all-at P [] i c all e = absurd (none_some e)
-all-at P (x ∷ xs) zero c all e = subst P (one_chunk e) all.0
-all-at P (x ∷ xs) (suc i) c all e = all-at P xs i c all.1 e
-
-pub all-set : (P : Chunk → Type 0) (xs : List Chunk) (i : ℕ) (y : Chunk) → AllByRecursion P xs
-    → P y → AllByRecursion P (set xs i y)
-all-set P [] i y all here = tt
-all-set P (x ∷ xs) zero y all here = (here, all.1)
-all-set P (x ∷ xs) (suc i) y all here = (all.0, all-set P xs i y all.1 here)
 
 pub all-append : (P : Chunk → Type 0) (xs ys : List Chunk) → AllByRecursion P xs
     → AllByRecursion P ys → AllByRecursion P (xs ++ ys)
@@ -61,34 +47,77 @@ all-kept P Q p (x ∷ xs) h all = by (all-kept P Q p xs h all.1) (p x) refl
 
 -- ---- the tag's open chunk
 
-open-number : (numbers : List (List ℕ × ℕ)) (xs : List Chunk) (tag : List ℕ) (j : ℕ) (d : Chunk)
-    → AreNewest numbers xs → slice_get xs j ≡ Some d → is_open_of tag d ≡ true
-    → tag_number tag numbers ≡ Some d.number
-open-number numbers xs tag j d all f t =
-    let parts = and_parts (is_open d.stage) (bytes_eq d.tag tag) t in
-    ap (λ l. tag_number l numbers) (sym ((bytes_eq-Decides d.tag tag).0 parts.1)) ∙ all-at (HasNumber numbers) xs j d all f parts.0
-
 one_number : {m n : ℕ} → Some m ≡ Some n → m ≡ n
 one_number e = cc
 
 no_number : {n : ℕ} → None ≡ Some n → ⊥
 no_number e = cc
 
-module _ (numbers : List (List ℕ × ℕ)) (xs : List Chunk) (tag : List ℕ) (all : AreNewest numbers xs) where
-  pub open-untold : tag_number tag numbers ≡ None → position (is_open_of tag) xs ≡ None
-  open-untold e = position-none (is_open_of tag) xs (λ j d f t. no_number (sym e ∙ open-number numbers xs tag j d all f t))
+-- no later chunk has the number
+pub found-above : (n : ℕ) (c : Chunk) (xs : List Chunk) → c.number ≡ n
+    → AllByRecursion (IsBefore c) xs → find (is_at n) xs ≡ None
+found-above n c [] same all = refl
+found-above n c (x ∷ xs) same all =
+    let apart : is_at n x ≡ false = not_from (is_at n x) (λ e. absurd (omega (arith, all.0.lower, same, eq_from x.number n e))) in
+    ap (λ b. cond b (Some x) (find (is_at n) xs)) apart ∙ found-above n c xs same all.1
 
-  pub open-gone : (n : ℕ) → tag_number tag numbers ≡ Some n → position (is_at n) xs ≡ None → position (is_open_of tag) xs ≡ None
-  open-gone n e gone = position-none (is_open_of tag) xs (λ j d f t. number-absent xs n j d gone f (one_number (sym (open-number numbers xs tag j d all f t) ∙ e)))
+-- what is found is what has its number
+pub found-same : (p : Chunk → Bool) (xs : List Chunk) (e : Chunk) → AreInOrder xs
+    → find p xs ≡ Some e → find (is_at e.number) xs ≡ Some e
+found-same p [] e h f = f
+found-same p (x ∷ xs) e h f = by (p x) refl (found-same p xs e h.1)
+  where
+    by : (b : Bool) → p x ≡ b → (find p xs ≡ Some e → find (is_at e.number) xs ≡ Some e) → find (is_at e.number) (x ∷ xs) ≡ Some e
+    by true t rest =
+        let is : x ≡ e = one_chunk (ap (λ d. cond d (Some x) (find p xs)) (sym t) ∙ f) in
+        let here : is_at e.number x ≡ true = ap (λ y. x.number == y.number) (sym is) ∙ eq_same x.number in
+        ap (λ d. cond d (Some x) (find (is_at e.number) xs)) here ∙ ap Some is
+    by false t rest =
+        let later : find p xs ≡ Some e = ap (λ d. cond d (Some x) (find p xs)) (sym t) ∙ f in
+        let lower : x.number < e.number = (found-all (IsBefore x) p xs e later h.0).lower in
+        let apart : is_at e.number x ≡ false = not_from (is_at e.number x) (λ g. absurd (omega (arith, lower, eq_from x.number e.number g))) in
+        ap (λ d. cond d (Some x) (find (is_at e.number) xs)) apart ∙ rest later
 
-  pub open-here : (n i : ℕ) (c : Chunk) → AreInOrder xs → tag_number tag numbers ≡ Some n → position (is_at n) xs ≡ Some i → slice_get xs i ≡ Some c → is_open_of tag c ≡ true → position (is_open_of tag) xs ≡ Some i
-  open-here n i c h e at f t =
-      position-only (is_open_of tag) xs i c f t (λ j d g u. same-place xs j i d c h g f (one_number (sym (open-number numbers xs tag j d all g u) ∙ e) ∙ sym (number-read xs n i c at f)))
+-- an open chunk of the tag has the tag's number
+open-number : (numbers : List (List ℕ × ℕ)) (tag : List ℕ) (d : Chunk) → HasNumber numbers d
+    → is_open_of tag d ≡ true → tag_number tag numbers ≡ Some d.number
+open-number numbers tag d has t =
+    let parts = and_parts (is_open d.stage) (bytes_eq d.tag tag) t in
+    ap (λ l. tag_number l numbers) (sym ((bytes_eq-Decides d.tag tag).0 parts.1)) ∙ has parts.0
 
-  pub open-shut : (n i : ℕ) (c : Chunk) → AreInOrder xs → tag_number tag numbers ≡ Some n → position (is_at n) xs ≡ Some i → slice_get xs i ≡ Some c → is_open_of tag c ≡ false → position (is_open_of tag) xs ≡ None
-  open-shut n i c h e at f t = position-none (is_open_of tag) xs (λ j d g u.
-      let place : j ≡ i = same-place xs j i d c h g f (one_number (sym (open-number numbers xs tag j d all g u) ∙ e) ∙ sym (number-read xs n i c at f)) in
-      true_false (is_open_of tag d) u (ap (is_open_of tag) (one_chunk (sym g ∙ ap (slice_get xs) place ∙ f)) ∙ t))
+pub open-untold : (numbers : List (List ℕ × ℕ)) (xs : List Chunk) (tag : List ℕ)
+    → AreNewest numbers xs → tag_number tag numbers ≡ None → find (is_open_of tag) xs ≡ None
+open-untold numbers [] tag all e = refl
+open-untold numbers (x ∷ xs) tag all e =
+    let apart : is_open_of tag x ≡ false = not_from (is_open_of tag x) (λ t. absurd (no_number (sym e ∙ open-number numbers tag x all.0 t))) in
+    ap (λ b. cond b (Some x) (find (is_open_of tag) xs)) apart ∙ open-untold numbers xs tag all.1 e
+
+-- a chunk, if it is open and of the tag
+abbrev pub if_open : List ℕ → Option Chunk → Option Chunk
+if_open tag None = None
+if_open tag (Some c) = cond (is_open_of tag c) (Some c) None
+
+pub open-told : (numbers : List (List ℕ × ℕ)) (xs : List Chunk) (tag : List ℕ) (n : ℕ)
+    → AreNewest numbers xs → AreInOrder xs → tag_number tag numbers ≡ Some n
+    → find (is_open_of tag) xs ≡ if_open tag (find (is_at n) xs)
+open-told numbers [] tag n all order e = refl
+open-told numbers (x ∷ xs) tag n all order e = by (is_open_of tag x) (is_at n x) refl refl (open-told numbers xs tag n all.1 order.1 e)
+  where
+    by : (b d : Bool) → is_open_of tag x ≡ b → is_at n x ≡ d → find (is_open_of tag) xs ≡ if_open tag (find (is_at n) xs)
+        → find (is_open_of tag) (x ∷ xs) ≡ if_open tag (cond (is_at n x) (Some x) (find (is_at n) xs))
+    by true true t at rest =
+        ap (λ b. cond b (Some x) (find (is_open_of tag) xs)) t
+        ∙ ap (λ b. cond b (Some x) None) (sym t)
+        ∙ ap (λ d. if_open tag (cond d (Some x) (find (is_at n) xs))) (sym at)
+    by true false t at rest = absurd (true_false (is_at n x) (ap (λ k. k == n) (one_number (sym (open-number numbers tag x all.0 t) ∙ e)) ∙ eq_same n) at)
+    by false true t at rest =
+        ap (λ b. cond b (Some x) (find (is_open_of tag) xs)) t ∙ rest
+        ∙ ap (if_open tag) (found-above n x xs (eq_from x.number n at) order.0)
+        ∙ ap (λ b. cond b (Some x) None) (sym t)
+        ∙ ap (λ d. if_open tag (cond d (Some x) (find (is_at n) xs))) (sym at)
+    by false false t at rest =
+        ap (λ b. cond b (Some x) (find (is_open_of tag) xs)) t ∙ rest
+        ∙ ap (λ d. if_open tag (cond d (Some x) (find (is_at n) xs))) (sym at)
 
 -- ---- what calls leave
 
@@ -161,35 +190,57 @@ before-found q [] ys d h e = tt
 before-found q (x ∷ xs) ys d h e = (found-all (IsBefore x) q ys d e (all-right (IsBefore x) xs ys h.0), before-found q xs ys d h.1 e)
 
 -- the chunks that are not new
-newest-filled : (numbers : List (List ℕ × ℕ)) (items : List Chunk) (place : Option ℕ)
-    (front : List (List ℕ)) (tag : List ℕ) (b : Bool) → place ≡ position (is_open_of tag) items
-    → AreNewest numbers items → AreNewest numbers (filled_at items place front (stage_last b))
-newest-filled numbers items None front tag b e all = all
-newest-filled numbers items (Some i) front tag b e all = at (slice_get items i) refl
+newest-joined : (numbers : List (List ℕ × ℕ)) (items : List Chunk) (tag : List ℕ) (c : Chunk)
+    (front : List (List ℕ)) (b : Bool) → AreInOrder items → AreNewest numbers items
+    → find (is_open_of tag) items ≡ Some c
+    → AreNewest numbers (changed (is_at c.number) (joined_by front (stage_last b)) items)
+newest-joined numbers [] tag c front b order all e = tt
+newest-joined numbers (x ∷ xs) tag c front b order all e = by (is_open_of tag x) refl (newest-joined numbers xs tag c front b order.1 all.1)
   where
-    at : (o : Option Chunk) → slice_get items i ≡ o → AreNewest numbers (filled_by items i front (stage_last b) o)
-    at None f = all
-    at (Some c) f =
-        let opened = (and_parts (is_open c.stage) (bytes_eq c.tag tag) (found-passes (is_open_of tag) items c (place-found (is_open_of tag) items i (sym e) ∙ f))).0 in
-        all-set (HasNumber numbers) items i (joined_by front (stage_last b) c) all (λ now. all-at (HasNumber numbers) items i c all f opened)
+    f : Chunk → Chunk
+    f = joined_by front (stage_last b)
 
-pub newest-entered : (numbers after : List (List ℕ × ℕ)) (items : List Chunk) (place : Option ℕ)
+    by : (t : Bool) → is_open_of tag x ≡ t → (find (is_open_of tag) xs ≡ Some c → AreNewest numbers (changed (is_at c.number) f xs)) → AreNewest numbers (changed (is_at c.number) f (x ∷ xs))
+    by true t rest =
+        let is : x ≡ c = one_chunk (ap (λ d. cond d (Some x) (find (is_open_of tag) xs)) (sym t) ∙ e) in
+        let here : is_at c.number x ≡ true = ap (λ y. x.number == y.number) (sym is) ∙ eq_same x.number in
+        let opened = (and_parts (is_open x.stage) (bytes_eq x.tag tag) t).0 in
+        let stay : changed (is_at c.number) f xs ≡ xs = unchanged c.number f x xs (ap (λ y. y.number) is) order.0 in
+        subst (AreNewest numbers) (λ i. cond (sym here i) (f x) x ∷ sym stay i) ((λ now. all.0 opened), all.1)
+    by false t rest =
+        let later : find (is_open_of tag) xs ≡ Some c = ap (λ d. cond d (Some x) (find (is_open_of tag) xs)) (sym t) ∙ e in
+        let lower : x.number < c.number = (found-all (IsBefore x) (is_open_of tag) xs c later order.0).lower in
+        let apart : is_at c.number x ≡ false = not_from (is_at c.number x) (λ g. absurd (omega (arith, lower, eq_from x.number c.number g))) in
+        subst (AreNewest numbers) (λ i. cond (sym apart i) (f x) x ∷ changed (is_at c.number) f xs) (all.0, rest later)
+
+newest-filled : (numbers : List (List ℕ × ℕ)) (items : List Chunk) (joins : Option ℕ)
+    (front : List (List ℕ)) (tag : List ℕ) (b : Bool)
+    → joins ≡ option_map (λ c. c.number) (find (is_open_of tag) items) → AreInOrder items
+    → AreNewest numbers items → AreNewest numbers (filled_in joins front (stage_last b) items)
+newest-filled numbers items joins front tag b e order all = subst (λ o. AreNewest numbers (filled_in o front (stage_last b) items)) (sym e) (by (find (is_open_of tag) items) refl)
+  where
+    by : (o : Option Chunk) → find (is_open_of tag) items ≡ o → AreNewest numbers (filled_in (option_map (λ c. c.number) o) front (stage_last b) items)
+    by None f = all
+    by (Some c) f = newest-joined numbers items tag c front b order all f
+
+pub newest-entered : (numbers after : List (List ℕ × ℕ)) (items : List Chunk) (joins : Option ℕ)
     (front back : List (List ℕ)) (limit : ℕ) (tag : List ℕ) (since first : ℕ) (newest : Option ℕ)
-    → AreNewest numbers items → place ≡ position (is_open_of tag) items
+    → AreNewest numbers items → AreInOrder items
+    → joins ≡ option_map (λ c. c.number) (find (is_open_of tag) items)
     → (0 < needed limit back → newest ≡ Some (first + (needed limit back - 1)))
     → (needed limit back ≤ 0 → newest ≡ None)
     → IfSome newest (λ n. (t : List ℕ) → tag_number t after ≡ cond (bytes_eq tag t) (Some n) (tag_number t numbers))
     → IfNone newest (after ≡ numbers)
-    → AreInOrder (filled_at items place front (stage_last (length (fresh_of limit tag since first back) == 0)) ++ fresh_of limit tag since first back)
-    → AreNewest after (filled_at items place front (stage_last (length (fresh_of limit tag since first back) == 0)) ++ fresh_of limit tag since first back)
-newest-entered numbers after items place front [] limit tag since first newest all at some none put same order =
+    → AreInOrder (filled_in joins front (stage_last (length (fresh_of limit tag since first back) == 0)) items ++ fresh_of limit tag since first back)
+    → AreNewest after (filled_in joins front (stage_last (length (fresh_of limit tag since first back) == 0)) items ++ fresh_of limit tag since first back)
+newest-entered numbers after items joins front [] limit tag since first newest all sorted at some none put same order =
     let last : newest ≡ None = none (omega arith) in
     let equal : after ≡ numbers = subst (λ o. IfNone o (after ≡ numbers)) last same in
-    let old = newest-filled numbers items place front tag true at all in
-    subst (λ l. AreNewest after l) (sym (append-nil (filled_at items place front Open))) (subst (λ l. AreNewest l (filled_at items place front Open)) (sym equal) old)
-newest-entered numbers after items place front (e ∷ back) limit tag since first newest all at some none put same order =
+    let old = newest-filled numbers items joins front tag true at sorted all in
+    subst (λ l. AreNewest after l) (sym (append-nil (filled_in joins front Open items))) (subst (λ l. AreNewest l (filled_in joins front Open items)) (sym equal) old)
+newest-entered numbers after items joins front (e ∷ back) limit tag since first newest all sorted at some none put same order =
     let fresh = fresh_from limit tag since first (e ∷ []) back in
-    let kept = filled_at items place front (stage_last (length fresh == 0)) in
+    let kept = filled_in joins front (stage_last (length fresh == 0)) items in
     let n = first + extra limit (length e) back in
     let count : first + (suc (extra limit (length e) back) - 1) ≡ first + extra limit (length e) back = omega arith in
     let last : newest ≡ Some (first + extra limit (length e) back) = some (omega arith) ∙ ap Some count in
@@ -204,6 +255,6 @@ newest-entered numbers after items place front (e ∷ back) limit tag since firs
     (all-with (HasNumber numbers) (λ c. IsBefore c d.0) (HasNumber after) kept (λ c has before now.
     let apart : bytes_eq tag c.tag ≡ false = not_from (bytes_eq tag c.tag) (λ f. true_false (is_open c.stage) now (before.shut ((bytes_eq-Decides c.tag d.0.tag).1 (sym ((bytes_eq-Decides tag c.tag).0 f) ∙ sym dtag)))) in
     told c.tag ∙ ap (λ b. cond b (Some n) (tag_number c.tag numbers)) apart ∙ has now)
-    (newest-filled numbers items place front tag (length fresh == 0) at all) (before-found (λ c. is_open c.stage) kept fresh d.0 order d.1))
+    (newest-filled numbers items joins front tag (length fresh == 0) at sorted all) (before-found (λ c. is_open c.stage) kept fresh d.0 order d.1))
     (all-with (IsFresh tag n) (IsFresh tag n) (HasNumber after) fresh (λ c is also now.
     told c.tag ∙ ap (λ b. cond b (Some n) (tag_number c.tag numbers)) ((bytes_eq-Decides tag c.tag).1 (sym is.0)) ∙ ap Some (sym (is.1 now))) made made)

@@ -1,14 +1,13 @@
 -- Chunks by their places.
-use Rattle.std.proofs.Common.{◌≡◌, ℕ, zero, suc, ◌<◌, ◌≤◌, Bool, true, false, cond, eqb, List, [], ◌∷◌, length, Some, None, refl, sym, ap, ◌∙◌, subst, arith}
-use Rattle.std.proofs.Math.ListN.{set}
-use Rattle.std.specs.Prelude.{filter, find, not, ◌==◌, slice_get, position, remove, nat_lt, get_or}
+use Rattle.std.proofs.Common.{◌≡◌, ℕ, zero, suc, ◌<◌, ◌≤◌, Bool, true, false, cond, List, [], ◌∷◌, length, Option, Some, None, refl, sym, ap, ◌∙◌, subst, arith}
+use Rattle.std.specs.Prelude.{filter, find, not, ◌==◌, ◌&&◌, slice_get, position, nat_lt, get_or}
 use Rattle.std.specs.List.{AllByRecursion, position_or_len}
 use Rattle.std.proofs.lemmas.List.Folds.{find_at}
 use Rattle.std.proofs.lemmas.Bool.{ltb-true, ltb-false}
 use Rattle.fwd_chunks.specs.declared.chunk.Chunk.{Chunk}
-use Rattle.fwd_chunks.specs.Live.{changed, is_at}
+use Rattle.fwd_chunks.specs.Live.{changed, is_at, is_taken}
 use Rattle.fwd_chunks.specs.Soundness.{IsBefore, AreInOrder}
-use Rattle.fwd_chunks.proofs.Numbers.{not_from, eq_from, eq_same}
+use Rattle.fwd_chunks.proofs.Numbers.{not_from, eq_from}
 
 pub one_chunk : {c d : Chunk} → Some c ≡ Some d → c ≡ d
 one_chunk e = cc
@@ -16,39 +15,12 @@ one_chunk e = cc
 pub none_some : {X : Type 0} {c : X} → None ≡ Some c → ⊥
 none_some e = cc
 
--- what stands at a place behind a chunk has a higher number
-behind : (c d : Chunk) (chunks : List Chunk) (i : ℕ) → AllByRecursion (IsBefore c) chunks
-    → slice_get chunks i ≡ Some d → c.number < d.number
-behind c d [] i all e = absurd (none_some e)
-behind c d (x ∷ chunks) zero all e = subst (λ y. c.number < y.number) (one_chunk e) all.0.lower
-behind c d (x ∷ chunks) (suc i) all e = behind c d chunks i all.1 e
-
-unchanged : (k : ℕ) (f : Chunk → Chunk) (c : Chunk) (chunks : List Chunk) → c.number ≡ k
+pub unchanged : (k : ℕ) (f : Chunk → Chunk) (c : Chunk) (chunks : List Chunk) → c.number ≡ k
     → AllByRecursion (IsBefore c) chunks → changed (is_at k) f chunks ≡ chunks
 unchanged k f c [] same all = refl
 unchanged k f c (x ∷ chunks) same all =
     let apart : (x.number == k) ≡ false = not_from (x.number == k) (λ e. absurd (omega (arith, all.0.lower, same, eq_from x.number k e))) in
     λ i. cond (apart i) (f x) x ∷ unchanged k f c chunks same all.1 i
-
--- a write at the place of a number
-pub set-changed : (chunks : List Chunk) (i : ℕ) (c : Chunk) (f : Chunk → Chunk)
-    → AreInOrder chunks → slice_get chunks i ≡ Some c
-    → set chunks i (f c) ≡ changed (is_at c.number) f chunks
-set-changed [] i c f h e = refl
-set-changed (x ∷ chunks) zero c f h e =
-    let same : x ≡ c = one_chunk e in
-    let here : (x.number == c.number) ≡ true = ap (λ y. eqb x.number y.number) (sym same) ∙ eq_same x.number in
-    (λ i. f (sym same i) ∷ sym (unchanged c.number f x chunks (ap (λ y. y.number) same) h.0) i) ∙ ap (λ b. cond b (f x) x ∷ changed (is_at c.number) f chunks) (sym here)
-set-changed (x ∷ chunks) (suc i) c f h e =
-    let apart : (x.number == c.number) ≡ false = not_from (x.number == c.number) (λ g. absurd (omega (arith, behind x c chunks i h.0 e, eq_from x.number c.number g))) in
-    ap (λ l. x ∷ l) (set-changed chunks i c f h.1 e) ∙ ap (λ b. cond b (f x) x ∷ changed (is_at c.number) f chunks) (sym apart)
-
-unfiltered : (k : ℕ) (c : Chunk) (chunks : List Chunk) → c.number ≡ k
-    → AllByRecursion (IsBefore c) chunks → filter (λ d. not (is_at k d)) chunks ≡ chunks
-unfiltered k c [] same all = refl
-unfiltered k c (x ∷ chunks) same all =
-    let apart : (x.number == k) ≡ false = not_from (x.number == k) (λ e. absurd (omega (arith, all.0.lower, same, eq_from x.number k e))) in
-    λ i. cond (not (apart i)) (x ∷ unfiltered k c chunks same all.1 i) (unfiltered k c chunks same all.1 i)
 
 none_at : (k : ℕ) (c : Chunk) (chunks : List Chunk) → c.number ≡ k
     → AllByRecursion (IsBefore c) chunks → filter (is_at k) chunks ≡ []
@@ -57,33 +29,76 @@ none_at k c (x ∷ chunks) same all =
     let apart : (x.number == k) ≡ false = not_from (x.number == k) (λ e. absurd (omega (arith, all.0.lower, same, eq_from x.number k e))) in
     λ i. cond (apart i) (x ∷ none_at k c chunks same all.1 i) (none_at k c chunks same all.1 i)
 
--- the chunks but the one at a place
-pub remove-filter : (chunks : List Chunk) (i : ℕ) (c : Chunk) → AreInOrder chunks
-    → slice_get chunks i ≡ Some c
-    → remove chunks i ≡ filter (λ d. not (is_at c.number d)) chunks
-remove-filter [] i c h e = absurd (none_some e)
-remove-filter (x ∷ chunks) zero c h e =
-    let same : x ≡ c = one_chunk e in
-    let here : (x.number == c.number) ≡ true = ap (λ y. eqb x.number y.number) (sym same) ∙ eq_same x.number in
-    sym (unfiltered c.number x chunks (ap (λ y. y.number) same) h.0)
-    ∙ ap (λ b. cond (not b) (x ∷ filter (λ d. not (is_at c.number d)) chunks) (filter (λ d. not (is_at c.number d)) chunks)) (sym here)
-remove-filter (x ∷ chunks) (suc i) c h e =
-    let apart : (x.number == c.number) ≡ false = not_from (x.number == c.number) (λ g. absurd (omega (arith, behind x c chunks i h.0 e, eq_from x.number c.number g))) in
-    ap (λ l. x ∷ l) (remove-filter chunks i c h.1 e)
-    ∙ ap (λ b. cond (not b) (x ∷ filter (λ d. not (is_at c.number d)) chunks) (filter (λ d. not (is_at c.number d)) chunks)) (sym apart)
+-- the chunk of a number
+pub filter-found : (n : ℕ) (chunks : List Chunk) (c : Chunk) → AreInOrder chunks
+    → find (is_at n) chunks ≡ Some c → filter (is_at n) chunks ≡ c ∷ []
+filter-found n [] c h e = absurd (none_some e)
+filter-found n (x ∷ chunks) c h e = by (is_at n x) refl (filter-found n chunks c h.1)
+  where
+    by : (b : Bool) → is_at n x ≡ b → (find (is_at n) chunks ≡ Some c → filter (is_at n) chunks ≡ c ∷ []) → filter (is_at n) (x ∷ chunks) ≡ c ∷ []
+    by true t rest =
+        let same : x ≡ c = one_chunk (ap (λ d. cond d (Some x) (find (is_at n) chunks)) (sym t) ∙ e) in
+        ap (λ b. cond b (x ∷ filter (is_at n) chunks) (filter (is_at n) chunks)) t
+        ∙ (λ i. same i ∷ none_at n x chunks (eq_from x.number n t) h.0 i)
+    by false t rest =
+        ap (λ b. cond b (x ∷ filter (is_at n) chunks) (filter (is_at n) chunks)) t
+        ∙ rest (ap (λ d. cond d (Some x) (find (is_at n) chunks)) (sym t) ∙ e)
 
--- the chunk of a number, by its place
-pub filter-at : (chunks : List Chunk) (i : ℕ) (c : Chunk) → AreInOrder chunks
-    → slice_get chunks i ≡ Some c → filter (is_at c.number) chunks ≡ c ∷ []
-filter-at [] i c h e = absurd (none_some e)
-filter-at (x ∷ chunks) zero c h e =
-    let same : x ≡ c = one_chunk e in
-    let here : (x.number == c.number) ≡ true = ap (λ y. eqb x.number y.number) (sym same) ∙ eq_same x.number in
-    ap (λ b. cond b (x ∷ filter (is_at c.number) chunks) (filter (is_at c.number) chunks)) here
-    ∙ (λ i. same i ∷ none_at c.number x chunks (ap (λ y. y.number) same) h.0 i)
-filter-at (x ∷ chunks) (suc i) c h e =
-    let apart : (x.number == c.number) ≡ false = not_from (x.number == c.number) (λ g. absurd (omega (arith, behind x c chunks i h.0 e, eq_from x.number c.number g))) in
-    ap (λ b. cond b (x ∷ filter (is_at c.number) chunks) (filter (is_at c.number) chunks)) apart ∙ filter-at chunks i c h.1 e
+pub filter-gone : (n : ℕ) (chunks : List Chunk) → find (is_at n) chunks ≡ None
+    → (filter (is_at n) chunks ≡ []) × (filter (λ d. not (is_at n d)) chunks ≡ chunks)
+filter-gone n [] e = (refl, refl)
+filter-gone n (x ∷ chunks) e = by (is_at n x) refl (filter-gone n chunks)
+  where
+    by : (b : Bool) → is_at n x ≡ b → (find (is_at n) chunks ≡ None → (filter (is_at n) chunks ≡ []) × (filter (λ d. not (is_at n d)) chunks ≡ chunks))
+        → (filter (is_at n) (x ∷ chunks) ≡ []) × (filter (λ d. not (is_at n d)) (x ∷ chunks) ≡ x ∷ chunks)
+    by true t rest = absurd (none_some (sym (ap (λ d. cond d (Some x) (find (is_at n) chunks)) (sym t) ∙ e)))
+    by false t rest =
+        let more = rest (ap (λ d. cond d (Some x) (find (is_at n) chunks)) (sym t) ∙ e) in (
+          ap (λ b. cond b (x ∷ filter (is_at n) chunks) (filter (is_at n) chunks)) t ∙ more.0,
+          ap (λ b. cond (not b) (x ∷ filter (λ d. not (is_at n d)) chunks) (filter (λ d. not (is_at n d)) chunks)) t ∙ ap (λ l. x ∷ l) more.1,
+        )
+
+pub found-number : (n : ℕ) (chunks : List Chunk) (c : Chunk) → find (is_at n) chunks ≡ Some c
+    → c.number ≡ n
+found-number n [] c e = absurd (none_some e)
+found-number n (x ∷ chunks) c e = by (is_at n x) refl (found-number n chunks c)
+  where
+    by : (b : Bool) → is_at n x ≡ b → (find (is_at n) chunks ≡ Some c → c.number ≡ n) → c.number ≡ n
+    by true t rest = sym (ap (λ y. y.number) (one_chunk (ap (λ d. cond d (Some x) (find (is_at n) chunks)) (sym t) ∙ e))) ∙ eq_from x.number n t
+    by false t rest = rest (ap (λ d. cond d (Some x) (find (is_at n) chunks)) (sym t) ∙ e)
+
+-- the chunk of a number, if a worker has it
+abbrev pub if_taken : Option Chunk → Option Chunk
+if_taken None = None
+if_taken (Some c) = cond (is_taken c.stage) (Some c) None
+
+not-above : (n : ℕ) (c : Chunk) (chunks : List Chunk) → c.number ≡ n
+    → AllByRecursion (IsBefore c) chunks → find (λ d. is_at n d && is_taken d.stage) chunks ≡ None
+not-above n c [] same all = refl
+not-above n c (x ∷ chunks) same all =
+    let apart : is_at n x ≡ false = not_from (is_at n x) (λ e. absurd (omega (arith, all.0.lower, same, eq_from x.number n e))) in
+    ap (λ b. cond (b && is_taken x.stage) (Some x) (find (λ d. is_at n d && is_taken d.stage) chunks)) apart ∙ not-above n c chunks same all.1
+
+pub taken-found : (n : ℕ) (chunks : List Chunk) → AreInOrder chunks
+    → find (λ d. is_at n d && is_taken d.stage) chunks ≡ if_taken (find (is_at n) chunks)
+taken-found n [] h = refl
+taken-found n (x ∷ chunks) h = by (is_at n x) (is_taken x.stage) refl refl (taken-found n chunks h.1)
+  where
+    by : (b t : Bool) → is_at n x ≡ b → is_taken x.stage ≡ t → find (λ d. is_at n d && is_taken d.stage) chunks ≡ if_taken (find (is_at n) chunks)
+        → find (λ d. is_at n d && is_taken d.stage) (x ∷ chunks) ≡ if_taken (find (is_at n) (x ∷ chunks))
+    by true true at has rest =
+        (λ i. cond (at i && has i) (Some x) (find (λ d. is_at n d && is_taken d.stage) chunks))
+        ∙ ap (λ b. cond b (Some x) None) (sym has)
+        ∙ ap (λ b. if_taken (cond b (Some x) (find (is_at n) chunks))) (sym at)
+    by true false at has rest =
+        (λ i. cond (at i && has i) (Some x) (find (λ d. is_at n d && is_taken d.stage) chunks))
+        ∙ not-above n x chunks (eq_from x.number n at) h.0
+        ∙ ap (λ b. cond b (Some x) None) (sym has)
+        ∙ ap (λ b. if_taken (cond b (Some x) (find (is_at n) chunks))) (sym at)
+    by false t at has rest =
+        ap (λ b. cond (b && is_taken x.stage) (Some x) (find (λ d. is_at n d && is_taken d.stage) chunks)) at
+        ∙ rest
+        ∙ ap (λ b. if_taken (cond b (Some x) (find (is_at n) chunks))) (sym at)
 
 -- ---- the place that a search answers
 
@@ -106,12 +121,12 @@ get-within (x ∷ xs) zero lt e = none_item (sym e)
     none_item f = cc
 get-within (x ∷ xs) (suc i) lt e = get-within xs i (omega arith) e
 
-place_by : (p : Chunk → Bool) (chunks : List Chunk) (b : Bool)
+place_by : {X : Type 0} (p : X → Bool) (chunks : List X) (b : Bool)
     → nat_lt (position_or_len p chunks) (length chunks) ≡ b
     → position p chunks ≡ cond b (Some (position_or_len p chunks)) None
 place_by p chunks b e = ap (λ t. cond t (Some (position_or_len p chunks)) None) e
 
-pub place-found : (p : Chunk → Bool) (chunks : List Chunk) (i : ℕ)
+pub place-found : {X : Type 0} (p : X → Bool) (chunks : List X) (i : ℕ)
     → position p chunks ≡ Some i → find p chunks ≡ slice_get chunks i
 place-found p chunks i e = by (nat_lt (position_or_len p chunks) (length chunks)) refl
   where
@@ -122,7 +137,7 @@ place-found p chunks i e = by (nat_lt (position_or_len p chunks) (length chunks)
         number g = cc
     by false f = absurd (none_some (sym (place_by p chunks false f) ∙ e))
 
-pub place-none : (p : Chunk → Bool) (chunks : List Chunk) → position p chunks ≡ None
+pub place-none : {X : Type 0} (p : X → Bool) (chunks : List X) → position p chunks ≡ None
     → find p chunks ≡ None
 place-none p chunks e = by (nat_lt (position_or_len p chunks) (length chunks)) refl
   where
@@ -130,7 +145,7 @@ place-none p chunks e = by (nat_lt (position_or_len p chunks) (length chunks)) r
     by true f = absurd (none_some (sym e ∙ place_by p chunks true f))
     by false f = find_at p chunks ∙ get-past chunks (position_or_len p chunks) (ltb-false (position_or_len p chunks) (length chunks) f)
 
-pub place-within : (p : Chunk → Bool) (chunks : List Chunk) (i : ℕ)
+pub place-within : {X : Type 0} (p : X → Bool) (chunks : List X) (i : ℕ)
     → position p chunks ≡ Some i → i < length chunks
 place-within p chunks i e = by (nat_lt (position_or_len p chunks) (length chunks)) refl
   where
@@ -140,3 +155,23 @@ place-within p chunks i e = by (nat_lt (position_or_len p chunks) (length chunks
         number : Some (position_or_len p chunks) ≡ Some i → position_or_len p chunks ≡ i
         number g = cc
     by false f = absurd (none_some (sym (place_by p chunks false f) ∙ e))
+
+-- where a place is searched
+pub place-is : {X : Type 0} (p : X → Bool) (xs : List X) (i : ℕ) → position p xs ≡ Some i
+    → position_or_len p xs ≡ i
+place-is p xs i e = by (nat_lt (position_or_len p xs) (length xs)) refl
+  where
+    by : (b : Bool) → nat_lt (position_or_len p xs) (length xs) ≡ b → position_or_len p xs ≡ i
+    by true f = number (sym (place_by p xs true f) ∙ e)
+      where
+        number : Some (position_or_len p xs) ≡ Some i → position_or_len p xs ≡ i
+        number g = cc
+    by false f = absurd (none_some (sym (place_by p xs false f) ∙ e))
+
+pub place-past : {X : Type 0} (p : X → Bool) (xs : List X) → position p xs ≡ None
+    → length xs ≤ position_or_len p xs
+place-past p xs e = by (nat_lt (position_or_len p xs) (length xs)) refl
+  where
+    by : (b : Bool) → nat_lt (position_or_len p xs) (length xs) ≡ b → length xs ≤ position_or_len p xs
+    by true f = absurd (none_some (sym e ∙ place_by p xs true f))
+    by false f = ltb-false (position_or_len p xs) (length xs) f

@@ -1,6 +1,6 @@
 -- How the code cuts a request's entries into chunks, which the proofs tie to joining entry by
 -- entry.
-use Rattle.std.specs.Prelude.{ℕ, suc, ◌+◌, nat_le, List, [], ◌∷◌, ◌++◌, length, map, find, slice_get, slice_set, Option, Some, None, Bool, true, false, if◌then◌else◌}
+use Rattle.std.specs.Prelude.{ℕ, suc, ◌+◌, nat_le, List, [], ◌∷◌, ◌++◌, length, map, find, Option, Some, None, Bool, true, false, if◌then◌else◌}
 use Rattle.fwd_chunks.specs.declared.chunk.Chunk.{Chunk}
 use Rattle.fwd_chunks.specs.declared.span.Span.{Span}
 use Rattle.fwd_chunks.specs.declared.stage.Stage.{Stage}
@@ -117,19 +117,7 @@ filled_spans b tag front back =
     joined_span (find (is_open_of tag) b.chunks) front
     ++ map span_of (fresh_of b.setting.limits.chunk tag b.moment (live_next_number b) back)
 
--- the chunk at a place, if there is one
-abbrev pub chunk_at : List Chunk → Option ℕ → Option Chunk
-chunk_at chunks None = None
-chunk_at chunks (Some place) = slice_get chunks place
-
--- the chunk at a place is another
-abbrev pub filled_by : List Chunk → ℕ → List (List ℕ) → Stage → Option Chunk
-    → List Chunk
-filled_by chunks place front stage None = chunks
-filled_by chunks place front stage (Some c) = slice_set chunks place (joined_by front stage c)
-
--- the chunk at a place, if there is one, with more entries
-abbrev pub filled_at : List Chunk → Option ℕ → List (List ℕ) → Stage → List Chunk
-filled_at chunks None front stage = chunks
-filled_at chunks (Some place) front stage =
-    filled_by chunks place front stage (slice_get chunks place)
+-- the chunks once entries went to the open chunk of a number, if there is one
+abbrev pub filled_in : Option ℕ → List (List ℕ) → Stage → List Chunk → List Chunk
+filled_in None front stage chunks = chunks
+filled_in (Some number) front stage chunks = changed (is_at number) (joined_by front stage) chunks

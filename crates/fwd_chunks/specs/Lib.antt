@@ -6,8 +6,11 @@ pub mod History
 pub mod Events
 pub mod Live
 pub mod Soundness
--- These five only describe how the code keeps chunks and fills them. No public clause speaks of
+-- These eight only describe how the code keeps chunks and fills them. No public clause speaks of
 -- them.
+pub mod Earliest
+pub mod Levels
+pub mod Slots
 pub mod Newest
 pub mod Stored
 pub mod Filling

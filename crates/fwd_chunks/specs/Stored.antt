@@ -2,6 +2,7 @@
 use Rattle.std.specs.Prelude.{◌≡◌, ◌≤◌, ℕ, List, Bool, true, false, Some, length}
 use Rattle.std.specs.List.{AllByRecursion}
 use Rattle.fwd_chunks.specs.declared.chunk.Chunk.{Chunk}
+use Rattle.fwd_chunks.specs.declared.retry.Retry.{Retry}
 use Rattle.fwd_chunks.specs.declared.stage.Stage.TheVariants.{Closed}
 use Rattle.fwd_chunks.specs.Live.{LiveBuffer, bytes_in, tally_more}
 use Rattle.fwd_chunks.specs.Soundness.{IsSound}
@@ -17,10 +18,16 @@ pub record IsStored (b : LiveBuffer) (size : ℕ) : Type 0 where
   pub tags : AllByRecursion TagFits b.chunks
   pub bytes : size ≡ bytes_in b.chunks
 
--- so it is, and each open chunk has its tag's number
-pub record IsKept (b : LiveBuffer) (size : ℕ) (numbers : List (List ℕ × ℕ)) : Type 0 where
+-- how long its lost chunks wait
+abbrev pub retry_of : LiveBuffer → Retry
+retry_of b = record { wait = b.setting.limits.retry_wait; max = b.setting.limits.retry_max }
+
+-- so it is, each open chunk has its tag's number, and lost chunks wait as the limits say
+pub record IsKept (b : LiveBuffer) (size : ℕ) (numbers : List (List ℕ × ℕ))
+    (retry : Retry) : Type 0 where
   pub stored : IsStored b size
   pub newest : AreNewest numbers b.chunks
+  pub waits : retry ≡ retry_of b
 
 -- the chunk is closed again, with a loss where it was lost
 abbrev pub put_back : Bool → ℕ → Chunk → Chunk

@@ -1,7 +1,6 @@
 //! The entries of one output that are not yet settled, in chunks of one tag each.
 
-ghost use Rattle.std.specs.Prelude.{◌≡◌, ◌+◌, ◌-◌, ◌<◌, ◌≤◌, ◌^◌, ◌↔◌, IsTrue, IfOk, IsOk, OnOk, OnErr, IfSome, IfNone, Some, None, length, option_map, option_to_list, slice_get, ℕ, nat_lt, nat_le, ◌||◌, IfErr};
-ghost use Rattle.fwd_chunks.specs.declared.chunk.Chunk.{Chunk};
+ghost use Rattle.std.specs.Prelude.{◌≡◌, ◌+◌, ◌-◌, ◌<◌, ◌≤◌, ◌^◌, ◌↔◌, IsTrue, IfOk, IsOk, OnOk, OnErr, IfSome, IfNone, Some, None, length, option_map, option_copied, find, ℕ, nat_lt, nat_le, ◌||◌, IfErr};
 ghost use Rattle.fwd_chunks.specs.Live.{
   IsCarried,
   live_opening,
@@ -12,10 +11,13 @@ ghost use Rattle.fwd_chunks.specs.Live.{
   live_enters,
   live_spans,
   live_looks,
+  is_at,
+  is_open_of,
+  changed,
+  staged,
   live_closing,
   live_flushes,
   live_given,
-  live_carries_more,
   live_takes,
   live_load,
   live_settles,
@@ -23,23 +25,22 @@ ghost use Rattle.fwd_chunks.specs.Live.{
   live_counts,
 };
 ghost use Rattle.fwd_chunks.specs.Soundness.{IsSound};
-ghost use Rattle.fwd_chunks.specs.Filling.{joined_span, chunk_at};
-ghost use Rattle.fwd_chunks.specs.Parts.{entries_in};
 ghost use Rattle.fwd_chunks.specs.Plans.{IsPlan};
 
 use crate::carried::Carried;
 use crate::chunk::Chunk;
 use crate::counts::Counts;
+use crate::entering;
 use crate::fault::AdmitError;
 use crate::flush::FlushKind;
 use crate::limits::BufferLimits;
 use crate::part::Part;
 use crate::plan::Plan;
 use crate::retry::Retry;
+use crate::slots::Slots;
 use crate::span::Span;
 use crate::stage::Stage;
 use crate::tags::Tags;
-use crate::{chunks, entering};
 use fwd_modes::{Batch, chunk_name};
 use fwd_msgpack::Seq;
 use fwd_source::Origin;
@@ -48,21 +49,36 @@ use std::marker::Model;
 
 /// The buffer of one output. Sizes are in bytes, moments in milliseconds; a moment before the
 /// greatest one handed in counts as that one.
-#[derive(Debug, Drop)]
+#[derive(Debug)]
 pub struct Buffer {
     limits: BufferLimits,
     run: [u8; 6],
     output: u16,
-    /// By rising number.
-    chunks: Vec<Chunk>,
+    slots: Slots,
     /// The number of each tag's open chunk.
     tags: Tags,
-    greatest: Option<u64>,
     accepted: u64,
     settled: u64,
     /// The bytes of all entries that are not settled.
     bytes: u64,
     moment: u64,
+}
+
+// A drop of its own is proved once, and not at each place where a buffer goes.
+impl Drop for Buffer {
+    fn drop(self) {
+        let Buffer {
+            limits: _,
+            run: _,
+            output: _,
+            slots: _,
+            tags: _,
+            accepted: _,
+            settled: _,
+            bytes: _,
+            moment: _,
+        } = self;
+    }
 }
 
 impl Model for Buffer {
@@ -74,8 +90,8 @@ impl Model for Buffer {
 
     ghost view = { λ b. record {
       setting = record { limits = b.limits; run = b.run; output = b.output };
-      chunks = b.chunks.items;
-      greatest = b.greatest;
+      chunks = b.slots.chunks;
+      greatest = b.slots.last;
       accepted = b.accepted;
       settled = b.settled;
       moment = b.moment;
@@ -83,12 +99,12 @@ impl Model for Buffer {
 
     ghost invariant = { λ b. IsKept (record {
       setting = record { limits = b.limits; run = b.run; output = b.output };
-      chunks = b.chunks.items;
-      greatest = b.greatest;
+      chunks = b.slots.chunks;
+      greatest = b.slots.last;
       accepted = b.accepted;
       settled = b.settled;
       moment = b.moment;
-    }) b.bytes b.tags };
+    }) b.bytes b.tags b.slots.retry };
 }
 
 impl Buffer {
@@ -96,13 +112,16 @@ impl Buffer {
     pub fn new(alloc: Global, limits: BufferLimits, run: [u8; 6], output: u16) -> Self
         ensures { result ≡ live_opening (record { limits = limits; run = run; output = output }) }
     {
+        let retry = Retry {
+            wait: limits.retry_wait,
+            max: limits.retry_max,
+        };
         Buffer {
             limits,
             run,
             output,
-            chunks: Vec::new(alloc),
+            slots: Slots::new(alloc, retry),
             tags: Tags::new(alloc),
-            greatest: None,
             accepted: 0,
             settled: 0,
             bytes: 0,
@@ -126,7 +145,7 @@ impl Buffer {
             settled: self.settled,
             held: self.accepted - self.settled,
             bytes: self.bytes,
-            chunks: self.chunks.len() as u64,
+            chunks: self.slots.len() as u64,
         }
     }
 
@@ -137,20 +156,35 @@ impl Buffer {
         batch.entries().len() as u64 > self.limits.total - self.bytes
     }
 
+    /// The tag's open chunk.
+    fn open_of(&self, tag: &[u8]) -> Option<&Chunk>
+        ensures { option_copied result ≡ find (is_open_of tag.now) self.now.chunks }
+    {
+        let number = self.tags.get(tag)?;
+        let chunk = self.slots.get(number)?;
+        if chunk.is_open_of(tag) {
+            Some(chunk)
+        } else {
+            None
+        }
+    }
+
     /// How a request's entries go into chunks.
     fn plan<'a>(&self, batch: &'a Batch) -> Plan<'a>
         ensures { IsPlan self.now batch.now result }
     {
         let limit = u64::from(self.limits.chunk);
         let part = Part::whole(batch);
-        let place = chunks::open_of(&self.chunks, &self.tags, batch.tag());
-        let count = match place {
-            None => 0,
-            Some(place) => part.fitting(limit, self.chunks[place].entries.size()),
+        let (joins, count) = match self.open_of(batch.tag()) {
+            None => (None, 0),
+            Some(chunk) => {
+                let count = part.fitting(limit, chunk.entries.size());
+                (Some(chunk.number), count)
+            }
         };
         let (front, back) = part.split_at(count);
         Plan {
-            place,
+            joins,
             front,
             back,
             needed: back.needed(limit),
@@ -162,7 +196,7 @@ impl Buffer {
         ensures some { IfSome result (λ number. number ≡ live_next_number self.now) }
         ensures none { IfNone result (live_next_number self.now ≡ 2 ^ 64) }
     {
-        match self.greatest {
+        match self.slots.last() {
             None => Some(self.limits.first),
             Some(number) => number.checked_add(1),
         }
@@ -202,37 +236,6 @@ impl Buffer {
         None
     }
 
-    /// The run of the entries that go to the open chunk at a place, if there are some.
-    fn joined_span(&self, place: Option<usize>, front: Part<'_>) -> Option<Span>
-        requires { IfSome place (λ i. i < length self.now.chunks) }
-        ensures { option_to_list result
-            ≡ joined_span (chunk_at self.now.chunks place) (entries_in front.entry) }
-    {
-        let place = place?;
-        if front.is_empty() {
-            return None;
-        }
-        let chunk = &self.chunks[place];
-        Some(Span {
-            number: chunk.number,
-            from: chunk.entries.len() as u64,
-            count: front.len() as u64,
-        })
-    }
-
-    /// The greatest number once so many new chunks are there, of which the first has the number.
-    fn greatest_after(&self, first: u64, needed: u64) -> Option<u64>
-        requires { 0 < needed → first + needed ≤ 2 ^ 64 }
-        ensures some { 0 < needed → result ≡ Some (first + (needed - 1)) }
-        ensures none { needed ≤ 0 → result ≡ self.now.greatest }
-    {
-        if needed > 0 {
-            Some(first + (needed - 1))
-        } else {
-            self.greatest
-        }
-    }
-
     /// Enters a request that is not refused, as it was planned. On an error nothing has changed.
     fn enter(
         &mut self,
@@ -253,13 +256,13 @@ impl Buffer {
         let first = self.next_number().unwrap_or(0);
         let tag = batch.tag();
         let fresh = entering::fresh_chunks(alloc, tag, plan.back, limit, moment, first)?;
-        let spans = entering::spans_of(alloc, self.joined_span(plan.place, plan.front), &fresh)?;
+        let joined = entering::joined_span(self.open_of(tag), plan.front);
+        let spans = entering::spans_of(alloc, joined, &fresh)?;
         let newest = entering::newest_of(first, plan.needed);
-        let greatest = self.greatest_after(first, plan.needed);
+        self.slots.reserve(alloc, fresh.len())?;
         self.tags.prepare(alloc, tag, newest)?;
-        entering::fill(&mut self.chunks, plan.place, plan.front, fresh)?;
+        entering::fill(&mut self.slots, plan.joins, plan.front, fresh)?;
         self.tags.put(tag, newest);
-        self.greatest = greatest;
         self.accepted += batch.len() as u64;
         self.bytes += size;
         self.moment = moment;
@@ -303,29 +306,14 @@ impl Buffer {
         ensures flushed { self.new ≡ live_flushes self.old now kind }
     {
         self.moment = self.moment.max(now);
-        chunks::flush(&mut self.chunks, kind, self.limits.interval, self.moment)
+        self.slots.flush(kind, self.limits.interval, self.moment)
     }
 
-    /// How long chunks wait that were lost.
-    fn retry(&self) -> Retry
-        ensures { result ≡ record {
-          wait = self.now.setting.limits.retry_wait;
-          max = self.now.setting.limits.retry_max;
-        } }
+    /// What a worker has of the chunk.
+    fn load_of(&self, alloc: Global, chunk: &Chunk) -> Result<Carried, AllocError>
+        requires { length chunk.now.tag ≤ 1024 }
+        ensures { IfOk result (λ load. load ≡ live_load self.now chunk.now) }
     {
-        Retry {
-            wait: self.limits.retry_wait,
-            max: self.limits.retry_max,
-        }
-    }
-
-    /// What a worker has of the chunk at a place.
-    fn load_at(&self, alloc: Global, place: usize) -> Result<Carried, AllocError>
-        requires { place < length self.now.chunks }
-        ensures { IfOk result (λ load.
-            Some load ≡ option_map (live_load self.now) (slice_get self.now.chunks place)) }
-    {
-        let chunk = &self.chunks[place];
         Ok(Carried::new(
             chunk.number,
             chunk.tag.to_owned(alloc)?,
@@ -334,14 +322,14 @@ impl Buffer {
         ))
     }
 
-    /// A worker has the chunk at a place, from a moment on.
-    fn give(&mut self, place: usize, worker: u16, moment: u64)
-        requires { place < length self.old.chunks }
-        ensures { self.new
-            ≡ live_carries_more worker (slice_get self.old.chunks place)
-            (record self.old { moment = moment }) }
+    /// A worker has the chunk of the number, from a moment on.
+    fn give(&mut self, number: u64, worker: u16, moment: u64)
+        ensures { self.new ≡ record self.old {
+          chunks = changed (is_at number) (staged (Stage.Taken worker)) self.old.chunks;
+          moment = moment;
+        } }
     {
-        self.chunks[place].stage = Stage::Taken(worker);
+        self.slots.stage(number, Stage::Taken(worker));
         self.moment = moment;
     }
 
@@ -362,49 +350,38 @@ impl Buffer {
         ensures none { live_given (live_looks self.old now) ≡ None → IsOk result }
     {
         let moment = self.moment.max(now);
-        let Some(place) = chunks::first_free(&self.chunks, self.retry(), moment) else {
+        let Some(chunk) = self.slots.first_free(moment) else {
             self.moment = moment;
             return Ok(None);
         };
-        let carried = self.load_at(alloc, place)?;
-        self.give(place, worker, moment);
+        let number = chunk.number;
+        let carried = self.load_of(alloc, chunk)?;
+        self.give(number, worker, moment);
         Ok(Some(carried))
-    }
-
-    /// The place of the chunk, if it is one of this buffer and a worker has it.
-    fn place_of(&self, carried: &Carried) -> Option<usize>
-        ensures some { IfSome result (λ place. IsCarried self.now carried.now
-            × (option_map (λ c. c.number) (slice_get self.now.chunks place)
-            ≡ Some carried.now.number)) }
-        ensures none { IfNone result (¬ (IsCarried self.now carried.now)) }
-    {
-        let place = chunks::taken_at(&self.chunks, carried.number())?;
-        let chunk = &self.chunks[place];
-        let name = chunk_name(&self.run, self.output, chunk.number);
-        if carried.is(chunk, &name) {
-            Some(place)
-        } else {
-            None
-        }
     }
 
     /// Whether a worker has the chunk from this buffer, with its tag, its entries and its name.
     pub fn carries(&self, carried: &Carried) -> bool
         ensures { IsTrue result ↔ IsCarried self.now carried.now }
     {
-        self.place_of(carried).is_some()
+        match self.slots.get(carried.number()) {
+            None => false,
+            Some(chunk) => {
+                let name = chunk_name(&self.run, self.output, chunk.number);
+                chunk.is_taken() && carried.is(chunk, &name)
+            }
+        }
     }
 
-    /// The chunk at a place leaves, and its entries are settled.
-    fn remove(&mut self, place: usize)
-        requires { place < length self.old.chunks }
-        ensures { (c : Chunk) → slice_get self.old.chunks place ≡ Some c
-            → self.new ≡ live_settles self.old c.number }
+    /// The chunk of the number leaves, and its entries are settled.
+    fn remove(&mut self, number: u64)
+        ensures { self.new ≡ live_settles self.old number }
     {
-        let chunk = self.chunks.remove(place);
-        self.tags.forget(chunk.tag.as_slice(), chunk.number);
-        self.bytes -= chunk.entries.size();
-        self.settled += chunk.entries.len() as u64;
+        if let Some(chunk) = self.slots.remove(number) {
+            self.tags.forget(chunk.tag.as_slice(), chunk.number);
+            self.bytes -= chunk.entries.size();
+            self.settled += chunk.entries.len() as u64;
+        }
     }
 
     /// A server acknowledged the chunk: its entries leave. A chunk that no worker has from this
@@ -414,23 +391,21 @@ impl Buffer {
             → self.new ≡ live_settles self.old carried.number }
         ensures elsewhere { ¬ (IsCarried self.old carried) → self.new ≡ self.old }
     {
-        if let Some(place) = self.place_of(&carried) {
-            self.remove(place);
+        if self.carries(&carried) {
+            self.remove(carried.number());
         }
         carried.spend();
     }
 
-    /// The chunk at a place is closed again, with a loss at a moment where one is handed in.
-    fn put_back(&mut self, place: usize, loss: Option<u64>)
-        requires { place < length self.old.chunks }
-        ensures { (c : Chunk) → slice_get self.old.chunks place ≡ Some c
-            → self.new ≡ live_frees self.old c.number loss }
+    /// The chunk of the number is closed again, with a loss at a moment where one is handed in.
+    fn put_back(&mut self, number: u64, loss: Option<u64>)
+        ensures { self.new ≡ live_frees self.old number loss }
     {
         let moment = match loss {
             None => self.moment,
             Some(now) => self.moment.max(now),
         };
-        chunks::put_back(&mut self.chunks[place], loss.is_some(), moment);
+        self.slots.put_back(number, loss.is_some(), moment);
         self.moment = moment;
     }
 
@@ -441,8 +416,8 @@ impl Buffer {
             → self.new ≡ live_frees self.old carried.number loss }
         ensures elsewhere { ¬ (IsCarried self.old carried) → self.new ≡ self.old }
     {
-        if let Some(place) = self.place_of(&carried) {
-            self.put_back(place, loss);
+        if self.carries(&carried) {
+            self.put_back(carried.number(), loss);
         }
         carried.spend();
     }

@@ -1,3 +1,6 @@
+ghost use Rattle.std.specs.Prelude.{◌≡◌};
+ghost use Rattle.fwd_chunks.specs.Live.{is_taken, is_open_of};
+
 use crate::losses::Losses;
 use crate::packed::Packed;
 use crate::stage::Stage;
@@ -16,4 +19,20 @@ pub(crate) struct Chunk {
     pub(crate) stage: Stage,
     /// How often it was lost, and when last; nothing where it was not.
     pub(crate) losses: Option<Losses>,
+}
+
+impl Chunk {
+    /// Whether a worker has the chunk.
+    pub(crate) fn is_taken(&self) -> bool
+        ensures { result ≡ is_taken self.now.stage }
+    {
+        matches!(self.stage, Stage::Taken(_))
+    }
+
+    /// Whether the chunk is open, and of the tag.
+    pub(crate) fn is_open_of(&self, tag: &[u8]) -> bool
+        ensures { result ≡ is_open_of tag.now self.now }
+    {
+        matches!(self.stage, Stage::Open) && self.tag.as_slice() == tag
+    }
 }

@@ -1,25 +1,21 @@
 //! How a request's entries enter chunks.
 
-ghost use Rattle.std.specs.Prelude.{◌≡◌, ◌+◌, ◌-◌, ◌<◌, ◌≤◌, ◌^◌, ◌==◌, ◌++◌, length, map, None, Some, IfOk, IfSome, OnOk, OnErr, slice_get, slice_set, option_to_list, if◌then◌else◌};
+ghost use Rattle.std.specs.Prelude.{◌≡◌, ◌+◌, ◌-◌, ◌<◌, ◌≤◌, ◌^◌, ◌==◌, ◌++◌, ℕ, length, map, find, None, Some, IfOk, OnOk, OnErr, option_to_list, option_copied};
 ghost use Rattle.fwd_chunks.specs.declared.chunk.Chunk.{Chunk};
 ghost use Rattle.fwd_chunks.specs.Cells.{size_of};
-ghost use Rattle.fwd_chunks.specs.Filling.{fresh_of, needed, span_of, joined_by, stage_last, chunk_at, filled_at};
+ghost use Rattle.fwd_chunks.specs.Live.{is_at};
+ghost use Rattle.fwd_chunks.specs.Filling.{fresh_of, needed, span_of, joined_span, stage_last, filled_in};
+ghost use Rattle.fwd_chunks.specs.Slots.{AreAbove, appended};
 ghost use Rattle.fwd_chunks.specs.Parts.{entries_in};
 
 use crate::chunk::Chunk;
 use crate::packed::Packed;
 use crate::part::Part;
+use crate::slots::Slots;
 use crate::span::Span;
-use crate::stage::Stage;
+use crate::stage::stage_of;
 use fwd_msgpack::{Bytes, Seq};
 use std::alloc::{AllocError, Global};
-
-/// Where a chunk stands, which is closed where another one follows.
-fn stage_of(last: bool) -> Stage
-    ensures { result ≡ stage_last last }
-{
-    if last { Stage::Open } else { Stage::Closed }
-}
 
 /// A chunk of these entries.
 fn new_chunk(
@@ -90,6 +86,22 @@ pub(crate) fn newest_of(first: u64, needed: u64) -> Option<u64>
     }
 }
 
+/// The run of the entries that go to an open chunk, if there are some.
+pub(crate) fn joined_span(chunk: Option<&Chunk>, front: Part<'_>) -> Option<Span>
+    ensures { option_to_list result
+        ≡ joined_span (option_copied chunk.entry) (entries_in front.entry) }
+{
+    let chunk = chunk?;
+    if front.is_empty() {
+        return None;
+    }
+    Some(Span {
+        number: chunk.number,
+        from: chunk.entries.len() as u64,
+        count: front.len() as u64,
+    })
+}
+
 /// The runs of a request's entries: one in the open chunk, if there is one, and one for each new
 /// chunk.
 pub(crate) fn spans_of(
@@ -113,73 +125,28 @@ pub(crate) fn spans_of(
     Ok(spans)
 }
 
-/// Entries go to an open chunk, which is closed where others follow. On an error nothing has
-/// changed.
-fn join(chunk: &mut Chunk, front: Part<'_>, last: bool) -> Result<(), AllocError>
-    requires { size_of chunk.old.entries < 2 ^ 32
-        → size_of chunk.old.entries + size_of (entries_in front) < 2 ^ 32 }
-    ensures ok { OnOk result (chunk.new
-        ≡ joined_by (entries_in front.entry) (stage_last last) chunk.old) }
-    ensures err { OnErr result (chunk.new ≡ chunk.old) }
-{
-    let _size = chunk.entries.size();
-    chunk.entries.extend(front)?;
-    chunk.stage = stage_of(last);
-    Ok(())
-}
-
-/// Entries go to the open chunk at a place, and new chunks come behind all. On an error nothing
-/// has changed.
-fn commit(
-    chunks: &mut Vec<Chunk>,
-    place: usize,
-    front: Part<'_>,
-    fresh: Vec<Chunk>,
-) -> Result<(), AllocError>
-    requires within { place < length chunks.old.items }
-    requires fits { (c : Chunk) → slice_get chunks.old.items place ≡ Some c
-        → size_of c.entries < 2 ^ 32 →
-        size_of c.entries + size_of (entries_in front) < 2 ^ 32 }
-    ensures ok { OnOk result ((c : Chunk) → slice_get chunks.old.items place ≡ Some c
-        → chunks.new.items ≡
-        slice_set chunks.old.items place
-        (joined_by (entries_in front.entry) (stage_last (length fresh.items == 0)) c)
-        ++ fresh.items) }
-    ensures err { OnErr result (chunks.new.items ≡ chunks.old.items) }
-{
-    let mut fresh = fresh;
-    let count = chunks.len();
-    let last = fresh.is_empty();
-    chunks.append(&mut fresh)?;
-    if join(&mut chunks[place], front, last).is_err() {
-        chunks.truncate(count);
-        return Err(AllocError);
-    }
-    Ok(())
-}
-
-/// Entries go to the open chunk, if there is one, and new chunks come behind all. On an error
-/// nothing has changed.
+/// Entries go to the open chunk of a number, if there is one, and new chunks come behind all, into
+/// room that is there. On an error nothing has changed.
 pub(crate) fn fill(
-    chunks: &mut Vec<Chunk>,
-    place: Option<usize>,
+    slots: &mut Slots,
+    joins: Option<u64>,
     front: Part<'_>,
     fresh: Vec<Chunk>,
 ) -> Result<(), AllocError>
-    requires within { IfSome place (λ i. i < length chunks.old.items) }
-    requires fits { (c : Chunk) → chunk_at chunks.old.items place ≡ Some c
-        → size_of c.entries < 2 ^ 32 →
-        size_of c.entries + size_of (entries_in front) < 2 ^ 32 }
-    ensures ok { OnOk result (chunks.new.items ≡
-        filled_at chunks.old.items place (entries_in front.entry)
-        (stage_last (length fresh.items == 0)) ++ fresh.items) }
-    ensures err { OnErr result (chunks.new.items ≡ chunks.old.items) }
+    requires room { length fresh.items ≤ slots.old.room }
+    requires rising { AreAbove slots.old.last fresh.items }
+    requires fits { (n : ℕ) (c : Chunk) → joins ≡ Some n
+        → find (is_at n) slots.old.chunks ≡ Some c → size_of c.entries < 2 ^ 32
+        → size_of c.entries + size_of (entries_in front) < 2 ^ 32 }
+    ensures ok { OnOk result (slots.new ≡ appended (record slots.old {
+      chunks = filled_in joins (entries_in front.entry)
+          (stage_last (length fresh.items == 0)) slots.old.chunks;
+    }) fresh.items) }
+    ensures err { OnErr result (slots.new ≡ slots.old) }
 {
-    match place {
-        Some(place) => commit(chunks, place, front, fresh),
-        None => {
-            let mut fresh = fresh;
-            chunks.append(&mut fresh)
-        }
+    if let Some(number) = joins {
+        slots.join(number, front, fresh.is_empty())?;
     }
+    slots.append(fresh);
+    Ok(())
 }

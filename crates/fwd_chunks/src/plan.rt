@@ -4,8 +4,8 @@ use crate::part::Part;
 /// it has one, and the others to new chunks.
 #[derive(Clone, Copy, Debug)]
 pub(crate) struct Plan<'a> {
-    /// The place of the tag's open chunk.
-    pub(crate) place: Option<usize>,
+    /// The number of the tag's open chunk.
+    pub(crate) joins: Option<u64>,
     pub(crate) front: Part<'a>,
     pub(crate) back: Part<'a>,
     /// How many new chunks there are.

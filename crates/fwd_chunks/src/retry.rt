@@ -1,6 +1,6 @@
 ghost use Rattle.std.specs.Prelude.{◌≡◌};
 ghost use Rattle.fwd_chunks.specs.Waits.{wait_after};
-ghost use Rattle.fwd_chunks.specs.Live.{live_is_over};
+ghost use Rattle.fwd_chunks.specs.Slots.{end_of_wait};
 
 use crate::losses::Losses;
 
@@ -27,18 +27,15 @@ impl Retry {
         self.wait.saturating_mul(factor).min(self.max)
     }
 
-    /// Whether a chunk with these losses may be tried at a moment.
-    pub fn is_over(self, losses: Option<Losses>, moment: u64) -> bool
-        ensures { result ≡ live_is_over self.wait self.max losses moment }
+    /// The end of the wait after these losses, if 64 bits hold it.
+    pub fn end(self, losses: Option<Losses>) -> Option<u64>
+        ensures { result ≡ end_of_wait self losses }
     {
         match losses {
-            None => true,
+            None => Some(0),
             Some(losses) => {
                 let wait = self.wait_after(u64::from(losses.count));
-                losses
-                    .last
-                    .checked_add(wait)
-                    .is_some_and(|end| end <= moment)
+                losses.last.checked_add(wait)
             }
         }
     }

@@ -1,3 +1,6 @@
+ghost use Rattle.std.specs.Prelude.{◌≡◌};
+ghost use Rattle.fwd_chunks.specs.Filling.{stage_last};
+
 /// Where a chunk stands that is not settled.
 #[derive(Clone, Copy, Debug, PartialEq, Eq)]
 pub enum Stage {
@@ -7,4 +10,11 @@ pub enum Stage {
     Closed,
     /// The worker of this number has it.
     Taken(u16),
+}
+
+/// Where a chunk stands, which is closed where another one follows.
+pub(crate) fn stage_of(last: bool) -> Stage
+    ensures { result ≡ stage_last last }
+{
+    if last { Stage::Open } else { Stage::Closed }
 }

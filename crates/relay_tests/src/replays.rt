@@ -1,18 +1,10 @@
-ghost use Rattle.std.specs.Prelude.{◌+◌, ◌%◌, ℕ};
-ghost use Rattle.fwd_model.specs.declared.event.Event.{Event};
-ghost use Rattle.fwd_model.specs.declared.answer.Answer.TheVariants.{Closed};
-
-use fwd_model::{Answer, BufferLimits, Event, OutputConfig, Refusal, SessionFault, SourceFault};
-use fwd_modes::InputFault;
-use fwd_msgpack::{Bytes, ScanFault, Seq};
-use fwd_script::{
-    Status, Step, answer_script, print_answer, read_config, read_event, replay, split_script,
-};
+use fwd_model::{Answer, BufferLimits, OutputConfig};
+use fwd_msgpack::{Bytes, Seq};
+use fwd_script::{Status, print_answer, read_config, read_event, replay};
 use fwd_settings::SettingsFault;
 use std::alloc::{AllocError, Global};
 use std::io;
 use std::io::{ErrorKind, Read, Write};
-use std::marker::Model;
 use std::process::Abort;
 use std::test::Fail;
 
@@ -34,80 +26,8 @@ fn prints<R: Abort + AllocGlobal>(rt: &R, answer: &Answer, want: &str) -> Result
     Ok(())
 }
 
-#[test]
-fn prints_what_a_connection_is_answered(rt: HostRuntime) -> Result<(), Fail> {
-    let scan = SourceFault::Scan(ScanFault::Reserved);
-    let input = SourceFault::Input(InputFault::BadOption);
-    for (answer, want) in [
-        (Answer::Accepted { out: none(&rt) }, "accepted out -"),
-        (requests(&rt, 1), "requests 1 out -"),
-        (faulted(&rt, scan), "fault Reserved requests 0 out -"),
-        (faulted(&rt, input), "fault BadOption requests 0 out -"),
-    ] {
-        prints(&rt, &answer, want)?;
-    }
-    Ok(())
-}
-
 fn none<R: AllocGlobal>(rt: &R) -> Bytes {
     Bytes::new(rt.alloc())
-}
-
-fn requests<R: AllocGlobal>(rt: &R, waiting: usize) -> Answer {
-    let out = none(rt);
-    Answer::Requests { waiting, out }
-}
-
-fn faulted<R: AllocGlobal>(rt: &R, fault: SourceFault) -> Answer {
-    let (waiting, out) = (0, none(rt));
-    Answer::Faulted {
-        fault,
-        waiting,
-        out,
-    }
-}
-
-#[test]
-fn prints_counts_and_refusals(rt: HostRuntime) -> Result<(), Fail> {
-    let (request, number, entries) = (1, 1, 2);
-    prints(
-        &rt,
-        &Answer::Admitted { request, entries },
-        "admitted 1 entries 2",
-    )?;
-    prints(&rt, &Answer::NoRoute, "fault NoRoute")?;
-    prints(&rt, &Answer::NumbersSpent, "fault NumbersSpent")?;
-    prints(&rt, &Answer::Closed { chunks: 0 }, "closed 0")?;
-    prints(&rt, &Answer::Done, "done")?;
-    prints(&rt, &Answer::Took { number, entries }, "took 1 entries 2")?;
-    prints(&rt, &Answer::TookNothing, "took -")?;
-    prints(&rt, &Answer::Settled { entries: 12 }, "settled 12")?;
-    prints(&rt, &Answer::Memory, "memory")?;
-    prints(&rt, &Answer::Refused(Refusal::NotNow), "refused NotNow")?;
-    prints(&rt, &Answer::Refused(Refusal::Closed), "refused Closed")?;
-    prints(&rt, &Answer::Refused(Refusal::NoSuch), "refused NoSuch")?;
-    prints(&rt, &Answer::Refused(Refusal::NotUp), "refused NotUp")
-}
-
-#[test]
-fn prints_faults_of_servers(rt: HostRuntime) -> Result<(), Fail> {
-    for (fault, want) in [
-        (SessionFault::BadReply, "fault BadReply"),
-        (SessionFault::WrongAck, "fault WrongAck"),
-        (SessionFault::EarlyAck, "fault EarlyAck"),
-    ] {
-        prints(&rt, &Answer::SessionFaulted(fault), want)?;
-    }
-    Ok(())
-}
-
-#[test]
-fn prints_bytes(rt: HostRuntime) -> Result<(), Fail> {
-    let out = bytes(rt.alloc(), &[0x93, 0xa1, 0x61, 0xc4])?;
-    prints(&rt, &Answer::Frame { out }, "frame 93a161c4")?;
-    let out = bytes(rt.alloc(), b"\x81\xa3ack\xa1x")?;
-    prints(&rt, &Answer::Quiet { out }, "quiet out 81a361636ba178")?;
-    prints(&rt, &Answer::Acked { out: none(&rt) }, "acked out -")
 }
 
 #[test]
@@ -133,69 +53,10 @@ fn prints_who_is_told(rt: HostRuntime) -> Result<(), Fail> {
     )
 }
 
-/// A stand-in for the relay: it counts up to nine and begins anew.
-#[derive(Drop)]
-struct Counter {
-    count: usize,
-}
-
-impl Model for Counter {
-    ghost Value = { ℕ };
-
-    ghost view = { λ c. c.count };
-}
-
-impl Step for Counter {
-    ghost answer_to = { λ count _. Closed count };
-
-    ghost next = { λ count _. (count + 1) % 10 };
-
-    fn step(&mut self, _alloc: Global, _event: &Event) -> Answer {
-        let chunks = self.count;
-        self.count = (self.count % 10 + 1) % 10;
-        Answer::Closed { chunks }
-    }
-}
-
-/// Answers a script by a counter that stands at 8.
-fn replayed(alloc: Global, script: &[u8], out: &mut Vec<u8>) -> Status {
-    let mut counter = Counter { count: 8 };
-    answer_script(alloc, &mut counter, split_script(script), out)
-}
-
 /// A status as a program tells it: the exit status, and the text.
 fn told(alloc: Global, status: &Status) -> Result<String, Fail> {
     let code = status.exit_code();
     Ok(format!(in alloc; "{code} {status}")?)
-}
-
-#[test]
-fn replays_scripts(rt: HostRuntime) -> Result<(), Fail> {
-    let alloc = rt.alloc();
-    let table = [
-        ("---\nhello", "3 line 2: bad event", ""),
-        ("---\n", "0 ", ""),
-        ("", "0 ", ""),
-        ("---\ntake 0 0 0\nload 0 0 0", "0 ", "closed 8\nclosed 9\n"),
-        (
-            "---\ntake 0 0 0\n\nload 0 0 0\n",
-            "3 line 3: bad event",
-            "closed 8\n",
-        ),
-        ("---\ntake 0 0 0\r\n", "3 line 2: bad event", ""),
-        (
-            "---\ntake 0 0 0\n---\n",
-            "3 line 3: bad event",
-            "closed 8\n",
-        ),
-    ];
-    for (script, want, text) in table {
-        let mut out = Vec::new(alloc);
-        let status = replayed(alloc, script.as_bytes(), &mut out);
-        assert_eq!(rt; told(alloc, &status)?.as_str(), want, "{script}");
-        assert_eq!(rt; out.as_slice(), text.as_bytes());
-    }
-    Ok(())
 }
 
 /// Settings that are refused: nothing is answered.
@@ -224,7 +85,7 @@ fn refuses_settings(rt: HostRuntime) -> Result<(), Fail> {
     Ok(())
 }
 
-/// What an empty text of settings stands for, and what a text that leaves most keys out.
+/// What an empty text of settings stands for.
 #[test]
 fn reads_configs(rt: HostRuntime) -> Result<(), Fail> {
     let alloc = rt.alloc();
@@ -246,42 +107,6 @@ fn reads_configs(rt: HostRuntime) -> Result<(), Fail> {
         },
     };
     assert_eq!(rt; row.outputs.as_slice(), [two_of_each].as_slice());
-    let text = b"[relay]\nrun_id = \"0123456789aB\"\n\
-[[output]]\nmatch = \"a\"\n[[output.server]]\naddress = \"[::1]:1\"\n\
-[[output]]\nmatch = \"a b\"\nflush_interval = 0\nworkers = 16\n[[output.server]]\n\
-address = \"1.2.3.4:5\"\n";
-    let Ok(config) = read_config(alloc, text.as_slice()) else {
-        return Err(Fail::from("good settings"));
-    };
-    assert_eq!(rt; config.run, [0x01, 0x23, 0x45, 0x67, 0x89, 0xab]);
-    assert_eq!(rt; config.routes.first(b"a"), Some(0));
-    assert_eq!(rt; config.routes.first(b"b"), Some(1));
-    assert_eq!(rt; config.routes.first(b"c"), None);
-    let first = OutputConfig {
-        workers: 1,
-        servers: 1,
-        limits: BufferLimits {
-            chunk: 8_000_000,
-            total: 512_000_000,
-            interval: 5000,
-            retry_wait: 1000,
-            retry_max: 60_000,
-            first: 1,
-        },
-    };
-    let second = OutputConfig {
-        workers: 16,
-        servers: 1,
-        limits: BufferLimits {
-            chunk: 8_000_000,
-            total: 512_000_000,
-            interval: 0,
-            retry_wait: 1000,
-            retry_max: 60_000,
-            first: 1,
-        },
-    };
-    assert_eq!(rt; config.outputs.as_slice(), [first, second].as_slice());
     Ok(())
 }
 

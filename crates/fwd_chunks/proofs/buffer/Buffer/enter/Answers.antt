@@ -1,23 +1,25 @@
 use Rattle.std.proofs.Common.{rules, ◌≡◌, ℕ, List, cond, ◌+◌, ◌-◌, ◌≤◌, ◌<◌, ◌^◌, ◌++◌, length, max, Some, None, sym, ap, ◌∙◌, subst, arith}
-use Rattle.std.specs.Prelude.{find, map, ◌==◌, IfSome, IfNone}
+use Rattle.std.specs.Prelude.{find, map, ◌==◌, IfSome, IfNone, option_copied}
+use Rattle.std.specs.Str.{bytes_eq}
 use Rattle.fwd_chunks.specs.Cells.{size_of}
-use Rattle.fwd_chunks.specs.Live.{LiveBuffer, is_open_of, live_next_number, live_enters, live_spans, live_refusal}
+use Rattle.fwd_chunks.specs.Live.{LiveBuffer, is_at, is_open_of, live_next_number, live_enters, live_spans, live_refusal}
+use Rattle.fwd_chunks.specs.Soundness.{AreInOrder}
 use Rattle.fwd_chunks.specs.Stored.{IsStored}
 use Rattle.fwd_chunks.specs.Plans.{IsPlan}
-use Rattle.fwd_chunks.specs.Filling.{fresh_of, needed, joining_to, joined_span, chunk_at, span_of, stage_last, filled_at}
+use Rattle.fwd_chunks.specs.Filling.{fresh_of, needed, joining_to, joined_span, span_of, stage_last, filled_in}
+use Rattle.fwd_chunks.specs.Slots.{Held, AreAbove, last_of}
 use Rattle.fwd_chunks.specs.Parts.{entries_in}
-use Rattle.fwd_chunks.proofs.Packing.{size_joined}
-use Rattle.fwd_chunks.proofs.Admission.{numbers-fit, first-is, room-left, entered, entered-spans, find-place, joining-fits, size-drop, enters-stored}
-use Rattle.std.specs.Str.{bytes_eq}
 use Rattle.fwd_chunks.specs.Newest.{tag_number, AreNewest}
-use Rattle.fwd_chunks.specs.Soundness.{AreInOrder}
-use Rattle.fwd_chunks.proofs.Opened.{newest-kept, newest-entered}
+use Rattle.fwd_chunks.proofs.Packing.{size_joined}
+use Rattle.fwd_chunks.proofs.Closing.{number-found}
+use Rattle.fwd_chunks.proofs.Admission.{numbers-fit, first-is, room-left, fresh-above, entered, entered-spans, joining-fits, size-drop, enters-stored}
+use Rattle.fwd_chunks.proofs.Opened.{newest-kept, newest-entered, found-same}
+use Rattle.fwd_chunks.proofs.Calls.{chunk_of_some}
 use Rattle.fwd_chunks.specs.contracts.buffer.Buffer.{the_view}
 use Rattle.fwd_chunks.proofs.buffer.Buffer.enter.Goals as goal
 
 pub fresh_chunks-requires-clause-numbers : goal.fresh_chunks-requires-clause-numbers
 fresh_chunks-requires-clause-numbers c =
-    let b = c.args.self.now in
     let v = the_view c.self.inside in
     let r = c.args.batch.now in
     let p = c.args.plan in
@@ -33,7 +35,6 @@ fresh_chunks-requires-clause-numbers c =
 
 pub fresh_chunks-requires-clause-size : goal.fresh_chunks-requires-clause-size
 fresh_chunks-requires-clause-size c =
-    let b = c.args.self.now in
     let v = the_view c.self.inside in
     let r = c.args.batch.now in
     let p = c.args.plan in
@@ -41,11 +42,10 @@ fresh_chunks-requires-clause-size c =
     let plan : IsPlan (the_view c.self.inside) c.args.batch.now c.args.plan = subst (λ (x : LiveBuffer). IsPlan x c.args.batch.now c.args.plan) (sym c.self.view_is) c.requires.planned in
     let free : live_refusal (the_view c.self.inside) c.args.batch.now c.args.now ≡ None = ap (λ x. live_refusal x c.args.batch.now c.args.now) c.self.view_is ∙ c.requires.fits in
     let room = room-left v r c.args.now p own.sound plan free in
-    omega (arith, ap size_of plan.back, size-drop (joining_to c.self.inside.limits.chunk (find (is_open_of r.tag) c.self.inside.chunks.items) r.entries) r.entries, size_joined r.entries, c.entries.ensures.bound)
+    omega (arith, ap size_of plan.back, size-drop (joining_to c.self.inside.limits.chunk (find (is_open_of r.tag) c.self.inside.slots.chunks) r.entries) r.entries, size_joined r.entries, c.entries.ensures.bound)
 
 pub newest_of-newest-requires : goal.newest_of-newest-requires
 newest_of-newest-requires c =
-    let b = c.args.self.now in
     let v = the_view c.self.inside in
     let r = c.args.batch.now in
     let p = c.args.plan in
@@ -58,9 +58,19 @@ newest_of-newest-requires c =
     (subst (λ (x : LiveBuffer). IfNone c.next_number.result (live_next_number x ≡ 2 ^ 64)) (sym c.self.view_is) c.next_number.ensures.none) room.0 up in
     λ up. omega (arith, next up, room.0)
 
-pub greatest_after-greatest-requires : goal.greatest_after-greatest-requires
-greatest_after-greatest-requires c =
-    let b = c.args.self.now in
+pub invariant_of-self-in_err-prepare : goal.invariant_of-self-in_err-prepare
+invariant_of-self-in_err-prepare c =
+    let kept : c.reserve.new.self.chunks ≡ c.self.inside.slots.chunks = ap (λ (h : Held). h.chunks) c.in_ok-reserve.ensures.kept in
+    let kept_last : c.reserve.new.self.last ≡ c.self.inside.slots.last = ap (λ (h : Held). h.last) c.in_ok-reserve.ensures.kept in
+    let kept_retry : c.reserve.new.self.retry ≡ c.self.inside.slots.retry = ap (λ (h : Held). h.retry) c.in_ok-reserve.ensures.kept in
+    rw (kept, kept_last, kept_retry) (record {
+      stored = c.self.invariant.stored;
+      newest = newest-kept c.self.inside.tags c.prepare.new.self c.self.inside.slots.chunks c.in_err-prepare.ensures.kept c.self.invariant.newest;
+      waits = c.self.invariant.waits;
+    })
+
+pub fill-requires-clause-rising : goal.fill-requires-clause-rising
+fill-requires-clause-rising c =
     let v = the_view c.self.inside in
     let r = c.args.batch.now in
     let p = c.args.plan in
@@ -71,11 +81,16 @@ greatest_after-greatest-requires c =
     let next : 0 < p.needed → c.unwrap_or-first.result ≡ live_next_number v = λ up. c.unwrap_or-first.ensures ∙ first-is c.next_number.result (live_next_number v) p.needed
     (subst (λ (x : LiveBuffer). IfSome c.next_number.result (λ n. n ≡ live_next_number x)) (sym c.self.view_is) c.next_number.ensures.some)
     (subst (λ (x : LiveBuffer). IfNone c.next_number.result (live_next_number x ≡ 2 ^ 64)) (sym c.self.view_is) c.next_number.ensures.none) room.0 up in
-    λ up. omega (arith, next up, room.0)
+    let made : c.in_ok-fresh.fresh.items ≡ fresh_of c.self.inside.limits.chunk r.tag (max c.self.inside.moment c.args.now) c.unwrap_or-first.result (entries_in p.back) =
+    c.in_ok-fresh.ensures ∙ (λ i. fresh_of (c.from-limit.ensures i) (c.tag-tag.ensures.value i) (c.max-moment.ensures i) c.unwrap_or-first.result (entries_in p.back)) in
+    let kept : c.reserve.new.self.chunks ≡ c.self.inside.slots.chunks = ap (λ (h : Held). h.chunks) c.in_ok-reserve.ensures.kept in
+    let kept_last : c.reserve.new.self.last ≡ c.self.inside.slots.last = ap (λ (h : Held). h.last) c.in_ok-reserve.ensures.kept in
+    let kept_retry : c.reserve.new.self.retry ≡ c.self.inside.slots.retry = ap (λ (h : Held). h.retry) c.in_ok-reserve.ensures.kept in
+    let needs : 0 < needed c.self.inside.limits.chunk (entries_in p.back) → c.unwrap_or-first.result ≡ live_next_number v = λ up. next (omega (arith, up, plan.needs)) in
+    subst (λ o. AreAbove o c.in_ok-fresh.fresh.items) (sym kept_last) (subst (AreAbove c.self.inside.slots.last) (sym made) (fresh-above v r.tag (max c.self.inside.moment c.args.now) c.unwrap_or-first.result (entries_in p.back) needs))
 
 pub fill-requires-clause-fits : goal.fill-requires-clause-fits
-fill-requires-clause-fits c = λ d at small.
-    let b = c.args.self.now in
+fill-requires-clause-fits c = λ n d joins at small.
     let v = the_view c.self.inside in
     let r = c.args.batch.now in
     let p = c.args.plan in
@@ -83,13 +98,29 @@ fill-requires-clause-fits c = λ d at small.
     let plan : IsPlan (the_view c.self.inside) c.args.batch.now c.args.plan = subst (λ (x : LiveBuffer). IsPlan x c.args.batch.now c.args.plan) (sym c.self.view_is) c.requires.planned in
     let free : live_refusal (the_view c.self.inside) c.args.batch.now c.args.now ≡ None = ap (λ x. live_refusal x c.args.batch.now c.args.now) c.self.view_is ∙ c.requires.fits in
     let room = room-left v r c.args.now p own.sound plan free in
-    let there : find (is_open_of r.tag) c.self.inside.chunks.items ≡ Some d = sym (find-place (is_open_of r.tag) c.self.inside.chunks.items) ∙ ap (chunk_at c.self.inside.chunks.items) (sym plan.place) ∙ at in
+    let kept : c.reserve.new.self.chunks ≡ c.self.inside.slots.chunks = ap (λ (h : Held). h.chunks) c.in_ok-reserve.ensures.kept in
+    let kept_last : c.reserve.new.self.last ≡ c.self.inside.slots.last = ap (λ (h : Held). h.last) c.in_ok-reserve.ensures.kept in
+    let kept_retry : c.reserve.new.self.retry ≡ c.self.inside.slots.retry = ap (λ (h : Held). h.retry) c.in_ok-reserve.ensures.kept in
+    let o = find (is_open_of r.tag) c.self.inside.slots.chunks in
+    let e = number-found (find (is_open_of r.tag) c.self.inside.slots.chunks) n (sym joins ∙ plan.joins) in
+    let there : find (is_at n) c.self.inside.slots.chunks ≡ Some e.0 = ap (λ k. find (is_at k) c.self.inside.slots.chunks) (sym e.1.1) ∙ found-same (is_open_of r.tag) c.self.inside.slots.chunks e.0 own.sound.in_order e.1.0 in
+    let is : e.0 ≡ d = chunk_of_some (sym there ∙ ap (find (is_at n)) (sym kept) ∙ at) in
     let chunk : c.self.inside.limits.chunk < 2 ^ 32 = search rules in
-    rw plan.front (joining-fits c.self.inside.limits.chunk (find (is_open_of r.tag) c.self.inside.chunks.items) d r.entries there chunk small)
+    rw plan.front (joining-fits c.self.inside.limits.chunk o d r.entries (e.1.0 ∙ ap Some is) chunk small)
+
+pub invariant_of-self-in_err-fill : goal.invariant_of-self-in_err-fill
+invariant_of-self-in_err-fill c =
+    let kept : c.reserve.new.self.chunks ≡ c.self.inside.slots.chunks = ap (λ (h : Held). h.chunks) c.in_ok-reserve.ensures.kept in
+    let kept_last : c.reserve.new.self.last ≡ c.self.inside.slots.last = ap (λ (h : Held). h.last) c.in_ok-reserve.ensures.kept in
+    let kept_retry : c.reserve.new.self.retry ≡ c.self.inside.slots.retry = ap (λ (h : Held). h.retry) c.in_ok-reserve.ensures.kept in
+    rw (c.in_err-fill.ensures.err, kept, kept_last, kept_retry) (record {
+      stored = c.self.invariant.stored;
+      newest = newest-kept c.self.inside.tags c.prepare.new.self c.self.inside.slots.chunks c.prepare.ensures.kept c.self.invariant.newest;
+      waits = c.self.invariant.waits;
+    })
 
 pub overflow_add-self : goal.overflow_add-self
 overflow_add-self c =
-    let b = c.args.self.now in
     let v = the_view c.self.inside in
     let r = c.args.batch.now in
     let p = c.args.plan in
@@ -97,11 +128,10 @@ overflow_add-self c =
     let plan : IsPlan (the_view c.self.inside) c.args.batch.now c.args.plan = subst (λ (x : LiveBuffer). IsPlan x c.args.batch.now c.args.plan) (sym c.self.view_is) c.requires.planned in
     let free : live_refusal (the_view c.self.inside) c.args.batch.now c.args.now ≡ None = ap (λ x. live_refusal x c.args.batch.now c.args.now) c.self.view_is ∙ c.requires.fits in
     let room = room-left v r c.args.now p own.sound plan free in
-    omega (arith, c.len.ensures.value, room.1)
+    omega (arith, c.len-2.ensures.value, room.1)
 
 pub overflow_add-self-2 : goal.overflow_add-self-2
 overflow_add-self-2 c =
-    let b = c.args.self.now in
     let v = the_view c.self.inside in
     let r = c.args.batch.now in
     let p = c.args.plan in
@@ -113,21 +143,8 @@ overflow_add-self-2 c =
     let total : c.self.inside.limits.total < 2 ^ 64 = search rules in
     omega (arith, size, own.bytes, room.2, total)
 
-pub invariant_of-self : goal.invariant_of-self
-invariant_of-self c = record {
-  stored = c.self.invariant.stored;
-  newest = newest-kept c.self.inside.tags c.prepare.new.self c.self.inside.chunks.items c.prepare.ensures.kept c.self.invariant.newest;
-}
-
-pub invariant_of-self-in_err-fill : goal.invariant_of-self-in_err-fill
-invariant_of-self-in_err-fill c = rw c.in_err-fill.ensures.err (record {
-  stored = c.self.invariant.stored;
-  newest = newest-kept c.self.inside.tags c.prepare.new.self c.self.inside.chunks.items c.prepare.ensures.kept c.self.invariant.newest;
-})
-
 pub invariant_of-self-2 : goal.invariant_of-self-2
 invariant_of-self-2 c =
-    let b = c.args.self.now in
     let v = the_view c.self.inside in
     let r = c.args.batch.now in
     let p = c.args.plan in
@@ -140,32 +157,36 @@ invariant_of-self-2 c =
     (subst (λ (x : LiveBuffer). IfNone c.next_number.result (live_next_number x ≡ 2 ^ 64)) (sym c.self.view_is) c.next_number.ensures.none) room.0 up in
     let made : c.in_ok-fresh.fresh.items ≡ fresh_of c.self.inside.limits.chunk r.tag (max c.self.inside.moment c.args.now) c.unwrap_or-first.result (entries_in p.back) =
     c.in_ok-fresh.ensures ∙ (λ i. fresh_of (c.from-limit.ensures i) (c.tag-tag.ensures.value i) (c.max-moment.ensures i) c.unwrap_or-first.result (entries_in p.back)) in
-    let some : 0 < p.needed → c.greatest_after-greatest.result ≡ Some (c.unwrap_or-first.result + (p.needed - 1)) = c.greatest_after-greatest.ensures.some in
-    let none : p.needed ≤ 0 → c.greatest_after-greatest.result ≡ v.greatest = λ le. c.greatest_after-greatest.ensures.none le ∙ ap (λ (x : LiveBuffer). x.greatest) (sym c.self.view_is) in
-    let same : record v { chunks = c.fill.new.chunks.items; greatest = c.greatest_after-greatest.result; accepted = c.self.inside.accepted + c.len.result; moment = c.max-moment.result } ≡ live_enters v r c.args.now =
-    (λ i. record v { chunks = c.in_ok-fill.ensures.ok i; greatest = c.greatest_after-greatest.result; accepted = c.self.inside.accepted + c.len.result; moment = c.max-moment.ensures i })
-    ∙ entered v r c.args.now p own.sound plan c.unwrap_or-first.result c.in_ok-fresh.fresh.items c.greatest_after-greatest.result c.len.result made next some none c.len.ensures.value in
+    let kept : c.reserve.new.self.chunks ≡ c.self.inside.slots.chunks = ap (λ (h : Held). h.chunks) c.in_ok-reserve.ensures.kept in
+    let kept_last : c.reserve.new.self.last ≡ c.self.inside.slots.last = ap (λ (h : Held). h.last) c.in_ok-reserve.ensures.kept in
+    let kept_retry : c.reserve.new.self.retry ≡ c.self.inside.slots.retry = ap (λ (h : Held). h.retry) c.in_ok-reserve.ensures.kept in
+    let chunks : c.fill.new.slots.chunks ≡ filled_in p.joins (entries_in p.front) (stage_last (length c.in_ok-fresh.fresh.items == 0)) c.self.inside.slots.chunks ++ c.in_ok-fresh.fresh.items =
+    ap (λ (h : Held). h.chunks) c.in_ok-fill.ensures.ok ∙ ap (λ l. filled_in p.joins (entries_in p.front) (stage_last (length c.in_ok-fresh.fresh.items == 0)) l ++ c.in_ok-fresh.fresh.items) kept in
+    let last : c.fill.new.slots.last ≡ last_of c.self.inside.slots.last c.in_ok-fresh.fresh.items = ap (λ (h : Held). h.last) c.in_ok-fill.ensures.ok ∙ ap (λ o. last_of o c.in_ok-fresh.fresh.items) kept_last in
+    let same : record v { chunks = c.fill.new.slots.chunks; greatest = c.fill.new.slots.last; accepted = c.self.inside.accepted + c.len-2.result; moment = c.max-moment.result } ≡ live_enters v r c.args.now =
+    (λ i. record v { chunks = chunks i; greatest = last i; accepted = c.self.inside.accepted + c.len-2.result; moment = c.max-moment.ensures i })
+    ∙ entered v r c.args.now p own.sound plan c.unwrap_or-first.result c.in_ok-fresh.fresh.items c.len-2.result made next c.len-2.ensures.value in
     let size : length c.entries.result.now ≡ size_of r.entries = ap length c.entries.ensures.value ∙ sym (size_joined r.entries) in
     let fits : length r.tag ≤ 1024 = omega (arith, ap length c.tag-tag.ensures.value, c.tag-tag.ensures.bound) in
-    let items = c.self.inside.chunks.items in
+    let items = c.self.inside.slots.chunks in
     let back = entries_in p.back in
-    let chunks : c.fill.new.chunks.items ≡ filled_at c.self.inside.chunks.items p.place (entries_in p.front) (stage_last (length (fresh_of c.self.inside.limits.chunk r.tag (max c.self.inside.moment c.args.now) c.unwrap_or-first.result (entries_in p.back)) == 0)) ++ fresh_of c.self.inside.limits.chunk r.tag (max c.self.inside.moment c.args.now) c.unwrap_or-first.result (entries_in p.back) =
-    c.in_ok-fill.ensures.ok ∙ (λ i. filled_at c.self.inside.chunks.items p.place (entries_in p.front) (stage_last (length (made i) == 0)) ++ made i) in
+    let all : c.fill.new.slots.chunks ≡ filled_in p.joins (entries_in p.front) (stage_last (length (fresh_of c.self.inside.limits.chunk r.tag (max c.self.inside.moment c.args.now) c.unwrap_or-first.result (entries_in p.back)) == 0)) c.self.inside.slots.chunks ++ fresh_of c.self.inside.limits.chunk r.tag (max c.self.inside.moment c.args.now) c.unwrap_or-first.result (entries_in p.back) =
+    chunks ∙ (λ i. filled_in p.joins (entries_in p.front) (stage_last (length (made i) == 0)) c.self.inside.slots.chunks ++ made i) in
     let next_stored = enters-stored v r c.args.now c.self.inside.bytes own fits free in
     let number = c.newest_of-newest.result in
     let told = subst (λ l. IfSome c.newest_of-newest.result (λ n. (t : List ℕ) → tag_number t c.put.new.self ≡ cond (bytes_eq l t) (Some n) (tag_number t c.prepare.new.self))) c.tag-tag.ensures.value c.put.ensures.some in
     rw size (record {
       stored = subst (λ x. IsStored x (c.self.inside.bytes + size_of r.entries)) (sym same) next_stored;
-      newest = subst (AreNewest c.put.new.self) (sym chunks) (newest-entered c.prepare.new.self c.put.new.self items p.place (entries_in p.front) back c.self.inside.limits.chunk r.tag (max c.self.inside.moment c.args.now) c.unwrap_or-first.result number
-          (newest-kept c.self.inside.tags c.prepare.new.self items c.prepare.ensures.kept c.self.invariant.newest) plan.place
+      newest = subst (AreNewest c.put.new.self) (sym all) (newest-entered c.prepare.new.self c.put.new.self items p.joins (entries_in p.front) back c.self.inside.limits.chunk r.tag (max c.self.inside.moment c.args.now) c.unwrap_or-first.result number
+          (newest-kept c.self.inside.tags c.prepare.new.self items c.prepare.ensures.kept c.self.invariant.newest) own.sound.in_order plan.joins
           (subst (λ k. 0 < k → c.newest_of-newest.result ≡ Some (c.unwrap_or-first.result + (k - 1))) plan.needs c.newest_of-newest.ensures.some)
           (subst (λ k. k ≤ 0 → c.newest_of-newest.result ≡ None) plan.needs c.newest_of-newest.ensures.none)
-          told c.put.ensures.none (subst AreInOrder (sym (ap (λ (x : LiveBuffer). x.chunks) same) ∙ chunks) next_stored.sound.in_order));
+          told c.put.ensures.none (subst AreInOrder (sym (ap (λ (x : LiveBuffer). x.chunks) same) ∙ all) next_stored.sound.in_order));
+      waits = ap (λ (h : Held). h.retry) c.in_ok-fill.ensures.ok ∙ kept_retry ∙ c.self.invariant.waits;
     })
 
 pub returns-clause-ok : goal.returns-clause-ok
 returns-clause-ok c =
-    let b = c.args.self.now in
     let v = the_view c.self.inside in
     let r = c.args.batch.now in
     let p = c.args.plan in
@@ -178,16 +199,19 @@ returns-clause-ok c =
     (subst (λ (x : LiveBuffer). IfNone c.next_number.result (live_next_number x ≡ 2 ^ 64)) (sym c.self.view_is) c.next_number.ensures.none) room.0 up in
     let made : c.in_ok-fresh.fresh.items ≡ fresh_of c.self.inside.limits.chunk r.tag (max c.self.inside.moment c.args.now) c.unwrap_or-first.result (entries_in p.back) =
     c.in_ok-fresh.ensures ∙ (λ i. fresh_of (c.from-limit.ensures i) (c.tag-tag.ensures.value i) (c.max-moment.ensures i) c.unwrap_or-first.result (entries_in p.back)) in
-    let some : 0 < p.needed → c.greatest_after-greatest.result ≡ Some (c.unwrap_or-first.result + (p.needed - 1)) = c.greatest_after-greatest.ensures.some in
-    let none : p.needed ≤ 0 → c.greatest_after-greatest.result ≡ v.greatest = λ le. c.greatest_after-greatest.ensures.none le ∙ ap (λ (x : LiveBuffer). x.greatest) (sym c.self.view_is) in
-    let same : record v { chunks = c.fill.new.chunks.items; greatest = c.greatest_after-greatest.result; accepted = c.self.inside.accepted + c.len.result; moment = c.max-moment.result } ≡ live_enters v r c.args.now =
-    (λ i. record v { chunks = c.in_ok-fill.ensures.ok i; greatest = c.greatest_after-greatest.result; accepted = c.self.inside.accepted + c.len.result; moment = c.max-moment.ensures i })
-    ∙ entered v r c.args.now p own.sound plan c.unwrap_or-first.result c.in_ok-fresh.fresh.items c.greatest_after-greatest.result c.len.result made next some none c.len.ensures.value in
+    let kept : c.reserve.new.self.chunks ≡ c.self.inside.slots.chunks = ap (λ (h : Held). h.chunks) c.in_ok-reserve.ensures.kept in
+    let kept_last : c.reserve.new.self.last ≡ c.self.inside.slots.last = ap (λ (h : Held). h.last) c.in_ok-reserve.ensures.kept in
+    let kept_retry : c.reserve.new.self.retry ≡ c.self.inside.slots.retry = ap (λ (h : Held). h.retry) c.in_ok-reserve.ensures.kept in
+    let chunks : c.fill.new.slots.chunks ≡ filled_in p.joins (entries_in p.front) (stage_last (length c.in_ok-fresh.fresh.items == 0)) c.self.inside.slots.chunks ++ c.in_ok-fresh.fresh.items =
+    ap (λ (h : Held). h.chunks) c.in_ok-fill.ensures.ok ∙ ap (λ l. filled_in p.joins (entries_in p.front) (stage_last (length c.in_ok-fresh.fresh.items == 0)) l ++ c.in_ok-fresh.fresh.items) kept in
+    let last : c.fill.new.slots.last ≡ last_of c.self.inside.slots.last c.in_ok-fresh.fresh.items = ap (λ (h : Held). h.last) c.in_ok-fill.ensures.ok ∙ ap (λ o. last_of o c.in_ok-fresh.fresh.items) kept_last in
+    let same : record v { chunks = c.fill.new.slots.chunks; greatest = c.fill.new.slots.last; accepted = c.self.inside.accepted + c.len-2.result; moment = c.max-moment.result } ≡ live_enters v r c.args.now =
+    (λ i. record v { chunks = chunks i; greatest = last i; accepted = c.self.inside.accepted + c.len-2.result; moment = c.max-moment.ensures i })
+    ∙ entered v r c.args.now p own.sound plan c.unwrap_or-first.result c.in_ok-fresh.fresh.items c.len-2.result made next c.len-2.ensures.value in
     same ∙ ap (λ x. live_enters x r c.args.now) c.self.view_is
 
 pub returns-clause-spans : goal.returns-clause-spans
 returns-clause-spans c =
-    let b = c.args.self.now in
     let v = the_view c.self.inside in
     let r = c.args.batch.now in
     let p = c.args.plan in
@@ -200,8 +224,9 @@ returns-clause-spans c =
     (subst (λ (x : LiveBuffer). IfNone c.next_number.result (live_next_number x ≡ 2 ^ 64)) (sym c.self.view_is) c.next_number.ensures.none) room.0 up in
     let made : c.in_ok-fresh.fresh.items ≡ fresh_of c.self.inside.limits.chunk r.tag (max c.self.inside.moment c.args.now) c.unwrap_or-first.result (entries_in p.back) =
     c.in_ok-fresh.ensures ∙ (λ i. fresh_of (c.from-limit.ensures i) (c.tag-tag.ensures.value i) (c.max-moment.ensures i) c.unwrap_or-first.result (entries_in p.back)) in
-    let spans : c.in_ok-spans.spans ≡ joined_span (chunk_at c.self.inside.chunks.items p.place) (entries_in p.front) ++ map span_of c.in_ok-fresh.fresh.items =
+    let opened : option_copied c.open_of.result ≡ find (is_open_of r.tag) c.self.inside.slots.chunks = c.open_of.ensures ∙ ap (λ (x : LiveBuffer). find (is_open_of c.tag-tag.result.now) x.chunks) (sym c.self.view_is) ∙ ap (λ l. find (is_open_of l) c.self.inside.slots.chunks) c.tag-tag.ensures.value in
+    let spans : c.in_ok-spans.spans ≡ joined_span (find (is_open_of r.tag) c.self.inside.slots.chunks) (entries_in p.front) ++ map span_of c.in_ok-fresh.fresh.items =
     c.in_ok-spans.ensures
-    ∙ (λ i. (c.joined_span.ensures ∙ ap (λ (x : LiveBuffer). joined_span (chunk_at x.chunks p.place) (entries_in p.front)) (sym c.self.view_is)) i ++ map span_of (c.deref.ensures.value i)) in
+    ∙ (λ i. (c.joined_span-joined.ensures ∙ ap (λ o. joined_span o (entries_in p.front)) opened) i ++ map span_of (c.deref.ensures.value i)) in
     entered-spans v r c.args.now p own.sound plan c.unwrap_or-first.result c.in_ok-fresh.fresh.items c.in_ok-spans.spans made next spans
     ∙ ap (λ x. live_spans x r c.args.now) c.self.view_is

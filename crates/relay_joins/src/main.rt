@@ -1,0 +1,89 @@
+//! Joining beside a plain table of all entries: every two requests after one another, of the tags
+//! `a` and `b` with up to four entries of three to five bytes each, under every chunk limit from 2
+//! to 10 bytes. It prints how many pairs there were, and how many were joined otherwise than the
+//! table says.
+#![tactic(auto)]
+
+mod requests;
+mod table;
+
+use crate::requests::{Request, requests};
+use crate::table::Table;
+use anyhow::Result;
+use fwd_chunks::{Buffer, BufferLimits, Span};
+use fwd_source::Origin;
+use std::alloc::Global;
+
+/// The least and the greatest chunk limit, in bytes.
+const LEAST: u32 = 2;
+
+const GREATEST: u32 = 10;
+
+/// The limits of a buffer, of which only that of a chunk matters here.
+fn limits(chunk: u32) -> BufferLimits {
+    BufferLimits {
+        chunk,
+        total: 1_000_000,
+        interval: 1000,
+        retry_wait: 500,
+        retry_max: 4000,
+        first: 1,
+    }
+}
+
+/// Whether the buffer and the table say the same of a request.
+fn is_joined_alike(
+    alloc: Global,
+    buffer: &mut Buffer,
+    table: &mut Table,
+    request: &Request,
+) -> Result<bool> {
+    let origin = Origin {
+        conn: 1,
+        request: 1,
+    };
+    let spans = buffer.admit(alloc, origin, &request.batch, 0)?;
+    let expected = table.join(alloc, request.tag, &request.sizes)?;
+    Ok(spans.as_slice() == expected.as_slice())
+}
+
+/// Whether two requests after one another are joined as the table says.
+fn is_pair_alike(alloc: Global, limit: u32, first: &Request, second: &Request) -> Result<bool> {
+    let mut buffer = Buffer::new(alloc, limits(limit), [0; 6], 0);
+    let mut table = Table::new(alloc, u64::from(limit));
+    Ok(
+        is_joined_alike(alloc, &mut buffer, &mut table, first)?
+            && is_joined_alike(alloc, &mut buffer, &mut table, second)?,
+    )
+}
+
+/// How many pairs that begin with a request are joined otherwise than the table says.
+fn wrong_behind(alloc: Global, limit: u32, first: &Request, all: &Vec<Request>) -> Result<u64> {
+    let mut wrong: u64 = 0;
+    for second in all {
+        if !is_pair_alike(alloc, limit, first, second)? {
+            wrong = wrong.saturating_add(1);
+        }
+    }
+    Ok(wrong)
+}
+
+/// How many pairs are joined otherwise under a limit.
+fn wrong_under(alloc: Global, limit: u32, all: &Vec<Request>) -> Result<u64> {
+    let mut wrong: u64 = 0;
+    for first in all {
+        wrong = wrong.saturating_add(wrong_behind(alloc, limit, first, all)?);
+    }
+    Ok(wrong)
+}
+
+fn main(rt: HostRuntime) -> Result<()> {
+    let all = requests(rt.alloc())?;
+    let count = all.len() as u64;
+    for limit in LEAST..GREATEST + 1 {
+        let wrong = wrong_under(rt.alloc(), limit, &all)?;
+        let pairs = count.saturating_mul(count);
+        println!(rt; "chunks of {limit} bytes: {pairs} pairs, {wrong} joined otherwise")?;
+    }
+    Ok(())
+}

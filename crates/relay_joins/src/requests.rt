@@ -1,0 +1,85 @@
+//! The requests that are admitted.
+
+use anyhow::{Context, Result, bail};
+use fwd_modes::{Batch, Reading, read_request};
+use fwd_msgpack::{Cut, Head, Limits, cut, write_head};
+use std::alloc::Global;
+
+/// The limits of a request's bytes.
+const LIMITS: Limits = Limits {
+    bytes: 1_000_000,
+    depth: 64,
+};
+
+/// Entries of three, four and five bytes: a time and an empty record.
+const ENTRIES: [&[u8]; 3] = [
+    b"\x92\x01\x80",
+    b"\x92\xcc\x80\x80",
+    b"\x92\xcd\x01\x00\x80",
+];
+
+/// The most entries of a request.
+const MOST: u32 = 4;
+
+/// A request, as it is admitted and as the table sees it.
+#[derive(Debug, Drop)]
+pub struct Request {
+    pub tag: u8,
+    /// The bytes of each entry.
+    pub sizes: Vec<u64>,
+    pub batch: Batch,
+}
+
+/// A Forward request of these entries, each told by its place among all.
+fn one_request(alloc: Global, tag: u8, entries: &[usize]) -> Result<Request> {
+    let mut bytes = Vec::new(alloc);
+    let mut sizes = Vec::new(alloc);
+    write_head(&mut bytes, Head::Arr(2))?;
+    write_head(&mut bytes, Head::Str(1))?;
+    bytes.push(tag)?;
+    let count = u32::try_from(entries.len()).context("too many entries")?;
+    write_head(&mut bytes, Head::Arr(count))?;
+    for entry in entries {
+        let spelled = ENTRIES.get(*entry).copied().unwrap_or(b"");
+        bytes.extend_from_slice(spelled)?;
+        sizes.push(spelled.len() as u64)?;
+    }
+    let Cut::Whole(value, _) = cut(&bytes, LIMITS) else {
+        bail!("no value");
+    };
+    match read_request(alloc, value, LIMITS)? {
+        Reading::Asks(batch) => Ok(Request { tag, sizes, batch }),
+        _ => bail!("no request"),
+    }
+}
+
+/// The entries of the request of a number among those with so many entries: its digits to the
+/// base of three.
+fn entries_of(alloc: Global, count: u32, number: u32) -> Result<Vec<usize>> {
+    let mut entries = Vec::new(alloc);
+    let mut rest = number;
+    for _ in 0..count {
+        entries.push((rest % 3) as usize)?;
+        rest /= 3;
+    }
+    Ok(entries)
+}
+
+/// Every request of a tag with so many entries.
+fn add_requests(alloc: Global, all: &mut Vec<Request>, tag: u8, count: u32) -> Result<()> {
+    for number in 0..3u32.saturating_pow(count) {
+        let entries = entries_of(alloc, count, number)?;
+        all.push(one_request(alloc, tag, &entries)?)?;
+    }
+    Ok(())
+}
+
+/// Every request of up to four entries of three to five bytes, of the tags `a` and `b`.
+pub fn requests(alloc: Global) -> Result<Vec<Request>> {
+    let mut all = Vec::new(alloc);
+    for count in 0..MOST + 1 {
+        add_requests(alloc, &mut all, b'a', count)?;
+        add_requests(alloc, &mut all, b'b', count)?;
+    }
+    Ok(all)
+}
