@@ -1,0 +1,4 @@
+pub mod Saying
+pub mod Following
+pub mod Taking
+pub mod Pieces

@@ -1,0 +1,24 @@
+use Rattle.std.proofs.Common.{◌≡◌, sym, ap, subst, ◌∙◌}
+use Rattle.std.specs.List.{concat}
+use Rattle.fwd_modes.specs.Entries.{ends_of, cut_at, AreCut}
+use Rattle.fwd_chunks.proofs.Packing.{cut_joined, AreCut-joined}
+use Rattle.fwd_session.proofs.acked.Acked.new.Goals as goal
+
+pub invariant_of-result : goal.invariant_of-result
+invariant_of-result c =
+    let ends : c.in_ok-from_slice-3.field-0.items ≡ ends_of c.args.chunk.now.entries = c.in_ok-from_slice-3.ensures.items ∙ c.ends.ensures in
+    let packed : c.in_ok-from_slice-2.field-0.items ≡ concat c.args.chunk.now.entries = c.in_ok-from_slice-2.ensures.items ∙ c.entries.ensures.value in
+    rw (ends, packed) (AreCut-joined 0 c.args.chunk.now.entries)
+
+pub returns : goal.returns
+returns c =
+    let ends : c.in_ok-from_slice-3.field-0.items ≡ ends_of c.args.chunk.now.entries = c.in_ok-from_slice-3.ensures.items ∙ c.ends.ensures in
+    let packed : c.in_ok-from_slice-2.field-0.items ≡ concat c.args.chunk.now.entries = c.in_ok-from_slice-2.ensures.items ∙ c.entries.ensures.value in
+    let cut : cut_at 0 c.in_ok-from_slice-3.field-0.items c.in_ok-from_slice-2.field-0.items ≡ c.args.chunk.now.entries = (λ i. cut_at 0 (ends i) (packed i)) ∙ cut_joined 0 c.args.chunk.now.entries in
+    λ i. record {
+      number = c.number.ensures i;
+      tag = (c.in_ok-from_slice.ensures ∙ c.tag.ensures.value) i;
+      entries = cut i;
+      server = c.args.server;
+      reply = c.in_ok-from_slice-4.ensures i;
+    }

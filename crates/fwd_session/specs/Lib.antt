@@ -1,0 +1,5 @@
+pub mod Said
+pub mod Evidence
+pub mod History
+pub mod Live
+pub mod Hearing

@@ -1,0 +1,108 @@
+//! What is kept of a chunk that a server acknowledged.
+
+ghost use Rattle.std.specs.Prelude.{◌≡◌, IfOk};
+ghost use Rattle.std.specs.List.{concat};
+ghost use Rattle.fwd_modes.specs.Entries.{ends_of};
+
+use fwd_chunks::Carried;
+use fwd_msgpack::Bytes;
+use std::alloc::{AllocError, Global};
+use std::marker::Model;
+
+/// A chunk that a server acknowledged, as it was sent, and the reply. Only a session that heard the
+/// reply makes one.
+#[derive(Debug, Drop)]
+pub struct Acked {
+    number: u64,
+    tag: Bytes,
+    packed: Vec<u8>,
+    ends: Vec<u32>,
+    server: u16,
+    reply: Bytes,
+}
+
+impl Model for Acked {
+    ghost use Rattle.fwd_modes.specs.Entries.{cut_at, AreCut};
+    ghost use Rattle.fwd_session.specs.Evidence.{Evidence};
+
+    ghost Value = { Evidence };
+
+    ghost view = { λ a. record {
+      number = a.number;
+      tag = a.tag;
+      entries = cut_at 0 a.ends.items a.packed.items;
+      server = a.server;
+      reply = a.reply;
+    } };
+
+    ghost invariant = { λ a. AreCut 0 a.ends.items a.packed.items };
+}
+
+impl Acked {
+    /// A server's reply to a chunk. The only error is want of memory.
+    pub(crate) fn new(
+        alloc: Global,
+        chunk: &Carried,
+        server: u16,
+        reply: &[u8],
+    ) -> Result<Self, AllocError>
+        ensures { IfOk result (λ acked. acked ≡ record {
+          number = chunk.now.number;
+          tag = chunk.now.tag;
+          entries = chunk.now.entries;
+          server = server;
+          reply = reply.now;
+        }) }
+    {
+        Ok(Acked {
+            number: chunk.number(),
+            tag: Bytes::from_slice(alloc, chunk.tag())?,
+            packed: Vec::from_slice(alloc, chunk.entries())?,
+            ends: Vec::from_slice(alloc, chunk.ends())?,
+            server,
+            reply: Bytes::from_slice(alloc, reply)?,
+        })
+    }
+
+    /// The number of the chunk at its output.
+    pub fn number(&self) -> u64
+        ensures { result ≡ self.now.number }
+    {
+        self.number
+    }
+
+    /// The tag's bytes.
+    pub fn tag(&self) -> &[u8]
+        ensures { result.now ≡ self.now.tag }
+    {
+        self.tag.as_slice()
+    }
+
+    /// The entries as they were sent, one after the other.
+    pub fn entries(&self) -> &[u8]
+        ensures { result.now ≡ concat self.now.entries }
+    {
+        &self.packed
+    }
+
+    /// Where each entry ends, in bytes from the front of the first.
+    pub fn ends(&self) -> &[u32]
+        ensures { result.now ≡ ends_of self.now.entries }
+    {
+        &self.ends
+    }
+
+    /// The server that acknowledged the chunk, by its place in the output's list.
+    pub fn server(&self) -> u16
+        ensures { result ≡ self.now.server }
+    {
+        self.server
+    }
+
+    /// The bytes of the reply (Forward Protocol Specification v1, "Response").
+    pub fn reply(&self) -> &[u8]
+        ensures { result.now ≡ self.now.reply }
+    {
+        self.reply.as_slice()
+    }
+}

@@ -1,0 +1,22 @@
+//! A worker's session with a server: the client's side of the handshake, one chunk after the other,
+//! and what the server acknowledged.
+#![tactic(auto)]
+
+mod acked;
+mod fault;
+mod frame;
+mod handshake;
+mod hearing;
+mod laws;
+mod outbox;
+mod session;
+mod told;
+mod word;
+
+pub use acked::Acked;
+pub use fault::{NotUp, SessionFault};
+pub use frame::frame_of;
+pub use handshake::Handshake;
+pub use laws::{faults_put_down, live_follows, pieces_are_one, said_by_front, stays_sane};
+pub use session::{LoadError, LoadFailed, Session};
+pub use told::{Heard, Told};

@@ -1,0 +1,558 @@
+//! A session, from its first byte to its end.
+
+ghost use Rattle.std.specs.Prelude.{◌≡◌, ◌≤◌, ◌<◌, ◌^◌, None, Some, Ok, true, false, [], ◌++◌, ◌+◌, ◌||◌, nat_le, if◌then◌else◌, length, is_some, option_copied, unwrap_or, IfOk, IfErr, IfSome, IsOk, IsErr, OnOk, OnErr};
+ghost use Rattle.std.specs.Option.{option_map};
+ghost use Rattle.std.specs.Arc.{arc_value};
+ghost use Rattle.fwd_handshake.specs.Shown.{salt_bytes};
+ghost use Rattle.fwd_session.specs.Evidence.{frame_of, reply_in, IsEvidence, IsBacked, IsNamed};
+ghost use Rattle.fwd_session.specs.Hearing.{shown};
+ghost use Rattle.fwd_session.specs.Said.{out_of, reply_stream, rest_of};
+ghost use Rattle.fwd_session.specs.History.{first_handshake, is_done, is_free_for, is_owed, told_of};
+ghost use Rattle.fwd_session.specs.Live.{
+  live_is_ready,
+  live_awaited,
+  live_says,
+  live_piece_told,
+  live_piece_out,
+  live_is_late,
+  live_acked,
+  said_behind,
+  session_begins,
+  session_loads,
+  session_sends,
+  session_takes,
+  session_hears,
+  session_unloads,
+  session_looks,
+};
+
+use crate::acked::Acked;
+use crate::fault::{NotUp, SessionFault};
+use crate::frame::frame_of;
+use crate::handshake::Handshake;
+use crate::hearing::{Hearing, hear};
+use crate::outbox::Outbox;
+use crate::told::{Heard, Told};
+use fwd_chunks::Carried;
+use fwd_handshake::{Login, Salt};
+use fwd_msgpack::Bytes;
+use std::alloc::{AllocError, AllocFailed, Global};
+use std::marker::Model;
+use std::sync::Arc;
+
+/// Why a chunk was not loaded.
+#[derive(Clone, Copy, Debug, PartialEq, Eq)]
+pub enum LoadError {
+    /// The session takes no chunk now. This is number 7 of the session faults.
+    NotUp,
+    /// There is no memory for its frame.
+    Memory,
+}
+
+/// A chunk that was not loaded, and why.
+#[derive(Debug)]
+pub struct LoadFailed {
+    pub chunk: Carried,
+    pub error: LoadError,
+}
+
+/// A session with one server. Its moments are in milliseconds. It may have a chunk, and so it must
+/// be ended.
+pub struct Session {
+    server: u16,
+    login: Arc<Login>,
+    salt: Bytes,
+    ack_wait: u64,
+    start: u64,
+    handshake: Handshake,
+    waiting: Outbox,
+    rest: Vec<u8>,
+    loaded: Option<Carried>,
+    acked: Option<Arc<Acked>>,
+    has_acked: bool,
+    since: u64,
+    down: bool,
+    moment: u64,
+}
+
+impl Model for Session {
+    ghost use Rattle.std.specs.Prelude.{◌<◌, ◌^◌, length};
+    ghost use Rattle.std.specs.Option.{option_map};
+    ghost use Rattle.std.specs.Arc.{arc_value};
+    ghost use Rattle.fwd_session.specs.Evidence.{reply_in, IsBacked};
+    ghost use Rattle.fwd_session.specs.Live.{LiveSession};
+
+    ghost Value = { LiveSession };
+
+    ghost view = { λ s. record {
+      setup = record {
+        server = s.server;
+        login = arc_value s.login;
+        salt = s.salt;
+        ack_wait = s.ack_wait;
+        start = s.start;
+      };
+      handshake = s.handshake;
+      waiting = s.waiting;
+      rest = s.rest.items;
+      loaded = s.loaded;
+      reply = reply_in (option_map arc_value s.acked);
+      has_acked = s.has_acked;
+      since = s.since;
+      down = s.down;
+      moment = s.moment;
+    } };
+
+    ghost invariant = { λ s. (length s.salt < 2 ^ 32)
+        × IsBacked s.server (option_map arc_value s.acked) s.loaded };
+}
+
+/// How far the handshake is before the first byte.
+fn first_handshake(login: &Login) -> Handshake
+    ensures { result ≡ first_handshake login.now }
+{
+    if login.shared_key.is_some() {
+        Handshake::AwaitsHelo
+    } else {
+        Handshake::Done { keepalive: true }
+    }
+}
+
+/// Whether the handshake is done.
+fn is_done(at: &Handshake) -> bool
+    ensures { result ≡ is_done at.now }
+{
+    matches!(at, Handshake::Done { .. })
+}
+
+/// Whether the handshake is done and the link may carry one more chunk.
+fn is_free_for(at: &Handshake, has_acked: bool) -> bool
+    ensures { result ≡ is_free_for at.now has_acked }
+{
+    match at {
+        Handshake::Done { keepalive } => *keepalive || !has_acked,
+        _ => false,
+    }
+}
+
+/// What is told of what was heard, where the handshake was this far before it.
+fn told_of(before: &Handshake, hearing: &Hearing<'_>) -> Heard
+    ensures { result ≡ told_of before.now (shown before.now hearing.now) }
+{
+    if let Some(fault) = hearing.fault {
+        return Heard::Fault(fault);
+    }
+    if hearing.reply.is_some() {
+        return Heard::Acked;
+    }
+    match &hearing.handshake {
+        Some(next) if is_done(next) && !is_done(before) => Heard::Ready,
+        _ => Heard::Quiet,
+    }
+}
+
+/// What is told to be sent: nothing, once there is a fault.
+fn told_out(alloc: Global, out: &[u8], fault: Option<SessionFault>) -> Result<Bytes, AllocError>
+    ensures { IfOk result (λ told. told ≡ (if is_some fault then [] else out.now)) }
+{
+    match fault {
+        None => Bytes::from_slice(alloc, out),
+        Some(_) => Ok(Bytes::new(alloc)),
+    }
+}
+
+impl Session {
+    /// A session that begins: where the login has a shared key, HELO is awaited. The only error is
+    /// want of memory, which gives `login` back.
+    pub fn up(
+        alloc: Global,
+        server: u16,
+        login: Arc<Login>,
+        salt: Salt<'_>,
+        ack_wait: u64,
+        now: u64,
+    ) -> Result<Session, AllocFailed<Arc<Login>>>
+        ensures ok { IfOk result (λ session. session ≡ session_begins (record {
+          server = server;
+          login = arc_value login;
+          salt = salt_bytes salt.entry;
+          ack_wait = ack_wait;
+          start = now;
+        })) }
+        ensures err { IfErr result (λ failed. failed.value ≡ login) }
+    {
+        let Ok(salt) = Bytes::from_slice(alloc, salt.bytes()) else {
+            return Err(AllocFailed { value: login });
+        };
+        let handshake = first_handshake(&login);
+        Ok(Session {
+            server,
+            login,
+            salt,
+            ack_wait,
+            start: now,
+            handshake,
+            waiting: Outbox::new(alloc),
+            rest: Vec::new(alloc),
+            loaded: None,
+            acked: None,
+            has_acked: false,
+            since: now,
+            down: false,
+            moment: now,
+        })
+    }
+
+    /// Whether a chunk may be loaded: the handshake is done, no fault and no lateness put the
+    /// session down, and its link may carry one more chunk.
+    pub fn is_ready(&self) -> bool
+        ensures { result ≡ live_is_ready self.now }
+    {
+        !self.down && is_free_for(&self.handshake, self.has_acked)
+    }
+
+    /// Whether the handshake is done.
+    pub fn is_greeted(&self) -> bool
+        ensures { result ≡ is_done self.now.handshake }
+    {
+        is_done(&self.handshake)
+    }
+
+    /// Whether a fault or lateness put the session down.
+    pub fn is_down(&self) -> bool
+        ensures { result ≡ self.now.down }
+    {
+        self.down
+    }
+
+    /// The server, by its place in the output's list.
+    pub fn server(&self) -> u16
+        ensures { result ≡ self.now.setup.server }
+    {
+        self.server
+    }
+
+    /// The bytes that wait to be sent.
+    pub fn out(&self) -> &[u8]
+        ensures { result.now ≡ self.now.waiting }
+    {
+        self.waiting.as_slice()
+    }
+
+    /// The link took so many bytes of those that wait to be sent.
+    pub fn wrote(&mut self, count: usize)
+        requires { count ≤ length self.old.waiting }
+        ensures { self.new ≡ session_sends self.old count }
+    {
+        self.waiting.advance(count);
+    }
+
+    /// The session, which has none, has the chunk.
+    fn set_chunk(&mut self, chunk: Carried)
+        requires none { self.old.loaded ≡ None }
+        ensures { self.new ≡ record self.old { loaded = Some chunk } }
+    {
+        match self.loaded.replace(chunk) {
+            None => {}
+            Some(_) => unreachable!(),
+        }
+    }
+
+    /// Puts the frame of a chunk behind the bytes that wait. On an error nothing has changed, and
+    /// the chunk comes back.
+    pub fn load(&mut self, alloc: Global, chunk: Carried, now: u64) -> Result<(), LoadFailed>
+        requires { self.old.loaded ≡ None }
+        ensures ok { OnOk result (self.new ≡ session_loads self.old chunk now) }
+        ensures up { OnOk result (live_is_ready self.old ≡ true) }
+        ensures err { OnErr result (self.new ≡ self.old) }
+        ensures back { IfErr result (λ failed. failed.chunk ≡ chunk) }
+        ensures not_up { IfErr result (λ failed.
+            failed.error ≡ LoadError.NotUp → live_is_ready self.old ≡ false) }
+        ensures memory { IfErr result (λ failed.
+            failed.error ≡ LoadError.Memory → live_is_ready self.old ≡ true) }
+    {
+        if !self.is_ready() {
+            return Err(LoadFailed {
+                chunk,
+                error: LoadError::NotUp,
+            });
+        }
+        if self.queue(alloc, &chunk).is_err() {
+            return Err(LoadFailed {
+                chunk,
+                error: LoadError::Memory,
+            });
+        }
+        self.moment = self.moment.max(now);
+        self.since = self.moment;
+        self.set_chunk(chunk);
+        Ok(())
+    }
+
+    /// Puts the frame of a chunk behind the bytes that wait. On an error nothing has changed.
+    fn queue(&mut self, alloc: Global, chunk: &Carried) -> Result<(), AllocError>
+        ensures ok { OnOk result (self.new ≡ record self.old {
+          waiting = self.old.waiting ++ frame_of chunk.now;
+        }) }
+        ensures err { OnErr result (self.new ≡ self.old) }
+    {
+        let frame = frame_of(alloc, chunk)?;
+        self.waiting.append(frame)
+    }
+
+    /// The name of the chunk whose acknowledgement is awaited: one that was handed on whole and is
+    /// not acknowledged.
+    fn awaited(&self) -> Option<&[u8]>
+        ensures { option_copied result ≡ live_awaited self.now }
+    {
+        if self.acked.is_some() || !self.waiting.as_slice().is_empty() {
+            return None;
+        }
+        match &self.loaded {
+            None => None,
+            Some(chunk) => Some(chunk.name()),
+        }
+    }
+
+    /// What these bytes say, of which those of the unfinished value are the first.
+    fn hears<'a>(&self, alloc: Global, bytes: &'a [u8]) -> Result<Hearing<'a>, AllocError>
+        ensures said { IfOk result (λ hearing. shown self.now.handshake hearing
+            ≡ said_behind self.now bytes.now) }
+        ensures rest { IfOk result (λ hearing. hearing.fault ≡ None
+            → hearing.rest.now ≡ rest_of (reply_stream bytes.now)) }
+        ensures named { IfOk result (λ hearing.
+            IsNamed self.now.loaded (option_copied hearing.reply)) }
+    {
+        let Some(salt) = Salt::new(self.salt.as_slice()) else {
+            unreachable!();
+        };
+        hear(
+            alloc,
+            &self.login,
+            salt,
+            &self.handshake,
+            self.awaited(),
+            bytes,
+        )
+    }
+
+    /// What is kept of the chunk, where a value acknowledged it.
+    fn evidence(
+        &self,
+        alloc: Global,
+        reply: Option<&[u8]>,
+    ) -> Result<Option<Arc<Acked>>, AllocError>
+        requires { IsNamed self.now.loaded (option_copied reply) }
+        ensures backed { IfOk result (λ acked.
+            IsBacked self.now.setup.server (option_map arc_value acked) self.now.loaded) }
+        ensures reply { IfOk result (λ acked.
+            reply_in (option_map arc_value acked) ≡ option_copied reply.entry) }
+    {
+        let (Some(reply), Some(chunk)) = (reply, &self.loaded) else {
+            return Ok(None);
+        };
+        let acked = Acked::new(alloc, chunk, self.server, reply)?;
+        match Arc::new(alloc, acked) {
+            Ok(acked) => Ok(Some(acked)),
+            Err(_) => Err(AllocError),
+        }
+    }
+
+    /// The bytes of the unfinished value.
+    fn rest(&self) -> &[u8]
+        ensures { result.now ≡ self.now.rest }
+    {
+        &self.rest
+    }
+
+    /// The bytes of the unfinished value, and then these.
+    fn joined(&self, alloc: Global, bytes: &[u8]) -> Result<Vec<u8>, AllocError>
+        ensures { IfOk result (λ all. all.items ≡ self.now.rest ++ bytes.now) }
+    {
+        let mut all = Vec::from_slice(alloc, &self.rest)?;
+        all.extend_from_slice(bytes)?;
+        Ok(all)
+    }
+
+    /// What was heard counts. On an error nothing has changed.
+    #[tactic(auto, unfolding(crate::specs::Live::session_takes))]
+    fn take_in(&mut self, alloc: Global, hearing: Hearing<'_>) -> Result<Told, AllocError>
+        requires up { self.old.down ≡ false }
+        requires named { IsNamed self.old.loaded (option_copied hearing.reply) }
+        ensures heard { IfOk result (λ told. told.heard
+            ≡ told_of self.old.handshake (shown self.old.handshake hearing.entry)) }
+        ensures out { IfOk result (λ told. told.out
+            ≡ out_of (shown self.old.handshake hearing.entry)) }
+        ensures next { OnOk result (self.new ≡ session_takes self.old
+            (shown self.old.handshake hearing.entry) hearing.entry.rest.now) }
+        ensures err { OnErr result (self.new ≡ self.old) }
+    {
+        let heard = told_of(&self.handshake, &hearing);
+        let Hearing {
+            handshake,
+            out,
+            reply,
+            fault,
+            rest,
+        } = hearing;
+        let acked = self.evidence(alloc, reply)?;
+        let rest = Vec::from_slice(alloc, rest)?;
+        let told = told_out(alloc, &out, fault)?;
+        self.waiting.append(out)?;
+        self.rest = rest;
+        self.greet(handshake);
+        self.keep(acked);
+        self.fall_for(fault);
+        Ok(Told { heard, out: told })
+    }
+
+    /// The handshake went on, if this says how far.
+    fn greet(&mut self, next: Option<Handshake>)
+        ensures { self.new ≡ record self.old { handshake = unwrap_or next self.old.handshake } }
+    {
+        if let Some(next) = next {
+            self.handshake = next;
+        }
+    }
+
+    /// The chunk was acknowledged, if there is anything to keep of it.
+    fn keep(&mut self, acked: Option<Arc<Acked>>)
+        requires { IsBacked self.old.setup.server (option_map arc_value acked) self.old.loaded }
+        ensures { let reply = reply_in (option_map arc_value acked) in
+            self.new ≡ record self.old {
+              reply = if is_some reply then reply else self.old.reply;
+              has_acked = self.old.has_acked || is_some reply;
+            } }
+    {
+        if let Some(acked) = acked {
+            self.acked = Some(acked);
+            self.has_acked = true;
+        }
+    }
+
+    /// A fault puts the session down, if there is one.
+    fn fall_for(&mut self, fault: Option<SessionFault>)
+        requires { self.old.down ≡ false }
+        ensures { self.new ≡ record self.old {
+          waiting = if is_some fault then [] else self.old.waiting;
+          rest = if is_some fault then [] else self.old.rest;
+          down = is_some fault;
+        } }
+    {
+        if fault.is_some() {
+            self.fall();
+        }
+    }
+
+    /// Nothing waits any more, and nothing more is taken.
+    fn fall(&mut self)
+        ensures { self.new ≡ record self.old { waiting = []; rest = []; down = true } }
+    {
+        self.waiting.clear();
+        self.rest.clear();
+        self.down = true;
+    }
+
+    /// Bytes are read from the link. Once the session is down each further piece is refused. The
+    /// only error is want of memory, and then nothing has changed.
+    pub fn heard(&mut self, alloc: Global, bytes: &[u8]) -> Result<Told, AllocError>
+        ensures heard { IfOk result (λ told. told.heard ≡ live_piece_told self.old bytes.now) }
+        ensures out { IfOk result (λ told. told.out ≡ live_piece_out self.old bytes.now) }
+        ensures next { OnOk result (self.new ≡ session_hears self.old bytes.now) }
+        ensures down { self.old.down ≡ true → IsOk result }
+        ensures err { OnErr result (self.new ≡ self.old) }
+    {
+        if self.is_down() {
+            return Ok(Told {
+                heard: Heard::NotUp,
+                out: Bytes::new(alloc),
+            });
+        }
+        if self.rest().is_empty() {
+            let hearing = self.hears(alloc, bytes)?;
+            return self.take_in(alloc, hearing);
+        }
+        let all = self.joined(alloc, bytes)?;
+        let hearing = self.hears(alloc, &all)?;
+        self.take_in(alloc, hearing)
+    }
+
+    /// Takes out the chunk that was acknowledged, with what is kept of it.
+    pub fn acked(&mut self) -> Option<(Arc<Acked>, Carried)>
+        ensures chunk { option_map (λ pair. pair.1) result ≡ live_acked self.old }
+        ensures reply { reply_in (option_map (λ pair. arc_value pair.0) result)
+            ≡ self.old.reply }
+        ensures evidence { IfSome result (λ pair.
+            IsEvidence (arc_value pair.0) pair.1
+            × ((arc_value pair.0).server ≡ self.old.setup.server)) }
+        ensures some { is_some self.old.reply ≡ true → self.new ≡ session_unloads self.old }
+        ensures none { is_some self.old.reply ≡ false → self.new ≡ self.old }
+    {
+        let acked = self.acked.take()?;
+        let Some(chunk) = self.loaded.take() else {
+            unreachable!();
+        };
+        Some((acked, chunk))
+    }
+
+    /// Whether the session is late at a moment: its handshake is not done or its chunk is not
+    /// acknowledged, and it waits for that since `ack_wait` or longer. Then it is down.
+    #[tactic(auto, unfolding(crate::specs::Live::session_looks))]
+    pub fn late(&mut self, now: u64) -> Result<bool, NotUp>
+        ensures down { self.old.down ≡ true → IsErr result × (self.new ≡ self.old) }
+        ensures late { self.old.down ≡ false → result ≡ Ok (live_is_late self.old now) }
+        ensures next { self.old.down ≡ false → self.new ≡ session_looks self.old now }
+    {
+        if self.down {
+            return Err(NotUp);
+        }
+        self.moment = self.moment.max(now);
+        let late = self.is_owed() && self.is_over();
+        if late {
+            self.fall();
+        }
+        Ok(late)
+    }
+
+    /// Whether the handshake is not done, or the chunk is not acknowledged.
+    fn is_owed(&self) -> bool
+        ensures { result ≡ is_owed self.now.handshake self.now.loaded self.now.reply }
+    {
+        !is_done(&self.handshake) || self.loaded.is_some() && self.acked.is_none()
+    }
+
+    /// Whether the wait is over.
+    fn is_over(&self) -> bool
+        ensures { result ≡ nat_le (self.now.since + self.now.setup.ack_wait) self.now.moment }
+    {
+        let moment = self.moment;
+        match self.since.checked_add(self.ack_wait) {
+            None => false,
+            Some(end) => end <= moment,
+        }
+    }
+
+    /// The session is no more. A chunk that was not acknowledged comes back.
+    pub fn end(self) -> Option<Carried>
+        requires { self.reply ≡ None }
+        ensures { result ≡ self.loaded }
+    {
+        let Session {
+            server: _,
+            login: _,
+            salt: _,
+            ack_wait: _,
+            start: _,
+            handshake: _,
+            waiting: _,
+            rest: _,
+            loaded,
+            acked: _,
+            has_acked: _,
+            since: _,
+            down: _,
+            moment: _,
+        } = self;
+        loaded
+    }
+}

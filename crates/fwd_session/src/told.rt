@@ -1,0 +1,25 @@
+use crate::fault::SessionFault;
+use fwd_msgpack::Bytes;
+
+/// What a piece of a server's bytes did to its session.
+#[derive(Clone, Copy, Debug, PartialEq, Eq)]
+pub enum Heard {
+    /// Nothing that asks for anything.
+    Quiet,
+    /// The handshake is done: chunks may be loaded.
+    Ready,
+    /// The session's chunk is acknowledged, and can be taken out.
+    Acked,
+    /// A fault put the session down. An acknowledgement that was accepted before it stands.
+    Fault(SessionFault),
+    /// The session was down before: nothing has changed.
+    NotUp,
+}
+
+/// What a piece did, and what it put behind the bytes that wait to be sent: the PING that answers a
+/// HELO, or nothing.
+#[derive(Debug, Drop)]
+pub struct Told {
+    pub heard: Heard,
+    pub out: Bytes,
+}

@@ -1,0 +1,16 @@
+use crate::fault::SessionFault;
+use crate::handshake::Handshake;
+use fwd_msgpack::Bytes;
+
+/// What one value of a server says.
+#[derive(Debug, Drop)]
+pub(crate) enum Word {
+    /// Nothing.
+    Skipped,
+    /// The handshake goes on: what is sent for it, and how far it came.
+    Greets { out: Bytes, next: Handshake },
+    /// The awaited chunk is acknowledged.
+    Acks,
+    /// A fault.
+    Fails(SessionFault),
+}
