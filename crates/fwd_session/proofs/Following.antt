@@ -1,8 +1,8 @@
 -- The live part of a session follows its history.
-use Rattle.std.proofs.Common.{◌≡◌, ℕ, zero, suc, ◌+◌, ◌≤◌, Bool, true, false, cond, ltb, leb, List, [], ◌∷◌, ◌++◌, length, drop, max, Option, Some, None, refl, sym, ap, subst, ◌∙◌, arith}
-use Rattle.std.specs.Prelude.{option_map, is_some, not, unwrap_or, ◌||◌, ◌&&◌}
+use Rattle.std.proofs.Common.{◌≡◌, ℕ, zero, suc, ◌+◌, ◌≤◌, Bool, true, false, cond, ltb, leb, List, [], ◌∷◌, ◌++◌, length, drop, max, Option, Some, None, refl, sym, ap, ◌∙◌, arith}
+use Rattle.std.specs.Prelude.{option_map, is_some, not, ◌||◌}
 use Rattle.std.proofs.lemmas.Bool.Decides.{nat_tests}
-use Rattle.std.proofs.lemmas.List.{length-append, length-drop, drop-append-le, drop-drop, append_assoc, append-nil}
+use Rattle.std.proofs.lemmas.List.{length-append, length-drop, drop-append-le, drop-drop, append_assoc}
 use Rattle.fwd_msgpack.specs.Scans.{Split, split_of, continued, with_front, values_of}
 use Rattle.fwd_msgpack.specs.Scans.Split.{Open, Broken}
 use Rattle.fwd_msgpack.proofs.Rows.{split_append}
@@ -265,12 +265,12 @@ listens-sane s bytes sane up =
       started = sane.started;
       sent = omega (arith, sane.sent, length-append s.appended (out_of said));
       opened = λ f. ap is_open (reply_stream-goes_on s.heard bytes whole) ∙ is_open-front (values_of (reply_stream s.heard)) stream
-      ∙ said-open s.setup.login s.setup.salt (handshake_of s) (awaited s) stream (good f);
+          ∙ said-open s.setup.login s.setup.salt (handshake_of s) (awaited s) stream (good f);
       greets = λ f more.
-      ap (λ vs. greeted s (vs ++ more)) all ∙ ap (greeted s) (append_assoc (values_of (reply_stream s.heard)) (values_of stream) more)
-      ∙ sane.greets up (values_of stream ++ more)
-      ∙ handshake_goes_on s.setup.login s.setup.salt (handshake_of s) (awaited s) (values_of stream) more (said-whole_of s.setup.login s.setup.salt (handshake_of s) (awaited s) stream (good f))
-      ∙ ap (λ g. (said_of s.setup.login s.setup.salt g None more silence).handshake) (sym here);
+          ap (λ vs. greeted s (vs ++ more)) all ∙ ap (greeted s) (append_assoc (values_of (reply_stream s.heard)) (values_of stream) more)
+          ∙ sane.greets up (values_of stream ++ more)
+          ∙ handshake_goes_on s.setup.login s.setup.salt (handshake_of s) (awaited s) (values_of stream) more (said-whole_of s.setup.login s.setup.salt (handshake_of s) (awaited s) stream (good f))
+          ∙ ap (λ g. (said_of s.setup.login s.setup.salt g None more silence).handshake) (sym here);
     }
 
 -- ---- the events

@@ -1,5 +1,5 @@
 -- However a session's bytes are cut, it hears the same.
-use Rattle.std.proofs.Common.{◌≡◌, ℕ, Bool, true, false, cond, ltb, List, [], ◌∷◌, ◌++◌, length, Option, Some, None, refl, sym, ap, subst, ◌∙◌, arith}
+use Rattle.std.proofs.Common.{◌≡◌, ℕ, Bool, true, false, cond, ltb, List, [], ◌∷◌, ◌++◌, length, Option, Some, None, refl, sym, ap, ◌∙◌}
 use Rattle.std.specs.Prelude.{option_map, is_some, ◌||◌}
 use Rattle.std.specs.List.{concat}
 use Rattle.std.specs.Str.{bytes_eq}
@@ -19,7 +19,7 @@ use Rattle.fwd_session.specs.declared.word.Word.{Word}
 use Rattle.fwd_session.specs.declared.word.Word.TheVariants.{Skipped, Greets, Acks, Fails}
 use Rattle.fwd_session.specs.Said.{Said, sending, acking, ack_word, word_of, word_then, said_of, said_in, silence, failing, reply_stream, rest_of}
 use Rattle.fwd_session.specs.History.{is_open, is_done}
-use Rattle.fwd_session.specs.Live.{LiveSession, live_awaited, live_says, said_behind, session_takes, session_listens, session_hears, session_hears_all}
+use Rattle.fwd_session.specs.Live.{LiveSession, live_awaited, live_says, session_takes, session_listens, session_hears, session_hears_all}
 use Rattle.fwd_session.proofs.Saying.{silent, silent_of}
 use Rattle.fwd_session.proofs.Following.{done_stays, said-open, reply_stream-goes_on, rest_of-front}
 use Rattle.fwd_session.proofs.Taking.{takes-rest}
@@ -304,11 +304,14 @@ hears_two s a b ordered = by s.down refl
   where
     hears_up : (x : LiveSession) (bytes : List ℕ) → x.down ≡ false → session_hears x bytes ≡ session_listens x bytes
     hears_up x bytes e = ap (λ d. cond d x (session_listens x bytes)) e
+
     hears_down : (x : LiveSession) (bytes : List ℕ) → x.down ≡ true → session_hears x bytes ≡ x
     hears_down x bytes e = ap (λ d. cond d x (session_listens x bytes)) e
+
     by_fault : s.down ≡ false → (f : Option SessionFault) → (live_says s a).fault ≡ f → session_hears (session_listens s a) b ≡ session_listens s (a ++ b)
     by_fault up (Some f) e = hears_down (session_listens s a) b (listens-down s a ∙ ap (λ (x : Option SessionFault). is_some x) e) ∙ listens_two-fault s a b up ordered f e
     by_fault up None e = hears_up (session_listens s a) b (listens-down s a ∙ ap (λ (x : Option SessionFault). is_some x) e) ∙ listens_two-good s a b up ordered e
+
     by : (d : Bool) → s.down ≡ d → session_hears (session_hears s a) b ≡ session_hears s (a ++ b)
     by true e = ap (λ (x : LiveSession). session_hears x b) (hears_down s a e) ∙ hears_down s b e ∙ sym (hears_down s (a ++ b) e)
     by false e = ap (λ (x : LiveSession). session_hears x b) (hears_up s a e) ∙ by_fault e (live_says s a).fault refl ∙ sym (hears_up s (a ++ b) e)

@@ -1,10 +1,10 @@
 -- What a server's bytes say: by what stands at their front, and by the name that is awaited.
-use Rattle.std.proofs.Common.{◌≡◌, ℕ, Bool, true, false, cond, List, [], ◌∷◌, ◌++◌, length, take, drop, Option, Some, None, refl, sym, ap, subst, ◌∙◌}
+use Rattle.std.proofs.Common.{◌≡◌, ℕ, Bool, true, false, cond, List, [], ◌∷◌, take, drop, Option, Some, None, refl, sym, ap, subst, ◌∙◌}
 use Rattle.std.specs.Prelude.{option_map}
 use Rattle.std.specs.Str.{bytes_eq}
 use Rattle.std.proofs.lemmas.Slice.Eq.{bytes_eq-Decides}
 use Rattle.fwd_msgpack.specs.declared.fault.ScanFault.{ScanFault}
-use Rattle.fwd_msgpack.specs.Scans.{Split, split_of, with_front, values_of, Whole, Short, Bad, first_of}
+use Rattle.fwd_msgpack.specs.Scans.{Split, split_of, with_front, Whole, Short, Bad, first_of}
 use Rattle.fwd_msgpack.specs.Scans.Split.{Open, Broken}
 use Rattle.fwd_msgpack.proofs.Rows.{by_first, told_first, split_first}
 use Rattle.fwd_modes.specs.Kinds.{is_nil}

@@ -1,5 +1,5 @@
 -- What the parts of a hearing show, in the words of the definitions.
-use Rattle.std.specs.Prelude.{◌≡◌, ℕ, ◌++◌, ◌<◌, List, length, Option, Some, None, option_map, option_copied, unwrap_or, is_some, if◌then◌else◌}
+use Rattle.std.specs.Prelude.{◌≡◌, ℕ, ◌++◌, ◌<◌, List, length, Option, option_copied, unwrap_or, is_some, if◌then◌else◌}
 use Rattle.fwd_msgpack.specs.Values.{bytes_of}
 use Rattle.fwd_handshake.specs.declared.credentials.Login.{Login}
 use Rattle.fwd_session.specs.declared.fault.SessionFault.TheVariants.{BadReply}

@@ -1,6 +1,6 @@
 -- What of a session's history still matters: how far its handshake came, the bytes that wait to be
 -- sent, those of an unfinished value, and its chunk.
-use Rattle.std.specs.Prelude.{ℕ, ◌+◌, Bool, true, false, not, ◌&&◌, ◌||◌, List, [], ◌∷◌, ◌++◌, length, drop, Option, Some, None, option_map, is_some, nat_le, nat_lt, max, if◌then◌else◌}
+use Rattle.std.specs.Prelude.{ℕ, ◌+◌, Bool, false, not, ◌&&◌, ◌||◌, List, [], ◌∷◌, ◌++◌, length, drop, Option, Some, None, option_map, is_some, nat_le, nat_lt, max, if◌then◌else◌}
 use Rattle.fwd_chunks.specs.History.{Load}
 use Rattle.fwd_session.specs.declared.handshake.Handshake.{Handshake}
 use Rattle.fwd_session.specs.declared.told.Heard.{Heard}

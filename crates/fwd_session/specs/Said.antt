@@ -1,6 +1,6 @@
 -- What a server's bytes say to a session: its side of the handshake (Forward Protocol Specification
 -- v1, "Handshake Messages"), and then its acknowledgements ("Response").
-use Rattle.std.specs.Prelude.{ℕ, Bool, true, false, List, [], ◌∷◌, ◌++◌, drop, length, Option, Some, None, is_some, if◌then◌else◌}
+use Rattle.std.specs.Prelude.{ℕ, Bool, List, [], ◌∷◌, ◌++◌, drop, length, Option, Some, None, is_some, if◌then◌else◌}
 use Rattle.std.specs.Str.{bytes_eq}
 use Rattle.fwd_msgpack.specs.Scans.{Split, split_of, values_of}
 use Rattle.fwd_msgpack.specs.Scans.Split.{Open, Broken}

@@ -225,6 +225,13 @@ impl Session {
         self.down
     }
 
+    /// Whether the session has a chunk.
+    pub fn has_chunk(&self) -> bool
+        ensures { result ≡ is_some self.now.loaded }
+    {
+        self.loaded.is_some()
+    }
+
     /// The server, by its place in the output's list.
     pub fn server(&self) -> u16
         ensures { result ≡ self.now.setup.server }
@@ -385,6 +392,7 @@ impl Session {
             ≡ out_of (shown self.old.handshake hearing.entry)) }
         ensures next { OnOk result (self.new ≡ session_takes self.old
             (shown self.old.handshake hearing.entry) hearing.entry.rest.now) }
+        ensures chunk { self.new.loaded ≡ self.old.loaded }
         ensures err { OnErr result (self.new ≡ self.old) }
     {
         let heard = told_of(&self.handshake, &hearing);
@@ -459,6 +467,7 @@ impl Session {
         ensures heard { IfOk result (λ told. told.heard ≡ live_piece_told self.old bytes.now) }
         ensures out { IfOk result (λ told. told.out ≡ live_piece_out self.old bytes.now) }
         ensures next { OnOk result (self.new ≡ session_hears self.old bytes.now) }
+        ensures chunk { self.new.loaded ≡ self.old.loaded }
         ensures down { self.old.down ≡ true → IsOk result }
         ensures err { OnErr result (self.new ≡ self.old) }
     {
@@ -554,5 +563,16 @@ impl Session {
             moment: _,
         } = self;
         loaded
+    }
+
+    /// The session is no more, and neither is its chunk, of which its buffer does not learn: for
+    /// what ends together with the buffer. Where the buffer goes on, the chunk is taken out.
+    pub fn spend(mut self) {
+        if let Some((_, chunk)) = self.acked() {
+            chunk.spend();
+        }
+        if let Some(chunk) = self.end() {
+            chunk.spend();
+        }
     }
 }

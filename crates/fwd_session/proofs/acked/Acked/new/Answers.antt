@@ -1,6 +1,6 @@
-use Rattle.std.proofs.Common.{◌≡◌, sym, ap, subst, ◌∙◌}
+use Rattle.std.proofs.Common.{◌≡◌, ◌∙◌}
 use Rattle.std.specs.List.{concat}
-use Rattle.fwd_modes.specs.Entries.{ends_of, cut_at, AreCut}
+use Rattle.fwd_modes.specs.Entries.{ends_of, cut_at}
 use Rattle.fwd_chunks.proofs.Packing.{cut_joined, AreCut-joined}
 use Rattle.fwd_session.proofs.acked.Acked.new.Goals as goal
 

@@ -1,4 +1,4 @@
-use Rattle.std.proofs.Common.{◌≡◌, ℕ, List, [], ◌++◌, length, refl, sym, ap, subst, ◌∙◌}
+use Rattle.std.proofs.Common.{◌≡◌, ℕ, List, [], ◌++◌, length, sym, ap, subst, ◌∙◌}
 use Rattle.std.specs.Prelude.{OnOk, ◌==◌}
 use Rattle.fwd_session.specs.Live.{LiveSession}
 use Rattle.fwd_session.proofs.Taking.{no_bytes, hears-by}
