@@ -10,6 +10,8 @@ mod hearing;
 mod laws;
 mod outbox;
 mod session;
+#[cfg(test)]
+mod tests;
 mod told;
 mod word;
 

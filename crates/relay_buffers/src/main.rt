@@ -1,9 +1,10 @@
-//! The program: `relay_buffers count|speed ENTRIES TAGS SIZE REQUEST TURNS`.
+//! The program: `relay_buffers requests|count|speed ENTRIES TAGS SIZE REQUEST TURNS`.
 //!
 //! It admits requests to a buffer until it has so many entries, closes all chunks, and takes and
 //! settles each of them; and it copies the same bytes. Each request has REQUEST entries of SIZE
 //! bytes, and the requests go round TAGS tags. It prints what the buffer was left with; under
-//! `speed` also how long each part took in the fastest of the turns.
+//! `speed` also how long each part took in the fastest of the turns. Under `requests` it makes the
+//! requests alone, so that the memory of the two can be told apart.
 #![tactic(auto)]
 
 mod requests;
@@ -12,7 +13,7 @@ mod words;
 
 use crate::requests::batches;
 use crate::turns::{Times, fastest};
-use crate::words::read_words;
+use crate::words::{Mode, read_words};
 use anyhow::{Context, Result};
 use std::time::Duration;
 
@@ -33,6 +34,10 @@ fn report(rt: &impl Print, part: &str, took: Duration, count: u64, of: &str) -> 
 fn main(rt: HostRuntime) -> Result<()> {
     let words = read_words(&rt)?;
     let batches = batches(rt.alloc(), words.load).context("no requests")?;
+    if words.mode == Mode::Requests {
+        println!(rt; "requests {}", batches.len())?;
+        return Ok(());
+    }
     let (found, times) = fastest(&rt, &words, &batches)?;
     let entries = found.counts.accepted;
     let chunks = found.chunks;
@@ -40,7 +45,7 @@ fn main(rt: HostRuntime) -> Result<()> {
         "entries {entries} settled {} chunks {chunks} closed {}",
         found.counts.settled, found.closed
     )?;
-    if words.speed {
+    if words.mode == Mode::Speed {
         let Times {
             admit,
             flush,

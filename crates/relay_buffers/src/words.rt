@@ -24,11 +24,21 @@ impl Load {
     }
 }
 
+/// How much of it is done.
+#[derive(Clone, Copy, Debug, PartialEq, Eq)]
+pub enum Mode {
+    /// The requests are made, and no more.
+    Requests,
+    /// All of it.
+    Count,
+    /// All of it, and times are printed too.
+    Speed,
+}
+
 /// What the program is asked to do.
 #[derive(Clone, Copy, Debug, PartialEq, Eq)]
 pub struct Words {
-    /// Whether times are printed too.
-    pub speed: bool,
+    pub mode: Mode,
     pub load: Load,
     /// How often all is done.
     pub turns: u32,
@@ -37,10 +47,11 @@ pub struct Words {
 /// The program's words, or which of them is none that it knows.
 pub fn read_words<R: Runtime + AllocGlobal>(rt: &R) -> Result<Words> {
     let mut words = env::args(rt)?.skip(1);
-    let speed = match words.next().context("count or speed?")?.as_str() {
-        "count" => false,
-        "speed" => true,
-        _ => bail!("count or speed?"),
+    let mode = match words.next().context("requests, count or speed?")?.as_str() {
+        "requests" => Mode::Requests,
+        "count" => Mode::Count,
+        "speed" => Mode::Speed,
+        _ => bail!("requests, count or speed?"),
     };
     let mut number = |what: &str| -> Result<u32> {
         let word = words.next().context(format_args!("how many {what}?"))?;
@@ -52,7 +63,7 @@ pub fn read_words<R: Runtime + AllocGlobal>(rt: &R) -> Result<Words> {
     let request = number("entries a request")?;
     let turns = number("turns")?;
     Ok(Words {
-        speed,
+        mode,
         load: Load {
             entries,
             tags,
