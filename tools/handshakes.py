@@ -274,6 +274,39 @@ def pongs():
     pong("not_pong", None)
 
 
+def worked():
+    """The worked handshake, whose digested text is the sentence of the fox, by its bytes: nothing here is computed."""
+    found = (
+        "07e547d9586f6a73f73fbac0435ed76951218fb7d0c8d788a309d785436bbb64"
+        "2e93a252a954f23912547d1e8a3b5ed6e1bfd7097821233fa0538f3db854fee6"
+    ).encode()
+    hello = "92a448454c4f83a56e6f6e6365c410" + NONCE.hex() + "a461757468a0a96b656570616c697665"
+    ping_of = lambda text, end: "96a450494e47a562726f776eaa" + SALT.hex() + "d980" + text.hex() + end
+    pong_of = "95a4504f4e47c3a0a562726f776ed980" + found.hex()
+    denial = "95a4504f4e47c2b37368617265645f6b6579206d69736d61746368a0a0"
+    no_user = "95a4504f4e47c2ba757365726e616d652f70617373776f7264206d69736d61746368a0a0"
+    brown, key, nonce, auth, salt = HOST.hex(), KEY.hex(), NONCE.hex(), "00" * 16, SALT.hex()
+    other = b"1" + found[1:]
+    for call, told in (
+        (f"helo {brown} - {nonce} {auth}", hello + "c3"),
+        (f"helo {brown} 75:70 {nonce} {auth}", hello.replace("a0a96b", "c410" + auth + "a96b") + "c3"),
+        (f"ping {brown} {key} - {nonce} {auth} {ping_of(found, 'a0a0')}", "pass " + pong_of),
+        (f"ping {brown} {key} - {nonce} {auth} {ping_of(other, 'a0a0')}", "key " + denial),
+        (f"ping {brown} {key} 75:70 {nonce} {auth} {ping_of(found, 'a175a178')}", "user " + no_user),
+        (f"ping {brown} {key} - {nonce} {auth} 93a1610180", "not_ping"),
+        (f"answer {brown} {key} - - {salt} {hello}c3", f"keep {nonce} {ping_of(found, 'a0a0')}"),
+        (f"answer {brown} {key} - - {salt} {hello}c2", f"close {nonce} {ping_of(found, 'a0a0')}"),
+        (f"answer {brown} none 75 70 {salt} {hello}c3", "not_helo"),
+        (f"pong {key} {salt} {nonce} {pong_of}", "pass"),
+        (f"pong {key} {salt} {nonce} {denial}", "denied"),
+        (f"pong {key} {salt} {nonce} {hello}c3", "not_pong"),
+        (f"pong none {salt} {nonce} {pong_of}", "bad_digest"),
+    ):
+        CALLS.append(call)
+        ANSWERS.append(told)
+
+
+worked()
 helos()
 pings_without_users()
 pings_with_users()

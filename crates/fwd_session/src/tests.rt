@@ -28,11 +28,13 @@ const FRAME: &[u8] =
 
 const ACK: &[u8] = b"\x81\xa3ack\xb8AAAAAAAAAAAAAAAAAAAAAQ==";
 
-const HELO: &[u8] = b"\x92\xa4HELO\x83\xa5nonce\xc4\x10 fox jumps over \xa4auth\xa0\xa9keepalive\xc3";
+const HELO: &[u8] =
+    b"\x92\xa4HELO\x83\xa5nonce\xc4\x10 fox jumps over \xa4auth\xa0\xa9keepalive\xc3";
 
 /// The digest of the key `the lazy dog` for the hostname `brown`, the salt `The quick ` and HELO's
 /// nonce.
-const DIGEST: &[u8; 128] = b"07e547d9586f6a73f73fbac0435ed76951218fb7d0c8d788a309d785436bbb642e93a252a954f23912547d1e8a3b5ed6e1bfd7097821233fa0538f3db854fee6";
+const DIGEST: &[u8; 128] =
+    b"07e547d9586f6a73f73fbac0435ed76951218fb7d0c8d788a309d785436bbb642e93a252a954f23912547d1e8a3b5ed6e1bfd7097821233fa0538f3db854fee6";
 
 /// The request of one entry.
 fn batch(alloc: Global) -> Result<Batch, Fail> {
@@ -151,7 +153,10 @@ fn an_early_acknowledgement_is_a_fault(rt: HostRuntime) -> Result<(), Fail> {
     let mut session = session(rt.alloc(), None)?;
     let heard = acknowledge(rt.alloc(), &mut session, 1);
     session.spend();
-    assert_eq!(rt; heard?, [Heard::Fault(SessionFault::EarlyAck), Heard::NotUp]);
+    assert_eq!(rt;
+        heard?,
+        [Heard::Fault(SessionFault::EarlyAck), Heard::NotUp]
+    );
     Ok(())
 }
 
