@@ -133,8 +133,8 @@ abbrev pub is_open : Split → Bool
 is_open (Open values rest) = true
 is_open (Broken values broken) = false
 
--- what holds of every session: its moments rise, no more was sent than was appended, and where it is
--- up, what it heard has no fault, of the stream or of the handshake
+-- what holds of every session: its moments rise, no more was sent than was appended, and where it
+-- is up, what it heard has no fault, of the stream or of the handshake
 pub record IsSane (s : SessionHistory) : Type 0 where
   pub started : s.setup.start ≤ s.moment
   pub sent : s.sent ≤ length s.appended

@@ -9,9 +9,9 @@ use Rattle.fwd_session.specs.Evidence.{frame_of}
 use Rattle.fwd_session.specs.Said.{Said, out_of, said_in, reply_stream, rest_of}
 use Rattle.fwd_session.specs.History.{Setup, SessionHistory, first_handshake, handshake_of, is_free_for, is_owed, to_send, told_of, waits_from}
 
--- how far the handshake came; the bytes that wait to be sent, and those of an unfinished value, none
--- of them once it is down; its chunk, and the value that acknowledged it; whether any chunk was
--- acknowledged; when it began to wait
+-- how far the handshake came; the bytes that wait to be sent, and those of an unfinished value,
+-- none of them once it is down; its chunk, and the value that acknowledged it; whether any chunk
+-- was acknowledged; when it began to wait
 pub record LiveSession : Type 0 where
   pub setup : Setup
   pub handshake : Handshake

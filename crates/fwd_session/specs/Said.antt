@@ -41,14 +41,16 @@ ack_word (Some awaited) (Some name) =
     if bytes_eq name awaited then Acks else Fails fault.WrongAck
 
 -- what a value says that is not nil, by how far the handshake came and the name that is awaited
-abbrev pub spoken : Login → (salt : List ℕ) → Handshake → Option (List ℕ) → List ℕ → Word
+abbrev pub spoken : Login → (salt : List ℕ) → Handshake → Option (List ℕ) → List ℕ
+    → Word
 spoken login salt AwaitsHelo awaited value = helo_word (helo_answer login salt value)
 spoken login salt (AwaitsPong nonce keepalive) awaited value =
     pong_word keepalive (pong_verdict login salt nonce value)
 spoken login salt (Done keepalive) awaited value = ack_word awaited (ack_name value)
 
 -- what a whole value says: nil is skipped
-unfoldable pub word_of : Login → (salt : List ℕ) → Handshake → Option (List ℕ) → List ℕ → Word
+unfoldable pub word_of : Login → (salt : List ℕ) → Handshake → Option (List ℕ)
+    → List ℕ → Word
 word_of login salt at awaited value =
     if is_nil value then Skipped else spoken login salt at awaited value
 
@@ -92,15 +94,16 @@ word_then at awaited value Acks others = acking value (others at None)
 word_then at awaited value (Fails f) others = failing f at
 
 -- values in their order, and what is behind them
-abbrev pub said_of : Login → (salt : List ℕ) → Handshake → Option (List ℕ) → List (List ℕ)
-    → (Handshake → Said) → Said
+abbrev pub said_of : Login → (salt : List ℕ) → Handshake → Option (List ℕ)
+    → List (List ℕ) → (Handshake → Said) → Said
 said_of login salt at awaited [] end = end at
 said_of login salt at awaited (v ∷ vs) end =
     word_then at awaited v (word_of login salt at awaited v) (λ next name.
     said_of login salt next name vs end)
 
 -- what a stream of values says: its whole values, and then the fault behind them, if there is one
-abbrev pub said_in : Login → (salt : List ℕ) → Handshake → Option (List ℕ) → Split → Said
+abbrev pub said_in : Login → (salt : List ℕ) → Handshake → Option (List ℕ) → Split
+    → Said
 said_in login salt at awaited (Open values rest) = said_of login salt at awaited values silence
 said_in login salt at awaited (Broken values broken) =
     said_of login salt at awaited values (failing fault.BadReply)

@@ -53,8 +53,8 @@ pub fn live_follows()
         piece_told s bytes ≡ live_piece_told (live_session s) bytes }
     ensures out { (s : SessionHistory) (bytes : List ℕ) → IsSane s →
         piece_out s bytes ≡ live_piece_out (live_session s) bytes }
-    ensures loads { (s : SessionHistory) (c : Load) (now : ℕ) → IsSane s → s.down ≡ false →
-        live_session (loads s c now) ≡ session_loads (live_session s) c now }
+    ensures loads { (s : SessionHistory) (c : Load) (now : ℕ) → IsSane s → s.down ≡ false
+        → live_session (loads s c now) ≡ session_loads (live_session s) c now }
     ensures sends { (s : SessionHistory) (count : ℕ) →
         live_session (sends s count) ≡ session_sends (live_session s) count }
     ensures hears { (s : SessionHistory) (bytes : List ℕ) → IsSane s →
@@ -68,10 +68,12 @@ pub fn live_follows()
 /// What holds of every session's history, at the beginning and after each step.
 pub fn stays_sane()
     ensures begins { (setup : Setup) → IsSane (begins setup) }
-    ensures loads { (s : SessionHistory) (c : Load) (now : ℕ) → IsSane s → IsSane (loads s c now) }
+    ensures loads { (s : SessionHistory) (c : Load) (now : ℕ) → IsSane s
+        → IsSane (loads s c now) }
     ensures sends { (s : SessionHistory) (count : ℕ) → IsSane s → s.down ≡ false →
         count ≤ length (to_send s) → IsSane (sends s count) }
-    ensures hears { (s : SessionHistory) (bytes : List ℕ) → IsSane s → IsSane (hears s bytes) }
+    ensures hears { (s : SessionHistory) (bytes : List ℕ) → IsSane s
+        → IsSane (hears s bytes) }
     ensures unloads { (s : SessionHistory) → IsSane s → IsSane (unloads s) }
     ensures looks { (s : SessionHistory) (now : ℕ) → IsSane s → s.down ≡ false →
         IsSane (looks s now) }

@@ -33,8 +33,8 @@ const HELO: &[u8] =
 
 /// The digest of the key `the lazy dog` for the hostname `brown`, the salt `The quick ` and HELO's
 /// nonce.
-const DIGEST: &[u8; 128] =
-    b"07e547d9586f6a73f73fbac0435ed76951218fb7d0c8d788a309d785436bbb642e93a252a954f23912547d1e8a3b5ed6e1bfd7097821233fa0538f3db854fee6";
+const DIGEST: &[u8; 128] = b"07e547d9586f6a73f73fbac0435ed76951218fb7d0c8d788a309d785436bbb64\
+    2e93a252a954f23912547d1e8a3b5ed6e1bfd7097821233fa0538f3db854fee6";
 
 /// The request of one entry.
 fn batch(alloc: Global) -> Result<Batch, Fail> {
