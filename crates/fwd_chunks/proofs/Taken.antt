@@ -1,6 +1,6 @@
 -- What a worker has stays as it is, until it is settled or given back.
 use Rattle.std.proofs.Common.{◌≡◌, ◌≢◌, ℕ, ◌+◌, length, true, false, Bool, cond, eqb, List, [], ◌∷◌, ◌++◌, Option, Some, None, refl, sym, ap, ◌∙◌, arith}
-use Rattle.std.specs.Prelude.{filter, find, not, ◌&&◌, ◌==◌, nat_le, option_map}
+use Rattle.std.specs.Prelude.{filter, find, not, ◌&&◌, ◌==◌, max, nat_le, option_map}
 use Rattle.std.specs.List.{AllByRecursion}
 use Rattle.std.proofs.lemmas.Bool.{and_parts}
 use Rattle.std.specs.Str.{bytes_eq}
@@ -12,7 +12,7 @@ use Rattle.fwd_chunks.specs.declared.stage.Stage.{Stage}
 use Rattle.fwd_chunks.specs.declared.stage.Stage.TheVariants.{Open, Closed, Taken}
 use Rattle.fwd_chunks.specs.Cells.{size_of}
 use Rattle.fwd_chunks.specs.History.{Load}
-use Rattle.fwd_chunks.specs.Live.{LiveBuffer, is_open, is_closed, is_taken, staged, changed, is_at, is_open_of, may_take, first_chunk, live_adds_to, live_adds, live_adds_all, live_looks, live_enters, is_due, live_closes, live_flushes, live_is_over, live_is_free, live_given, live_carries_more, live_takes, live_load, live_carried, live_settles}
+use Rattle.fwd_chunks.specs.Live.{LiveBuffer, is_open, is_closed, is_taken, staged, changed, is_at, is_open_of, may_take, first_chunk, live_adds_to, live_adds, live_adds_all, live_looks, live_enters, is_due, live_closes, live_flushes, live_is_over, live_is_free, live_given, live_carries_more, live_takes, live_load, live_carried, live_settles, tally_more, live_frees}
 use Rattle.fwd_chunks.specs.Soundness.{IsBefore, AreInOrder, IsSound}
 use Rattle.fwd_chunks.proofs.Numbers.{not_from, eq_from, eq_same}
 use Rattle.fwd_chunks.proofs.Sounding.{found-all, found-passes, found-only, IsSorted, with_entry, adds-sorted, sorted}
@@ -211,3 +211,28 @@ find-settled k n differ (c ∷ chunks) = by (find-settled k n differ chunks) (is
 pub carried-settles : (b : LiveBuffer) (k n : ℕ) → k ≢ n
     → live_carried (live_settles b k) n ≡ live_carried b n
 carried-settles b k n differ = ap (option_map (live_load b)) (find-settled k n differ b.chunks)
+
+-- ---- giving back
+
+-- a chunk that is changed has another number, and is closed afterwards
+find-freed : (b : LiveBuffer) (k n : ℕ) (f : Chunk → Chunk) → k ≢ n
+    → ((c : Chunk) → is_taken (f c).stage ≡ false)
+    → find (has n) (changed (is_at k) f b.chunks) ≡ find (has n) b.chunks
+find-freed b k n f differ free = find-changed (has n) (is_at k) f b.chunks
+    (all-of (λ c. is_at k c ≡ true → (has n c ≡ false) × (has n (f c) ≡ false))
+    (λ c e. (
+      ap (λ t. t && is_taken c.stage) (apart c e),
+      free-not n (f c) (free c),
+    )) b.chunks)
+  where
+    apart : (c : Chunk) → is_at k c ≡ true → is_at n c ≡ false
+    apart c e = not_from (is_at n c) (λ g. differ (sym (eq_from c.number k e) ∙ eq_from c.number n g))
+
+-- what another worker has stays where a number is given back
+pub carried-frees : (b : LiveBuffer) (k n : ℕ) (loss : Option ℕ) → k ≢ n
+    → live_carried (live_frees b k loss) n ≡ live_carried b n
+carried-frees b k n None differ =
+    ap (option_map (live_load b)) (find-freed b k n (staged Closed) differ (λ c. refl))
+carried-frees b k n (Some now) differ =
+    let moment = max b.moment now in
+    ap (option_map (live_load b)) (find-freed b k n (λ c. record c { stage = Closed; losses = Some (tally_more c.losses moment) }) differ (λ c. refl))

@@ -1,6 +1,6 @@
 //! The entries of one output that are not yet settled, in chunks of one tag each.
 
-ghost use Rattle.std.specs.Prelude.{◌≡◌, ◌+◌, ◌-◌, ◌<◌, ◌≤◌, ◌^◌, ◌↔◌, IsTrue, IfOk, IsOk, OnOk, OnErr, IfSome, IfNone, Some, None, length, option_map, option_copied, find, ℕ, nat_lt, nat_le, ◌||◌, IfErr};
+ghost use Rattle.std.specs.Prelude.{◌≡◌, ◌+◌, ◌-◌, ◌<◌, ◌≤◌, ◌^◌, ◌↔◌, IsTrue, IfOk, IsOk, OnOk, OnErr, IfSome, IfNone, Some, None, length, option_map, option_copied, find, ℕ, max, nat_lt, nat_le, ◌||◌, IfErr};
 ghost use Rattle.fwd_chunks.specs.Live.{
   IsCarried,
   live_opening,
@@ -298,6 +298,16 @@ impl Buffer {
         let plan = self.plan(batch);
         self.enter(alloc, batch, plan, now)
             .map_err(|_| AdmitError::Memory)
+    }
+
+    /// Hands in a moment, in milliseconds, and answers the greatest so far.
+    pub fn look(&mut self, now: u64) -> u64
+        ensures greatest { result ≡ max self.old.moment now }
+        ensures looked { self.new ≡ live_looks self.old now }
+    {
+        let moment = self.moment.max(now);
+        self.moment = moment;
+        moment
     }
 
     /// Closes the open chunks that a flush closes at a moment, and answers how many.

@@ -9,6 +9,7 @@ mod handshake;
 mod hearing;
 mod laws;
 mod outbox;
+mod salt;
 mod session;
 #[cfg(test)]
 mod tests;
@@ -20,5 +21,6 @@ pub use fault::{NotUp, SessionFault};
 pub use frame::frame_of;
 pub use handshake::Handshake;
 pub use laws::{faults_put_down, live_follows, pieces_are_one, said_by_front, stays_sane};
+pub use salt::OwnedSalt;
 pub use session::{LoadError, LoadFailed, Session};
 pub use told::{Heard, Told};

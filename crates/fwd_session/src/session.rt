@@ -1,9 +1,8 @@
 //! A session, from its first byte to its end.
 
-ghost use Rattle.std.specs.Prelude.{◌≡◌, ◌≤◌, ◌<◌, ◌^◌, None, Some, Ok, true, false, [], ◌++◌, ◌+◌, ◌||◌, nat_le, if◌then◌else◌, length, is_some, option_copied, unwrap_or, IfOk, IfErr, IfSome, IsOk, IsErr, OnOk, OnErr};
+ghost use Rattle.std.specs.Prelude.{◌≡◌, ◌≤◌, None, Some, Ok, true, false, [], ◌++◌, ◌+◌, ◌||◌, nat_le, if◌then◌else◌, length, is_some, option_copied, unwrap_or, IfOk, IfErr, IfSome, IsOk, IsErr, OnOk, OnErr};
 ghost use Rattle.std.specs.Option.{option_map};
 ghost use Rattle.std.specs.Arc.{arc_value};
-ghost use Rattle.fwd_handshake.specs.Shown.{salt_bytes};
 ghost use Rattle.fwd_session.specs.Evidence.{frame_of, reply_in, IsEvidence, IsBacked, IsNamed};
 ghost use Rattle.fwd_session.specs.Hearing.{shown};
 ghost use Rattle.fwd_session.specs.Said.{out_of, reply_stream, rest_of};
@@ -32,11 +31,12 @@ use crate::frame::frame_of;
 use crate::handshake::Handshake;
 use crate::hearing::{Hearing, hear};
 use crate::outbox::Outbox;
+use crate::salt::OwnedSalt;
 use crate::told::{Heard, Told};
 use fwd_chunks::Carried;
-use fwd_handshake::{Login, Salt};
+use fwd_handshake::Login;
 use fwd_msgpack::Bytes;
-use std::alloc::{AllocError, AllocFailed, Global};
+use std::alloc::{AllocError, Global};
 use std::marker::Model;
 use std::sync::Arc;
 
@@ -61,7 +61,7 @@ pub struct LoadFailed {
 pub struct Session {
     server: u16,
     login: Arc<Login>,
-    salt: Bytes,
+    salt: OwnedSalt,
     ack_wait: u64,
     start: u64,
     handshake: Handshake,
@@ -76,7 +76,6 @@ pub struct Session {
 }
 
 impl Model for Session {
-    ghost use Rattle.std.specs.Prelude.{◌<◌, ◌^◌, length};
     ghost use Rattle.std.specs.Option.{option_map};
     ghost use Rattle.std.specs.Arc.{arc_value};
     ghost use Rattle.fwd_session.specs.Evidence.{reply_in, IsBacked};
@@ -103,8 +102,7 @@ impl Model for Session {
       moment = s.moment;
     } };
 
-    ghost invariant = { λ s. (length s.salt < 2 ^ 32)
-        × IsBacked s.server (option_map arc_value s.acked) s.loaded };
+    ghost invariant = { λ s. IsBacked s.server (option_map arc_value s.acked) s.loaded };
 }
 
 /// How far the handshake is before the first byte.
@@ -162,30 +160,26 @@ fn told_out(alloc: Global, out: &[u8], fault: Option<SessionFault>) -> Result<By
 }
 
 impl Session {
-    /// A session that begins: where the login has a shared key, HELO is awaited. The only error is
-    /// want of memory, which gives `login` back.
+    /// A session that begins: where the login has a shared key, HELO is awaited. It waits for what
+    /// it is owed `ack_wait` milliseconds. It takes no memory.
     pub fn up(
         alloc: Global,
         server: u16,
         login: Arc<Login>,
-        salt: Salt<'_>,
+        salt: OwnedSalt,
         ack_wait: u64,
         now: u64,
-    ) -> Result<Session, AllocFailed<Arc<Login>>>
-        ensures ok { IfOk result (λ session. session ≡ session_begins (record {
+    ) -> Session
+        ensures { result ≡ session_begins (record {
           server = server;
           login = arc_value login;
-          salt = salt_bytes salt.entry;
+          salt = salt;
           ack_wait = ack_wait;
           start = now;
-        })) }
-        ensures err { IfErr result (λ failed. failed.value ≡ login) }
+        }) }
     {
-        let Ok(salt) = Bytes::from_slice(alloc, salt.bytes()) else {
-            return Err(AllocFailed { value: login });
-        };
         let handshake = first_handshake(&login);
-        Ok(Session {
+        Session {
             server,
             login,
             salt,
@@ -200,7 +194,7 @@ impl Session {
             since: now,
             down: false,
             moment: now,
-        })
+        }
     }
 
     /// Whether a chunk may be loaded: the handshake is done, no fault and no lateness put the
@@ -230,6 +224,14 @@ impl Session {
         ensures { result ≡ is_some self.now.loaded }
     {
         self.loaded.is_some()
+    }
+
+    /// Whether an acknowledgement was accepted, and its chunk can be taken out.
+    pub fn is_acked(&self) -> bool
+        ensures reply { result ≡ is_some self.now.reply }
+        ensures chunk { result ≡ is_some (live_acked self.now) }
+    {
+        self.acked.is_some()
     }
 
     /// The server, by its place in the output's list.
@@ -330,13 +332,10 @@ impl Session {
         ensures named { IfOk result (λ hearing.
             IsNamed self.now.loaded (option_copied hearing.reply)) }
     {
-        let Some(salt) = Salt::new(self.salt.as_slice()) else {
-            unreachable!();
-        };
         hear(
             alloc,
             &self.login,
-            salt,
+            self.salt.as_salt(),
             &self.handshake,
             self.awaited(),
             bytes,

@@ -4,7 +4,7 @@ ghost use Rattle.std.specs.Prelude.{◌≡◌, None};
 
 use super::*;
 use fwd_chunks::{Buffer, BufferLimits, Carried, FlushKind};
-use fwd_handshake::{Login, Salt};
+use fwd_handshake::Login;
 use fwd_modes::{Batch, Reading, read_request};
 use fwd_msgpack::{Bytes, Cut, Limits, cut};
 use fwd_source::Origin;
@@ -79,14 +79,11 @@ fn login(alloc: Global, key: Option<Bytes>) -> Result<Arc<Login>, Fail> {
 
 /// A session that begins at the moment 0 and waits 10 seconds.
 fn session(alloc: Global, key: Option<Bytes>) -> Result<Session, Fail> {
-    let Some(salt) = Salt::new(b"The quick ") else {
+    let Some(salt) = OwnedSalt::new(Bytes::from_slice(alloc, b"The quick ")?) else {
         return Err(Fail::from("no salt"));
     };
-    let login = login(alloc, key)?;
-    match Session::up(alloc, 3, login, salt, 10_000, 0) {
-        Ok(session) => Ok(session),
-        Err(_) => Err(Fail::from("no memory")),
-    }
+    let salt = salt.try_clone(alloc)?;
+    Ok(Session::up(alloc, 3, login(alloc, key)?, salt, 10_000, 0))
 }
 
 /// Loads the chunk of one entry at the moment 5, if the session has none.
