@@ -2,3 +2,4 @@ pub mod Saying
 pub mod Following
 pub mod Taking
 pub mod Pieces
+pub mod Meeting

@@ -3,3 +3,4 @@ pub mod Evidence
 pub mod History
 pub mod Live
 pub mod Hearing
+pub mod Meeting

@@ -1,10 +1,13 @@
 //! Laws, each the contract of a function that does nothing.
 
-ghost use Rattle.std.specs.Prelude.{◌≡◌, ◌≤◌, ℕ, List, ◌∷◌, Option, is_some, true, false, length, take, drop};
+ghost use Rattle.std.specs.Prelude.{◌≡◌, ◌≤◌, ◌<◌, ℕ, List, ◌∷◌, Option, is_some, true, false, length, take, drop};
 ghost use Rattle.std.specs.List.{concat};
 ghost use Rattle.fwd_msgpack.specs.declared.fault.ScanFault.{ScanFault};
 ghost use Rattle.fwd_msgpack.specs.Scans.{Whole, Short, Bad, first_of};
 ghost use Rattle.fwd_handshake.specs.declared.credentials.Login.{Login};
+ghost use Rattle.fwd_handshake.specs.declared.verdict.Denial.{Denial};
+ghost use Rattle.fwd_handshake.specs.Agreements.{IsAgreed};
+ghost use Rattle.fwd_source.specs.History.{Setup as SourceSetup};
 ghost use Rattle.fwd_chunks.specs.History.{Load};
 ghost use Rattle.fwd_session.specs.declared.fault.SessionFault.{SessionFault};
 ghost use Rattle.fwd_session.specs.declared.fault.SessionFault.TheVariants.{BadReply};
@@ -13,6 +16,7 @@ ghost use Rattle.fwd_session.specs.declared.told.Heard.TheVariants.{Fault, NotUp
 ghost use Rattle.fwd_session.specs.Said.{said_in, word_of, word_then, silence, failing, reply_stream, rest_of};
 ghost use Rattle.fwd_session.specs.History.{Setup, SessionHistory, IsSane, is_done, is_ready, is_late, to_send, acked, piece_told, piece_out, begins, loads, sends, hears, unloads, looks};
 ghost use Rattle.fwd_session.specs.Live.{LiveSession, live_session, live_is_ready, live_is_late, live_acked, live_piece_told, live_piece_out, session_begins, session_loads, session_sends, session_hears, session_hears_all, session_unloads, session_looks};
+ghost use Rattle.fwd_session.specs.Meeting.{Meeting, IsJoined, AreWithin, IsDenied, IsReady, IsRefused, uncut};
 
 /// What bytes say, by what stands at their front: a value, less than one, or no value.
 pub fn said_by_front()
@@ -90,4 +94,25 @@ pub fn faults_put_down()
     ensures unchanged { (s : LiveSession) (bytes : List ℕ) → s.down ≡ true →
         session_hears s bytes ≡ s }
     ensures not_ready { (s : LiveSession) → s.down ≡ true → live_is_ready s ≡ false }
+{}
+
+/// A session and a source that hear each other's bytes, however these are cut into pieces.
+///
+/// Where both know one key and the source lets the login in, both are past the handshake, and else
+/// as they began: a chunk may be loaded. The piece that ends PONG is told Ready. Where the source
+/// has cause to deny the PING, the piece that ends PONG is told Denied, and the session is down. The
+/// cause is said of digests, not of keys and passwords: two keys may have one digest.
+///
+/// Asked is that the pieces are all that waited to be sent; that HELO and PONG have 65,536 bytes at
+/// most, and PING less than 2^32 and no more than the source's limits let be, which let an array
+/// be; and, to be ready, that hostnames, username and salt are short, as `IsAgreed` says, and that
+/// the auth salt has a byte: it has sixteen. By `uncut` any two sides have such pieces.
+pub fn agreed_sides_meet()
+    ensures ready { (m : Meeting) (key : List ℕ) →
+        IsAgreed m.client.login m.server.security m.client.salt key →
+        0 < length m.server.nonces.auth → IsJoined m → AreWithin m →
+        length (concat m.pong) ≤ 65536 → IsReady m }
+    ensures denied { (m : Meeting) (key : List ℕ) (denial : Denial) → IsDenied m key denial →
+        IsJoined m → AreWithin m → IsRefused m }
+    ensures uncut { (client : Setup) (server : SourceSetup) → IsJoined (uncut client server) }
 {}

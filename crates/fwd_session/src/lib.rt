@@ -20,7 +20,9 @@ pub use acked::Acked;
 pub use fault::{NotUp, SessionFault};
 pub use frame::frame_of;
 pub use handshake::Handshake;
-pub use laws::{faults_put_down, live_follows, pieces_are_one, said_by_front, stays_sane};
+pub use laws::{
+    agreed_sides_meet, faults_put_down, live_follows, pieces_are_one, said_by_front, stays_sane,
+};
 pub use salt::OwnedSalt;
 pub use session::{LoadError, LoadFailed, Session};
 pub use told::{Heard, Told};
