@@ -70,10 +70,11 @@ pub record IsJoined (m : Meeting) : Type 0 where
   pub ping : concat m.ping ≡ (session_after_helo m).waiting
   pub pong : concat m.pong ≡ (source_after_ping m).unsent
 
--- the session and the source, where HELO and PING come in one piece
+-- the session that heard HELO in one piece
 abbrev pub heard_helo : Setup → SourceSetup → LiveSession
 heard_helo client server = session_hears (session_begins client) (opened_source server).unsent
 
+-- the source that heard PING in one piece, after that
 abbrev pub heard_ping : Setup → SourceSetup → LiveSource
 heard_ping client server =
     live_piece_next
