@@ -83,11 +83,12 @@ for frame, key, empty in [
                               ("\u00e9", 128, "out of range")]:
         value(frame, key, f'"{part * times}"', flaw)
     values(frame, key, ["1", "0.5", "false", "[]", "{}"], "wrong kind")
-for part, times, flaw in [("a", 0, "out of range"), ("a", 1, "good"), ("a", 1024, "good"),
-                          ("a", 1025, "out of range"), ("\u00e9", 512, "good"),
-                          ("\u00e9", 513, "out of range")]:
-    value("relay", "shared_key", f'"{part * times}"', flaw)
-values("relay", "shared_key", ["1", "0.5", "false", "[]", "{}"], "wrong kind")
+for frame in ["relay", "output"]:
+    for part, times, flaw in [("a", 0, "out of range"), ("a", 1, "good"), ("a", 1024, "good"),
+                              ("a", 1025, "out of range"), ("\u00e9", 512, "good"),
+                              ("\u00e9", 513, "out of range")]:
+        value(frame, "shared_key", f'"{part * times}"', flaw)
+    values(frame, "shared_key", ["1", "0.5", "false", "[]", "{}"], "wrong kind")
 
 # ---- users
 USERS = '[{ name = "n", password = "p" }]'
@@ -157,15 +158,15 @@ for frame, key, good, other_kind in [
     ("output", "chunk_limit", "1", '""'), ("output", "total_limit", "1", '""'),
     ("output", "flush_interval", "1", '""'), ("output", "retry_wait", "1", '""'),
     ("output", "ack_wait", "1", '""'), ("output", "retry_max", "1000", '""'),
-    ("output", "hostname", '"a"', "1"), ("output", "username", '"a"', "1"),
-    ("output", "password", '"a"', "1"),
+    ("output", "hostname", '"a"', "1"), ("output", "shared_key", '"k"', "1"),
+    ("output", "username", '"a"', "1"), ("output", "password", '"a"', "1"),
     ("unserved", "server", '[{ address = "127.0.0.1:1" }]', "1"),
     ("unreached", "address", ADDRESS, "1"), ("second", "standby", "true", "1"),
 ]:
     beside(frame, key, good, other_kind)
 for frame, keys in [
     ("relay", ["Listen", "match", "output", "username", "users"]),
-    ("output", ["connections", "shared_key", "tag", "address"]),
+    ("output", ["connections", "shared", "tag", "address"]),
     ("second", ["port", "match", "Standby"]),
 ]:
     for key in keys:
@@ -254,6 +255,10 @@ for whole, told in [
     (ONE + "chunk_limit = 0\nworkers = 0", "out of range output[0].workers"),
     (ONE + "total_limit = 0\nchunk_limit = 0", "out of range output[0].chunk_limit"),
     (ONE + "retry_wait = 0\nretry_max = 0", "out of range output[0].retry_wait"),
+    (ONE + "username = 1\nshared_key = 1\nhostname = 1", "wrong kind output[0].hostname"),
+    (ONE + "password = 1\nusername = 1\nshared_key = 1", "wrong kind output[0].shared_key"),
+    (ONE + 'username = 1\nshared_key = ""', "out of range output[0].shared_key"),
+    (ONE + "password = 1\nusername = 1", "wrong kind output[0].username"),
     (ONE + "server = 1\npassword = 1", "wrong kind output[0].password"),
     ("a = 1\n" + ONE, "missing output[0].server"),
     (ONE + "[[output.server]]\n[[output]]\nmatch = 1", "missing output[0].server[0].address"),

@@ -8,7 +8,7 @@ use Rattle.std.proofs.lemmas.List.{append-nil, append_assoc, map-append}
 use Rattle.std.proofs.lemmas.List.Elements.{filter-append}
 use Rattle.fwd_source.specs.declared.origin.Origin.{Origin}
 use Rattle.fwd_model.specs.declared.cell.Entered.{Entered}
-use Rattle.fwd_model.specs.Books.{is_of, ack_of, acks_of, numbers_of, telling, settled_in, book_is_due, book_due, book_tells, book_forgets}
+use Rattle.fwd_model.specs.Books.{is_of, ack_of, acks_of, numbers_of, settled_in, book_is_due, book_due, book_tells}
 use Rattle.fwd_source.specs.Live.{LiveSource, source_appends}
 use Rattle.fwd_model.specs.declared.answer.Answer.TheVariants as answer
 use Rattle.fwd_model.specs.declared.fault.Refusal.TheVariants.{Closed}

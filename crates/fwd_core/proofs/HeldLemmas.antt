@@ -1,16 +1,17 @@
 -- Workers' chunks stay those of the buffer, at each change of the buffer and of a worker.
-use Rattle.std.proofs.Common.{◌≡◌, ◌≢◌, ℕ, zero, suc, replicate, Option, Some, None, List, refl, sym, ap, subst, ◌∙◌, inl, inr}
+use Rattle.std.proofs.Common.{◌≡◌, ◌≢◌, ℕ, Bool, zero, suc, replicate, Option, Some, None, List, refl, sym, ap, subst, ◌∙◌, inl, inr}
 use Rattle.std.proofs.Math.ListN.{set}
 use Rattle.std.specs.Prelude.{◌⊎◌, option_map, slice_get, Result, Ok, Err, OnOk, OnErr}
 use Rattle.fwd_modes.specs.Requests.{Request}
 use Rattle.fwd_chunks.specs.declared.chunk.Chunk.{Chunk}
 use Rattle.fwd_chunks.specs.declared.flush.FlushKind.{FlushKind}
 use Rattle.fwd_chunks.specs.History.{Load}
-use Rattle.fwd_chunks.specs.Live.{LiveBuffer, live_looks, live_enters, live_flushes, live_given, live_takes, live_load, live_carried, live_settles}
+use Rattle.fwd_chunks.specs.Live.{LiveBuffer, live_looks, live_enters, live_flushes, live_given, live_takes, live_load, live_carried, live_settles, live_frees}
 use Rattle.fwd_chunks.specs.Soundness.{IsSound}
-use Rattle.fwd_chunks.proofs.Taken.{carried-enters, carried-flushes, given-free, carried-takes, given-carried, carried-settles}
+use Rattle.fwd_chunks.proofs.Taken.{carried-enters, carried-flushes, given-free, carried-takes, given-carried, carried-settles, carried-frees}
 use Rattle.fwd_model.specs.Layers.{Worker}
-use Rattle.fwd_model.specs.Sessions.{LiveSession}
+use Rattle.fwd_model.specs.Outputs.{live_gets_back, returned, moment_if}
+use Rattle.fwd_session.specs.Live.{LiveSession}
 use Rattle.fwd_model.proofs.Reached.{slice_get-set}
 use Rattle.fwd_core.specs.Lanes.{no_work, AreHeld}
 
@@ -128,13 +129,14 @@ held-takes b ws place worker now x y sound own here given = record {
     two v w z t c d has owns n (inr at) (inl to) = absurd (fresh d c v z (ap (λ (k : Worker LiveSession). k.chunk) to.1 ∙ owns) at.1 has (sym n))
     two v w z t c d has owns n (inr at) (inr to) = own.apart v w z t c d at.1 to.1 has owns n
 
--- ---- a worker's chunk is settled
+-- ---- a worker's chunk leaves it
 
-pub held-settles : (b : LiveBuffer) (ws : List (Worker LiveSession)) (place : ℕ)
+pub held-drops : (b d : LiveBuffer) (ws : List (Worker LiveSession)) (place : ℕ)
     (x y : Worker LiveSession) (a : Load) → AreHeld b ws → slice_get ws place ≡ Some x
     → x.chunk ≡ Some a → y.chunk ≡ None
-    → AreHeld (live_settles b a.number) (set ws place y)
-held-settles b ws place x y a own here had none = record {
+    → ((n : ℕ) (c : Load) → a.number ≢ n → live_carried b n ≡ Some c → live_carried d n ≡ Some c)
+    → AreHeld d (set ws place y)
+held-drops b d ws place x y a own here had none stays = record {
   carried = λ w z c e has. one w z c has (was ws place w y z e);
   apart = λ v w z t c d e f has owns n. two v w z t c d has owns n (was ws place v y z e) (was ws place w y t f);
 }
@@ -142,14 +144,36 @@ held-settles b ws place x y a own here had none = record {
     nothing : (z : Worker LiveSession) (c : Load) → y ≡ z → z.chunk ≡ Some c → ⊥
     nothing z c same has = none_some (sym none ∙ ap (λ (k : Worker LiveSession). k.chunk) same ∙ has)
 
-    one : (w : ℕ) (z : Worker LiveSession) (c : Load) → z.chunk ≡ Some c → ((place ≡ w) × (y ≡ z)) ⊎ ((place ≢ w) × (slice_get ws w ≡ Some z)) → live_carried (live_settles b a.number) c.number ≡ Some c
+    one : (w : ℕ) (z : Worker LiveSession) (c : Load) → z.chunk ≡ Some c → ((place ≡ w) × (y ≡ z)) ⊎ ((place ≢ w) × (slice_get ws w ≡ Some z)) → live_carried d c.number ≡ Some c
     one w z c has (inl at) = absurd (nothing z c at.1 has)
-    one w z c has (inr at) = carried-settles b a.number c.number (λ n. at.0 (own.apart place w x z a c here at.1 had has n)) ∙ own.carried w z c at.1 has
+    one w z c has (inr at) = stays c.number c (λ n. at.0 (own.apart place w x z a c here at.1 had has n)) (own.carried w z c at.1 has)
 
     two : (v w : ℕ) (z t : Worker LiveSession) (c d : Load) → z.chunk ≡ Some c → t.chunk ≡ Some d → c.number ≡ d.number → ((place ≡ v) × (y ≡ z)) ⊎ ((place ≢ v) × (slice_get ws v ≡ Some z)) → ((place ≡ w) × (y ≡ t)) ⊎ ((place ≢ w) × (slice_get ws w ≡ Some t)) → v ≡ w
     two v w z t c d has owns n (inl at) to = absurd (nothing z c at.1 has)
     two v w z t c d has owns n (inr at) (inl to) = absurd (nothing t d to.1 owns)
     two v w z t c d has owns n (inr at) (inr to) = own.apart v w z t c d at.1 to.1 has owns n
+
+-- it is settled
+pub held-settles : (b : LiveBuffer) (ws : List (Worker LiveSession)) (place : ℕ)
+    (x y : Worker LiveSession) (a : Load) → AreHeld b ws → slice_get ws place ≡ Some x
+    → x.chunk ≡ Some a → y.chunk ≡ None
+    → AreHeld (live_settles b a.number) (set ws place y)
+held-settles b ws place x y a own here had none =
+    held-drops b (live_settles b a.number) ws place x y a own here had none (λ n c differ is. carried-settles b a.number n differ ∙ is)
+
+-- it goes back, if there is one
+pub held-ends : (b : LiveBuffer) (ws : List (Worker LiveSession)) (place now : ℕ)
+    (x y : Worker LiveSession) (lost : Bool) → AreHeld b ws → slice_get ws place ≡ Some x
+    → y.chunk ≡ None
+    → AreHeld (live_gets_back (live_looks b now) (returned x.chunk lost) now) (set ws place y)
+held-ends b ws place now x y lost own here none = by x.chunk refl
+  where
+    looked : AreHeld (live_looks b now) ws
+    looked = held_in b (live_looks b now) ws own (λ n c e. e)
+
+    by : (o : Option Load) → x.chunk ≡ o → AreHeld (live_gets_back (live_looks b now) (returned o lost) now) (set ws place y)
+    by None e = held-put (live_looks b now) ws place x y looked here (none ∙ sym e)
+    by (Some a) e = held-drops (live_looks b now) (live_frees (live_looks b now) a.number (moment_if lost now)) ws place x y a looked here e none (λ n c differ is. carried-frees (live_looks b now) a.number n (moment_if lost now) differ ∙ is)
 
 -- what is so where a call succeeds, and where it fails
 pub either_way : {T E : Type 0} (P Q R : Type 0) (r : Result T E) → OnOk r P → OnErr r Q

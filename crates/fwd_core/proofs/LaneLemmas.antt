@@ -1,16 +1,18 @@
--- What a take and a settle come to at a worker that is there.
-use Rattle.std.proofs.Common.{◌≡◌, ℕ, Bool, true, false, Option, Some, None, List, refl, sym, ap, subst, ◌∙◌}
-use Rattle.std.specs.Prelude.{is_some, slice_get, slice_set}
+-- What a take, a settle and an end come to at a worker that is there.
+use Rattle.std.proofs.Common.{◌≡◌, ◌<◌, ℕ, false, Option, Some, None, List, length, refl, sym, ap, ◌∙◌}
+use Rattle.std.proofs.lemmas.Option.{slice_get-get_or}
+use Rattle.std.specs.Prelude.{is_some, option_map, slice_get}
 use Rattle.fwd_chunks.specs.History.{Load}
 use Rattle.fwd_model.specs.declared.answer.Answer.TheVariants as answer
 use Rattle.fwd_model.specs.declared.fault.Refusal.TheVariants.{NoSuch, NotNow}
-use Rattle.fwd_model.specs.Outcome.{Outcome, Goes, answer_of, state_of, found, refuse_if, chunk_answer, ◌>>=◌, ◌>>◌}
+use Rattle.fwd_model.specs.Outcome.{Outcome, Stays, Goes, found, refuse_if, chunk_answer, ◌>>=◌, ◌>>◌}
 use Rattle.fwd_model.specs.Layers.{Worker}
-use Rattle.fwd_model.specs.Outputs.{live_count_at}
-use Rattle.fwd_model.specs.Sessions.{LiveSession}
-use Rattle.fwd_model.specs.Step.{take, settle, acked}
-use Rattle.fwd_model.specs.Live.{LiveLane, lives, lane_gives, lane_takes, lane_settles}
-use Rattle.fwd_core.specs.Lanes.{acked_in}
+use Rattle.fwd_model.specs.Outputs.{live_count_at, returned, output_choice, output_looks}
+use Rattle.fwd_session.specs.Live.{LiveSession, live_acked}
+use Rattle.fwd_model.specs.declared.event.EndKind.{EndKind}
+use Rattle.fwd_model.specs.Step.{choose, take, settle, end, is_idle, has_acked, has_loaded, lost_server}
+use Rattle.fwd_model.specs.Live.{LiveLane, lives, with_live_output, lane_gives, lane_takes, lane_settles, lane_ends}
+use Rattle.fwd_core.specs.Lanes.{acked_in, server_in}
 
 pub some_same : {X : Type 0} {x y : X} → Some x ≡ Some y → x ≡ y
 some_same e = cc
@@ -29,20 +31,67 @@ take_is l w now x here none =
     ∙ ap (λ b. refuse_if b NotNow >> Goes (chunk_answer (lane_gives l now)) (lane_takes l w x now)) none
 
 -- a worker whose chunk was acknowledged settles it
-pub settle_is : (l : LiveLane) (w k : ℕ) (x : Worker LiveSession) (s : LiveSession)
-    → slice_get l.workers w ≡ Some x → x.session ≡ Some s → acked lives s ≡ Some k
-    → settle lives l w ≡ Goes (answer.Settled (live_count_at k l.output)) (lane_settles l w s k)
-settle_is l w k x s here session is =
-    ap (λ y. found y NoSuch >>= λ z. found z.session NotNow >>= λ t. found (acked lives t) NotNow >>= λ j. Goes (answer.Settled (live_count_at j l.output)) (lane_settles l w t j)) here
-    ∙ ap (λ y. found y NotNow >>= λ t. found (acked lives t) NotNow >>= λ j. Goes (answer.Settled (live_count_at j l.output)) (lane_settles l w t j)) session
-    ∙ ap (λ y. found y NotNow >>= λ j. Goes (answer.Settled (live_count_at j l.output)) (lane_settles l w s j)) is
+pub settle_is : (l : LiveLane) (w : ℕ) (x : Worker LiveSession) (s : LiveSession) (a : Load)
+    → slice_get l.workers w ≡ Some x → x.session ≡ Some s → live_acked s ≡ Some a
+    → settle lives l w
+    ≡ Goes (answer.Settled (live_count_at a.number l.output)) (lane_settles l w s a.number s.setup.server)
+settle_is l w x s a here session is =
+    ap (λ y. found y NoSuch >>= λ z. found z.session NotNow >>= λ t. found (live_acked t) NotNow >>= λ c. Goes (answer.Settled (live_count_at c.number l.output)) (lane_settles l w t c.number t.setup.server)) here
+    ∙ ap (λ y. found y NotNow >>= λ t. found (live_acked t) NotNow >>= λ c. Goes (answer.Settled (live_count_at c.number l.output)) (lane_settles l w t c.number t.setup.server)) session
+    ∙ ap (λ y. found y NotNow >>= λ c. Goes (answer.Settled (live_count_at c.number l.output)) (lane_settles l w s c.number s.setup.server)) is
 
--- the session whose number is acknowledged
-pub record IsAckedBy (o : Option LiveSession) (k : ℕ) : Type 0 where
+-- the session whose chunk is acknowledged
+pub record IsAckedBy (o : Option LiveSession) (a : Load) : Type 0 where
   pub session : LiveSession
   pub is : o ≡ Some session
-  pub acks : acked lives session ≡ Some k
+  pub acks : live_acked session ≡ Some a
 
-pub acked_by : (o : Option LiveSession) (k : ℕ) → acked_in o ≡ Some k → IsAckedBy o k
-acked_by None k e = absurd cc
-acked_by (Some s) k e = record { session = s; is = refl; acks = e }
+pub acked_by : (o : Option LiveSession) (a : Load) → acked_in o ≡ Some a → IsAckedBy o a
+acked_by None a e = absurd cc
+acked_by (Some s) a e = record { session = s; is = refl; acks = e }
+
+-- the server of the session that is there
+pub server_of : (o : Option LiveSession) (s : LiveSession) (k : ℕ) → o ≡ Some s
+    → server_in o ≡ Some k → s.setup.server ≡ k
+server_of o s k e f = some_same (sym (ap server_in e) ∙ f)
+
+-- a worker that is not idle, and has nothing to settle, ends
+pub end_is : (l : LiveLane) (w : ℕ) (kind : EndKind) (now : ℕ) (x : Worker LiveSession)
+    → slice_get l.workers w ≡ Some x → is_idle lives x ≡ false
+    → has_acked lives x.session ≡ false
+    → end lives l w kind now
+    ≡ Goes (answer.Ended (option_map (λ c. c.number) x.chunk))
+    (lane_ends l w (returned x.chunk (has_loaded lives x.session)) (lost_server lives kind x.session) now)
+end_is l w kind now x here busy none =
+    ap (λ y. found y NoSuch >>= λ z. refuse_if (is_idle lives z) NotNow >> (refuse_if (has_acked lives z.session) NotNow >> ended z)) here
+    ∙ ap (λ b. refuse_if b NotNow >> (refuse_if (has_acked lives x.session) NotNow >> ended x)) busy
+    ∙ ap (λ b. refuse_if b NotNow >> ended x) none
+  where
+    ended : Worker LiveSession → Outcome LiveLane
+    ended z = Goes (answer.Ended (option_map (λ c. c.number) z.chunk))
+        (lane_ends l w (returned z.chunk (has_loaded lives z.session)) (lost_server lives kind z.session) now)
+
+-- a worker that has nothing to settle settles nothing
+pub settle_not : (l : LiveLane) (w : ℕ) (x : Worker LiveSession)
+    → slice_get l.workers w ≡ Some x → acked_in x.session ≡ None
+    → settle lives l w ≡ Stays (answer.Refused NotNow)
+settle_not l w x here none =
+    ap (λ y. found y NoSuch >>= λ z. settled z.session) here ∙ by x.session none
+  where
+    settled : Option LiveSession → Outcome LiveLane
+    settled o = found o NotNow >>= λ t. found (live_acked t) NotNow >>= λ c. Goes (answer.Settled (live_count_at c.number l.output)) (lane_settles l w t c.number t.setup.server)
+
+    by : (o : Option LiveSession) → acked_in o ≡ None → settled o ≡ Stays (answer.Refused NotNow)
+    by None e = refl
+    by (Some s) e = ap (λ y. found y NotNow >>= λ c. Goes (answer.Settled (live_count_at c.number l.output)) (lane_settles l w s c.number s.setup.server)) e
+
+-- a worker that is there is told a server
+pub choose_is : (l : LiveLane) (w now : ℕ) → w < length l.workers
+    → choose lives l w now
+    ≡ Goes (answer.Chose (output_choice l.output w now)) (with_live_output l (output_looks l.output now))
+choose_is l w now below =
+    ap (λ y. found y NoSuch >>= λ x. Goes (answer.Chose (output_choice l.output w now)) (with_live_output l (output_looks l.output now)))
+    (slice_get-get_or l.workers w nobody below)
+  where
+    nobody : Worker LiveSession
+    nobody = record { chunk = None; session = None }

@@ -4,7 +4,7 @@ use Rattle.std.proofs.Math.ListN.{set}
 use Rattle.std.specs.Prelude.{slice_get, slice_set}
 use Rattle.fwd_source.specs.Live.{LiveSource}
 use Rattle.fwd_model.specs.Layers.{Worker}
-use Rattle.fwd_model.specs.Sessions.{LiveSession}
+use Rattle.fwd_session.specs.Live.{LiveSession}
 use Rattle.fwd_model.specs.Live.{LiveConnection, LiveLane, LiveRelay}
 use Rattle.fwd_model.specs.Live.{with_live_lane, with_live_connection, with_live_worker}
 use Rattle.fwd_model.specs.declared.fault.Refusal.TheVariants.{NoSuch}
@@ -41,7 +41,7 @@ source_stays r id place at = λ i. record { run = r.run; routes = r.routes; secu
 
 -- ---- as an output's methods meet them
 
-worker_stays : (l : LiveLane) (w : ℕ) (x : Worker LiveSession)
+pub worker_stays : (l : LiveLane) (w : ℕ) (x : Worker LiveSession)
     → slice_get l.workers w ≡ Some x → with_live_worker l w x ≡ l
 worker_stays l w x here = λ i. record { config = l.config; output = l.output; workers = set_same l.workers w x here i }
 
@@ -57,7 +57,7 @@ worker_done k l same w place at_w x new here f e =
     ∙ ap (λ y. state_of y (at_worker lives y w f)) same
 
 -- what is answered at a worker is what its part answers
-within_answer : {S T : Type 0} (put : S → T) (x : Outcome S)
+pub within_answer : {S T : Type 0} (put : S → T) (x : Outcome S)
     → answer_of (within put x) ≡ answer_of x
 within_answer put (Stays a) = refl
 within_answer put (Goes a t) = refl
@@ -83,6 +83,15 @@ module _ (R S : LiveRelay) (same : R ≡ S) where
       ∙ put_state (λ m. with_live_lane o m R) l R (f R l) (lane_stays R o l here_o)
       ∙ ap (λ x. state_of R (found x NoSuch >>= λ k. within (λ m. with_live_lane o m R) (f R k))) (sym here_o)
       ∙ ap (λ x. state_of x (at_lane lives x o (f x))) same
+
+  -- what is answered at an output is what its part answers
+  pub lane_told : (o place : ℕ) → place ≡ o → (l : LiveLane) → slice_get R.lanes place ≡ Some l → (f : LiveRelay → LiveLane → Outcome LiveLane)
+      → answer_of (f R l) ≡ answer_of (at_lane lives S o (f S))
+  lane_told o place at_o l here f =
+      let here_o : slice_get R.lanes o ≡ Some l = subst (λ k. slice_get R.lanes k ≡ Some l) at_o here in
+      sym (within_answer (λ m. with_live_lane o m R) (f R l))
+      ∙ ap (λ x. answer_of (found x NoSuch >>= λ k. within (λ m. with_live_lane o m R) (f R k))) (sym here_o)
+      ∙ ap (λ x. answer_of (at_lane lives x o (f x))) same
 
   pub source_done : (id place : ℕ) (at : IsPlace id R.connections place) (s t : LiveSource) (c : LiveConnection) → at.source ≡ s → c ≡ record { id = id; source = t }
       → (f : LiveSource → Outcome LiveSource) → t ≡ state_of s (f s) → with_source_at place c R ≡ state_of S (at_source lives S id f)

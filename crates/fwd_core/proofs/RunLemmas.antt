@@ -5,7 +5,7 @@ use Rattle.std.proofs.lemmas.List.{append-nil, length-append}
 use Rattle.std.proofs.lemmas.List.Elements.{filter-append}
 use Rattle.fwd_model.specs.declared.event.Event.{Event}
 use Rattle.fwd_model.specs.declared.answer.Answer.{Answer}
-use Rattle.fwd_model.specs.declared.answer.Answer.TheVariants.{Memory, Accepted, Requests, Faulted, Admitted, NoRoute, Full, NumbersSpent, Closed, Done, Took, TookNothing, Frame, Quiet, Acked, SessionFaulted, Settled, Told, Forgot, Refused}
+use Rattle.fwd_model.specs.declared.answer.Answer.TheVariants.{Memory, Accepted, Requests, Faulted, Admitted, NoRoute, Full, NumbersSpent, Closed, Chose, Done, Took, TookNothing, Frame, Quiet, Ready, Acked, SessionFaulted, Settled, Late, Ended, Told, Forgot, Refused}
 use Rattle.fwd_model.specs.Live.{LiveRelay}
 use Rattle.fwd_model.specs.Outcome.{answer_of, state_of}
 use Rattle.fwd_model.specs.Step.{step, answers as answers_to, after}
@@ -52,14 +52,18 @@ is_want NoRoute t = absurd cc
 is_want Full t = absurd cc
 is_want NumbersSpent t = absurd cc
 is_want (Closed chunks) t = absurd cc
+is_want (Chose server) t = absurd cc
 is_want Done t = absurd cc
 is_want (Took number entries) t = absurd cc
 is_want TookNothing t = absurd cc
 is_want (Frame out) t = absurd cc
 is_want (Quiet out) t = absurd cc
+is_want (Ready out) t = absurd cc
 is_want (Acked out) t = absurd cc
 is_want (SessionFaulted fault) t = absurd cc
 is_want (Settled entries) t = absurd cc
+is_want (Late late) t = absurd cc
+is_want (Ended number) t = absurd cc
 is_want (Told requests out) t = absurd cc
 is_want (Forgot requests) t = absurd cc
 is_want (Refused refusal) t = absurd cc

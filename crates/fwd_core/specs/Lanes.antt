@@ -1,16 +1,14 @@
 -- An output with its workers: before its first event, a worker once its chunk is settled, and what
 -- holds of all workers.
-use Rattle.std.specs.Prelude.{◌≡◌, ℕ, suc, List, [], ◌∷◌, Option, Some, None, option_map, replicate, slice_get}
+use Rattle.std.specs.Prelude.{◌≡◌, ℕ, suc, List, [], ◌∷◌, Option, Some, None, replicate, slice_get}
 use Rattle.fwd_chunks.specs.History.{Load}
-use Rattle.fwd_chunks.specs.Live.{LiveBuffer, live_carried}
+use Rattle.fwd_chunks.specs.Live.{LiveBuffer, live_carried, IsCarried}
 use Rattle.fwd_model.specs.declared.config.OutputConfig.{OutputConfig}
 use Rattle.fwd_model.specs.Layers.{Worker}
 use Rattle.fwd_model.specs.Outputs.{no_requests}
-use Rattle.fwd_model.specs.Sessions.{LiveSession, session_unloads}
-use Rattle.fwd_model.specs.History.{setting_of}
+use Rattle.fwd_session.specs.Live.{LiveSession, live_acked, session_unloads}
+use Rattle.fwd_model.specs.Setups.{setting_of, servers_of}
 use Rattle.fwd_model.specs.Live.{LiveLane}
-use Rattle.fwd_model.specs.Step.{acked}
-use Rattle.fwd_model.specs.Live.{lives}
 
 -- a worker without a chunk or a session
 abbrev pub no_work : Worker LiveSession
@@ -20,7 +18,7 @@ no_work = record { chunk = None; session = None }
 abbrev pub new_live_lane : List ℕ → ℕ → OutputConfig → LiveLane
 new_live_lane run o c = record {
   config = c;
-  output = no_requests (setting_of run o c);
+  output = no_requests (setting_of run o c) (servers_of c);
   workers = replicate c.workers no_work;
 }
 
@@ -29,21 +27,30 @@ abbrev pub new_live_lanes : List ℕ → ℕ → List OutputConfig → List Live
 new_live_lanes run o [] = []
 new_live_lanes run o (c ∷ cs) = new_live_lane run o c ∷ new_live_lanes run (suc o) cs
 
--- the number of a worker's chunk whose acknowledgement was accepted
-abbrev pub acked_in : Option LiveSession → Option ℕ
+-- the chunk that a session has, where there is a session
+abbrev pub loaded_in : Option LiveSession → Option Load
+loaded_in None = None
+loaded_in (Some s) = s.loaded
+
+-- a worker's chunk: the one that it took, or the one that its session has
+abbrev pub first_there : Option Load → Option Load → Option Load
+first_there (Some c) loaded = Some c
+first_there None loaded = loaded
+
+-- a worker's chunk whose acknowledgement was accepted
+abbrev pub acked_in : Option LiveSession → Option Load
 acked_in None = None
-acked_in (Some s) = acked lives s
+acked_in (Some s) = live_acked s
+
+-- the server of a session, where there is one
+abbrev pub server_in : Option LiveSession → Option ℕ
+server_in None = None
+server_in (Some s) = Some s.setup.server
 
 -- the worker once its chunk is settled
 abbrev pub worker_settled : Option LiveSession → Worker LiveSession
 worker_settled None = no_work
 worker_settled (Some s) = record { chunk = None; session = Some (session_unloads s) }
-
--- a session is loaded with no number but that of its worker's chunk
-abbrev pub IsLoadedBy : Option Load → Option LiveSession → Type 0
-IsLoadedBy chunk None = Unit {0}
-IsLoadedBy chunk (Some s) =
-    (k : ℕ) → s.loaded ≡ Some k → option_map (λ c. c.number) chunk ≡ Some k
 
 -- each worker's chunk is one of the buffer, and no two workers have the same one
 pub record AreHeld (b : LiveBuffer) (workers : List (Worker LiveSession)) : Type 0 where
@@ -52,3 +59,7 @@ pub record AreHeld (b : LiveBuffer) (workers : List (Worker LiveSession)) : Type
   pub apart : (v w : ℕ) (x y : Worker LiveSession) (c d : Load) → slice_get workers v ≡ Some x
       → slice_get workers w ≡ Some y → x.chunk ≡ Some c → y.chunk ≡ Some d
       → c.number ≡ d.number → v ≡ w
+
+-- a chunk that is given back, if one is, is one of the buffer
+abbrev pub IsHere : LiveBuffer → Option Load → Type 0
+IsHere b chunk = (c : Load) → chunk ≡ Some c → IsCarried b c

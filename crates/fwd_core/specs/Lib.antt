@@ -1,4 +1,3 @@
-pub mod Answering
 pub mod Due
 pub mod Lanes
 pub mod Places

@@ -1,7 +1,7 @@
 -- Which events of a run counted: those not answered by want of memory.
 use Rattle.std.specs.Prelude.{Bool, true, false, not, List, [], ◌∷◌, filter, if◌then◌else◌}
 use Rattle.fwd_model.specs.declared.event.Event.{Event}
-use Rattle.fwd_model.specs.declared.event.Event.TheVariants.{Flush, Up, Wrote, Settle, Forget, Drained, Shut}
+use Rattle.fwd_model.specs.declared.event.Event.TheVariants.{Flush, Choose, Wrote, Late, Settle, End, Forget, Drained, Shut}
 use Rattle.fwd_model.specs.declared.answer.Answer.{Answer}
 use Rattle.fwd_model.specs.declared.answer.Answer.TheVariants.{Memory, Refused, NoRoute, Full, NumbersSpent}
 
@@ -23,9 +23,11 @@ kept (e ∷ es) (a ∷ answers) = if is_memory a then kept es answers else e ∷
 -- the events that take no memory
 abbrev pub takes_none : Event → Bool
 takes_none (Flush output now kind) = true
-takes_none (Up output worker server salt now) = true
+takes_none (Choose output worker now) = true
 takes_none (Wrote output worker count) = true
+takes_none (Late output worker now) = true
 takes_none (Settle output worker) = true
+takes_none (End output worker kind now) = true
 takes_none (Forget conn output) = true
 takes_none (Drained conn count) = true
 takes_none (Shut conn) = true

@@ -25,58 +25,29 @@ ghost use Rattle.std.specs.Prelude.{
 };
 ghost use Rattle.fwd_chunks.specs.History.{Load};
 ghost use Rattle.fwd_chunks.specs.Live.{live_refusal, live_counts};
-ghost use Rattle.fwd_model.specs.Outputs.{frame_of, output_enters};
-ghost use Rattle.fwd_model.specs.Sessions.{session_begins};
+ghost use Rattle.fwd_model.specs.Outputs.{output_enters};
 ghost use Rattle.fwd_model.specs.Live.{with_live_output, with_live_book};
 ghost use Rattle.fwd_core.specs.Due.{due_among, is_due_among, origins_of};
 ghost use Rattle.fwd_model.specs.Books.{numbers_of, acks_of, book_forgets};
-ghost use Rattle.fwd_core.specs.Lanes.{no_work, new_live_lane, worker_settled, acked_in};
+ghost use Rattle.fwd_core.specs.Lanes.{new_live_lane};
 ghost use Rattle.fwd_core.specs.Runs.{is_free};
 ghost use Rattle.fwd_model.specs.Outcome.{answer_of, state_of, chunk_answer};
-ghost use Rattle.fwd_model.specs.Step.{with_session, at_worker, at_session, up, take, load, wrote, heard, settle, forget};
+ghost use Rattle.fwd_model.specs.Step.{at_worker, at_session, choose, up, take, load, wrote, heard, late, settle, end, forget};
 ghost use Rattle.fwd_model.specs.Live.{lives};
 
+use crate::lane_config::LaneConfig;
 use crate::output::{Due, OutputState};
-use crate::session::Session;
+use crate::worker::{Leaving, Worker};
 use fwd_chunks::{AdmitError, Carried, Counts, FlushKind};
-use fwd_model::{Answer, Origin, OutputConfig, Refusal};
-use fwd_modes::{Batch, write_chunk};
-use fwd_msgpack::Bytes;
+use fwd_model::{Answer, EndKind, Origin, OutputConfig, OwnedSalt, Refusal};
+use fwd_modes::Batch;
 use std::alloc::{AllocError, Global};
 use std::marker::Model;
-
-/// A worker: the chunk that it has, and its session.
-pub(crate) struct Worker {
-    chunk: Option<Carried>,
-    session: Option<Session>,
-}
-
-impl Model for Worker {
-    ghost use Rattle.fwd_model.specs.Layers.{Worker};
-    ghost use Rattle.fwd_model.specs.Sessions.{LiveSession};
-    ghost use Rattle.fwd_core.specs.Lanes.{IsLoadedBy};
-
-    ghost Value = { Worker LiveSession };
-
-    ghost view = { λ w. record { chunk = w.chunk; session = w.session } };
-
-    ghost invariant = { λ w. IsLoadedBy w.chunk w.session };
-}
-
-/// A worker ends together with its output, and so does its chunk.
-impl Drop for Worker {
-    fn drop(self) {
-        let Worker { chunk, session: _ } = self;
-        if let Some(carried) = chunk {
-            carried.spend();
-        }
-    }
-}
 
 /// One output.
 #[derive(Drop)]
 pub(crate) struct Lane {
-    config: OutputConfig,
+    config: LaneConfig,
     output: OutputState,
     workers: Vec<Worker>,
 }
@@ -93,14 +64,14 @@ impl Model for Lane {
     ghost invariant = { λ l. AreHeld l.output.buffer l.workers.items };
 }
 
-/// The frame of a chunk.
-#[tactic(auto, unfolding(fwd_modes::specs::Frames::chunk_frame))]
-fn frame_of(alloc: Global, chunk: &Carried) -> Result<Bytes, AllocError>
-    ensures { IfOk result (λ frame. frame ≡ frame_of chunk.now) }
+/// The number of a chunk, if there is one.
+fn number_of(chunk: &Option<Carried>) -> Option<u64>
+    ensures { result ≡ option_map (λ c. c.number) chunk.now }
 {
-    let count = chunk.count() as u64;
-    let frame = write_chunk(alloc, chunk.tag(), chunk.entries(), count, chunk.name())?;
-    Ok(Bytes::from_vec(frame))
+    match chunk {
+        None => None,
+        Some(chunk) => Some(chunk.number()),
+    }
 }
 
 /// What is told of a chunk that was taken.
@@ -116,145 +87,6 @@ fn told_of(found: &Option<Carried>) -> Answer
     }
 }
 
-impl Worker {
-    /// A worker that has nothing.
-    fn new() -> Self
-        ensures { result ≡ no_work }
-    {
-        Worker {
-            chunk: None,
-            session: None,
-        }
-    }
-
-    fn has_chunk(&self) -> bool
-        ensures { result ≡ is_some self.now.chunk }
-    {
-        self.chunk.is_some()
-    }
-
-    /// The worker, which has none, has the chunk, if there is one.
-    fn set_chunk(&mut self, chunk: Option<Carried>)
-        requires { self.old.chunk ≡ None }
-        ensures { self.new ≡ record { chunk = chunk; session = self.old.session } }
-    {
-        let Some(carried) = chunk else {
-            return;
-        };
-        match self.chunk.replace(carried) {
-            None => {}
-            Some(_) => unreachable!(),
-        }
-    }
-
-    /// The worker's session with one of so many servers begins.
-    fn up(&mut self, alloc: Global, servers: u16, server: u16, now: u64) -> Answer
-        ensures answer { result ≡ answer_of (up lives servers server now self.old) }
-        ensures next { self.new ≡ state_of self.old (up lives servers server now self.old) }
-        ensures chunk { self.new.chunk ≡ self.old.chunk }
-    {
-        if server >= servers {
-            return Answer::Refused(Refusal::NoSuch);
-        }
-        if self.session.is_some() {
-            return Answer::Refused(Refusal::NotNow);
-        }
-        self.session = Some(Session::up(alloc, server, now));
-        Answer::Done
-    }
-
-    /// The worker's chunk is put into its session. On an error nothing has changed.
-    fn load(&mut self, alloc: Global, now: u64) -> Result<Answer, AllocError>
-        ensures answer { IfOk result (λ a. a ≡ answer_of (load lives now self.old)) }
-        ensures sure { is_free (answer_of (load lives now self.old)) ≡ true → IsOk result }
-        ensures next { OnOk result (self.new ≡ state_of self.old (load lives now self.old)) }
-        ensures chunk { self.new.chunk ≡ self.old.chunk }
-        ensures err { OnErr result (self.new ≡ self.old) }
-    {
-        let Some(chunk) = &self.chunk else {
-            return Ok(Answer::Refused(Refusal::NotNow));
-        };
-        let Some(session) = &mut self.session else {
-            return Ok(Answer::Refused(Refusal::NotNow));
-        };
-        if session.is_loaded(chunk.number()) {
-            return Ok(Answer::Refused(Refusal::NotNow));
-        }
-        if session.is_down() {
-            return Ok(Answer::Refused(Refusal::NotUp));
-        }
-        let out = frame_of(alloc, chunk)?;
-        session.load(chunk.number(), out.as_slice(), now)?;
-        Ok(Answer::Frame { out })
-    }
-
-    /// The link took so many bytes of the worker's session.
-    fn wrote(&mut self, count: u64) -> Answer
-        ensures answer { result ≡ answer_of (at_session lives self.old (wrote lives count)) }
-        ensures next { self.new
-            ≡ state_of self.old (at_session lives self.old (wrote lives count)) }
-        ensures chunk { self.new.chunk ≡ self.old.chunk }
-    {
-        let Some(session) = &mut self.session else {
-            return Answer::Refused(Refusal::NotNow);
-        };
-        if session.wrote(count) {
-            Answer::Done
-        } else {
-            Answer::Refused(Refusal::NotNow)
-        }
-    }
-
-    /// Bytes are read from the link of the worker's session. On an error nothing has changed.
-    fn heard(
-        &mut self,
-        alloc: Global,
-        run: &[u8; 6],
-        output: u16,
-        bytes: &[u8],
-    ) -> Result<Answer, AllocError>
-        ensures answer { IfOk result (λ a.
-            a ≡ answer_of (at_session lives self.old (heard lives run.now output bytes.now))) }
-        ensures sure { is_free
-            (answer_of (at_session lives self.old (heard lives run.now output bytes.now))) ≡ true
-            → IsOk result }
-        ensures next { OnOk result (self.new
-            ≡ state_of self.old
-            (at_session lives self.old (heard lives run.now output bytes.now))) }
-        ensures chunk { self.new.chunk ≡ self.old.chunk }
-        ensures err { OnErr result (self.new ≡ self.old) }
-    {
-        let Some(session) = &mut self.session else {
-            return Ok(Answer::Refused(Refusal::NotNow));
-        };
-        session.heard(alloc, run, output, bytes)
-    }
-
-    /// The number of the worker's chunk whose acknowledgement was accepted.
-    fn acked(&self) -> Option<u64>
-        ensures { result ≡ acked_in self.now.session }
-    {
-        match &self.session {
-            None => None,
-            Some(session) => session.acked(),
-        }
-    }
-
-    /// The worker's chunk is to be settled: it has none any more, and its session is unloaded.
-    fn put_down(&mut self) -> Option<Carried>
-        requires { is_some self.old.session ≡ true }
-        ensures chunk { result ≡ self.old.chunk }
-        ensures settled { self.new ≡ worker_settled self.old.session }
-        ensures loaded { (k : ℕ) → acked_in self.old.session ≡ Some k
-            → option_map (λ c. c.number) self.old.chunk ≡ Some k }
-    {
-        if let Some(session) = &mut self.session {
-            session.unload();
-        }
-        self.chunk.take()
-    }
-}
-
 impl Lane {
     /// An output with no entries, whose workers have nothing, by its run and its number.
     pub fn new(
@@ -265,11 +97,13 @@ impl Lane {
     ) -> Result<Self, AllocError>
         ensures { IfOk result (λ l. l ≡ new_live_lane run output config) }
     {
+        let config = LaneConfig::new(alloc, config)?;
         let mut workers = Vec::new(alloc);
         for _ in 0..config.workers {
             workers.push(Worker::new())?;
         }
-        let state = OutputState::new(alloc, config.limits, run, output);
+        let standby = config.standby.as_slice();
+        let state = OutputState::new(alloc, config.limits, run, output, standby)?;
         Ok(Lane {
             config,
             output: state,
@@ -312,20 +146,41 @@ impl Lane {
         self.output.flush(now, kind)
     }
 
-    /// A worker's session with a server begins.
-    pub fn up(&mut self, alloc: Global, worker: u16, server: u16, now: u64) -> Answer
-        ensures answer { result
-            ≡ answer_of
-            (at_worker lives self.old worker (up lives self.old.config.servers server now)) }
-        ensures next { self.new
-            ≡ state_of self.old
-            (at_worker lives self.old worker (up lives self.old.config.servers server now)) }
+    /// Which server a worker is to try at a moment (milliseconds).
+    pub fn choose(&mut self, worker: u16, now: u64) -> Answer
+        ensures answer { result ≡ answer_of (choose lives self.old worker now) }
+        ensures next { self.new ≡ state_of self.old (choose lives self.old worker now) }
+    {
+        if usize::from(worker) >= self.workers.len() {
+            return Answer::Refused(Refusal::NoSuch);
+        }
+        let server = self.output.choose(worker, now);
+        Answer::Chose { server }
+    }
+
+    /// A worker's session with a server begins. On an error nothing has changed.
+    pub fn up(
+        &mut self,
+        alloc: Global,
+        worker: u16,
+        server: u16,
+        salt: &OwnedSalt,
+        now: u64,
+    ) -> Result<Answer, AllocError>
+        ensures answer { IfOk result (λ a. a ≡ answer_of
+            (at_worker lives self.old worker (up lives self.old.config server salt.now now))) }
+        ensures sure { is_free (answer_of
+            (at_worker lives self.old worker (up lives self.old.config server salt.now now))) ≡ true
+            → IsOk result }
+        ensures next { OnOk result (self.new ≡ state_of self.old
+            (at_worker lives self.old worker (up lives self.old.config server salt.now now))) }
+        ensures err { OnErr result (self.new ≡ self.old) }
     {
         let place = usize::from(worker);
         if place >= self.workers.len() {
-            return Answer::Refused(Refusal::NoSuch);
+            return Ok(Answer::Refused(Refusal::NoSuch));
         }
-        self.workers[place].up(alloc, self.config.servers, server, now)
+        self.workers[place].up(alloc, &self.config, server, salt, now)
     }
 
     /// A worker takes the least free chunk. On an error nothing has changed.
@@ -386,29 +241,38 @@ impl Lane {
     }
 
     /// Bytes are read from the link of a worker's session. On an error nothing has changed.
-    pub fn heard(
-        &mut self,
-        alloc: Global,
-        run: &[u8; 6],
-        output: u16,
-        worker: u16,
-        bytes: &[u8],
-    ) -> Result<Answer, AllocError>
+    pub fn heard(&mut self, alloc: Global, worker: u16, bytes: &[u8]) -> Result<Answer, AllocError>
         ensures answer { IfOk result (λ a.
             a ≡ answer_of (at_worker lives self.old worker (λ x.
-            at_session lives x (heard lives run.now output bytes.now)))) }
+            at_session lives x (heard lives bytes.now)))) }
         ensures sure { is_free (answer_of (at_worker lives self.old worker (λ x.
-            at_session lives x (heard lives run.now output bytes.now)))) ≡ true → IsOk result }
+            at_session lives x (heard lives bytes.now)))) ≡ true → IsOk result }
         ensures next { OnOk result (self.new
             ≡ state_of self.old (at_worker lives self.old worker (λ x.
-            at_session lives x (heard lives run.now output bytes.now)))) }
+            at_session lives x (heard lives bytes.now)))) }
         ensures err { OnErr result (self.new ≡ self.old) }
     {
         let place = usize::from(worker);
         if place >= self.workers.len() {
             return Ok(Answer::Refused(Refusal::NoSuch));
         }
-        self.workers[place].heard(alloc, run, output, bytes)
+        self.workers[place].heard(alloc, bytes)
+    }
+
+    /// It is asked at a moment (milliseconds) whether a worker's session is late.
+    pub fn late(&mut self, worker: u16, now: u64) -> Answer
+        ensures answer { result
+            ≡ answer_of (at_worker lives self.old worker (λ x.
+            at_session lives x (late lives now))) }
+        ensures next { self.new
+            ≡ state_of self.old (at_worker lives self.old worker (λ x.
+            at_session lives x (late lives now))) }
+    {
+        let place = usize::from(worker);
+        if place >= self.workers.len() {
+            return Answer::Refused(Refusal::NoSuch);
+        }
+        self.workers[place].late(now)
     }
 
     /// A worker's acknowledged chunk leaves the output.
@@ -420,16 +284,34 @@ impl Lane {
         if place >= self.workers.len() {
             return Answer::Refused(Refusal::NoSuch);
         }
-        let Some(_number) = self.workers[place].acked() else {
+        let Some((acked, carried)) = self.workers[place].acked() else {
             return Answer::Refused(Refusal::NotNow);
         };
-        match self.workers[place].put_down() {
-            None => unreachable!(),
-            Some(carried) => {
-                let entries = self.output.settle(carried);
-                Answer::Settled { entries }
-            }
+        let entries = self.output.settle(carried, acked.server());
+        Answer::Settled { entries }
+    }
+
+    /// A worker's session is no more, and a chunk that it has goes back, at a moment
+    /// (milliseconds).
+    pub fn end(&mut self, worker: u16, kind: EndKind, now: u64) -> Answer
+        ensures answer { result ≡ answer_of (end lives self.old worker kind now) }
+        ensures next { self.new ≡ state_of self.old (end lives self.old worker kind now) }
+    {
+        let place = usize::from(worker);
+        if place >= self.workers.len() {
+            return Answer::Refused(Refusal::NoSuch);
         }
+        if self.workers[place].is_idle() || self.workers[place].is_acked() {
+            return Answer::Refused(Refusal::NotNow);
+        }
+        let Leaving {
+            chunk,
+            lost,
+            server,
+        } = self.workers[place].end(kind);
+        let number = number_of(&chunk);
+        self.output.end(chunk, lost, server, now);
+        Answer::Ended { number }
     }
 
     /// The origins of a connection's requests that were not told yet, by rising number.
@@ -470,10 +352,7 @@ impl Lane {
 
 /// The requests of a connection leave, one after the other, so that no memory is taken.
 fn forget_all(conn: u64, output: &mut OutputState)
-    ensures { output.new ≡ record {
-      buffer = output.old.buffer;
-      book = book_forgets output.old.book conn;
-    } }
+    ensures { output.new ≡ record (output.old) { book = book_forgets output.old.book conn } }
 {
     while let Some(origin) = output.first_untold(conn) {
         output.forget(&[origin]);

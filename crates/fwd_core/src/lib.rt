@@ -4,15 +4,16 @@
 mod book;
 mod connection;
 mod lane;
+mod lane_config;
 mod output;
 mod pending;
 mod relay;
-mod replies;
-mod session;
+mod worker;
 
 pub use fwd_chunks::{AdmitError, BufferLimits, Carried, Counts};
 pub use fwd_model::{
-    Answer, Config, Event, FlushKind, OutputConfig, Refusal, SessionFault, SourceFault,
+    Answer, Config, EndKind, Event, FlushKind, OutputConfig, OwnedSalt, Refusal, SessionFault,
+    SourceFault,
 };
 pub use output::{Due, OutputState};
 pub use relay::Relay;

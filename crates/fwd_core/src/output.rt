@@ -1,5 +1,5 @@
-//! One output's state, which will lie under one lock: its chunks, and the requests whose entries
-//! they have.
+//! One output's state, which will lie under one lock: its chunks, the requests whose entries they
+//! have, and what was lost at its servers.
 
 ghost use Rattle.std.specs.Prelude.{
   ◌≡◌,
@@ -18,9 +18,13 @@ ghost use Rattle.std.specs.Prelude.{
   length,
   not,
   option_map,
+  false,
+  Contains,
   ◌<◌,
+  ◌≤◌,
 };
 ghost use Rattle.fwd_core.specs.Due.{is_one, due_among, is_due_among, origins_of};
+ghost use Rattle.fwd_core.specs.Lanes.{IsHere};
 ghost use Rattle.fwd_chunks.specs.Live.{
   IsCarried,
   live_refusal,
@@ -34,11 +38,12 @@ ghost use Rattle.fwd_chunks.specs.Live.{
 };
 ghost use Rattle.fwd_chunks.specs.Soundness.{IsSound};
 ghost use Rattle.fwd_model.specs.Books.{is_of, numbers_of, acks_of, book_owed, entered_as};
-ghost use Rattle.fwd_model.specs.Outputs.{no_requests, output_enters, output_settles, live_count_at};
+ghost use Rattle.fwd_model.specs.Outputs.{no_requests, output_enters, output_settles, output_choice, output_looks, output_ends, returned, live_count_at};
 
 use crate::book::Book;
 use crate::pending::Pending;
 use fwd_chunks::{AdmitError, Buffer, BufferLimits, Carried, Counts, FlushKind};
+use fwd_failover::Servers;
 use fwd_model::Origin;
 use fwd_modes::Batch;
 use fwd_msgpack::{Bytes, Seq};
@@ -52,11 +57,13 @@ pub struct Due {
     pub out: Bytes,
 }
 
-/// The chunks of one output that are not yet settled, and the requests that were not yet told.
+/// The chunks of one output that are not yet settled, the requests that were not yet told, and what
+/// was lost at its servers.
 #[derive(Drop)]
 pub struct OutputState {
     buffer: Buffer,
     book: Book,
+    servers: Servers,
 }
 
 impl Model for OutputState {
@@ -64,19 +71,36 @@ impl Model for OutputState {
 
     ghost Value = { LiveOutput };
 
-    ghost view = { λ o. record { buffer = o.buffer; book = o.book.requests } };
+    ghost view = { λ o.
+        record { buffer = o.buffer; book = o.book.requests; servers = o.servers } };
 }
 
 impl OutputState {
-    /// An output without entries, by its limits, its run and its number.
-    pub fn new(alloc: Global, limits: BufferLimits, run: [u8; 6], output: u16) -> Self
-        ensures { result
-            ≡ no_requests (record { limits = limits; run = run; output = output }) }
+    /// An output without entries, by its limits, its run and its number, and its servers: which of
+    /// them are standbys, 1 to 16 and not all. The only error is want of memory.
+    pub fn new(
+        alloc: Global,
+        limits: BufferLimits,
+        run: [u8; 6],
+        output: u16,
+        standby: &[bool],
+    ) -> Result<Self, AllocError>
+        requires few { length standby.now ≤ 16 }
+        requires has_primary { Contains standby.now false }
+        ensures { IfOk result (λ state. state
+            ≡ no_requests (record { limits = limits; run = run; output = output })
+            (record {
+              standby = standby.now;
+              retry_wait = limits.retry_wait;
+              retry_max = limits.retry_max;
+            })) }
     {
-        OutputState {
+        let servers = Servers::new(alloc, standby, limits.retry_wait, limits.retry_max)?;
+        Ok(OutputState {
             buffer: Buffer::new(alloc, limits, run, output),
             book: Book::new(alloc),
-        }
+            servers,
+        })
     }
 
     /// What is true of every output's chunks.
@@ -125,9 +149,8 @@ impl OutputState {
     /// Closes the open chunks that a flush closes, and answers how many.
     pub fn flush(&mut self, now: u64, kind: FlushKind) -> usize
         ensures count { result ≡ length (live_closing self.old.buffer now kind) }
-        ensures flushed { self.new ≡ record {
+        ensures flushed { self.new ≡ record self.old {
           buffer = live_flushes self.old.buffer now kind;
-          book = self.old.book;
         } }
     {
         self.buffer.flush(now, kind)
@@ -143,21 +166,30 @@ impl OutputState {
     ) -> Result<Option<Carried>, AllocError>
         ensures given { IfOk result (λ carried. carried ≡ option_map
             (live_load self.old.buffer) (live_given (live_looks self.old.buffer now))) }
-        ensures ok { OnOk result (self.new ≡ record {
+        ensures ok { OnOk result (self.new ≡ record self.old {
           buffer = live_takes self.old.buffer worker now;
-          book = self.old.book;
         }) }
         ensures err { OnErr result (self.new ≡ self.old) }
     {
         self.buffer.take(alloc, worker, now)
     }
 
+    /// The server that a worker tries at a moment (milliseconds), if one is usable: by the greatest
+    /// moment of all that were handed in.
+    pub fn choose(&mut self, worker: u16, now: u64) -> Option<u16>
+        ensures choice { result ≡ output_choice self.old worker now }
+        ensures looked { self.new ≡ output_looks self.old now }
+    {
+        let moment = self.buffer.look(now);
+        self.servers.choose(worker, moment)
+    }
+
     /// A server acknowledged the chunk: its entries are settled, and so are the runs of requests
-    /// in it. Answers how many entries those are. A chunk that no worker has from this output is
-    /// only spent.
-    pub fn settle(&mut self, carried: Carried) -> usize
+    /// in it, and the server's losses count no more. Answers how many entries those are. A chunk
+    /// that no worker has from this output is only spent.
+    pub fn settle(&mut self, carried: Carried, server: u16) -> usize
         ensures here { IsCarried self.old.buffer carried
-            → self.new ≡ output_settles self.old carried.number }
+            → self.new ≡ output_settles self.old carried.number server }
         ensures count { IsCarried self.old.buffer carried
             → result ≡ live_count_at carried.number self.old }
         ensures elsewhere { ¬ (IsCarried self.old.buffer carried) → self.new ≡ self.old }
@@ -166,9 +198,29 @@ impl OutputState {
         let before = self.buffer.held().settled;
         if self.buffer.carries(&carried) {
             self.book.settle(carried.number());
+            self.servers.settled(server);
         }
         self.buffer.settle(carried);
         (self.buffer.held().settled - before) as usize
+    }
+
+    /// A worker's end at a moment (milliseconds): a chunk that it had is given back, with a loss
+    /// where it was lost, and a server may be lost. A chunk that no worker has from this output is
+    /// only spent.
+    pub fn end(&mut self, chunk: Option<Carried>, lost: bool, server: Option<u16>, now: u64)
+        ensures here { IsHere self.old.buffer chunk
+            → self.new ≡ output_ends self.old (returned chunk lost) server now }
+        ensures elsewhere { ¬ (IsHere self.old.buffer chunk)
+            → self.new ≡ output_ends self.old None server now }
+    {
+        let moment = self.buffer.look(now);
+        if let Some(carried) = chunk {
+            self.buffer
+                .free(carried, if lost { Some(now) } else { None });
+        }
+        if let Some(server) = server {
+            self.servers.failed(server, moment);
+        }
     }
 
     /// The origins of a connection's requests that were not told yet, by rising number.
@@ -210,8 +262,7 @@ impl OutputState {
 
     /// What was due of these origins was told: it leaves.
     pub fn tell(&mut self, origins: &[Origin])
-        ensures { self.new ≡ record {
-          buffer = self.old.buffer;
+        ensures { self.new ≡ record self.old {
           book = filter (λ q. not (is_due_among origins.now q)) self.old.book;
         } }
     {
@@ -220,8 +271,7 @@ impl OutputState {
 
     /// Nobody is to be told of the requests of these origins any more: they leave.
     pub fn forget(&mut self, origins: &[Origin])
-        ensures { self.new ≡ record {
-          buffer = self.old.buffer;
+        ensures { self.new ≡ record self.old {
           book = filter (λ q. not (is_one origins.now q)) self.old.book;
         } }
     {

@@ -24,10 +24,10 @@ use fwd_chunks::{AdmitError, Counts};
 use fwd_handshake::{Nonces, Security};
 use fwd_match::Routes;
 use fwd_model::{
-    Answer, Config, Event, FlushKind, Origin, OutputConfig, Refusal, live_follows,
-    live_run_follows, told_among_is_delivered,
+    Answer, Config, EndKind, Event, FlushKind, Origin, OutputConfig, OwnedSalt, Refusal,
+    live_follows, live_run_follows, refusal_changes_nothing, told_among_is_delivered,
 };
-use fwd_msgpack::Bytes;
+use fwd_msgpack::{Bytes, Seq};
 use fwd_source::Source;
 use std::alloc::{AllocError, Global};
 use std::marker::Model;
@@ -65,12 +65,18 @@ impl Relay {
     pub fn new(alloc: Global, config: Config) -> Result<Self, AllocError>
         ensures { IfOk result (λ r. r ≡ live (opening config)) }
     {
-        let lanes = lanes_of(alloc, config.run, config.outputs.as_slice())?;
-        let security = Arc::new(alloc, config.security)?;
+        let Config {
+            run,
+            routes,
+            security,
+            outputs,
+        } = config;
+        let lanes = lanes_of(alloc, run, outputs)?;
+        let security = Arc::new(alloc, security)?;
         let connections = Vec::new(alloc);
         Ok(Relay {
-            run: config.run,
-            routes: config.routes,
+            run,
+            routes,
             security,
             last: None,
             connections,
@@ -90,45 +96,8 @@ impl Relay {
         ensures sure { is_free (answer_of (step lives self.old event.now)) ≡ true
             → result ≢ Answer.Memory }
     {
-        let answered = match event {
-            Event::Accept { conn, nonce, auth } => self.accept(alloc, *conn, *nonce, *auth),
-            Event::Piece { conn, bytes } => self.piece(alloc, *conn, bytes.as_slice()),
-            Event::Admit { conn, output, now } => self.admit(alloc, *conn, *output, *now),
-            Event::Flush { output, now, kind } => Ok(self.flush(*output, *now, *kind)),
-            Event::Up {
-                output,
-                worker,
-                server,
-                now,
-                ..
-            } => Ok(self.up(alloc, *output, *worker, *server, *now)),
-            Event::Take {
-                output,
-                worker,
-                now,
-            } => self.take(alloc, *output, *worker, *now),
-            Event::Load {
-                output,
-                worker,
-                now,
-            } => self.load(alloc, *output, *worker, *now),
-            Event::Wrote {
-                output,
-                worker,
-                count,
-            } => Ok(self.wrote(*output, *worker, *count)),
-            Event::Heard {
-                output,
-                worker,
-                bytes,
-            } => self.heard(alloc, *output, *worker, bytes.as_slice()),
-            Event::Settle { output, worker } => Ok(self.settle(*output, *worker)),
-            Event::Collect { conn, output } => self.collect(alloc, *conn, *output),
-            Event::Forget { conn, output } => Ok(self.forget(*conn, *output)),
-            Event::Drained { conn, count } => Ok(self.drained(*conn, *count)),
-            Event::Shut { conn } => Ok(self.shut(*conn)),
-        };
-        answered.unwrap_or(Answer::Memory)
+        refusal_changes_nothing();
+        self.try_step(alloc, event).unwrap_or(Answer::Memory)
     }
 
     /// Steps through events, and answers each. Over the events that are not answered want of
@@ -173,6 +142,70 @@ impl Relay {
     {
         live_follows();
         counts_of(alloc, &self.lanes)
+    }
+
+    /// What an event does. On an error nothing has changed.
+    fn try_step(&mut self, alloc: Global, event: &Event) -> Result<Answer, AllocError>
+        ensures answer { IfOk result (λ a. a ≡ answer_of (step lives self.old event.now)) }
+        ensures none { takes_none event.now ≡ true → IsOk result }
+        ensures sure { is_free (answer_of (step lives self.old event.now)) ≡ true → IsOk result }
+        ensures next { OnOk result (self.new ≡ state_of self.old (step lives self.old event.now)) }
+        ensures err { OnErr result (self.new ≡ self.old) }
+    {
+        match event {
+            Event::Accept { conn, nonce, auth } => self.accept(alloc, *conn, *nonce, *auth),
+            Event::Piece { conn, bytes } => self.piece(alloc, *conn, bytes.as_slice()),
+            Event::Admit { conn, output, now } => self.admit(alloc, *conn, *output, *now),
+            Event::Flush { output, now, kind } => Ok(self.flush(*output, *now, *kind)),
+            Event::Choose {
+                output,
+                worker,
+                now,
+            } => Ok(self.choose(*output, *worker, *now)),
+            Event::Up {
+                output,
+                worker,
+                server,
+                salt,
+                now,
+            } => self.up(alloc, *output, *worker, *server, salt, *now),
+            Event::Take {
+                output,
+                worker,
+                now,
+            } => self.take(alloc, *output, *worker, *now),
+            Event::Load {
+                output,
+                worker,
+                now,
+            } => self.load(alloc, *output, *worker, *now),
+            Event::Wrote {
+                output,
+                worker,
+                count,
+            } => Ok(self.wrote(*output, *worker, *count)),
+            Event::Heard {
+                output,
+                worker,
+                bytes,
+            } => self.heard(alloc, *output, *worker, bytes.as_slice()),
+            Event::Late {
+                output,
+                worker,
+                now,
+            } => Ok(self.late(*output, *worker, *now)),
+            Event::Settle { output, worker } => Ok(self.settle(*output, *worker)),
+            Event::End {
+                output,
+                worker,
+                kind,
+                now,
+            } => Ok(self.end(*output, *worker, *kind, *now)),
+            Event::Collect { conn, output } => self.collect(alloc, *conn, *output),
+            Event::Forget { conn, output } => Ok(self.forget(*conn, *output)),
+            Event::Drained { conn, count } => Ok(self.drained(*conn, *count)),
+            Event::Shut { conn } => Ok(self.shut(*conn)),
+        }
     }
 
     /// A connection comes. On an error nothing has changed.
@@ -299,19 +332,45 @@ impl Relay {
         Answer::Closed { chunks }
     }
 
-    /// A worker's session with a server begins.
-    fn up(&mut self, alloc: Global, output: u16, worker: u16, server: u16, now: u64) -> Answer
-        ensures answer { result
-            ≡ answer_of (step lives self.old (event.Up output worker server [] now)) }
+    /// Which server a worker is to try.
+    fn choose(&mut self, output: u16, worker: u16, now: u64) -> Answer
+        ensures answer { result ≡ answer_of (step lives self.old (event.Choose output worker now)) }
         ensures next { self.new
-            ≡ state_of self.old (step lives self.old (event.Up output worker server [] now)) }
+            ≡ state_of self.old (step lives self.old (event.Choose output worker now)) }
     {
         let place = usize::from(output);
         if place >= self.lanes.len() {
             return Answer::Refused(Refusal::NoSuch);
         }
         let lane = &mut self.lanes[place];
-        lane.up(alloc, worker, server, now)
+        lane.choose(worker, now)
+    }
+
+    /// A worker's session with a server begins. On an error nothing has changed.
+    fn up(
+        &mut self,
+        alloc: Global,
+        output: u16,
+        worker: u16,
+        server: u16,
+        salt: &OwnedSalt,
+        now: u64,
+    ) -> Result<Answer, AllocError>
+        ensures answer { IfOk result (λ a.
+            a ≡ answer_of (step lives self.old (event.Up output worker server salt.now now))) }
+        ensures sure { is_free
+            (answer_of (step lives self.old (event.Up output worker server salt.now now))) ≡ true
+            → IsOk result }
+        ensures next { OnOk result (self.new
+            ≡ state_of self.old (step lives self.old (event.Up output worker server salt.now now))) }
+        ensures err { OnErr result (self.new ≡ self.old) }
+    {
+        let place = usize::from(output);
+        if place >= self.lanes.len() {
+            return Ok(Answer::Refused(Refusal::NoSuch));
+        }
+        let lane = &mut self.lanes[place];
+        lane.up(alloc, worker, server, salt, now)
     }
 
     /// A worker takes the least free chunk of its output. On an error nothing has changed.
@@ -398,9 +457,8 @@ impl Relay {
         if place >= self.lanes.len() {
             return Ok(Answer::Refused(Refusal::NoSuch));
         }
-        let run = self.run;
         let lane = &mut self.lanes[place];
-        lane.heard(alloc, &run, output, worker, bytes)
+        lane.heard(alloc, worker, bytes)
     }
 
     /// A worker's acknowledged chunk leaves its output.
@@ -415,6 +473,35 @@ impl Relay {
         }
         let lane = &mut self.lanes[place];
         lane.settle(worker)
+    }
+
+    /// It is asked whether a worker's session is late.
+    fn late(&mut self, output: u16, worker: u16, now: u64) -> Answer
+        ensures answer { result ≡ answer_of (step lives self.old (event.Late output worker now)) }
+        ensures next { self.new
+            ≡ state_of self.old (step lives self.old (event.Late output worker now)) }
+    {
+        let place = usize::from(output);
+        if place >= self.lanes.len() {
+            return Answer::Refused(Refusal::NoSuch);
+        }
+        let lane = &mut self.lanes[place];
+        lane.late(worker, now)
+    }
+
+    /// A worker's session is no more, and a chunk that it has goes back to its output.
+    fn end(&mut self, output: u16, worker: u16, kind: EndKind, now: u64) -> Answer
+        ensures answer { result
+            ≡ answer_of (step lives self.old (event.End output worker kind now)) }
+        ensures next { self.new
+            ≡ state_of self.old (step lives self.old (event.End output worker kind now)) }
+    {
+        let place = usize::from(output);
+        if place >= self.lanes.len() {
+            return Answer::Refused(Refusal::NoSuch);
+        }
+        let lane = &mut self.lanes[place];
+        lane.end(worker, kind, now)
     }
 
     /// Nobody is to be told of a connection's requests at an output any more.
@@ -467,13 +554,19 @@ fn counts_of(alloc: Global, lanes: &[Lane]) -> Result<Vec<Counts>, AllocError>
     Ok(counts)
 }
 
-fn lanes_of(alloc: Global, run: [u8; 6], configs: &[OutputConfig]) -> Result<Vec<Lane>, AllocError>
-    requires { length configs.now ≤ 2 ^ 16 }
-    ensures { IfOk result (λ lanes. lanes.items ≡ new_live_lanes run 0 configs.now) }
+/// The outputs, none of which has an entry.
+fn lanes_of(
+    alloc: Global,
+    run: [u8; 6],
+    configs: Seq<OutputConfig>,
+) -> Result<Vec<Lane>, AllocError>
+    requires { length configs ≤ 2 ^ 16 }
+    ensures { IfOk result (λ lanes. lanes.items ≡ new_live_lanes run 0 configs) }
 {
     let mut lanes = Vec::new(alloc);
-    for place in 0..configs.len() {
-        lanes.push(Lane::new(alloc, run, place as u16, configs[place])?)?;
+    for config in configs.into_vec() {
+        let place = lanes.len() as u16;
+        lanes.push(Lane::new(alloc, run, place, config)?)?;
     }
     Ok(lanes)
 }

@@ -1,13 +1,13 @@
 -- What the events so far did to each session, each number and each request that an output has.
-use Rattle.std.proofs.Common.{◌≡◌, ℕ, ◌+◌, ◌≤◌, Bool, true, false, eqb, List, [], ◌∷◌, ◌++◌, Some, refl, sym, ap, subst, ◌∙◌, inl, inr, arith}
-use Rattle.std.specs.Prelude.{◌⊎◌, is_some, not, nat_lt, option_map, ◌&&◌, ◌==◌, slice_get, slice_set}
+use Rattle.std.proofs.Common.{◌≡◌, ℕ, ◌+◌, ◌≤◌, Bool, true, false, eqb, List, [], ◌∷◌, ◌++◌, Option, Some, refl, sym, ap, subst, ◌∙◌, inl, inr, arith}
+use Rattle.std.specs.Prelude.{◌⊎◌, is_some, ◌&&◌, ◌==◌, slice_get, slice_set}
 use Rattle.std.specs.List.{list_all, list_any}
 use Rattle.std.proofs.lemmas.Bool.Decides.{nat_tests}
 use Rattle.std.proofs.lemmas.List.{append_assoc, append-nil}
 use Rattle.fwd_modes.specs.Requests.{Request}
 use Rattle.fwd_modes.specs.Frames.{chunk_frame, chunk_name}
 use Rattle.fwd_chunks.specs.Cells.{Cell, cells_at, contents, entries_of, first_tag, has_number}
-use Rattle.fwd_chunks.specs.History.{BufferHistory, load_of}
+use Rattle.fwd_chunks.specs.History.{BufferHistory, Load, load_of}
 use Rattle.fwd_chunks.proofs.CellLemmas.{has_cell}
 use Rattle.fwd_chunks.proofs.News.{AreOf}
 use Rattle.fwd_model.specs.declared.cell.Entered.{Entered}
@@ -17,14 +17,14 @@ use Rattle.fwd_model.specs.declared.event.Event.TheVariants as event
 use Rattle.fwd_match.specs.Patterns.{route}
 use Rattle.fwd_source.specs.History.{SourceHistory, judged}
 use Rattle.fwd_model.specs.declared.answer.Answer.TheVariants as answer
-use Rattle.fwd_model.specs.declared.fault.Refusal.TheVariants.{NoSuch, NotNow}
-use Rattle.fwd_model.specs.Outcome.{Goes, answer_of, state_of, within, found, refuse_if, ◌>>=◌, ◌>>◌}
-use Rattle.fwd_model.specs.Step.{step, after, at_worker, up, with_session}
-use Rattle.fwd_model.specs.Outputs.{frame_of}
+use Rattle.fwd_model.specs.declared.event.EndKind.{EndKind}
+use Rattle.fwd_session.specs.Evidence.{frame_of}
+use Rattle.fwd_session.specs.History.{SessionHistory, handshake_of, is_done, is_handed_on}
+use Rattle.fwd_model.specs.Outcome.{state_of}
+use Rattle.fwd_model.specs.Step.{step, after}
 use Rattle.fwd_model.specs.Books.{Admission}
-use Rattle.fwd_model.specs.Sessions.{SessionHistory, is_handed_on}
-use Rattle.fwd_model.specs.History.{Connection, ever_at, source_at, with_source, with_gone, Lane, History, with_lane, history_worker, histories}
-use Rattle.fwd_model.specs.Delivered.{reached, answered, NoneBegan, HasBegun, WasLoaded, WasSent, WasAcknowledged, cells_from}
+use Rattle.fwd_model.specs.History.{Connection, ever_at, source_at, with_source, with_gone, Lane, History, histories}
+use Rattle.fwd_model.specs.Delivered.{reached, answered, NoneEnded, HasBegun, WasLoaded, WasSent, WasAcknowledged, cells_from}
 use Rattle.fwd_model.proofs.Reached.{slice_get-set}
 
 -- ---- events are added at the end
@@ -69,25 +69,29 @@ last_split (d ∷ later) (b ∷ between) x rest e h = by (last_split later betwe
     by (AtEnd same is) head = AtEnd (λ i. head i ∷ same i) is
     by (Before front same) head = Before front (λ i. head i ∷ same i)
 
--- the event begins no session of the worker
-abbrev pub Begins : Config → List Event → Event → ℕ → ℕ → Type 0
-Begins config es e o w = (server : ℕ) (salt : List ℕ) (moment : ℕ) → e ≡ event.Up o w server salt moment → answered config es e ≡ answer.Done → ⊥
+-- the event does not end a session of the worker
+abbrev pub Stands : Config → List Event → Event → ℕ → ℕ → Type 0
+Stands config es e o w = (kind : EndKind) (moment : ℕ) (number : Option ℕ) → e ≡ event.End o w kind moment → answered config es e ≡ answer.Ended number → ⊥
 
--- the event begins no session of a worker that has one
-abbrev pub Quiet : Config → List Event → Event → ℕ → Lane → Type 0
-Quiet config es e o l = (w : ℕ) (s : SessionHistory) → slice_get l.sessions w ≡ Some (Some s) → Begins config es e o w
+-- the event ends no session of the output
+abbrev pub Quiet : Config → List Event → Event → ℕ → Type 0
+Quiet config es e o = (w : ℕ) → Stands config es e o w
 
 module _ (config : Config) (es : List Event) (e : Event) where
-  none_began : (before later : List Event) (o w : ℕ) → es ≡ before ++ later → Begins config es e o w → NoneBegan config before later o w → NoneBegan config before (later ++ e ∷ []) o w
-  none_began before later o w split quiet none between rest server salt moment at done = by (last_split later between (event.Up o w server salt moment) rest e at)
+  none_ended : (before later : List Event) (o w : ℕ) → es ≡ before ++ later → Stands config es e o w → NoneEnded config before later o w → NoneEnded config before (later ++ e ∷ []) o w
+  none_ended before later o w split quiet none between rest kind moment number at done = by (last_split later between (event.End o w kind moment) rest e at)
     where
-      by : LastSplit later between (event.Up o w server salt moment) rest e → ⊥
+      by : LastSplit later between (event.End o w kind moment) rest e → ⊥
       by (AtEnd same is) =
           let here : es ≡ before ++ between = split ∙ ap (λ xs. before ++ xs) same in
-          quiet server salt moment is ((λ i. answered config (here i) (is i)) ∙ done)
-      by (Before front same) = none between front server salt moment same done
+          quiet kind moment number is ((λ i. answered config (here i) (is i)) ∙ done)
+      by (Before front same) = none between front kind moment number same done
 
-  pub begun_still : (o w : ℕ) → Begins config es e o w → HasBegun config es o w → HasBegun config (es ++ e ∷ []) o w
+  -- behind one event more
+  behind : (before : List Event) (x : Event) (later : List Event) → es ≡ before ++ x ∷ later → es ≡ (before ++ x ∷ []) ++ later
+  behind before x later split = split ∙ sym (append_assoc before (x ∷ []) later)
+
+  pub begun_still : (o w : ℕ) → Stands config es e o w → HasBegun config es o w → HasBegun config (es ++ e ∷ []) o w
   begun_still o w quiet b = record {
     before = b.before;
     server = b.server;
@@ -96,21 +100,22 @@ module _ (config : Config) (es : List Event) (e : Event) where
     later = b.later ++ e ∷ [];
     split = later_split es b.before (event.Up o w b.server b.salt b.moment) b.later e b.split;
     done = b.done;
-    alone = none_began (b.before ++ event.Up o w b.server b.salt b.moment ∷ []) b.later o w (b.split ∙ sym (append_assoc b.before (event.Up o w b.server b.salt b.moment ∷ []) b.later)) quiet b.alone;
+    kept = none_ended (b.before ++ event.Up o w b.server b.salt b.moment ∷ []) b.later o w (behind b.before (event.Up o w b.server b.salt b.moment) b.later b.split) quiet b.kept;
   }
 
-  pub loaded_still : (o w : ℕ) (frame : List ℕ) → WasLoaded config es o w frame → WasLoaded config (es ++ e ∷ []) o w frame
-  loaded_still o w frame l = record {
+  pub loaded_still : (o w : ℕ) (frame : List ℕ) → Stands config es e o w → WasLoaded config es o w frame → WasLoaded config (es ++ e ∷ []) o w frame
+  loaded_still o w frame quiet l = record {
     before = l.before;
     moment = l.moment;
     later = l.later ++ e ∷ [];
     split = later_split es l.before (event.Load o w l.moment) l.later e l.split;
     loads = l.loads;
+    kept = none_ended (l.before ++ event.Load o w l.moment ∷ []) l.later o w (behind l.before (event.Load o w l.moment) l.later l.split) quiet l.kept;
     begun = l.begun;
   }
 
-  pub sent_still : (o w : ℕ) (frame : List ℕ) → WasSent config es o w frame → WasSent config (es ++ e ∷ []) o w frame
-  sent_still o w frame s = record {
+  pub sent_still : (o w : ℕ) (frame : List ℕ) → Stands config es e o w → WasSent config es o w frame → WasSent config (es ++ e ∷ []) o w frame
+  sent_still o w frame quiet s = record {
     before = s.before;
     count = s.count;
     later = s.later ++ e ∷ [];
@@ -119,6 +124,7 @@ module _ (config : Config) (es : List Event) (e : Event) where
     session = s.session;
     stands = s.stands;
     taken = s.taken;
+    kept = none_ended (s.before ++ event.Wrote o w s.count ∷ []) s.later o w (behind s.before (event.Wrote o w s.count) s.later s.split) quiet s.kept;
     loaded = s.loaded;
   }
 
@@ -154,38 +160,43 @@ pub frame_is : (config : Config) (o k : ℕ) (b : BufferHistory) → IsNamed con
 frame_is config o k b named = λ i. chunk_frame (first_tag (cells_at k b.cells)) (contents k b.cells) (chunk_name (named.0 i) (named.1 i) k)
 
 -- what was done with the chunk that a session has
-pub record ChunkStory (config : Config) (es : List Event) (o w : ℕ) (cells : List Cell) (s : SessionHistory) (k : ℕ) : Type 0 where
-  pub was_loaded : WasLoaded config es o w (frame_at config o cells k)
+pub record ChunkStory (config : Config) (es : List Event) (o w : ℕ) (s : SessionHistory) (c : Load) : Type 0 where
+  pub was_loaded : WasLoaded config es o w (frame_of c)
   pub front : List ℕ
-  pub ends : s.appended ≡ front ++ frame_at config o cells k
-  pub was_sent : is_handed_on s ≡ true → WasSent config es o w (frame_at config o cells k)
-  pub was_acked : s.accepted ≡ true → WasAcknowledged config es o w (frame_at config o cells k) (chunk_name config.run o k)
+  pub ends : s.appended ≡ front ++ frame_of c
+  pub was_sent : is_handed_on s ≡ true → WasSent config es o w (frame_of c)
+  pub was_acked : is_some s.reply ≡ true → WasAcknowledged config es o w (frame_of c) c.name
 
-pub record SessionStory (config : Config) (es : List Event) (o w : ℕ) (cells : List Cell) (s : SessionHistory) : Type 0 where
+pub record SessionStory (config : Config) (es : List Event) (o w : ℕ) (s : SessionHistory) : Type 0 where
   pub begun : HasBegun config es o w
-  pub has_one : s.accepted ≡ true → is_some s.loaded ≡ true
-  pub chunk : (k : ℕ) → s.loaded ≡ Some k → ChunkStory config es o w cells s k
+  pub has_one : is_some s.reply ≡ true → is_some s.loaded ≡ true
+  pub greeted : is_some s.loaded ≡ true → is_done (handshake_of s) ≡ true
+  pub chunk : (c : Load) → s.loaded ≡ Some c → ChunkStory config es o w s c
 
 -- a worker had the number acknowledged
 abbrev pub NumberStory : Config → List Event → ℕ → List Cell → ℕ → Type 0
 NumberStory config es o cells k = (w : ℕ) × WasAcknowledged config es o w (frame_at config o cells k) (chunk_name config.run o k)
 
-module _ (config : Config) (es : List Event) (e : Event) (o : ℕ) (cells : List Cell) where
-  pub session_still : (w : ℕ) (s : SessionHistory) → Begins config es e o w → SessionStory config es o w cells s → SessionStory config (es ++ e ∷ []) o w cells s
+module _ (config : Config) (es : List Event) (e : Event) (o : ℕ) where
+  pub chunk_still : (w : ℕ) (s : SessionHistory) (c : Load) → Stands config es e o w → ChunkStory config es o w s c → ChunkStory config (es ++ e ∷ []) o w s c
+  chunk_still w s c quiet t = record {
+    was_loaded = loaded_still config es e o w (frame_of c) quiet t.was_loaded;
+    front = t.front;
+    ends = t.ends;
+    was_sent = λ b. sent_still config es e o w (frame_of c) quiet (t.was_sent b);
+    was_acked = λ b. acked_still config es e o w (frame_of c) c.name (t.was_acked b);
+  }
+
+  pub session_still : (w : ℕ) (s : SessionHistory) → Stands config es e o w → SessionStory config es o w s → SessionStory config (es ++ e ∷ []) o w s
   session_still w s quiet t = record {
     begun = begun_still config es e o w quiet t.begun;
     has_one = t.has_one;
-    chunk = λ k h. let c = t.chunk k h in record {
-      was_loaded = loaded_still config es e o w (frame_at config o cells k) c.was_loaded;
-      front = c.front;
-      ends = c.ends;
-      was_sent = λ b. sent_still config es e o w (frame_at config o cells k) (c.was_sent b);
-      was_acked = λ b. acked_still config es e o w (frame_at config o cells k) (chunk_name config.run o k) (c.was_acked b);
-    };
+    greeted = t.greeted;
+    chunk = λ c h. chunk_still w s c quiet (t.chunk c h);
   }
 
-  pub number_still : (k : ℕ) → NumberStory config es o cells k → NumberStory config (es ++ e ∷ []) o cells k
-  number_still k n = (n.0, acked_still config es e o n.0 (frame_at config o cells k) (chunk_name config.run o k) n.1)
+  pub number_still : (cells : List Cell) (k : ℕ) → NumberStory config es o cells k → NumberStory config (es ++ e ∷ []) o cells k
+  number_still cells k n = (n.0, acked_still config es e o n.0 (frame_at config o cells k) (chunk_name config.run o k) n.1)
 
 -- ---- requests
 
@@ -220,7 +231,7 @@ AllTold routes cs o cells (a ∷ admissions) = RequestStory routes cs o cells a.
 -- ---- outputs
 
 pub record LaneStory (config : Config) (es : List Event) (cs : List Connection) (o : ℕ) (l : Lane) : Type 0 where
-  pub sessions : (w : ℕ) (s : SessionHistory) → slice_get l.sessions w ≡ Some (Some s) → SessionStory config es o w l.output.buffer.cells s
+  pub sessions : (w : ℕ) (s : SessionHistory) → slice_get l.sessions w ≡ Some (Some s) → SessionStory config es o w s
   pub numbers : (k : ℕ) → has_number k l.output.buffer.acknowledged ≡ true → NumberStory config es o l.output.buffer.cells k
   pub own : (id r : ℕ) → has_origin id r l.output.buffer.cells ≡ true → Admitted cs id r
   pub requests : AllTold config.routes cs o l.output.buffer.cells l.output.book.admissions
@@ -323,10 +334,10 @@ all_still routes cs ds o cells [] ext all = tt
 all_still routes cs ds o cells (a ∷ admissions) ext all = (request_still routes cs ds o cells a.request ext all.0, all_still routes cs ds o cells admissions ext all.1)
 
 pub lane_still : (config : Config) (es : List Event) (e : Event) (cs ds : List Connection) (o : ℕ)
-    (l : Lane) → Extends cs ds → Quiet config es e o l → LaneStory config es cs o l
+    (l : Lane) → Extends cs ds → Quiet config es e o → LaneStory config es cs o l
     → LaneStory config (es ++ e ∷ []) ds o l
 lane_still config es e cs ds o l ext quiet t = record {
-  sessions = λ w s h. session_still config es e o l.output.buffer.cells w s (quiet w s h) (t.sessions w s h);
+  sessions = λ w s h. session_still config es e o w s (quiet w) (t.sessions w s h);
   numbers = λ k h. number_still config es e o l.output.buffer.cells k (t.numbers k h);
   own = λ id r h. admitted_still cs ds id r ext (t.own id r h);
   requests = all_still config.routes cs ds o l.output.buffer.cells l.output.book.admissions ext t.requests;
@@ -338,39 +349,27 @@ lane_still config es e cs ds o l ext quiet t = record {
 abbrev pub with_parts : History → List Connection → List Lane → History
 with_parts h cs ls = record { run = h.run; routes = h.routes; security = h.security; connections = cs; lanes = ls }
 
--- a worker that has a session begins no other
-pub up_refused : (h : History) (o w server : ℕ) (salt : List ℕ) (now : ℕ) (l : Lane)
-    (s : SessionHistory) → slice_get h.lanes o ≡ Some l
-    → slice_get l.sessions w ≡ Some (Some s)
-    → answer_of (step histories h (event.Up o w server salt now)) ≡ answer.Done → ⊥
-up_refused h o w server salt now l s here at done =
-    by_test (not (nat_lt server l.config.servers))
-    (sym (ap (λ x. answer_of (found x NoSuch >>= (λ k. within (λ m. with_lane o m h) (at_worker histories k w (up histories k.config.servers server now))))) here
-    ∙ ap (λ x. answer_of (within (λ m. with_lane o m h) (found (option_map (history_worker l w) x) NoSuch >>= (λ y. within (histories.puts_worker l w) (up histories l.config.servers server now y))))) at) ∙ done)
-  where
-    by_test : (b : Bool) → answer_of (within (λ m. with_lane o m h) (within (histories.puts_worker l w) (refuse_if b NoSuch >> (refuse_if true NotNow >> Goes answer.Done (with_session (history_worker l w (Some s)) (histories.begins server now)))))) ≡ answer.Done → ⊥
-    by_test true e = cc
-    by_test false e = cc
-
 module _ (config : Config) (es : List Event) (e : Event) (t : Story config es (reached config es)) where
   abbrev h : History
   h = reached config es
 
-  pub quiet : (o : ℕ) (l : Lane) → slice_get h.lanes o ≡ Some l → Quiet config es e o l
-  quiet o l here w s at server salt moment is done = up_refused h o w server salt moment l s here at (ap (λ x. answered config es x) (sym is) ∙ done)
+  -- the event ends no session of any output
+  abbrev pub Calm : Type 0
+  Calm = (o : ℕ) → Quiet config es e o
 
-  pub still : (ds : List Connection) (o : ℕ) (l : Lane) → Extends h.connections ds → slice_get h.lanes o ≡ Some l → LaneStory config (es ++ e ∷ []) ds o l
-  still ds o l ext here = lane_still config es e h.connections ds o l ext (quiet o l here) (t.lanes o l here)
+  pub still : (ds : List Connection) (o : ℕ) (l : Lane) → Extends h.connections ds → Quiet config es e o → slice_get h.lanes o ≡ Some l → LaneStory config (es ++ e ∷ []) ds o l
+  still ds o l ext quiet here = lane_still config es e h.connections ds o l ext quiet (t.lanes o l here)
 
-  pub lanes_stay : (ds : List Connection) → Extends h.connections ds → Story config (es ++ e ∷ []) (with_parts h ds h.lanes)
-  lanes_stay ds ext = record { run = t.run; routes = t.routes; lanes = λ o l here. still ds o l ext here }
+  pub lanes_stay : (ds : List Connection) → Calm → Extends h.connections ds → Story config (es ++ e ∷ []) (with_parts h ds h.lanes)
+  lanes_stay ds calm ext = record { run = t.run; routes = t.routes; lanes = λ o l here. still ds o l ext (calm o) here }
 
-  pub all_stays : Story config (es ++ e ∷ []) h
-  all_stays = lanes_stay h.connections (extends_same h.connections)
+  pub all_stays : Calm → Story config (es ++ e ∷ []) h
+  all_stays calm = lanes_stay h.connections calm (extends_same h.connections)
 
-  pub lane_put : (ds : List Connection) (o : ℕ) (m : Lane) → Extends h.connections ds → LaneStory config (es ++ e ∷ []) ds o m → Story config (es ++ e ∷ []) (with_parts h ds (slice_set h.lanes o m))
-  lane_put ds o m ext story = record { run = t.run; routes = t.routes; lanes = λ j l here. at j l (slice_get-set h.lanes o j m l here) }
+  pub lane_put : (ds : List Connection) (o : ℕ) (m : Lane) → ((j : ℕ) → (o ≡ j → ⊥) → Quiet config es e j) → Extends h.connections ds → LaneStory config (es ++ e ∷ []) ds o m
+      → Story config (es ++ e ∷ []) (with_parts h ds (slice_set h.lanes o m))
+  lane_put ds o m calm ext story = record { run = t.run; routes = t.routes; lanes = λ j l here. at j l (slice_get-set h.lanes o j m l here) }
     where
       at : (j : ℕ) (l : Lane) → ((o ≡ j) × (m ≡ l)) ⊎ ((o ≡ j → ⊥) × (slice_get h.lanes j ≡ Some l)) → LaneStory config (es ++ e ∷ []) ds j l
       at j l (inl x) = subst (λ k. LaneStory config (es ++ e ∷ []) ds k l) x.0 (subst (λ y. LaneStory config (es ++ e ∷ []) ds o y) x.1 story)
-      at j l (inr x) = still ds j l ext x.1
+      at j l (inr x) = still ds j l ext (calm j x.0) x.1

@@ -9,20 +9,18 @@ use Rattle.fwd_modes.specs.Frames.{chunk_frame, chunk_name}
 use Rattle.fwd_match.specs.Patterns.{route}
 use Rattle.fwd_source.specs.declared.origin.Origin.{Origin}
 use Rattle.fwd_source.specs.History.{SourceHistory, judged}
-use Rattle.fwd_chunks.specs.Cells.{Cell, cells_at, entries_of, first_tag, is_carried, has_number}
+use Rattle.fwd_chunks.specs.Cells.{Cell, cells_at, entries_of, first_tag, has_number}
 use Rattle.fwd_chunks.specs.History.{BufferHistory, looks, enters as buffer_enters, spans_of}
-use Rattle.fwd_chunks.proofs.News.{AreOf, news, enters-cells, enters-setting, acked-stays, carried-stays, news-entries, news-own, spans-give}
+use Rattle.fwd_chunks.proofs.News.{AreOf, news, enters-cells, enters-setting, acked-stays, news-entries, news-own, spans-give}
 use Rattle.fwd_model.specs.declared.cell.Entered.{Entered}
 use Rattle.fwd_model.specs.declared.config.Config.{Config}
 use Rattle.fwd_model.specs.declared.event.Event.{Event}
 use Rattle.fwd_model.specs.Books.{Untold, Admission, entered_as}
 use Rattle.fwd_model.specs.Outputs.{output_history_enters}
-use Rattle.fwd_model.specs.Sessions.{SessionHistory}
 use Rattle.fwd_model.specs.History.{Connection, ever_at, Lane, with_output}
-use Rattle.fwd_model.specs.Delivered.{cells_from, WasLoaded, WasSent, WasAcknowledged}
-use Rattle.fwd_model.proofs.Settling.{carry_of-carried}
+use Rattle.fwd_model.specs.Delivered.{cells_from, WasAcknowledged}
 use Rattle.fwd_model.proofs.Reached.{IsSaneLane}
-use Rattle.fwd_model.proofs.Chronicle.{Quiet, frame_at, ChunkStory, has_origin, Admitted, RequestStory, AllTold, LaneStory, Extends, admitted_still, lane_still}
+use Rattle.fwd_model.proofs.Chronicle.{Quiet, frame_at, has_origin, Admitted, RequestStory, AllTold, LaneStory, Extends, admitted_still, lane_still}
 
 -- ---- whose the new cells are
 
@@ -73,17 +71,6 @@ has_origin-append id r (c ∷ xs) ys = grind (arith, nat_tests, has_origin-appen
 frame_same : (config : Config) (o k : ℕ) (xs ys : List Cell) → cells_at k ys ≡ cells_at k xs
     → frame_at config o xs k ≡ frame_at config o ys k
 frame_same config o k xs ys same = λ i. chunk_frame (first_tag (sym same i)) (entries_of (sym same i)) (chunk_name config.run o k)
-
-chunk_moves : (config : Config) (es : List Event) (o w : ℕ) (xs ys : List Cell)
-    (s : SessionHistory) (k : ℕ) → frame_at config o xs k ≡ frame_at config o ys k
-    → ChunkStory config es o w xs s k → ChunkStory config es o w ys s k
-chunk_moves config es o w xs ys s k same c = record {
-  was_loaded = subst (λ f. WasLoaded config es o w f) same c.was_loaded;
-  front = c.front;
-  ends = c.ends ∙ ap (λ f. c.front ++ f) same;
-  was_sent = λ b. subst (λ f. WasSent config es o w f) same (c.was_sent b);
-  was_acked = λ b. subst (λ f. WasAcknowledged config es o w f (chunk_name config.run o k)) same (c.was_acked b);
-}
 
 -- ---- an output with one more request
 
@@ -180,16 +167,12 @@ module _ (config : Config) (es : List Event) (e : Event) (cs ds : List Connectio
       unseen : has_origin id number buffer.cells ≡ false
       unseen = seen (has_origin id number buffer.cells) refl
 
-  pub lane_enters : (s t : SourceHistory) → IsSaneLane l → Extends cs ds → Quiet config es e o l → LaneStory config es cs o l → ever_at id cs ≡ Some s → number ≡ s.admitted + 1 → ever_at id ds ≡ Some t → t.admitted ≡ s.admitted + 1
+  pub lane_enters : (s t : SourceHistory) → IsSaneLane l → Extends cs ds → Quiet config es e o → LaneStory config es cs o l → ever_at id cs ≡ Some s → number ≡ s.admitted + 1 → ever_at id ds ≡ Some t → t.admitted ≡ s.admitted + 1
       → slice_get (judged t).requests s.admitted ≡ Some q → route config.routes q.tag ≡ Some o → LaneStory config (es ++ e ∷ []) ds o (with_output l (output_history_enters l.output (record { conn = id; request = number }) q now))
   lane_enters s t sane ext quiet story here is there grown asked first =
       let still = lane_still config es e cs ds o l ext quiet story in
       let setting = enters-setting buffer origin q now in record {
-        sessions = λ w u h. let v = still.sessions w u h in record {
-          begun = v.begun;
-          has_one = v.has_one;
-          chunk = λ k f. chunk_moves config (es ++ e ∷ []) o w buffer.cells all u k (frame_same config o k buffer.cells all (carried-stays buffer origin q now k sane.buffer (carried w u h k f))) (v.chunk k f);
-        };
+        sessions = still.sessions;
         numbers = λ k h. let n = still.numbers k (subst (λ ns. has_number k ns ≡ true) (enters_acknowledged) h) in
             (n.0, subst (λ f. WasAcknowledged config (es ++ e ∷ []) o n.0 f (chunk_name config.run o k)) (frame_same config o k buffer.cells all (acked-stays buffer origin q now k sane.buffer (subst (λ ns. has_number k ns ≡ true) (enters_acknowledged) h))) n.1);
         own = λ i r h. by i r (either (has_origin i r buffer.cells) (has_origin i r more) (sym (ap (has_origin i r) (enters-cells buffer origin q now) ∙ has_origin-append i r buffer.cells more) ∙ h));
@@ -199,9 +182,6 @@ module _ (config : Config) (es : List Event) (e : Event) (cs ds : List Connectio
     where
       enters_acknowledged : (buffer_enters buffer origin q now).acknowledged ≡ buffer.acknowledged
       enters_acknowledged = Rattle.fwd_chunks.proofs.News.enters-acknowledged buffer origin q now
-
-      carried : (w : ℕ) (u : SessionHistory) → slice_get l.sessions w ≡ Some (Some u) → (k : ℕ) → u.loaded ≡ Some k → is_carried k buffer.carried ≡ true
-      carried w u h k f = carry_of-carried w buffer.carried (record { worker = w; number = k }) ((sane.sessions w u h).carries k f)
 
       either : (a b : Bool) → (a || b) ≡ true → (a ≡ true) ⊎ (b ≡ true)
       either true b h = inl refl

@@ -1,85 +1,53 @@
 -- What the events of sessions add to the chronicle.
-use Rattle.std.proofs.Common.{◌≡◌, ℕ, zero, suc, ◌<◌, ◌≤◌, Bool, true, false, cond, List, [], ◌∷◌, ◌++◌, length, Option, Some, None, refl, sym, ap, subst, ◌∙◌, inl, inr, arith}
+use Rattle.std.proofs.Common.{◌≡◌, ℕ, ◌<◌, ◌≤◌, Bool, true, false, cond, List, [], ◌∷◌, ◌++◌, length, Option, Some, None, refl, sym, ap, subst, ◌∙◌, inl, inr, arith}
 use Rattle.std.specs.Prelude.{◌⊎◌, option_map, is_some, not, ◌||◌, slice_get}
 use Rattle.std.proofs.lemmas.Bool.Decides.{nat_tests}
-use Rattle.std.proofs.lemmas.List.{length-append}
-use Rattle.std.specs.Str.{bytes_eq}
-use Rattle.std.proofs.lemmas.Slice.Eq.{bytes_eq-Decides}
+use Rattle.std.proofs.lemmas.List.{length-append, append-nil}
 use Rattle.fwd_msgpack.specs.Heads.{head_bytes}
 use Rattle.fwd_msgpack.specs.Scans.{Split, values_of}
-use Rattle.fwd_msgpack.specs.Scans.Split.{Open, Broken}
-use Rattle.fwd_modes.specs.Frames.{chunk_name, chunk_frame}
+use Rattle.fwd_modes.specs.Frames.{chunk_frame}
 use Rattle.fwd_modes.specs.Acks.{ack_name}
-use Rattle.fwd_modes.specs.Kinds.{is_nil}
-use Rattle.fwd_chunks.specs.Cells.{Cell, Carry}
+use Rattle.fwd_handshake.specs.declared.credentials.Login.{Login}
+use Rattle.fwd_chunks.specs.History.{BufferHistory, Load}
+use Rattle.fwd_session.specs.declared.fault.SessionFault.{SessionFault}
+use Rattle.fwd_session.specs.declared.handshake.Handshake.{Handshake}
+use Rattle.fwd_session.specs.Evidence.{frame_of}
+use Rattle.fwd_session.specs.Said.{Said, said_in, out_of}
+use Rattle.fwd_session.specs.History as session
+use Rattle.fwd_session.specs.History.{SessionHistory, handshake_of, is_done, is_handed_on, says, newly_heard, awaited}
+use Rattle.fwd_session.proofs.Saying.{Names as IsNamedBy, named_in, Placed, placed_in}
+use Rattle.fwd_session.proofs.Pieces.{said_mute, stays_done}
+use Rattle.fwd_session.proofs.Following.{handshake-hears}
 use Rattle.fwd_model.specs.declared.config.Config.{Config}
 use Rattle.fwd_model.specs.declared.event.Event.{Event}
 use Rattle.fwd_model.specs.declared.event.Event.TheVariants as event
 use Rattle.fwd_model.specs.declared.answer.Answer.TheVariants as answer
-use Rattle.fwd_model.specs.declared.fault.SessionFault.TheVariants.{BadReply, WrongAck}
-use Rattle.fwd_model.specs.Outputs.{carry_of}
-use Rattle.fwd_model.specs.Replies.{Replies, Reply, reply_of, reply_named, reply_then, replies, replies_in, silence, failing}
-use Rattle.fwd_model.specs.Replies.Reply.{Skipped, Accepted, Failed}
-use Rattle.fwd_model.specs.Replies.{is_loaded}
-use Rattle.fwd_model.specs.Sessions as session
-use Rattle.fwd_model.specs.Sessions.{SessionHistory, is_handed_on}
 use Rattle.fwd_model.specs.History.{Connection, Lane, with_session}
 use Rattle.fwd_model.specs.Delivered.{reached, answered, session_of, WasAcknowledged}
 use Rattle.fwd_model.proofs.Reached.{IsSaneSession, slice_get-set}
-use Rattle.fwd_model.proofs.Chronicle.{Begins, Quiet, frame_at, ChunkStory, SessionStory, LaneStory, session_still, begun_still, loaded_still, sent_still, acked_still, lane_still, extends_same}
+use Rattle.fwd_model.proofs.Chronicle.{Stands, Quiet, ChunkStory, SessionStory, LaneStory, session_still, begun_still, loaded_still, sent_still, acked_still, lane_still, extends_same}
 
--- ---- replies that accept name the chunk
+-- ---- a value that acknowledges names the chunk
 
--- the values of a piece in which some value has the awaited name
-record Names (awaited : Option (List ℕ)) (values : List (List ℕ)) : Type 0 where
+-- the value is one of these, and has the awaited name
+record Names (a : Option (List ℕ)) (values : List (List ℕ)) : Type 0 where
   pub place : ℕ
   pub value : List ℕ
   pub name : List ℕ
   pub here : slice_get values place ≡ Some value
   pub named : ack_name value ≡ Some name
-  pub was : awaited ≡ Some name
+  pub was : a ≡ Some name
 
-one_further : (awaited : Option (List ℕ)) (v : List ℕ) (vs : List (List ℕ))
-    → Names awaited vs → Names awaited (v ∷ vs)
-one_further awaited v vs n = record { place = suc n.place; value = n.value; name = n.name; here = n.here; named = n.named; was = n.was }
+names_by : (a : Option (List ℕ)) (values : List (List ℕ)) (value : List ℕ)
+    → IsNamedBy a (Some value) → Placed values (Some value) → Names a values
+names_by None values value n p = absurd n
+names_by (Some name) values value n p = record { place = p.0; value = value; name = name; here = p.1; named = n; was = refl }
 
-by_test : (wanted name : List ℕ) (b : Bool) → bytes_eq name wanted ≡ b
-    → cond b Accepted (Failed WrongAck) ≡ Accepted → wanted ≡ name
-by_test wanted name true e g = sym ((bytes_eq-Decides name wanted).0 e)
-by_test wanted name false e g = absurd cc
-
-by_name : (awaited found : Option (List ℕ)) → reply_named awaited found ≡ Accepted
-    → (name : List ℕ) × (found ≡ Some name) × (awaited ≡ Some name)
-by_name awaited None h = absurd cc
-by_name None (Some name) h = absurd cc
-by_name (Some wanted) (Some name) h = (name, refl, ap Some (by_test wanted name (bytes_eq name wanted) refl h))
-
-unless_nil : (awaited : Option (List ℕ)) (v : List ℕ) (b : Bool)
-    → cond b Skipped (reply_named awaited (ack_name v)) ≡ Accepted → (name : List ℕ)
-    × (ack_name v ≡ Some name) × (awaited ≡ Some name)
-unless_nil awaited v true h = absurd cc
-unless_nil awaited v false h = by_name awaited (ack_name v) h
-
-names_by : (awaited : Option (List ℕ)) (v : List ℕ) (vs : List (List ℕ)) (end : Replies)
-    (r : Reply) → reply_of awaited v ≡ r
-    → ((replies awaited vs end).accepted ≡ true → Names awaited vs)
-    → (reply_then r (replies awaited vs end) (replies None vs end)).accepted ≡ true → Names awaited (v ∷ vs)
-names_by awaited v vs end Skipped is rec h = one_further awaited v vs (rec h)
-names_by awaited v vs end Accepted is rec h =
-    let n = unless_nil awaited v (is_nil v) is in
-    record { place = zero; value = v; name = n.0; here = refl; named = n.1; was = n.2 }
-names_by awaited v vs end (Failed f) is rec h = absurd cc
-
-names_in : (awaited : Option (List ℕ)) (vs : List (List ℕ)) (end : Replies)
-    → end.accepted ≡ false → (replies awaited vs end).accepted ≡ true → Names awaited vs
-names_in awaited [] end none h = absurd cc
-names_in awaited (v ∷ vs) end none h = names_by awaited v vs end (reply_of awaited v) refl (λ g. names_in awaited vs end none g) h
-
--- an acknowledgement that is accepted names what is awaited
-accepted_names : (awaited : Option (List ℕ)) (s : Split)
-    → (replies_in awaited s).accepted ≡ true → Names awaited (values_of s)
-accepted_names awaited (Open vs rest) h = names_in awaited vs silence refl h
-accepted_names awaited (Broken vs fault) h = names_in awaited vs (failing BadReply) refl h
+accepted_names : (login : Login) (salt : List ℕ) (at : Handshake) (a : Option (List ℕ))
+    (s : Split) (value : List ℕ) → (said_in login salt at a s).reply ≡ Some value
+    → Names a (values_of s)
+accepted_names login salt at a s value e =
+    names_by a (values_of s) value (subst (IsNamedBy a) e (named_in login salt at a s)) (subst (Placed (values_of s)) e (placed_in login salt at a s))
 
 -- ---- one session's story goes on
 
@@ -90,9 +58,9 @@ true_false : (b : Bool) → b ≡ true → b ≡ false → ⊥
 true_false b e f = cc
 
 pub put_session : (config : Config) (es : List Event) (e : Event) (o : ℕ) (cs : List Connection)
-    (l : Lane) (w : ℕ) (s : SessionHistory) → Quiet config es e o l
+    (l : Lane) (w : ℕ) (s : SessionHistory) → Quiet config es e o
     → LaneStory config es cs o l
-    → SessionStory config (es ++ e ∷ []) o w l.output.buffer.cells s
+    → SessionStory config (es ++ e ∷ []) o w s
     → LaneStory config (es ++ e ∷ []) cs o (with_session w s l)
 put_session config es e o cs l w s quiet t story =
     let still = lane_still config es e cs cs o l (extends_same cs) quiet t in record {
@@ -103,69 +71,72 @@ put_session config es e o cs l w s quiet t story =
       named = still.named;
     }
   where
-    at : (j : ℕ) (u : SessionHistory) → ((w ≡ j) × (Some s ≡ Some u)) ⊎ ((w ≡ j → ⊥) × (slice_get l.sessions j ≡ Some (Some u))) → SessionStory config (es ++ e ∷ []) o j l.output.buffer.cells u
-    at j u (inl x) = subst (λ k. SessionStory config (es ++ e ∷ []) o k l.output.buffer.cells u) x.0 (subst (λ v. SessionStory config (es ++ e ∷ []) o w l.output.buffer.cells v) (some_is x.1) story)
-    at j u (inr x) = session_still config es e o l.output.buffer.cells j u (quiet j u x.1) (t.sessions j u x.1)
+    at : (j : ℕ) (u : SessionHistory) → ((w ≡ j) × (Some s ≡ Some u)) ⊎ ((w ≡ j → ⊥) × (slice_get l.sessions j ≡ Some (Some u))) → SessionStory config (es ++ e ∷ []) o j u
+    at j u (inl x) = subst (λ k. SessionStory config (es ++ e ∷ []) o k u) x.0 (subst (λ v. SessionStory config (es ++ e ∷ []) o w v) (some_is x.1) story)
+    at j u (inr x) = session_still config es e o j u (quiet j) (t.sessions j u x.1)
 
 no_split : (between : List Event) (x : Event) (rest : List Event) → [] ≡ between ++ x ∷ rest
     → ⊥
 no_split [] x rest e = cc
 no_split (b ∷ between) x rest e = cc
 
-module _ (config : Config) (es : List Event) (o w : ℕ) (cells : List Cell) where
-  pub begins : (server : ℕ) (salt : List ℕ) (now : ℕ) → answered config es (event.Up o w server salt now) ≡ answer.Done
-      → SessionStory config (es ++ event.Up o w server salt now ∷ []) o w cells (session.begins server now)
-  begins server salt now done = record {
-    begun = record { before = es; server = server; salt = salt; moment = now; later = []; split = refl; done = done; alone = λ between rest j salt' m at e. no_split between (event.Up o w j salt' m) rest at };
+frame_some : (c : Load) → 0 < length (frame_of c)
+unfolding chunk_frame head_bytes
+frame_some c = omega arith
+
+not_yet : (s : SessionHistory) (c : Load) (now : ℕ) → s.sent ≤ length s.appended
+    → is_handed_on (session.loads s c now) ≡ false
+not_yet s c now le = grind (arith, nat_tests, length-append s.appended (frame_of c), frame_some c)
+
+-- what is awaited is the name of the session's chunk, which was handed on whole
+awaits : (s : SessionHistory) (name : List ℕ) → awaited s ≡ Some name
+    → (c : Load) × (s.loaded ≡ Some c) × (name ≡ c.name) × (is_handed_on s ≡ true)
+awaits s name h = at (is_some s.reply) (is_handed_on s) s.loaded refl refl h
+  where
+    at : (a b : Bool) (loaded : Option Load) → s.loaded ≡ loaded → is_handed_on s ≡ b → cond (a || not b) None (option_map (λ (c : Load). c.name) loaded) ≡ Some name
+        → (c : Load) × (s.loaded ≡ Some c) × (name ≡ c.name) × (is_handed_on s ≡ true)
+    at true b loaded e f g = absurd cc
+    at false false loaded e f g = absurd cc
+    at false true None e f g = absurd cc
+    at false true (Some c) e f g = (c, e, sym (some_is g), f)
+
+module _ (config : Config) (es : List Event) (o w : ℕ) where
+  pub begins : (setup : session.Setup) (server : ℕ) (salt : List ℕ) (now : ℕ) → answered config es (event.Up o w server salt now) ≡ answer.Done
+      → SessionStory config (es ++ event.Up o w server salt now ∷ []) o w (session.begins setup)
+  begins setup server salt now done = record {
+    begun = record { before = es; server = server; salt = salt; moment = now; later = []; split = refl; done = done; kept = λ between rest kind m number at e. no_split between (event.End o w kind m) rest at };
     has_one = λ e. absurd cc;
-    chunk = λ k e. absurd cc;
+    greeted = λ e. absurd cc;
+    chunk = λ c e. absurd cc;
   }
 
-  frame_some : (k : ℕ) → 0 < length (frame_at config o cells k)
-  unfolding chunk_frame head_bytes
-  frame_some k = omega arith
+  pub loads : (b : BufferHistory) (s : SessionHistory) (c : Load) (now : ℕ) → SessionStory config es o w s → IsSaneSession w b s → is_some s.loaded ≡ false → is_done (handshake_of s) ≡ true
+      → answered config es (event.Load o w now) ≡ answer.Frame (frame_of c)
+      → SessionStory config (es ++ event.Load o w now ∷ []) o w (session.loads s c now)
+  loads b s c now t fits fresh done answered = record {
+    begun = begun_still config es (event.Load o w now) o w (λ kind moment number is done. absurd cc) t.begun;
+    has_one = λ e. refl;
+    greeted = λ e. done;
+    chunk = λ d e. subst (λ x. ChunkStory config (es ++ event.Load o w now ∷ []) o w (session.loads s c now) x) (some_is e) (record {
+      was_loaded = record { before = es; moment = now; later = []; split = refl; loads = answered; kept = λ between rest kind m number at e. no_split between (event.End o w kind m) rest at; begun = t.begun };
+      front = s.appended;
+      ends = refl;
+      was_sent = λ b. absurd (true_false (is_handed_on (session.loads s c now)) b (not_yet s c now fits.own.sent));
+      was_acked = λ b. absurd (true_false (is_some s.loaded) (t.has_one b) fresh);
+    });
+  }
 
-  not_yet : (s : SessionHistory) (k now : ℕ) → s.sent ≤ length s.appended → is_handed_on (session.loads s k (frame_at config o cells k) now) ≡ false
-  not_yet s k now le = grind (arith, nat_tests, length-append s.appended (frame_at config o cells k), frame_some k)
-
-  -- the chunk that a session has is its worker's
-  is_its : (s : SessionHistory) (cs : List Carry) (c : Carry) → IsSaneSession w cs s → carry_of w cs ≡ Some c → is_some s.loaded ≡ true → is_loaded s.loaded c.number ≡ true
-  is_its s cs c fits here some = at s.loaded refl some
-    where
-      at : (loaded : Option ℕ) → s.loaded ≡ loaded → is_some loaded ≡ true → is_loaded loaded c.number ≡ true
-      at None e some = absurd cc
-      at (Some k) e some =
-          let same : record { worker = w; number = k } ≡ c = some_is (sym (fits.carries k e) ∙ here) in
-          let number : k ≡ c.number = ap (λ x. x.number) same in
-          grind (arith, nat_tests, number)
-
-  pub loads : (s : SessionHistory) (cs : List Carry) (c : Carry) (now : ℕ) → SessionStory config es o w cells s → IsSaneSession w cs s → carry_of w cs ≡ Some c → is_loaded s.loaded c.number ≡ false
-      → answered config es (event.Load o w now) ≡ answer.Frame (frame_at config o cells c.number)
-      → SessionStory config (es ++ event.Load o w now ∷ []) o w cells (session.loads s c.number (frame_at config o cells c.number) now)
-  loads s cs c now t fits here fresh answered =
-      let none : s.accepted ≡ true → ⊥ = λ e. true_false (is_loaded s.loaded c.number) (is_its s cs c fits here (t.has_one e)) fresh in
-      record {
-        begun = begun_still config es (event.Load o w now) o w (λ server salt moment is done. absurd cc) t.begun;
-        has_one = λ e. refl;
-        chunk = λ k e. subst (λ n. ChunkStory config (es ++ event.Load o w now ∷ []) o w cells (session.loads s c.number (frame_at config o cells c.number) now) n) (some_is e) (record {
-          was_loaded = record { before = es; moment = now; later = []; split = refl; loads = answered; begun = t.begun };
-          front = s.appended;
-          ends = refl;
-          was_sent = λ b. absurd (true_false (is_handed_on (session.loads s c.number (frame_at config o cells c.number) now)) b (not_yet s c.number now fits.sent));
-          was_acked = λ b. absurd (none b);
-        });
-      }
-
-  pub sends : (s : SessionHistory) (count : ℕ) → SessionStory config es o w cells s → answered config es (event.Wrote o w count) ≡ answer.Done
+  pub sends : (s : SessionHistory) (count : ℕ) → SessionStory config es o w s → answered config es (event.Wrote o w count) ≡ answer.Done
       → session_of (reached config (es ++ event.Wrote o w count ∷ [])) o w ≡ Some (session.sends s count)
-      → SessionStory config (es ++ event.Wrote o w count ∷ []) o w cells (session.sends s count)
+      → SessionStory config (es ++ event.Wrote o w count ∷ []) o w (session.sends s count)
   sends s count t done stands = record {
-    begun = begun_still config es (event.Wrote o w count) o w (λ server salt moment is done. absurd cc) t.begun;
+    begun = begun_still config es (event.Wrote o w count) o w (λ kind moment number is done. absurd cc) t.begun;
     has_one = t.has_one;
-    chunk = λ k e. let c = t.chunk k e in record {
-      was_loaded = loaded_still config es (event.Wrote o w count) o w (frame_at config o cells k) c.was_loaded;
-      front = c.front;
-      ends = c.ends;
+    greeted = t.greeted;
+    chunk = λ c e. let own = t.chunk c e in record {
+      was_loaded = loaded_still config es (event.Wrote o w count) o w (frame_of c) (λ kind moment number is done. absurd cc) own.was_loaded;
+      front = own.front;
+      ends = own.ends;
       was_sent = λ b. record {
         before = es;
         count = count;
@@ -174,57 +145,63 @@ module _ (config : Config) (es : List Event) (o w : ℕ) (cells : List Cell) whe
         done = done;
         session = session.sends s count;
         stands = stands;
-        taken = record { front = c.front; ends = c.ends; through = grind (arith, nat_tests, b) };
-        loaded = c.was_loaded;
+        taken = record { front = own.front; ends = own.ends; through = grind (arith, nat_tests, b) };
+        kept = λ between rest kind m number at e. no_split between (event.End o w kind m) rest at;
+        loaded = own.was_loaded;
       };
-      was_acked = λ b. acked_still config es (event.Wrote o w count) o w (frame_at config o cells k) (chunk_name config.run o k) (c.was_acked b);
+      was_acked = λ b. acked_still config es (event.Wrote o w count) o w (frame_of c) c.name (own.was_acked b);
     };
   }
 
-  -- what is awaited is the name of the session's chunk, which was handed on whole
-  awaits : (run : List ℕ) (s : SessionHistory) (name : List ℕ) → session.awaited run o s ≡ Some name → (k : ℕ) × (s.loaded ≡ Some k) × (name ≡ chunk_name run o k) × (is_handed_on s ≡ true)
-  awaits run s name h = at s.accepted (is_handed_on s) s.loaded refl refl h
-    where
-      at : (a b : Bool) (loaded : Option ℕ) → s.loaded ≡ loaded → is_handed_on s ≡ b → cond (a || not b) None (option_map (chunk_name run o) loaded) ≡ Some name → (k : ℕ) × (s.loaded ≡ Some k) × (name ≡ chunk_name run o k) × (is_handed_on s ≡ true)
-      at true b loaded e f g = absurd cc
-      at false false loaded e f g = absurd cc
-      at false true None e f g = absurd cc
-      at false true (Some k) e f g = (k, e, sym (some_is g), f)
-
-  pub hears : (run bytes : List ℕ) (s : SessionHistory) → run ≡ config.run → SessionStory config es o w cells s → s.down ≡ false → session_of (reached config es) o w ≡ Some s
-      → SessionStory config (es ++ event.Heard o w bytes ∷ []) o w cells (session.listens s bytes (session.replies_to s run o bytes))
-  hears run bytes s same t up stands = record {
-    begun = begun_still config es e o w (λ server salt moment is done. absurd cc) t.begun;
-    has_one = λ b. elim (either s.accepted r.accepted b) [ inl x ↦ t.has_one x | inr x ↦ let n = names x in let a = awaits run s n.name n.was in ap is_some a.1 ];
-    chunk = λ k f. let c = t.chunk k f in record {
-      was_loaded = loaded_still config es e o w (frame_at config o cells k) c.was_loaded;
-      front = c.front;
-      ends = c.ends;
-      was_sent = λ b. sent_still config es e o w (frame_at config o cells k) (c.was_sent b);
-      was_acked = λ b. elim (either s.accepted r.accepted b) [
-        | inl x ↦ acked_still config es e o w (frame_at config o cells k) (chunk_name config.run o k) (c.was_acked x)
-        | inr x ↦ acknowledged k f c (names x)
-      ];
+  pub hears : (bytes : List ℕ) (b : BufferHistory) (s : SessionHistory) → SessionStory config es o w s → IsSaneSession w b s → s.down ≡ false → session_of (reached config es) o w ≡ Some s
+      → SessionStory config (es ++ event.Heard o w bytes ∷ []) o w (session.listens s bytes (says s bytes))
+  hears bytes b s t fits up stands = record {
+    begun = begun_still config es e o w calm t.begun;
+    has_one = λ x. has_one said.reply refl x;
+    greeted = λ x. ap is_done (handshake-hears s bytes fits.own up) ∙ stays_done s.setup.login s.setup.salt (handshake_of s) (awaited s) (newly_heard s bytes) (t.greeted x);
+    chunk = λ c f. let own = t.chunk c f in record {
+      was_loaded = loaded_still config es e o w (frame_of c) calm own.was_loaded;
+      front = own.front;
+      ends = ap (λ out. s.appended ++ out) (mute (ap is_some f)) ∙ append-nil s.appended ∙ own.ends;
+      was_sent = λ x. sent_still config es e o w (frame_of c) calm (own.was_sent (sent (ap is_some f) x));
+      was_acked = λ x. acked c f own said.reply refl x;
     };
   }
     where
       e : Event
       e = event.Heard o w bytes
 
-      r : Replies
-      r = session.replies_to s run o bytes
+      calm : Stands config es e o w
+      calm kind moment number is done = absurd cc
 
-      either : (a b : Bool) → (a || b) ≡ true → (a ≡ true) ⊎ (b ≡ true)
-      either true b h = inl refl
-      either false b h = inr h
+      said : Said
+      said = says s bytes
 
-      names : r.accepted ≡ true → Names (session.awaited run o s) (values_of (session.newly_heard s bytes))
-      names x = accepted_names (session.awaited run o s) (session.newly_heard s bytes) x
+      names : (value : List ℕ) → said.reply ≡ Some value → Names (awaited s) (values_of (newly_heard s bytes))
+      names value x = accepted_names s.setup.login s.setup.salt (handshake_of s) (awaited s) (newly_heard s bytes) value x
 
-      acknowledged : (k : ℕ) → s.loaded ≡ Some k → ChunkStory config es o w cells s k → Names (session.awaited run o s) (values_of (session.newly_heard s bytes)) → WasAcknowledged config (es ++ event.Heard o w bytes ∷ []) o w (frame_at config o cells k) (chunk_name config.run o k)
-      acknowledged k f c n =
-          let a = awaits run s n.name n.was in
-          let number : a.0 ≡ k = some_is (sym a.1 ∙ f) in
+      has_one : (reply : Option (List ℕ)) → said.reply ≡ reply → is_some (cond (is_some reply) reply s.reply) ≡ true → is_some s.loaded ≡ true
+      has_one None is x = t.has_one x
+      has_one (Some value) is x = let n = names value is in let a = awaits s n.name n.was in ap is_some a.1
+
+      -- nothing is sent for the handshake any more
+      unless : (fault : Option SessionFault) (out : List ℕ) → out ≡ [] → cond (is_some fault) [] out ≡ []
+      unless None out x = x
+      unless (Some f) out x = refl
+
+      mute : is_some s.loaded ≡ true → out_of said ≡ []
+      mute x = unless said.fault said.out (said_mute s.setup.login s.setup.salt (handshake_of s) (awaited s) (newly_heard s bytes) (t.greeted x))
+
+      sent : is_some s.loaded ≡ true → is_handed_on (session.listens s bytes said) ≡ true → is_handed_on s ≡ true
+      sent has x = ap (λ xs. Rattle.std.specs.Prelude.nat_le (length xs) s.sent) (sym (ap (λ out. s.appended ++ out) (mute has) ∙ append-nil s.appended)) ∙ x
+
+      acked : (c : Load) → s.loaded ≡ Some c → ChunkStory config es o w s c → (reply : Option (List ℕ)) → said.reply ≡ reply → is_some (cond (is_some reply) reply s.reply) ≡ true
+          → WasAcknowledged config (es ++ event.Heard o w bytes ∷ []) o w (frame_of c) c.name
+      acked c f own None is x = acked_still config es e o w (frame_of c) c.name (own.was_acked x)
+      acked c f own (Some value) is x =
+          let n = names value is in
+          let a = awaits s n.name n.was in
+          let same : a.0 ≡ c = some_is (sym a.1 ∙ f) in
           record {
             before = es;
             bytes = bytes;
@@ -236,9 +213,18 @@ module _ (config : Config) (es : List Event) (o w : ℕ) (cells : List Cell) whe
             value = n.value;
             place = n.place;
             ended = n.here;
-            names = n.named ∙ ap Some (a.2 ∙ (λ i. chunk_name (same i) o (number i)));
-            sent = c.was_sent a.3;
+            names = n.named ∙ ap Some (a.2 ∙ ap (λ (y : Load). y.name) same);
+            sent = own.was_sent a.3;
           }
 
-  pub unloads : (e : Event) (s : SessionHistory) → Begins config es e o w → SessionStory config es o w cells s → SessionStory config (es ++ e ∷ []) o w cells (session.unloads s)
-  unloads e s quiet t = record { begun = begun_still config es e o w quiet t.begun; has_one = λ b. absurd cc; chunk = λ k f. absurd cc }
+  pub looks : (s : SessionHistory) (now : ℕ) → SessionStory config es o w s → SessionStory config (es ++ event.Late o w now ∷ []) o w (session.looks s now)
+  looks s now t =
+      let still = session_still config es (event.Late o w now) o w s (λ kind moment number is done. absurd cc) t in record {
+        begun = still.begun;
+        has_one = still.has_one;
+        greeted = still.greeted;
+        chunk = λ c f. let own = still.chunk c f in record { was_loaded = own.was_loaded; front = own.front; ends = own.ends; was_sent = own.was_sent; was_acked = own.was_acked };
+      }
+
+  pub unloads : (e : Event) (s : SessionHistory) → Stands config es e o w → SessionStory config es o w s → SessionStory config (es ++ e ∷ []) o w (session.unloads s)
+  unloads e s quiet t = record { begun = begun_still config es e o w quiet t.begun; has_one = λ b. absurd cc; greeted = λ b. absurd cc; chunk = λ c f. absurd cc }

@@ -1,33 +1,39 @@
 -- What settling and telling add to the chronicle.
-use Rattle.std.proofs.Common.{◌≡◌, ℕ, Bool, true, false, cond, eqb, List, [], ◌∷◌, ◌++◌, Option, Some, None, refl, sym, subst, ◌∙◌, inl, inr, arith}
-use Rattle.std.specs.Prelude.{◌⊎◌, map, ◌||◌, slice_get}
+use Rattle.std.proofs.Common.{◌≡◌, ℕ, Bool, true, false, cond, eqb, List, [], ◌∷◌, ◌++◌, Option, Some, None, refl, sym, ap, subst, ◌∙◌, inl, inr, arith}
+use Rattle.std.specs.Prelude.{◌⊎◌, map, is_some, ◌||◌, slice_get}
 use Rattle.std.proofs.lemmas.Bool.Decides.{nat_tests}
 use Rattle.fwd_chunks.specs.Cells.{Cell, has_number}
 use Rattle.fwd_chunks.proofs.Numbers.{has_number-push}
 use Rattle.fwd_model.specs.declared.config.Config.{Config}
 use Rattle.fwd_model.specs.declared.event.Event.{Event}
-use Rattle.fwd_model.specs.Step.{acked}
+use Rattle.fwd_modes.specs.Frames.{chunk_name}
+use Rattle.fwd_chunks.specs.History.{BufferHistory, Load}
+use Rattle.fwd_session.specs.Evidence.{frame_of}
+use Rattle.fwd_session.specs.History as session
+use Rattle.fwd_session.specs.History.{SessionHistory, acked}
+use Rattle.fwd_model.specs.Delivered.{WasAcknowledged}
+use Rattle.fwd_model.proofs.Settling.{IsHis}
 use Rattle.fwd_model.specs.Books.{Fate, Told, Forgotten, Admission, BookHistory, is_due, is_owed, becomes, tells, forgets}
 use Rattle.fwd_model.specs.Outputs.{output_history_settles}
-use Rattle.fwd_model.specs.Sessions as session
-use Rattle.fwd_model.specs.Sessions.{SessionHistory}
-use Rattle.fwd_model.specs.History.{Connection, Lane, with_session, with_output, with_book, histories}
-use Rattle.fwd_model.proofs.Chronicle.{Quiet, LaneStory, NumberStory, RequestStory, AllTold, Extends, extends_same, lane_still, number_still}
+use Rattle.fwd_model.specs.History.{Connection, Lane, with_session, with_output, with_book}
+use Rattle.fwd_model.proofs.Chronicle.{Quiet, IsNamed, frame_at, frame_is, LaneStory, NumberStory, RequestStory, AllTold, Extends, extends_same, lane_still, number_still}
 use Rattle.fwd_model.proofs.ChronicleSessions.{put_session, unloads}
 use Rattle.fwd_model.proofs.Chronicle.{SessionStory}
 
-loaded_of : (b : Bool) (loaded : Option ℕ) (k : ℕ) → cond b loaded None ≡ Some k
-    → (b ≡ true) × (loaded ≡ Some k)
-loaded_of true loaded k e = (refl, e)
-loaded_of false loaded k e = absurd cc
+loaded_of : (b : Bool) (loaded : Option Load) (c : Load) → cond b loaded None ≡ Some c
+    → (b ≡ true) × (loaded ≡ Some c)
+loaded_of true loaded c e = (refl, e)
+loaded_of false loaded c e = absurd cc
 
 -- the number of an accepted acknowledgement was acknowledged
-pub acked_number_is : (config : Config) (es : List Event) (o w : ℕ) (cells : List Cell)
-    (s : SessionHistory) (k : ℕ) → SessionStory config es o w cells s
-    → acked histories s ≡ Some k → NumberStory config es o cells k
-acked_number_is config es o w cells s k t e =
-    let is = loaded_of s.accepted s.loaded k e in
-    (w, (t.chunk k is.1).was_acked is.0)
+pub acked_number_is : (config : Config) (es : List Event) (o w : ℕ) (b : BufferHistory)
+    (s : SessionHistory) (c : Load) → SessionStory config es o w s → IsHis b w c
+    → IsNamed config o b → acked s ≡ Some c → NumberStory config es o b.cells c.number
+acked_number_is config es o w b s c t is named e =
+    let has = loaded_of (is_some s.reply) s.loaded c e in
+    let frame : frame_of c ≡ frame_at config o b.cells c.number = ap frame_of (sym is.same) ∙ frame_is config o c.number b named in
+    let name : c.name ≡ chunk_name config.run o c.number = ap (λ (x : Load). x.name) (sym is.same) ∙ (λ i. chunk_name (named.0 i) (named.1 i) c.number) in
+    (w, subst (λ n. WasAcknowledged config es o w (frame_at config o b.cells c.number) n) name (subst (λ f. WasAcknowledged config es o w f c.name) frame ((t.chunk c has.1).was_acked has.0)))
 
 either : (a b : Bool) → (a || b) ≡ true → (a ≡ true) ⊎ (b ≡ true)
 either true b h = inl refl
@@ -37,17 +43,18 @@ eq_from : (a b : ℕ) → eqb a b ≡ true → a ≡ b
 eq_from a b e = grind (arith, nat_tests, e)
 
 pub lane_settles : (config : Config) (es : List Event) (e : Event) (cs : List Connection)
-    (o w : ℕ) (l : Lane) (s : SessionHistory) (k : ℕ)
-    → slice_get l.sessions w ≡ Some (Some s) → acked histories s ≡ Some k
-    → Quiet config es e o l → LaneStory config es cs o l
-    → LaneStory config (es ++ e ∷ []) cs o (with_session w (session.unloads s) (with_output l (output_history_settles l.output k)))
-lane_settles config es e cs o w l s k here is quiet t =
+    (o w server : ℕ) (l : Lane) (s : SessionHistory) (c : Load)
+    → slice_get l.sessions w ≡ Some (Some s) → IsHis l.output.buffer w c → acked s ≡ Some c
+    → Quiet config es e o → LaneStory config es cs o l
+    → LaneStory config (es ++ e ∷ []) cs o (with_session w (session.unloads s) (with_output l (output_history_settles l.output c.number server)))
+lane_settles config es e cs o w server l s c here his is quiet t =
     let own = t.sessions w s here in
-    let put = put_session config es e o cs l w (session.unloads s) quiet t (unloads config es o w l.output.buffer.cells e s (quiet w s here) own) in record {
+    let cells = l.output.buffer.cells in
+    let put = put_session config es e o cs l w (session.unloads s) quiet t (unloads config es o w e s (quiet w) own) in record {
       sessions = put.sessions;
-      numbers = λ j h. elim (either (has_number j l.output.buffer.acknowledged) (eqb k j) (sym (has_number-push j k l.output.buffer.acknowledged) ∙ h)) [
+      numbers = λ j h. elim (either (has_number j l.output.buffer.acknowledged) (eqb c.number j) (sym (has_number-push j c.number l.output.buffer.acknowledged) ∙ h)) [
         | inl x ↦ put.numbers j x
-        | inr x ↦ subst (λ n. NumberStory config (es ++ e ∷ []) o l.output.buffer.cells n) (eq_from k j x) (number_still config es e o l.output.buffer.cells k (acked_number_is config es o w l.output.buffer.cells s k own is))
+        | inr x ↦ subst (λ n. NumberStory config (es ++ e ∷ []) o cells n) (eq_from c.number j x) (number_still config es e o cells c.number (acked_number_is config es o w l.output.buffer s c own his t.named is))
       ];
       own = put.own;
       requests = put.requests;
@@ -69,7 +76,7 @@ all_become routes cs o cells fate p (a ∷ admissions) all = (one_becomes routes
 
 -- another book with the same requests
 lane_becomes : (config : Config) (es : List Event) (e : Event) (cs ds : List Connection)
-    (o : ℕ) (l : Lane) (b : BookHistory) → Extends cs ds → Quiet config es e o l
+    (o : ℕ) (l : Lane) (b : BookHistory) → Extends cs ds → Quiet config es e o
     → LaneStory config es cs o l
     → (AllTold config.routes ds o l.output.buffer.cells l.output.book.admissions → AllTold config.routes ds o l.output.buffer.cells b.admissions)
     → LaneStory config (es ++ e ∷ []) ds o (with_book l b)
@@ -83,7 +90,7 @@ lane_becomes config es e cs ds o l b ext quiet t same =
     }
 
 pub lane_tells : (config : Config) (es : List Event) (e : Event) (cs ds : List Connection)
-    (o id : ℕ) (l : Lane) → Extends cs ds → Quiet config es e o l
+    (o id : ℕ) (l : Lane) → Extends cs ds → Quiet config es e o
     → LaneStory config es cs o l
     → LaneStory config (es ++ e ∷ []) ds o (with_book l (tells l.output.book id))
 unfolding tells
@@ -92,7 +99,7 @@ lane_tells config es e cs ds o id l ext quiet t =
     (λ all. all_become config.routes ds o l.output.buffer.cells Told (is_due id l.output.book.settled) l.output.book.admissions all)
 
 pub lane_forgets : (config : Config) (es : List Event) (e : Event) (cs : List Connection)
-    (o id : ℕ) (l : Lane) → Quiet config es e o l → LaneStory config es cs o l
+    (o id : ℕ) (l : Lane) → Quiet config es e o → LaneStory config es cs o l
     → LaneStory config (es ++ e ∷ []) cs o (with_book l (forgets l.output.book id))
 unfolding forgets
 lane_forgets config es e cs o id l quiet t =

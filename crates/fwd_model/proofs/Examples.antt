@@ -1,5 +1,5 @@
 -- The abstract relay at work: from the five bytes of a Message to the chunk that a worker has.
-use Rattle.std.proofs.Common.{◌≡◌, ℕ, List, [], ◌∷◌, ◌++◌, None, refl, arith}
+use Rattle.std.proofs.Common.{◌≡◌, ℕ, true, false, List, [], ◌∷◌, ◌++◌, Some, None, refl, arith}
 use Rattle.std.specs.Prelude.{replicate, codes}
 use Rattle.fwd_msgpack.specs.Heads.{row_of, named_rows, reading_of, head_bytes}
 use Rattle.fwd_msgpack.specs.Scans.{first_of, fault_at, item_begun, payload_ended, split_of, row_of_values, parts_of}
@@ -15,14 +15,18 @@ use Rattle.fwd_chunks.specs.declared.flush.FlushKind.TheVariants.{All, Due}
 use Rattle.fwd_chunks.specs.declared.limits.BufferLimits.{BufferLimits}
 use Rattle.fwd_chunks.specs.History.{adds}
 use Rattle.fwd_chunks.specs.Waits.{wait_after}
+use Rattle.fwd_failover.specs.Waits.{wait_after as server_wait}
 use Rattle.fwd_model.specs.declared.fault.Refusal.TheVariants.{NoSuch, NotNow, NotUp, Closed}
-use Rattle.fwd_model.specs.declared.fault.SessionFault.TheVariants.{BadReply, WrongAck, EarlyAck}
+use Rattle.fwd_session.specs.declared.fault.SessionFault.TheVariants.{BadReply, WrongAck, EarlyAck}
+use Rattle.fwd_session.specs.Said.{reply_stream, word_of}
+use Rattle.fwd_model.specs.declared.event.EndKind.TheVariants.{Kept, Lost}
+use Rattle.fwd_handshake.specs.declared.credentials.Login.{Login}
+use Rattle.fwd_model.specs.declared.config.OutputConfig.{OutputConfig}
 use Rattle.fwd_model.specs.declared.config.Config.{Config}
 use Rattle.fwd_handshake.specs.declared.credentials.Security.{Security}
 use Rattle.fwd_msgpack.specs.declared.fault.ScanFault.TheVariants.{Reserved}
 use Rattle.fwd_source.specs.declared.fault.SourceFault.TheVariants.{Scan}
 use Rattle.fwd_source.specs.Judged.{judged_of}
-use Rattle.fwd_model.specs.Replies.{reply_stream}
 use Rattle.fwd_model.specs.Step.{answers, after}
 use Rattle.fwd_model.specs.Books.{tells, forgets}
 use Rattle.fwd_model.specs.History.{opening, histories}
@@ -43,13 +47,29 @@ limits chunk total = record {
   first = 1;
 }
 
+-- sessions prove nothing
+abbrev no_login : Login
+no_login = record { hostname = []; shared_key = None; username = []; password = []; hostname_fits = omega arith; username_fits = omega arith }
+
+-- an output with two servers, the second of which is a standby
+abbrev output_with : (workers chunk total : ℕ) → OutputConfig
+output_with workers chunk total = record {
+  workers = workers;
+  standby = false ∷ true ∷ [];
+  limits = limits chunk total;
+  ack_wait = 10000;
+  login = no_login;
+  few = omega arith;
+  has_primary = refl;
+}
+
 -- one output that every tag matches
 abbrev limited : (chunk total : ℕ) → Config
 limited chunk total = record {
   run = replicate 6 0;
   routes = ((42 ∷ 42 ∷ []) ∷ []) ∷ [];
   security = nobody;
-  outputs = record { workers = 2; servers = 2; limits = limits chunk total } ∷ [];
+  outputs = output_with 2 chunk total ∷ [];
   few = omega arith;
 }
 
@@ -165,7 +185,7 @@ brought_back : answers histories (opening settings) whole_way ≡
     answer.SessionFaulted EarlyAck ∷
     answer.Refused NotNow ∷
     answer.Refused NotUp ∷ []
-unfolding opening route pattern_matches matches adds tells chunk_frame chunk_name encode_symbols ack_text ack_name head_bytes reply_stream judged_of request_of parts_of row_of_values split_of first_of fault_at item_begun payload_ended reading_of row_of named_rows
+unfolding opening route pattern_matches matches adds tells chunk_frame chunk_name encode_symbols ack_text ack_name head_bytes reply_stream word_of judged_of request_of parts_of row_of_values split_of first_of fault_at item_begun payload_ended reading_of row_of named_rows
 brought_back = refl
 
 -- a second acknowledgement is early, and the first one stands
@@ -177,20 +197,20 @@ acknowledged_twice : answers histories (after histories (opening settings) until
     answer.SessionFaulted EarlyAck ∷
     answer.Settled 1 ∷
     answer.Told (1 ∷ []) (0x81 ∷ 0xa3 ∷ 0x61 ∷ 0x63 ∷ 0x6b ∷ 0xa1 ∷ 0x78 ∷ []) ∷ []
-unfolding opening route pattern_matches matches adds tells chunk_frame chunk_name encode_symbols ack_text ack_name head_bytes reply_stream judged_of request_of parts_of row_of_values split_of first_of fault_at item_begun payload_ended reading_of row_of named_rows
+unfolding opening route pattern_matches matches adds tells chunk_frame chunk_name encode_symbols ack_text ack_name head_bytes reply_stream word_of judged_of request_of parts_of row_of_values split_of first_of fault_at item_begun payload_ended reading_of row_of named_rows
 acknowledged_twice = refl
 
 -- another name, and a value that is no acknowledgement
 wrong_name : answers histories (after histories (opening settings) until_sent)
     (event.Heard 0 0 (0x81 ∷ 0xa3 ∷ 0x61 ∷ 0x63 ∷ 0x6b ∷ 0xa1 ∷ 0x41 ∷ [])
     ∷ event.Settle 0 0 ∷ []) ≡ answer.SessionFaulted WrongAck ∷ answer.Refused NotNow ∷ []
-unfolding opening route pattern_matches matches adds tells chunk_frame chunk_name encode_symbols ack_text ack_name head_bytes reply_stream judged_of request_of parts_of row_of_values split_of first_of fault_at item_begun payload_ended reading_of row_of named_rows
+unfolding opening route pattern_matches matches adds tells chunk_frame chunk_name encode_symbols ack_text ack_name head_bytes reply_stream word_of judged_of request_of parts_of row_of_values split_of first_of fault_at item_begun payload_ended reading_of row_of named_rows
 wrong_name = refl
 
 no_acknowledgement : answers histories (after histories (opening settings) until_sent)
     (event.Heard 0 0 (0xc0 ∷ []) ∷ event.Heard 0 0 (0xc3 ∷ []) ∷ event.Settle 0 0 ∷ [])
     ≡ answer.Quiet [] ∷ answer.SessionFaulted BadReply ∷ answer.Refused NotNow ∷ []
-unfolding opening route pattern_matches matches adds tells chunk_frame chunk_name encode_symbols ack_text ack_name head_bytes reply_stream judged_of request_of parts_of row_of_values split_of first_of fault_at item_begun payload_ended reading_of row_of named_rows
+unfolding opening route pattern_matches matches adds tells chunk_frame chunk_name encode_symbols ack_text ack_name head_bytes reply_stream word_of judged_of request_of parts_of row_of_values split_of first_of fault_at item_begun payload_ended reading_of row_of named_rows
 no_acknowledgement = refl
 
 -- ---- which output an event goes to
@@ -201,7 +221,7 @@ two_outputs = record {
   run = replicate 6 0;
   routes = ((98 ∷ []) ∷ []) ∷ ((42 ∷ []) ∷ []) ∷ [];
   security = nobody;
-  outputs = record { workers = 1; servers = 1; limits = limits 1000 100000 } ∷ record { workers = 1; servers = 1; limits = limits 1000 100000 } ∷ [];
+  outputs = output_with 1 1000 100000 ∷ output_with 1 1000 100000 ∷ [];
   few = omega arith;
 }
 
@@ -293,7 +313,7 @@ split_in_two : answers histories (opening (limited 6 100000)) until_taken ≡
     answer.Closed 1 ∷
     answer.Took 1 2 ∷
     answer.Took 2 1 ∷ []
-unfolding opening route pattern_matches matches adds wait_after tells chunk_frame chunk_name encode_symbols ack_text ack_name head_bytes reply_stream judged_of listed_entries entry_of request_of parts_of row_of_values split_of first_of fault_at item_begun payload_ended reading_of row_of named_rows
+unfolding opening route pattern_matches matches adds wait_after tells chunk_frame chunk_name encode_symbols ack_text ack_name head_bytes reply_stream word_of judged_of listed_entries entry_of request_of parts_of row_of_values split_of first_of fault_at item_begun payload_ended reading_of row_of named_rows
 split_in_two = refl
 
 -- it is told once both are settled
@@ -323,7 +343,7 @@ told_after_both : answers histories (after histories (opening (limited 6 100000)
     answer.Acked [] ∷
     answer.Settled 2 ∷
     answer.Told (1 ∷ []) ack_x ∷ []
-unfolding opening route pattern_matches matches adds wait_after tells chunk_frame chunk_name encode_symbols ack_text ack_name head_bytes reply_stream judged_of listed_entries entry_of request_of parts_of row_of_values split_of first_of fault_at item_begun payload_ended reading_of row_of named_rows
+unfolding opening route pattern_matches matches adds wait_after tells chunk_frame chunk_name encode_symbols ack_text ack_name head_bytes reply_stream word_of judged_of listed_entries entry_of request_of parts_of row_of_values split_of first_of fault_at item_begun payload_ended reading_of row_of named_rows
 told_after_both = refl
 
 -- small requests of one tag leave as one chunk, and each source is told
@@ -359,7 +379,7 @@ joined_in_one : answers histories (opening settings) (
     answer.Settled 2 ∷
     answer.Told (1 ∷ []) ack_x ∷
     answer.Told (1 ∷ []) ack_x ∷ []
-unfolding opening route pattern_matches matches adds wait_after tells chunk_frame chunk_name encode_symbols ack_text ack_name head_bytes reply_stream judged_of request_of parts_of row_of_values split_of first_of fault_at item_begun payload_ended reading_of row_of named_rows
+unfolding opening route pattern_matches matches adds wait_after tells chunk_frame chunk_name encode_symbols ack_text ack_name head_bytes reply_stream word_of judged_of request_of parts_of row_of_values split_of first_of fault_at item_begun payload_ended reading_of row_of named_rows
 joined_in_one = refl
 
 -- a request that would take the output past its total limit closes its connection, and leaves the
@@ -406,5 +426,53 @@ forgotten : answers histories (after histories (opening settings) until_sent) (
     answer.Acked [] ∷
     answer.Settled 1 ∷
     answer.Refused NoSuch ∷ []
-unfolding opening route pattern_matches matches adds wait_after forgets tells chunk_frame chunk_name encode_symbols ack_text ack_name head_bytes reply_stream judged_of request_of parts_of row_of_values split_of first_of fault_at item_begun payload_ended reading_of row_of named_rows
+unfolding opening route pattern_matches matches adds wait_after forgets tells chunk_frame chunk_name encode_symbols ack_text ack_name head_bytes reply_stream word_of judged_of request_of parts_of row_of_values split_of first_of fault_at item_begun payload_ended reading_of row_of named_rows
 forgotten = refl
+
+-- ---- a server that lies or leaves
+
+-- another chunk's name is a fault, and its session takes nothing more; at the end the chunk goes
+-- back with a loss, and the standby is tried until the server's wait is over
+lying_server : answers histories (after histories (opening settings) until_sent) (
+    event.Heard 0 0 (0x81 ∷ 0xa3 ∷ 0x61 ∷ 0x63 ∷ 0x6b ∷ 0xa1 ∷ 0x41 ∷ []) ∷
+    event.Heard 0 0 (reply_front ++ reply_rest) ∷
+    event.End 0 0 Kept 2000 ∷
+    event.End 0 0 Kept 2000 ∷
+    event.Choose 0 0 2499 ∷
+    event.Up 0 0 1 [] 2499 ∷
+    event.Take 0 0 2499 ∷
+    event.Choose 0 0 2500 ∷
+    event.Take 0 0 2500 ∷ []
+    ) ≡
+    answer.SessionFaulted WrongAck ∷
+    answer.Refused NotUp ∷
+    answer.Ended (Some 1) ∷
+    answer.Refused NotNow ∷
+    answer.Chose (Some 1) ∷
+    answer.Done ∷
+    answer.TookNothing ∷
+    answer.Chose (Some 0) ∷
+    answer.Took 1 1 ∷ []
+unfolding opening route pattern_matches matches adds wait_after server_wait tells chunk_frame chunk_name encode_symbols ack_text ack_name head_bytes reply_stream word_of judged_of request_of parts_of row_of_values split_of first_of fault_at item_begun payload_ended reading_of row_of named_rows
+lying_server = refl
+
+-- a session that waited too long is late and down; a chunk that was only taken goes back without a
+-- loss
+late_server : answers histories (after histories (opening settings) until_sent) (
+    event.Late 0 0 9999 ∷
+    event.Late 0 0 10000 ∷
+    event.Late 0 0 10000 ∷
+    event.End 0 0 Lost 10000 ∷
+    event.Take 0 1 10500 ∷
+    event.End 0 1 Kept 10500 ∷
+    event.Take 0 1 10500 ∷ []
+    ) ≡
+    answer.Late false ∷
+    answer.Late true ∷
+    answer.Refused NotUp ∷
+    answer.Ended (Some 1) ∷
+    answer.Took 1 1 ∷
+    answer.Ended (Some 1) ∷
+    answer.Took 1 1 ∷ []
+unfolding opening route pattern_matches matches adds wait_after server_wait tells chunk_frame chunk_name encode_symbols ack_text ack_name head_bytes reply_stream word_of judged_of request_of parts_of row_of_values split_of first_of fault_at item_begun payload_ended reading_of row_of named_rows
+late_server = refl

@@ -1,7 +1,8 @@
 -- The live part follows the history at each event of a run, and over runs: each proof has the
 -- shape of its event.
-use Rattle.std.proofs.Common.{◌≡◌, ℕ, zero, suc, ◌+◌, Bool, true, false, cond, List, [], ◌∷◌, ◌++◌, length, Option, Some, None, refl, sym, ap, subst, ◌∙◌}
-use Rattle.std.specs.Prelude.{map, option_map, not, nat_lt, slice_get, replicate}
+use Rattle.std.proofs.Common.{◌≡◌, ℕ, zero, suc, ◌+◌, ◌≤◌, Bool, true, false, cond, List, [], ◌∷◌, ◌++◌, length, drop, Option, Some, None, refl, sym, ap, subst, ◌∙◌, arith}
+use Rattle.std.proofs.lemmas.Bool.Decides.{nat_tests}
+use Rattle.std.specs.Prelude.{map, option_map, is_some, not, ◌&&◌, nat_lt, slice_get, replicate}
 use Rattle.fwd_modes.specs.Requests.{Request}
 use Rattle.fwd_match.specs.Patterns.{route}
 use Rattle.fwd_source.specs.declared.origin.Origin.{Origin}
@@ -13,8 +14,7 @@ use Rattle.fwd_source.proofs.Following.{heard, hears-live, hears-sane, gives-liv
 use Rattle.fwd_chunks.specs.declared.fault.AdmitError.{AdmitError}
 use Rattle.fwd_chunks.specs.declared.fault.AdmitError.TheVariants.{Full, NumbersSpent, Memory}
 use Rattle.fwd_chunks.specs.declared.flush.FlushKind.{FlushKind}
-use Rattle.fwd_chunks.specs.Cells.{Carry}
-use Rattle.fwd_chunks.specs.History.{Load, counts as buffer_counts}
+use Rattle.fwd_chunks.specs.History.{BufferHistory, Load, counts as buffer_counts}
 use Rattle.fwd_chunks.specs.Live.{live_counts}
 use Rattle.fwd_chunks.proofs.Follows as buffer
 use Rattle.fwd_chunks.proofs.Sane.{opening-sane}
@@ -23,29 +23,34 @@ use Rattle.fwd_model.specs.declared.config.OutputConfig.{OutputConfig}
 use Rattle.fwd_model.specs.declared.event.Event.{Event}
 use Rattle.fwd_model.specs.declared.event.Event.TheVariants as event
 use Rattle.fwd_model.specs.declared.answer.Answer.TheVariants as answer
-use Rattle.fwd_model.specs.Outcome.{Outcome, Stays, Goes, answer_of, state_of, of_piece, first_of, chunk_answer}
+use Rattle.fwd_model.specs.declared.event.EndKind.{EndKind}
+use Rattle.fwd_model.specs.declared.fault.Refusal.TheVariants.{NotNow, NotUp}
+use Rattle.fwd_session.specs.declared.told.Heard.{Heard}
+use Rattle.fwd_session.specs.declared.told.Heard.TheVariants as heard_as
+use Rattle.fwd_session.specs.History.{SessionHistory, IsSane as IsSaneHistory, handshake_of, is_free_for, loads, hears as hears_bytes, piece_told, piece_out}
+use Rattle.fwd_session.specs.Live.{LiveSession, live_session, session_hears}
+use Rattle.fwd_session.proofs.Following.{begins-live, begins-sane, loads-live, loads-sane, sends-live, sends-sane, told-live, out-live, hears-live as hears_bytes-live, hears-sane as hears_bytes-sane, late-live, ready-live, acked-live, looks-live, looks-sane}
+use Rattle.fwd_model.specs.Outcome.{Outcome, Stays, Goes, answer_of, state_of, of_piece, of_heard, first_of, chunk_answer}
 use Rattle.fwd_model.specs.Layers.{Worker}
 use Rattle.fwd_model.specs.Step as steps
 use Rattle.fwd_model.specs.Step.{step, answers, after, with_session}
-use Rattle.fwd_model.specs.Setups.{setup_of}
-use Rattle.fwd_model.specs.Replies.{is_loaded, reply_answer}
-use Rattle.fwd_model.specs.Outputs.{frame_of, live_output}
-use Rattle.fwd_model.specs.Sessions.{SessionHistory, LiveSession, live_session, loads}
-use Rattle.fwd_model.specs.History.{Lane, History, histories, source_at, setting_of, new_lane, new_lanes, counts, opening, is_fresh, with_connection, IsReached}
+use Rattle.fwd_model.specs.Setups.{setup_of, session_setup, setting_of}
+use Rattle.fwd_model.specs.Outputs.{returned, live_output}
+use Rattle.fwd_model.specs.History.{Lane, History, histories, source_at, new_lane, new_lanes, counts, opening, is_fresh, with_connection, IsReached}
 use Rattle.fwd_model.specs.Live.{LiveLane, live, live_lane, lives, last_id, is_above, live_source_at, with_live_lane, with_live_worker, live_relay_counts}
 use Rattle.fwd_model.proofs.Agree.{Agrees, Leads, stays, goes, checked, sought, inside}
 use Rattle.fwd_model.proofs.Places.{source_at-live}
 use Rattle.fwd_model.proofs.Reached.{IsSaneSession, IsSaneLane, AllSane, IsSane, AllSources-at, AllSane-at}
 use Rattle.fwd_model.proofs.FollowsSources.{accepts-live, accepts-sane, with_connection-live, with_connection-sane, drained-sane, leaves-live, leaves-sane}
-use Rattle.fwd_model.proofs.FollowsOutputs.{lane_at-live, with_lane-live, with_lane-sane, worker_at-live, flushes-live, flushes-sane}
-use Rattle.fwd_model.proofs.FollowsSessions.{with_session-live, with_session-sane, is_some-option_map, begins-live, begins-sane, loads-live, loads-sane, sends-live, sends-sane}
-use Rattle.fwd_model.proofs.FollowsReplies.{down-live, replies-live, listens-live, listens-sane}
+use Rattle.fwd_model.proofs.FollowsOutputs.{lane_at-live, with_lane-live, with_lane-sane, worker_at-live, flushes-live, flushes-sane, choice-same, watches-live, watches-sane}
+use Rattle.fwd_model.proofs.FollowsSessions.{with_session-live, with_session-sane, is_some-option_map, hears-loaded}
+use Rattle.fwd_model.proofs.FollowsEnds.{backs, ends-live, ends-sane}
 use Rattle.fwd_model.proofs.FollowsTakes.{given-same, takes-live, takes-sane}
 use Rattle.fwd_model.proofs.FollowsAdmits.{enters-live, enters-sane}
 use Rattle.fwd_model.proofs.FollowsSettles.{acked_is, count-same, settles-live, settles-sane}
 use Rattle.fwd_model.proofs.FollowsBooks.{telling-same, owed-same}
 use Rattle.fwd_model.proofs.FollowsCollects.{tells-live, tells-sane, forgets-live, forgets-sane}
-use Rattle.fwd_model.proofs.Workers.{worker_map, worker_seen, IsWorker, worker_is, session_here, none_carried, carried_is}
+use Rattle.fwd_model.proofs.Workers.{worker_map, worker_seen, worker_is, session_here, none_carried, carried_is}
 
 option_id : {X : Type 0} (o : Option X) → o ≡ option_map (λ x. x) o
 option_id None = refl
@@ -103,7 +108,7 @@ at_both h sane id o p q agrees =
 
 -- a worker whose chunk is that of the worker at the place, and whose session is sane
 abbrev SaneWorker : Lane → ℕ → Worker SessionHistory → Worker SessionHistory → Type 0
-SaneWorker l w x y = (s : SessionHistory) × (y ≡ with_session x s) × IsSaneSession w l.output.buffer.carried s
+SaneWorker l w x y = (s : SessionHistory) × (y ≡ with_session x s) × IsSaneSession w l.output.buffer s
 
 worker_here : (w : ℕ) (l : Lane)
     → slice_get (live_lane l).workers w
@@ -111,7 +116,7 @@ worker_here : (w : ℕ) (l : Lane)
 worker_here w l = worker_at-live w l ∙ worker_seen l w (slice_get l.sessions w)
 
 puts_leads : (l : Lane) (w : ℕ) (x : Worker SessionHistory) (s : SessionHistory) → IsSaneLane l
-    → histories.worker_at l w ≡ Some x → IsSaneSession w l.output.buffer.carried s
+    → histories.worker_at l w ≡ Some x → IsSaneSession w l.output.buffer s
     → Leads live_lane IsSaneLane (histories.puts_worker l w (with_session x s)) (with_live_worker (live_lane l) w (worker_map live_session (with_session x s)))
 puts_leads l w x s own e fits =
     let at = worker_is l w x e in (
@@ -130,14 +135,14 @@ at_worker l w p q own agrees =
     subst (λ z. Leads live_lane IsSaneLane (histories.puts_worker l w z) (with_live_worker (live_lane l) w (worker_map live_session z))) (sym fits.1) (puts_leads l w x fits.0 own e fits.2)))
 
 with_session-leads : (l : Lane) (w : ℕ) (x : Worker SessionHistory) (s : SessionHistory)
-    (t : LiveSession) → Leads live_session (IsSaneSession w l.output.buffer.carried) s t
+    (t : LiveSession) → Leads live_session (IsSaneSession w l.output.buffer) s t
     → Leads (worker_map live_session) (SaneWorker l w x) (with_session x s) (with_session (worker_map live_session x) t)
 with_session-leads l w x s t leads = (λ i. record { chunk = x.chunk; session = Some (leads.0 i) }, (s, refl, leads.1))
 
 at_session : (l : Lane) (w : ℕ) (x : Worker SessionHistory) (p : SessionHistory
     → Outcome SessionHistory) (q : LiveSession → Outcome LiveSession) → IsSaneLane l
     → histories.worker_at l w ≡ Some x
-    → ((s : SessionHistory) → IsSaneSession w l.output.buffer.carried s → Agrees live_session (IsSaneSession w l.output.buffer.carried) (p s) (q (live_session s)))
+    → ((s : SessionHistory) → IsSaneSession w l.output.buffer s → Agrees live_session (IsSaneSession w l.output.buffer) (p s) (q (live_session s)))
     → Agrees (worker_map live_session) (SaneWorker l w x) (steps.at_session histories x p) (steps.at_session lives (worker_map live_session x) q)
 at_session l w x p q own e agrees =
     sought {g = live_session} _ _ refl (λ s f.
@@ -254,13 +259,21 @@ flush : (l : Lane) (now : ℕ) (kind : FlushKind) → IsSaneLane l
     (steps.flush lives (live_lane l) now kind)
 flush l now kind own = goes (ap answer.Closed (closing_here l now kind own)) (flushes-live l now kind own, flushes-sane l now kind own)
 
-up : (l : Lane) (w servers server now : ℕ) (x : Worker SessionHistory)
-    → Agrees (worker_map live_session) (SaneWorker l w x) (steps.up histories servers server now x) (steps.up lives servers server now (worker_map live_session x))
-up l w servers server now x =
-    let same : not (nat_lt server servers) ≡ not (nat_lt server servers) = refl in
+choose : (l : Lane) (w now : ℕ) → IsSaneLane l
+    → Agrees live_lane IsSaneLane (steps.choose histories l w now)
+    (steps.choose lives (live_lane l) w now)
+choose l w now own =
+    sought {g = worker_map live_session} _ _ (worker_here w l) (λ x e.
+    goes (ap answer.Chose (choice-same l w now own)) (watches-live l now, watches-sane l now own))
+
+up : (l : Lane) (w : ℕ) (c : OutputConfig) (server : ℕ) (salt : List ℕ) (now : ℕ)
+    (x : Worker SessionHistory)
+    → Agrees (worker_map live_session) (SaneWorker l w x) (steps.up histories c server salt now x) (steps.up lives c server salt now (worker_map live_session x))
+up l w c server salt now x =
+    let same : not (nat_lt server (length c.standby)) ≡ not (nat_lt server (length c.standby)) = refl in
     checked _ same (λ known.
     checked _ (is_some-option_map live_session x.session) (λ none.
-    goes refl (with_session-leads l w x _ _ (begins-live server now, begins-sane w server now l.output.buffer.carried))))
+    goes refl (with_session-leads l w x _ _ (begins-live (session_setup c server salt now), record { own = begins-sane (session_setup c server salt now); carries = λ d e. absurd cc }))))
 
 config_here : (l : Lane) → (live_lane l).config ≡ l.config
 unfolding live_lane
@@ -279,9 +292,17 @@ take l w now own =
       takes-sane l w now free own,
     )))
 
-loaded_here : (s : SessionHistory) → (live_session s).loaded ≡ s.loaded
+loaded_here : (s : SessionHistory) → is_some (live_session s).loaded ≡ is_some s.loaded
 unfolding live_session
 loaded_here s = refl
+
+down_here : (s : SessionHistory) → (live_session s).down ≡ s.down
+unfolding live_session
+down_here s = refl
+
+and_left : (a b : Bool) → not (not a && b) ≡ false → a ≡ false
+and_left true b e = absurd cc
+and_left false b e = refl
 
 load : (now : ℕ) (l : Lane) (w : ℕ) (x : Worker SessionHistory)
     → IsSaneLane l → histories.worker_at l w ≡ Some x
@@ -289,29 +310,61 @@ load : (now : ℕ) (l : Lane) (w : ℕ) (x : Worker SessionHistory)
 load now l w x own e =
     sought {g = live_session} _ _ refl (λ s f.
     sought {g = λ (c : Load). c} _ _ (option_id x.chunk) (λ c g.
-    checked _ (ap (λ k. is_loaded k c.number) (loaded_here s)) (λ fresh.
-    checked _ (down-live s) (λ up.
-    goes refl (with_session-leads l w x _ _ (leads s c (frame_of c) (own.sessions w s (session_here l w x s e f)) (carried_is l w x c (worker_is l w x e) g) up))))))
+    checked NotNow (loaded_here s) (λ fresh.
+    checked NotUp (ap not (sym (ready-live s))) (λ up.
+    goes refl (with_session-leads l w x _ _ (leads s c (own.sessions w s (session_here l w x s e f)) g (and_left s.down (is_free_for (handshake_of s) s.has_acked) up)))))))
   where
-    leads : (s : SessionHistory) (c : Load) (frame : List ℕ) → IsSaneSession w l.output.buffer.carried s → Rattle.fwd_model.proofs.Workers.IsCarriedBy l w c → s.down ≡ false
-        → Leads live_session (IsSaneSession w l.output.buffer.carried) (loads s c.number frame now) (lives.loads (live_session s) c.number frame now)
-    leads s c frame fits by up = (
-      loads-live s c.number frame now fits.sent up,
-      subst (λ n. IsSaneSession w l.output.buffer.carried (loads s n frame now)) by.number (loads-sane w l.output.buffer.carried s by.carry frame now by.here fits),
+    leads : (s : SessionHistory) (c : Load) → IsSaneSession w l.output.buffer s → x.chunk ≡ Some c → s.down ≡ false
+        → Leads live_session (IsSaneSession w l.output.buffer) (loads s c now) (lives.loads (live_session s) c now)
+    leads s c fits g up = (
+      loads-live s c now fits.own up,
+      record { own = loads-sane s c now fits.own; carries = λ d h. carried_is l w x (worker_is l w x e) ∙ g ∙ h },
     )
 
-wrote : (cs : List Carry) (w count : ℕ) (s : SessionHistory) → IsSaneSession w cs s
-    → Agrees live_session (IsSaneSession w cs) (steps.wrote histories count s)
+le_from : (a b : ℕ) → nat_lt a b ≡ false → b ≤ a
+le_from a b e = grind (arith, nat_tests, e)
+
+-- what is down takes nothing
+wrote_sane : (s : SessionHistory) (count : ℕ) → IsSaneHistory s
+    → nat_lt (length (histories.to_send s)) count ≡ false → IsSaneHistory (histories.sends s count)
+wrote_sane s count own few = by s.down refl
+  where
+    by : (b : Bool) → s.down ≡ b → IsSaneHistory (histories.sends s count)
+    by true e =
+        let none : length (histories.to_send s) ≡ 0 = ap (λ b. length (cond b [] (drop s.sent s.appended))) e in
+        let zero : count ≡ 0 = omega (arith, le_from (length (histories.to_send s)) count few, none) in
+        record { started = own.started; sent = omega (arith, zero, own.sent); opened = own.opened; greets = own.greets }
+    by false e = sends-sane s count own e (le_from (length (histories.to_send s)) count few)
+
+wrote : (b : BufferHistory) (w count : ℕ) (s : SessionHistory) → IsSaneSession w b s
+    → Agrees live_session (IsSaneSession w b) (steps.wrote histories count s)
     (steps.wrote lives count (live_session s))
 unfolding live_session
-wrote cs w count s fits = checked _ refl (λ few. goes refl (sends-live s count, sends-sane w cs s count fits few))
+wrote b w count s fits = checked NotNow refl (λ few. goes refl (sends-live s count, record { own = wrote_sane s count fits.own few; carries = fits.carries }))
 
-hear : (run : List ℕ) (o : ℕ) (bytes : List ℕ) (cs : List Carry) (w : ℕ)
-    (s : SessionHistory) → IsSaneSession w cs s
-    → Agrees live_session (IsSaneSession w cs) (steps.heard histories run o bytes s) (steps.heard lives run o bytes (live_session s))
-hear run o bytes cs w s fits =
-    checked _ (down-live s) (λ up.
-    goes (ap (λ r. reply_answer r.accepted r.fault) (replies-live run o s bytes up (fits.opened up))) (listens-live run o s bytes up (fits.opened up), listens-sane cs w run o s bytes fits up))
+heard-agrees : (b : BufferHistory) (w : ℕ) (told : Heard) (out : List ℕ) (s : SessionHistory)
+    (t : LiveSession) → Leads live_session (IsSaneSession w b) s t
+    → Agrees live_session (IsSaneSession w b) (of_heard told out s) (of_heard told out t)
+heard-agrees b w heard_as.NotUp out s t leads = stays
+heard-agrees b w heard_as.Quiet out s t leads = goes refl leads
+heard-agrees b w heard_as.Ready out s t leads = goes refl leads
+heard-agrees b w heard_as.Acked out s t leads = goes refl leads
+heard-agrees b w (heard_as.Fault why) out s t leads = goes refl leads
+
+hear : (bytes : List ℕ) (b : BufferHistory) (w : ℕ) (s : SessionHistory) → IsSaneSession w b s
+    → Agrees live_session (IsSaneSession w b) (steps.heard histories bytes s) (steps.heard lives bytes (live_session s))
+hear bytes b w s fits =
+    let leads : Leads live_session (IsSaneSession w b) (hears_bytes s bytes) (session_hears (live_session s) bytes) =
+    (hears_bytes-live s bytes fits.own, record { own = hears_bytes-sane s bytes fits.own; carries = λ c e. fits.carries c (sym (hears-loaded s bytes) ∙ e) }) in
+    subst (λ y. Agrees live_session (IsSaneSession w b) (steps.heard histories bytes s) y)
+    (λ i. of_heard (told-live s bytes fits.own i) (out-live s bytes fits.own i) (session_hears (live_session s) bytes))
+    (heard-agrees b w (piece_told s bytes) (piece_out s bytes) (hears_bytes s bytes) (session_hears (live_session s) bytes) leads)
+
+late : (now : ℕ) (b : BufferHistory) (w : ℕ) (s : SessionHistory) → IsSaneSession w b s
+    → Agrees live_session (IsSaneSession w b) (steps.late histories now s) (steps.late lives now (live_session s))
+late now b w s fits =
+    checked NotUp (down_here s) (λ up.
+    goes (ap answer.Late (late-live s now)) (looks-live s now up, record { own = looks-sane s now fits.own up; carries = fits.carries }))
 
 settle : (l : Lane) (w : ℕ) → IsSaneLane l
     → Agrees live_lane IsSaneLane (steps.settle histories l w)
@@ -320,10 +373,45 @@ unfolding live_session
 settle l w own =
     sought {g = worker_map live_session} _ _ (worker_here w l) (λ x e.
     sought {g = live_session} _ _ refl (λ s f.
-    sought {g = λ (k : ℕ). k} _ _ (option_id (steps.acked histories s)) (λ k g.
+    sought {g = λ (c : Load). c} _ _ (sym (acked-live s) ∙ option_id (histories.acked s)) (λ c g.
     let here = session_here l w x s e f in
-    let is = acked_is l w s k (own.sessions w s here) g in
-    goes (ap answer.Settled (count-same l w k own is)) (settles-live l w s k here own is, settles-sane l w s k here own is))))
+    let is = acked_is l.output.buffer w s c (own.sessions w s here) g in
+    goes (ap answer.Settled (count-same l w c own is)) (settles-live l w s c s.setup.server here own is, settles-sane l w s c s.setup.server here own is))))
+
+-- what an end asks of a session is asked alike of its live part
+acked_same : (s : Option SessionHistory)
+    → steps.has_acked lives (option_map live_session s) ≡ steps.has_acked histories s
+acked_same None = refl
+acked_same (Some s) = ap is_some (sym (acked-live s))
+
+loaded_same : (s : Option SessionHistory)
+    → steps.has_loaded histories s ≡ steps.has_loaded lives (option_map live_session s)
+unfolding live_session
+loaded_same None = refl
+loaded_same (Some s) = refl
+
+lost_same : (kind : EndKind) (s : Option SessionHistory)
+    → steps.lost_server histories kind s ≡ steps.lost_server lives kind (option_map live_session s)
+unfolding live_session
+lost_same kind None = refl
+lost_same kind (Some s) = refl
+
+end : (l : Lane) (w : ℕ) (kind : EndKind) (now : ℕ) → IsSaneLane l
+    → Agrees live_lane IsSaneLane (steps.end histories l w kind now)
+    (steps.end lives (live_lane l) w kind now)
+end l w kind now own =
+    sought {g = worker_map live_session} _ _ (worker_here w l) (λ x e.
+    checked NotNow (ap (λ b. not (is_some x.chunk) && not b) (is_some-option_map live_session x.session)) (λ some.
+    checked NotNow (acked_same x.session) (λ none.
+    let at = worker_is l w x e in
+    let back = returned x.chunk (steps.has_loaded histories x.session) in
+    let server = steps.lost_server histories kind x.session in
+    let is = backs l.output.buffer w x.chunk (steps.has_loaded histories x.session) (carried_is l w x at) in
+    goes refl (
+      ends-live l w x.session back server now at.here own is
+          ∙ (λ i. lives.ends (live_lane l) w (returned x.chunk (loaded_same x.session i)) (lost_same kind x.session i) now),
+      ends-sane l w back server now own is,
+    ))))
 
 -- ---- the step
 
@@ -352,17 +440,22 @@ event_agrees h (event.Accept id nonce auth) sane = accept h (setup_of h.security
 event_agrees h (event.Piece id bytes) sane = at_source h sane id _ (λ s. steps.piece lives s bytes) (λ s own. piece s bytes own)
 event_agrees h (event.Admit id o now) sane = at_both h sane id o _ (steps.admit lives h.routes id o now) (λ s l own its. admit h.routes id o now s l own its)
 event_agrees h (event.Flush o now kind) sane = at_lane h sane o _ (λ l. steps.flush lives l now kind) (λ l own. flush l now kind own)
-event_agrees h (event.Up o w server salt now) sane = at_lane h sane o _ (λ l. steps.at_worker lives l w (steps.up lives l.config.servers server now))
-    (λ l own. subst (λ c. Agrees live_lane IsSaneLane (steps.at_worker histories l w (steps.up histories l.config.servers server now)) (steps.at_worker lives (live_lane l) w (steps.up lives c.servers server now))) (sym (config_here l))
-    (at_worker l w _ (steps.up lives l.config.servers server now) own (λ x e. up l w l.config.servers server now x)))
+event_agrees h (event.Up o w server salt now) sane = at_lane h sane o _ (λ l. steps.at_worker lives l w (steps.up lives l.config server salt now))
+    (λ l own. subst (λ c. Agrees live_lane IsSaneLane (steps.at_worker histories l w (steps.up histories l.config server salt now)) (steps.at_worker lives (live_lane l) w (steps.up lives c server salt now))) (sym (config_here l))
+    (at_worker l w _ (steps.up lives l.config server salt now) own (λ x e. up l w l.config server salt now x)))
+event_agrees h (event.Choose o w now) sane = at_lane h sane o _ (λ l. steps.choose lives l w now) (λ l own. choose l w now own)
 event_agrees h (event.Take o w now) sane = at_lane h sane o _ (λ l. steps.take lives l w now) (λ l own. take l w now own)
 event_agrees h (event.Load o w now) sane = at_lane h sane o _ (λ l. steps.at_worker lives l w (steps.load lives now)) (λ l own. at_worker l w _ (steps.load lives now) own (λ x e. load now l w x own e))
 event_agrees h (event.Wrote o w count) sane =
     at_lane h sane o _ (λ l. steps.at_worker lives l w (λ x. steps.at_session lives x (steps.wrote lives count)))
-    (λ l own. at_worker l w _ (λ x. steps.at_session lives x (steps.wrote lives count)) own (λ x e. at_session l w x _ (steps.wrote lives count) own e (λ s fits. wrote l.output.buffer.carried w count s fits)))
+    (λ l own. at_worker l w _ (λ x. steps.at_session lives x (steps.wrote lives count)) own (λ x e. at_session l w x _ (steps.wrote lives count) own e (λ s fits. wrote l.output.buffer w count s fits)))
 event_agrees h (event.Heard o w bytes) sane =
-    at_lane h sane o _ (λ l. steps.at_worker lives l w (λ x. steps.at_session lives x (steps.heard lives h.run o bytes)))
-    (λ l own. at_worker l w _ (λ x. steps.at_session lives x (steps.heard lives h.run o bytes)) own (λ x e. at_session l w x _ (steps.heard lives h.run o bytes) own e (λ s fits. hear h.run o bytes l.output.buffer.carried w s fits)))
+    at_lane h sane o _ (λ l. steps.at_worker lives l w (λ x. steps.at_session lives x (steps.heard lives bytes)))
+    (λ l own. at_worker l w _ (λ x. steps.at_session lives x (steps.heard lives bytes)) own (λ x e. at_session l w x _ (steps.heard lives bytes) own e (λ s fits. hear bytes l.output.buffer w s fits)))
+event_agrees h (event.Late o w now) sane =
+    at_lane h sane o _ (λ l. steps.at_worker lives l w (λ x. steps.at_session lives x (steps.late lives now)))
+    (λ l own. at_worker l w _ (λ x. steps.at_session lives x (steps.late lives now)) own (λ x e. at_session l w x _ (steps.late lives now) own e (λ s fits. late now l.output.buffer w s fits)))
+event_agrees h (event.End o w kind now) sane = at_lane h sane o _ (λ l. steps.end lives l w kind now) (λ l own. end l w kind now own)
 event_agrees h (event.Settle o w) sane = at_lane h sane o _ (λ l. steps.settle lives l w) (λ l own. settle l w own)
 event_agrees h (event.Collect id o) sane = at_both h sane id o _ (steps.collect lives id) (λ s l own its. collect id s l own its)
 event_agrees h (event.Forget id o) sane = at_lane h sane o _ (λ l. steps.forget lives l id) (λ l own. forget l id own)
@@ -398,6 +491,7 @@ new_lane_sane run o c = record {
   buffer = opening-sane (setting_of run o c);
   apart = tt;
   marks = refl;
+  waits = c.limits.bounded;
   sessions = λ w t e. absurd (no_sessions c.workers w t e);
 }
 

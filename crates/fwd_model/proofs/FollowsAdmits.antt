@@ -11,14 +11,15 @@ use Rattle.fwd_chunks.proofs.Follows as buffer
 use Rattle.fwd_chunks.proofs.Sane as sane
 use Rattle.fwd_chunks.proofs.News.{enters-acknowledged, enters-carried, enters-setting, carried-stays, spans-unacked}
 use Rattle.fwd_model.specs.Books.{entered_as, live_book, book_enters}
-use Rattle.fwd_model.specs.Outputs.{carry_of, output_history_enters, live_output, output_enters}
+use Rattle.fwd_failover.specs.Live.{live_servers}
+use Rattle.fwd_model.specs.Outputs.{carry_of, carried_by, output_history_enters, live_output, output_enters}
 use Rattle.fwd_model.specs.History.{Lane, with_output}
 use Rattle.fwd_model.specs.Live.{live_lane, with_live_output}
 use Rattle.fwd_model.proofs.Places.{live_workers-same}
 use Rattle.fwd_model.proofs.Settling.{AreApart, carry_of-carried}
 use Rattle.fwd_model.proofs.FollowsBooks as book
 use Rattle.fwd_model.proofs.FollowsBooks.{AreUnsettled}
-use Rattle.fwd_model.proofs.Reached.{IsSaneLane, IsSaneSession}
+use Rattle.fwd_model.proofs.Reached.{IsSaneLane}
 
 -- ---- what a worker has stays
 
@@ -42,8 +43,7 @@ one_stays h origin r now (Some d) own has = ap Some (load-stays h origin r now d
 
 worker_stays : (h : BufferHistory) (origin : Origin) (r : Request) (now w : ℕ)
     → sane.IsSane h
-    → option_map (λ d. load_of (enters h origin r now) d.number) (carry_of w (enters h origin r now).carried)
-    ≡ option_map (λ d. load_of h d.number) (carry_of w h.carried)
+    → carried_by (enters h origin r now) w ≡ carried_by h w
 worker_stays h origin r now w own =
     ap (λ cs. option_map (λ d. load_of (enters h origin r now) d.number) (carry_of w cs)) (enters-carried h origin r now)
     ∙ one_stays h origin r now (carry_of w h.carried) own (λ d e. carry_of-carried w h.carried d e)
@@ -63,6 +63,7 @@ enters-live l origin r now own =
         buffer = buffer.enters-live h origin r now own.buffer i;
         book = (book.enters-live l.output.book (entered_as r origin spans) fresh
             ∙ ap (λ ss. book_enters (live_book l.output.book) (entered_as r origin ss)) (buffer.spans-live h origin r now own.buffer)) i;
+        servers = live_servers l.output.setting l.output.servers;
       };
       workers = live_workers-same (output_history_enters l.output origin r now) l.output 0 l.sessions (λ w. worker_stays h origin r now w own.buffer) i;
     }
@@ -77,5 +78,6 @@ enters-sane l origin r now own =
       buffer = sane.enters-sane h origin r now own.buffer;
       apart = subst AreApart same own.apart;
       marks = own.marks ∙ sym (enters-acknowledged h origin r now);
-      sessions = λ w s e. subst (λ cs. IsSaneSession w cs s) same (own.sessions w s e);
+      waits = own.waits;
+      sessions = λ w s e. let fits = own.sessions w s e in record { own = fits.own; carries = λ c f. worker_stays h origin r now w own.buffer ∙ fits.carries c f };
     }

@@ -2,6 +2,7 @@
 use Rattle.std.proofs.Common.{◌≡◌, ℕ, refl, ap, ◌∙◌}
 use Rattle.fwd_chunks.specs.Live.{live_buffer}
 use Rattle.fwd_model.specs.Books.{BookHistory, tells, live_book, book_tells, forgets, book_forgets}
+use Rattle.fwd_failover.specs.Live.{live_servers}
 use Rattle.fwd_model.specs.Outputs.{live_output}
 use Rattle.fwd_model.specs.History.{Lane, with_book}
 use Rattle.fwd_model.specs.Live.{live_lane, with_live_book}
@@ -15,8 +16,8 @@ with_book-live : (l : Lane) (b : BookHistory)
 unfolding live_lane live_output
 with_book-live l b = λ i. record {
   config = l.config;
-  output = record { buffer = live_buffer l.output.buffer; book = live_book b };
-  workers = live_workers-same (record { buffer = l.output.buffer; book = b }) l.output 0 l.sessions (λ k. refl) i;
+  output = record { buffer = live_buffer l.output.buffer; book = live_book b; servers = live_servers l.output.setting l.output.servers };
+  workers = live_workers-same (record (l.output) { book = b }) l.output 0 l.sessions (λ k. refl) i;
 }
 
 with_book-sane : (l : Lane) (b : BookHistory) → b.settled ≡ l.output.book.settled
@@ -25,6 +26,7 @@ with_book-sane l b same own = record {
   buffer = own.buffer;
   apart = own.apart;
   marks = same ∙ own.marks;
+  waits = own.waits;
   sessions = own.sessions;
 }
 

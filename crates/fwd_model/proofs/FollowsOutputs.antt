@@ -1,17 +1,20 @@
 -- The live part follows the history at the events of outputs and workers.
-use Rattle.std.proofs.Common.{◌≡◌, ℕ, refl, ap, ◌∙◌, zero-add}
+use Rattle.std.proofs.Common.{◌≡◌, ℕ, refl, ap, ◌∙◌, zero-add, max}
 use Rattle.std.specs.Prelude.{map, option_map, slice_get}
 use Rattle.std.proofs.lemmas.List.{map-set}
 use Rattle.std.proofs.lemmas.Option.{slice_get-map}
 use Rattle.fwd_chunks.specs.declared.flush.FlushKind.{FlushKind}
 use Rattle.fwd_chunks.specs.History.{flushes}
-use Rattle.fwd_chunks.specs.Live.{live_flushes}
+use Rattle.fwd_chunks.specs.Live.{live_buffer, live_flushes}
 use Rattle.fwd_chunks.proofs.Follows as buffer
 use Rattle.fwd_chunks.proofs.Sane as sane
+use Rattle.fwd_failover.specs.Live.{live_servers}
+use Rattle.fwd_failover.proofs.Kept.{live-looked}
+use Rattle.fwd_failover.proofs.Orders.{choice_kept}
 use Rattle.fwd_model.specs.Books.{live_book}
-use Rattle.fwd_model.specs.Outputs.{live_output}
-use Rattle.fwd_model.specs.History.{Lane, History, with_lane, with_buffer}
-use Rattle.fwd_model.specs.Live.{live_worker, live_lane, live, live_connection, known, with_live_lane, with_live_buffer}
+use Rattle.fwd_model.specs.Outputs.{live_output, output_history_choice, output_history_looks, output_choice, output_looks}
+use Rattle.fwd_model.specs.History.{Lane, History, with_lane, with_buffer, with_output}
+use Rattle.fwd_model.specs.Live.{live_worker, live_lane, live, live_connection, known, with_live_lane, with_live_buffer, with_live_output}
 use Rattle.fwd_model.proofs.Places.{live_workers-same, live_workers-at}
 use Rattle.fwd_model.proofs.Reached.{IsSaneLane, IsSane, AllSane-set}
 
@@ -52,8 +55,8 @@ pub flushes-live : (l : Lane) (now : ℕ) (kind : FlushKind) → IsSaneLane l
 unfolding live_lane live_output
 flushes-live l now kind own = λ i. record {
   config = l.config;
-  output = record { buffer = buffer.flushes-live l.output.buffer now kind own.buffer i; book = live_book l.output.book };
-  workers = live_workers-same (record { buffer = flushes l.output.buffer now kind; book = l.output.book }) l.output 0 l.sessions (λ k. refl) i;
+  output = record { buffer = buffer.flushes-live l.output.buffer now kind own.buffer i; book = live_book l.output.book; servers = live_servers l.output.setting l.output.servers };
+  workers = live_workers-same (record (l.output) { buffer = flushes l.output.buffer now kind }) l.output 0 l.sessions (λ k. refl) i;
 }
 
 pub flushes-sane : (l : Lane) (now : ℕ) (kind : FlushKind) → IsSaneLane l
@@ -62,5 +65,39 @@ flushes-sane l now kind own = record {
   buffer = sane.flushes-sane l.output.buffer now kind own.buffer;
   apart = own.apart;
   marks = own.marks;
-  sessions = own.sessions;
+  waits = own.waits;
+  sessions = λ w s e. let fits = own.sessions w s e in record { own = fits.own; carries = fits.carries };
+}
+
+-- ---- choose
+
+-- the same server is chosen
+pub choice-same : (l : Lane) (w now : ℕ) → IsSaneLane l
+    → output_history_choice l.output w now ≡ output_choice (live_lane l).output w now
+unfolding live_lane live_output live_servers live_buffer
+choice-same l w now own =
+    choice_kept l.output.setting l.output.servers w (max l.output.servers.moment (max l.output.buffer.moment now)) own.waits
+
+pub watches-live : (l : Lane) (now : ℕ)
+    → live_lane (with_output l (output_history_looks l.output now))
+    ≡ with_live_output (live_lane l) (output_looks (live_lane l).output now)
+unfolding live_lane live_output live_servers live_buffer
+watches-live l now = λ i. record {
+  config = l.config;
+  output = record {
+    buffer = buffer.looks-live l.output.buffer now i;
+    book = live_book l.output.book;
+    servers = live-looked l.output.setting l.output.servers (max l.output.buffer.moment now) i;
+  };
+  workers = live_workers-same (output_history_looks l.output now) l.output 0 l.sessions (λ k. refl) i;
+}
+
+pub watches-sane : (l : Lane) (now : ℕ) → IsSaneLane l
+    → IsSaneLane (with_output l (output_history_looks l.output now))
+watches-sane l now own = record {
+  buffer = sane.looks-sane l.output.buffer now own.buffer;
+  apart = own.apart;
+  marks = own.marks;
+  waits = own.waits;
+  sessions = λ w s e. let fits = own.sessions w s e in record { own = fits.own; carries = fits.carries };
 }

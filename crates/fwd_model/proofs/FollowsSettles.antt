@@ -1,95 +1,87 @@
 -- The live part follows the history where a worker's chunk is settled.
 use Rattle.std.proofs.Common.{◌≡◌, ◌≢◌, ℕ, zero, suc, ◌+◌, ◌<◌, Bool, true, false, cond, List, [], ◌∷◌, ◌++◌, Option, Some, None, refl, sym, ap, subst, ◌∙◌, zero-add, inl, inr, arith}
 use Rattle.std.proofs.Math.ListN.{set}
-use Rattle.std.specs.Prelude.{◌⊎◌, option_map, slice_get}
-use Rattle.fwd_chunks.specs.Cells.{is_carried, without}
-use Rattle.fwd_chunks.specs.History.{load_of}
+use Rattle.std.specs.Prelude.{◌⊎◌, option_map, is_some, slice_get}
+use Rattle.fwd_chunks.specs.History.{BufferHistory, Load, load_of}
 use Rattle.fwd_chunks.proofs.Follows as buffer
 use Rattle.fwd_chunks.proofs.Sane as sane
-use Rattle.fwd_model.specs.Step.{acked}
-use Rattle.fwd_model.specs.Outputs.{OutputHistory, carry_of, output_history_settles, live_output, count_at, live_count_at}
-use Rattle.fwd_model.specs.Sessions.{SessionHistory, unloads, live_session, session_unloads}
-use Rattle.fwd_model.specs.History.{Lane, with_session, with_output, histories}
+use Rattle.fwd_failover.proofs.Kept.{live-settled}
+use Rattle.fwd_session.specs.History.{SessionHistory, acked, unloads}
+use Rattle.fwd_session.specs.Live.{live_session}
+use Rattle.fwd_session.proofs.Following.{unloads-live, unloads-sane}
+use Rattle.fwd_model.specs.Outputs.{OutputHistory, carried_by, output_history_settles, live_output, count_at, live_count_at}
+use Rattle.fwd_model.specs.History.{Lane, with_session, with_output}
 use Rattle.fwd_model.specs.Live.{live_workers, live_lane, lane_settles}
-use Rattle.fwd_model.proofs.Settling.{AreApart, apart-without, carry_of-carried, carry_of-without_same, carry_of-without_other}
+use Rattle.fwd_model.proofs.Settling.{AreApart, IsHis, his, apart-without, carry_of-without_same, carry_of-without_other}
 use Rattle.fwd_model.proofs.FollowsBooks as book
 use Rattle.fwd_model.proofs.Reached.{IsSaneLane, IsSaneSession, slice_get-set}
 
 -- ---- the workers: one has nothing any more
 
--- the worker has this number
-abbrev Has : OutputHistory → ℕ → ℕ → Type 0
-Has o w k = carry_of w o.buffer.carried ≡ Some (record { worker = w; number = k })
+-- in the second buffer the worker has no chunk, and the others have what they had
+pub record Drops (b c : BufferHistory) (w : ℕ) : Type 0 where
+  pub none : carried_by c w ≡ None
+  pub others : (v : ℕ) → w ≢ v → carried_by c v ≡ carried_by b v
 
-chunk_elsewhere : (o : OutputHistory) (w k j : ℕ) → AreApart o.buffer.carried → Has o w k
-    → w ≢ j
-    → option_map (λ c. load_of o.buffer c.number) (carry_of j (without k o.buffer.carried))
-    ≡ option_map (λ c. load_of o.buffer c.number) (carry_of j o.buffer.carried)
-chunk_elsewhere o w k j apart has differ =
-    ap (option_map (λ c. load_of o.buffer c.number)) (carry_of-without_other w j (record { worker = w; number = k }) o.buffer.carried apart has differ)
+others_same : (o p : OutputHistory) (w b : ℕ) (ss : List (Option SessionHistory))
+    → Drops o.buffer p.buffer w → w < b → live_workers p b ss ≡ live_workers o b ss
+others_same o p w b [] drops lt = refl
+others_same o p w b (s ∷ ss) drops lt = λ i.
+    record { chunk = drops.others b (λ e. omega (arith, lt, e)) i; session = option_map live_session s }
+    ∷ others_same o p w (suc b) ss drops (omega (arith, lt)) i
 
-others_same : (o : OutputHistory) (w k b : ℕ) (ss : List (Option SessionHistory))
-    → AreApart o.buffer.carried → Has o w k → w < b
-    → live_workers (output_history_settles o k) b ss ≡ live_workers o b ss
-others_same o w k b [] apart has lt = refl
-others_same o w k b (s ∷ ss) apart has lt = λ i.
-    record { chunk = chunk_elsewhere o w k b apart has (λ e. omega (arith, lt, e)) i; session = option_map live_session s }
-    ∷ others_same o w k (suc b) ss apart has (omega (arith, lt)) i
-
-one_empties : (o : OutputHistory) (w k b j : ℕ) (ss : List (Option SessionHistory))
-    (t : SessionHistory) (x : Option SessionHistory) → AreApart o.buffer.carried → Has o w k
-    → w ≡ b + j → slice_get ss j ≡ Some x
-    → live_workers (output_history_settles o k) b (set ss j (Some t)) ≡ set (live_workers o b ss) j (record { chunk = None; session = Some (live_session t) })
-one_empties o w k b j [] t x apart has at here = absurd cc
-one_empties o w k b zero (s ∷ ss) t x apart has at here =
-    let same : w ≡ b = omega (arith, at) in
-    let none = carry_of-without_same w (record { worker = w; number = k }) o.buffer.carried apart has in λ i.
-    record { chunk = option_map (λ c. load_of o.buffer c.number) ((ap (λ y. carry_of y (without k o.buffer.carried)) (sym same) ∙ none) i); session = Some (live_session t) }
-    ∷ others_same o w k (suc b) ss apart has (omega (arith, at)) i
-one_empties o w k b (suc j) (s ∷ ss) t x apart has at here = λ i.
-    record { chunk = chunk_elsewhere o w k b apart has (λ e. omega (arith, at, e)) i; session = option_map live_session s }
-    ∷ one_empties o w k (suc b) j ss t x apart has (omega (arith, at)) here i
+pub one_empties : (o p : OutputHistory) (w b j : ℕ) (ss : List (Option SessionHistory))
+    (t x : Option SessionHistory) → Drops o.buffer p.buffer w → w ≡ b + j
+    → slice_get ss j ≡ Some x
+    → live_workers p b (set ss j t) ≡ set (live_workers o b ss) j (record { chunk = None; session = option_map live_session t })
+one_empties o p w b j [] t x drops at here = absurd cc
+one_empties o p w b zero (s ∷ ss) t x drops at here =
+    let same : w ≡ b = omega (arith, at) in λ i.
+    record { chunk = (ap (λ y. carried_by p.buffer y) (sym same) ∙ drops.none) i; session = option_map live_session t }
+    ∷ others_same o p w (suc b) ss drops (omega (arith, at)) i
+one_empties o p w b (suc j) (s ∷ ss) t x drops at here = λ i.
+    record { chunk = drops.others b (λ e. omega (arith, at, e)) i; session = option_map live_session s }
+    ∷ one_empties o p w (suc b) j ss t x drops (omega (arith, at)) here i
 
 -- ---- settle
 
--- what holds of the number of an accepted acknowledgement
-pub record IsAcked (l : Lane) (w k : ℕ) : Type 0 where
-  pub has : carry_of w l.output.buffer.carried ≡ Some (record { worker = w; number = k })
-  pub carried : is_carried k l.output.buffer.carried ≡ true
+-- the chunk of an accepted acknowledgement is the one that the worker has
+acked-loaded : (b : Bool) (loaded : Option Load) (c : Load) → cond b loaded None ≡ Some c
+    → loaded ≡ Some c
+acked-loaded true loaded c e = e
+acked-loaded false loaded c e = absurd cc
 
-loaded_of : (b : Bool) (loaded : Option ℕ) (k : ℕ) → cond b loaded None ≡ Some k
-    → loaded ≡ Some k
-loaded_of true loaded k e = e
-loaded_of false loaded k e = absurd cc
-
-pub acked_is : (l : Lane) (w : ℕ) (s : SessionHistory) (k : ℕ)
-    → IsSaneSession w l.output.buffer.carried s → acked histories s ≡ Some k → IsAcked l w k
-acked_is l w s k fits e =
-    let c = fits.carries k (loaded_of s.accepted s.loaded k e) in
-    record { has = c; carried = carry_of-carried w l.output.buffer.carried (record { worker = w; number = k }) c }
+pub acked_is : (b : BufferHistory) (w : ℕ) (s : SessionHistory) (c : Load)
+    → IsSaneSession w b s → acked s ≡ Some c → IsHis b w c
+acked_is b w s c fits e = his b w c (fits.carries c (acked-loaded (is_some s.reply) s.loaded c e))
 
 -- as many entries are settled
-pub count-same : (l : Lane) (w k : ℕ) → IsSaneLane l → IsAcked l w k
-    → count_at k l.output ≡ live_count_at k (live_lane l).output
+pub count-same : (l : Lane) (w : ℕ) (c : Load) → IsSaneLane l → IsHis l.output.buffer w c
+    → count_at c.number l.output ≡ live_count_at c.number (live_lane l).output
 unfolding live_lane live_output
-count-same l w k own is = sym (buffer.count-live l.output.buffer k own.buffer is.carried)
+count-same l w c own is = sym (buffer.count-live l.output.buffer c.number own.buffer is.carried)
 
-unloads-live : (s : SessionHistory)
-    → live_session (unloads s) ≡ session_unloads (live_session s)
-unfolding live_session
-unloads-live s = refl
+settles-drops : (o : OutputHistory) (w server : ℕ) (c : Load) → AreApart o.buffer.carried
+    → IsHis o.buffer w c
+    → Drops o.buffer (output_history_settles o c.number server).buffer w
+settles-drops o w server c apart is = record {
+  none = ap (option_map (λ d. load_of o.buffer d.number)) (carry_of-without_same w (record { worker = w; number = c.number }) o.buffer.carried apart is.has);
+  others = λ v differ. ap (option_map (λ d. load_of o.buffer d.number)) (carry_of-without_other w v (record { worker = w; number = c.number }) o.buffer.carried apart is.has differ);
+}
 
-pub settles-live : (l : Lane) (w : ℕ) (s : SessionHistory) (k : ℕ)
-    → slice_get l.sessions w ≡ Some (Some s) → IsSaneLane l → IsAcked l w k
-    → live_lane (with_session w (unloads s) (with_output l (output_history_settles l.output k))) ≡ lane_settles (live_lane l) w (live_session s) k
+pub settles-live : (l : Lane) (w : ℕ) (s : SessionHistory) (c : Load) (server : ℕ)
+    → slice_get l.sessions w ≡ Some (Some s) → IsSaneLane l → IsHis l.output.buffer w c
+    → live_lane (with_session w (unloads s) (with_output l (output_history_settles l.output c.number server)))
+    ≡ lane_settles (live_lane l) w (live_session s) c.number server
 unfolding live_lane live_output
-settles-live l w s k here own is = λ i. record {
+settles-live l w s c server here own is = λ i. record {
   config = l.config;
   output = record {
-    buffer = buffer.settles-live l.output.buffer k own.buffer is.carried i;
-    book = book.settles-live l.output.book k i;
+    buffer = buffer.settles-live l.output.buffer c.number own.buffer is.carried i;
+    book = book.settles-live l.output.book c.number i;
+    servers = live-settled l.output.setting l.output.servers server i;
   };
-  workers = (one_empties l.output w k 0 w l.sessions (unloads s) (Some s) own.apart is.has (sym (zero-add w)) here
+  workers = (one_empties l.output (output_history_settles l.output c.number server) w 0 w l.sessions (Some (unloads s)) (Some s) (settles-drops l.output w server c own.apart is) (sym (zero-add w)) here
       ∙ ap (λ t. set (live_workers l.output 0 l.sessions) w (record { chunk = None; session = Some t })) (unloads-live s)) i;
 }
 
@@ -98,20 +90,24 @@ settles-live l w s k here own is = λ i. record {
 some_same : {X : Type 0} {x y : X} → Some x ≡ Some y → x ≡ y
 some_same e = cc
 
-pub settles-sane : (l : Lane) (w : ℕ) (s : SessionHistory) (k : ℕ)
-    → slice_get l.sessions w ≡ Some (Some s) → IsSaneLane l → IsAcked l w k
-    → IsSaneLane (with_session w (unloads s) (with_output l (output_history_settles l.output k)))
-settles-sane l w s k here own is = record {
-  buffer = sane.settles-sane l.output.buffer k own.buffer is.carried;
-  apart = apart-without k l.output.buffer.carried own.apart;
-  marks = ap (λ ns. ns ++ k ∷ []) own.marks;
+pub settles-sane : (l : Lane) (w : ℕ) (s : SessionHistory) (c : Load) (server : ℕ)
+    → slice_get l.sessions w ≡ Some (Some s) → IsSaneLane l → IsHis l.output.buffer w c
+    → IsSaneLane (with_session w (unloads s) (with_output l (output_history_settles l.output c.number server)))
+settles-sane l w s c server here own is = record {
+  buffer = sane.settles-sane l.output.buffer c.number own.buffer is.carried;
+  apart = apart-without c.number l.output.buffer.carried own.apart;
+  marks = ap (λ ns. ns ++ c.number ∷ []) own.marks;
+  waits = own.waits;
   sessions = λ j t h. still j t (slice_get-set l.sessions w j (Some (unloads s)) (Some t) h);
 }
   where
-    still : (j : ℕ) (t : SessionHistory) → ((w ≡ j) × (Some (unloads s) ≡ Some t)) ⊎ ((w ≢ j) × (slice_get l.sessions j ≡ Some (Some t))) → IsSaneSession j (without k l.output.buffer.carried) t
+    after : BufferHistory
+    after = (output_history_settles l.output c.number server).buffer
+
+    still : (j : ℕ) (t : SessionHistory) → ((w ≡ j) × (Some (unloads s) ≡ Some t)) ⊎ ((w ≢ j) × (slice_get l.sessions j ≡ Some (Some t))) → IsSaneSession j after t
     still j t (inl e) =
         let fits = own.sessions w s here in
-        subst (λ x. IsSaneSession j (without k l.output.buffer.carried) x) (some_same e.1) (record { carries = λ n f. absurd cc; sent = fits.sent; opened = fits.opened })
+        subst (λ x. IsSaneSession j after x) (some_same e.1) (record { own = unloads-sane s fits.own; carries = λ d f. absurd cc })
     still j t (inr e) =
         let fits = own.sessions j t e.1 in
-        record { carries = λ n f. carry_of-without_other w j (record { worker = w; number = k }) l.output.buffer.carried own.apart is.has e.0 ∙ fits.carries n f; sent = fits.sent; opened = fits.opened }
+        record { own = fits.own; carries = λ d f. (settles-drops l.output w server c own.apart is).others j e.0 ∙ fits.carries d f }

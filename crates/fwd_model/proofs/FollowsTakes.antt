@@ -4,15 +4,17 @@ use Rattle.std.proofs.Math.ListN.{set}
 use Rattle.std.specs.Prelude.{◌⊎◌, option_map, slice_get}
 use Rattle.std.proofs.lemmas.Bool.Decides.{nat_tests}
 use Rattle.fwd_chunks.specs.Cells.{Carry, is_carried}
-use Rattle.fwd_chunks.specs.History.{load_of, looks, given, carry_more, takes}
+use Rattle.fwd_chunks.specs.History.{BufferHistory, Load, load_of, looks, given, carry_more, takes}
 use Rattle.fwd_chunks.specs.Live.{live_load, live_given}
 use Rattle.fwd_chunks.proofs.Follows as buffer
 use Rattle.fwd_chunks.proofs.Runs.{load-live}
 use Rattle.fwd_chunks.proofs.Sane as sane
 use Rattle.fwd_model.specs.Layers.{Worker}
-use Rattle.fwd_model.specs.Outputs.{OutputHistory, carry_of, live_output}
+use Rattle.fwd_failover.specs.Live.{live_servers}
+use Rattle.fwd_model.specs.Outputs.{OutputHistory, carry_of, carried_by, live_output}
 use Rattle.fwd_model.specs.Books.{live_book}
-use Rattle.fwd_model.specs.Sessions.{SessionHistory, LiveSession, live_session}
+use Rattle.fwd_session.specs.History.{SessionHistory}
+use Rattle.fwd_session.specs.Live.{LiveSession, live_session}
 use Rattle.fwd_model.specs.History.{Lane, with_buffer, histories}
 use Rattle.fwd_model.specs.Live.{live_worker, live_workers, live_lane, lane_gives, lane_takes}
 use Rattle.fwd_model.proofs.Places.{live_workers-same, live_workers-at}
@@ -23,7 +25,7 @@ use Rattle.fwd_model.proofs.Reached.{IsSaneLane, IsSaneSession}
 
 -- an output that differs in what is carried
 abbrev with_carried : OutputHistory → List Carry → ℕ → OutputHistory
-with_carried o carried moment = record { buffer = record (o.buffer) { carried = carried; moment = moment }; book = o.book }
+with_carried o carried moment = record o { buffer = record (o.buffer) { carried = carried; moment = moment } }
 
 -- an output that differs in one more carry, of worker w
 abbrev more_carried : OutputHistory → ℕ → ℕ → ℕ → OutputHistory
@@ -91,7 +93,7 @@ pub takes-live : (l : Lane) (w now : ℕ) (s : Option SessionHistory)
 unfolding live_lane live_output
 takes-live l w now s here none own = λ i. record {
   config = l.config;
-  output = record { buffer = buffer.takes-live l.output.buffer w now l.output.buffer.setting.limits.bounded own.buffer i; book = live_book l.output.book };
+  output = record { buffer = buffer.takes-live l.output.buffer w now l.output.buffer.setting.limits.bounded own.buffer i; book = live_book l.output.book; servers = live_servers l.output.setting l.output.servers };
   workers = (workers_taken l w now s (given (looks l.output.buffer now)) here none
       ∙ ap (λ c. set (live_workers l.output 0 l.sessions) w (record { chunk = c; session = option_map live_session s })) (given-same l now own)) i;
 }
@@ -114,17 +116,18 @@ carry_more-apart : (w : ℕ) (found : Option ℕ) (cs : List Carry) → AreApart
 carry_more-apart w None cs apart none free = apart
 carry_more-apart w (Some k) cs apart none free = apart-push w k cs apart none (free k refl)
 
-carry_more-session : (w j : ℕ) (found : Option ℕ) (cs : List Carry) (s : SessionHistory)
-    → carry_of w cs ≡ None → IsSaneSession j cs s → IsSaneSession j (carry_more w found cs) s
-carry_more-session w j None cs s none fits = fits
-carry_more-session w j (Some k) cs s none fits = record {
-  carries = λ n e. elim (same_or w j) [
-    | inl same ↦ absurd (none_some (sym none ∙ ap (λ x. carry_of x cs) same ∙ fits.carries n e))
-    | inr differ ↦ carry_of-push_other w j k cs differ ∙ fits.carries n e
-  ];
-  sent = fits.sent;
-  opened = fits.opened;
-}
+others_carry : (w j : ℕ) (found : Option ℕ) (cs : List Carry) → w ≢ j
+    → carry_of j (carry_more w found cs) ≡ carry_of j cs
+others_carry w j None cs differ = refl
+others_carry w j (Some k) cs differ = carry_of-push_other w j k cs differ
+
+carry_more-session : (w j now : ℕ) (b : BufferHistory) (s : SessionHistory)
+    → carry_of w b.carried ≡ None → IsSaneSession j b s → IsSaneSession j (takes b w now) s
+carry_more-session w j now b s none fits = record { own = fits.own; carries = λ c e. by c e (same_or w j) }
+  where
+    by : (c : Load) → s.loaded ≡ Some c → (w ≡ j) ⊎ (w ≢ j) → carried_by (takes b w now) j ≡ Some c
+    by c e (inl same) = absurd (none_some (sym (ap (λ k. carried_by b k) (sym same) ∙ ap (option_map (λ d. load_of b d.number)) none) ∙ fits.carries c e))
+    by c e (inr differ) = ap (option_map (λ d. load_of b d.number)) (others_carry w j (given (looks b now)) b.carried differ) ∙ fits.carries c e
 
 pub takes-sane : (l : Lane) (w now : ℕ) → carry_of w l.output.buffer.carried ≡ None
     → IsSaneLane l → IsSaneLane (with_buffer l (takes l.output.buffer w now))
@@ -136,5 +139,6 @@ takes-sane l w now none own =
       buffer = sane.takes-sane l.output.buffer w now own.buffer;
       apart = carry_more-apart w (given b) l.output.buffer.carried own.apart none free;
       marks = own.marks;
-      sessions = λ j s h. carry_more-session w j (given b) l.output.buffer.carried s none (own.sessions j s h);
+      waits = own.waits;
+      sessions = λ j s h. carry_more-session w j now l.output.buffer s none (own.sessions j s h);
     }

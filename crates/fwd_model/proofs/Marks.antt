@@ -26,7 +26,8 @@ use Rattle.fwd_model.specs.Step.{step}
 use Rattle.fwd_model.specs.Setups.{setup_of}
 use Rattle.fwd_model.specs.Books.{Untold, Told, Forgotten, Admission, entered_as, is_untold, is_of, is_owed, is_settled, is_due, becomes, tells, forgets}
 use Rattle.fwd_model.specs.Outputs.{output_history_enters}
-use Rattle.fwd_model.specs.Sessions.{SessionHistory}
+use Rattle.fwd_session.specs.History.{SessionHistory}
+use Rattle.fwd_model.specs.declared.event.EndKind.{EndKind}
 use Rattle.fwd_model.specs.History.{source_at, Lane, History, opening, new_lane, new_lanes, with_connection, leaves, with_lane, with_output, with_book, histories}
 use Rattle.fwd_model.specs.Delivered.{reached, IsTold}
 use Rattle.fwd_model.proofs.Onward.{Onward, to, past, past_found, at_next, source_on, lane_on, both_on, worker_on}
@@ -141,7 +142,13 @@ module _ (config : Config) (es : List Event) (e : Event) (m : Marked config es (
   taken_same l w now = past_found NoSuch {x = histories.worker_at l w} (λ x at. past NotNow {b = is_some x.chunk} (λ none. to {a = chunk_answer (histories.given l now)} refl))
 
   settled_same : (l : Lane) (w : ℕ) → Onward (λ a x. x.output.book.admissions ≡ l.output.book.admissions) (steps.settle histories l w)
-  settled_same l w = past_found NoSuch {x = histories.worker_at l w} (λ x at. past_found NotNow {x = x.session} (λ s f. past_found NotNow {x = steps.acked histories s} (λ k acked. to {a = answer.Settled (histories.entries_at l k)} refl)))
+  settled_same l w = past_found NoSuch {x = histories.worker_at l w} (λ x at. past_found NotNow {x = x.session} (λ s f. past_found NotNow {x = histories.acked s} (λ c acked. to {a = answer.Settled (histories.entries_at l c.number)} refl)))
+
+  chosen_same : (l : Lane) (w now : ℕ) → Onward (λ a x. x.output.book.admissions ≡ l.output.book.admissions) (steps.choose histories l w now)
+  chosen_same l w now = past_found NoSuch {x = histories.worker_at l w} (λ x at. to {a = answer.Chose (histories.chosen l w now)} refl)
+
+  ended_same : (l : Lane) (w : ℕ) (kind : EndKind) (now : ℕ) → Onward (λ a x. x.output.book.admissions ≡ l.output.book.admissions) (steps.end histories l w kind now)
+  ended_same l w kind now = past_found NoSuch {x = histories.worker_at l w} (λ x at. past NotNow {b = steps.is_idle histories x} (λ some. past NotNow {b = steps.has_acked histories x.session} (λ none. to {a = answer.Ended (option_map (λ c. c.number) x.chunk)} refl)))
 
   -- ---- a connection and an output
 
@@ -221,11 +228,14 @@ event_on config es (event.Accept id nonce auth) m = past _ (λ fresh. to (nothin
 event_on config es (event.Piece id bytes) m = at_source_on config es (event.Piece id bytes) m id (λ s. steps.piece histories s bytes)
 event_on config es (event.Admit id o now) m = admit_on config es (event.Admit id o now) m id o now
 event_on config es (event.Flush o now kind) m = at_lane_on config es (event.Flush o now kind) m o (λ l. steps.flush histories l now kind) (λ l. flushed_same config es (event.Flush o now kind) m l now kind)
-event_on config es (event.Up o w server salt now) m = at_lane_on config es (event.Up o w server salt now) m o _ (λ l. at_worker_on config es (event.Up o w server salt now) m l w (steps.up histories l.config.servers server now))
+event_on config es (event.Up o w server salt now) m = at_lane_on config es (event.Up o w server salt now) m o _ (λ l. at_worker_on config es (event.Up o w server salt now) m l w (steps.up histories l.config server salt now))
+event_on config es (event.Choose o w now) m = at_lane_on config es (event.Choose o w now) m o (λ l. steps.choose histories l w now) (λ l. chosen_same config es (event.Choose o w now) m l w now)
 event_on config es (event.Take o w now) m = at_lane_on config es (event.Take o w now) m o (λ l. steps.take histories l w now) (λ l. taken_same config es (event.Take o w now) m l w now)
 event_on config es (event.Load o w now) m = at_lane_on config es (event.Load o w now) m o _ (λ l. at_worker_on config es (event.Load o w now) m l w (steps.load histories now))
 event_on config es (event.Wrote o w count) m = at_lane_on config es (event.Wrote o w count) m o _ (λ l. at_worker_on config es (event.Wrote o w count) m l w (λ x. steps.at_session histories x (steps.wrote histories count)))
-event_on config es (event.Heard o w bytes) m = at_lane_on config es (event.Heard o w bytes) m o _ (λ l. at_worker_on config es (event.Heard o w bytes) m l w (λ x. steps.at_session histories x (steps.heard histories (reached config es).run o bytes)))
+event_on config es (event.Heard o w bytes) m = at_lane_on config es (event.Heard o w bytes) m o _ (λ l. at_worker_on config es (event.Heard o w bytes) m l w (λ x. steps.at_session histories x (steps.heard histories bytes)))
+event_on config es (event.Late o w now) m = at_lane_on config es (event.Late o w now) m o _ (λ l. at_worker_on config es (event.Late o w now) m l w (λ x. steps.at_session histories x (steps.late histories now)))
+event_on config es (event.End o w kind now) m = at_lane_on config es (event.End o w kind now) m o (λ l. steps.end histories l w kind now) (λ l. ended_same config es (event.End o w kind now) m l w kind now)
 event_on config es (event.Settle o w) m = at_lane_on config es (event.Settle o w) m o (λ l. steps.settle histories l w) (λ l. settled_same config es (event.Settle o w) m l w)
 event_on config es (event.Collect id o) m = collect_on config es id o m
 event_on config es (event.Forget id o) m = forget_on config es (event.Forget id o) id o m
@@ -237,7 +247,7 @@ marks_on : (config : Config) (es : List Event) (e : Event)
     → Marked config (es ++ e
     ∷ []) (state_of (reached config es) (step histories (reached config es) e))
 marks_on config es e m =
-    at_next (reached config es) (step histories (reached config es) e) (λ k. Marked config (es ++ e ∷ []) k) (nothing config es e m (reached config es) refl) (event_on config es e m) (λ a k is next. next)
+    at_next (reached config es) (step histories (reached config es) e) (λ k. Marked config (es ++ e ∷ []) k) (λ a is. nothing config es e m (reached config es) refl) (event_on config es e m) (λ a k is next. next)
 
 new_lanes_unmarked : (run : List ℕ) (base : ℕ) (configs : List OutputConfig) (o : ℕ)
     (l : Lane) → slice_get (new_lanes run base configs) o ≡ Some l

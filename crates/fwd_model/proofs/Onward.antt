@@ -4,7 +4,7 @@ use Rattle.fwd_model.specs.declared.answer.Answer.{Answer}
 use Rattle.fwd_model.specs.declared.fault.Refusal.{Refusal}
 use Rattle.fwd_model.specs.Layers.{Worker, Layers}
 use Rattle.fwd_model.specs.Step as steps
-use Rattle.fwd_model.specs.Outcome.{Outcome, Stays, Goes, state_of, within, found, refuse_if, ◌>>=◌, ◌>>◌}
+use Rattle.fwd_model.specs.Outcome.{Outcome, Stays, Goes, state_of, is_refusal, within, found, refuse_if, ◌>>=◌, ◌>>◌}
 
 abbrev pub Holds : {S : Type 0} → (Answer → S → Type 0) → Outcome S → Type 0
 Holds P (Stays a) = Unit {0}
@@ -34,9 +34,34 @@ module _ {S : Type 0} {P : Answer → S → Type 0} where
   past_within put {x = Goes a r} h = record { holds = h.holds }
 
   -- what holds of the state that stays, and of each that it goes on to, holds of the next
-  pub at_next : (before : S) (x : Outcome S) (Q : S → Type 0) → Q before → Onward P x → ((a : Answer) (s : S) → x ≡ Goes a s → P a s → Q s) → Q (state_of before x)
-  at_next before (Stays a) Q q onward f = q
+  pub at_next : (before : S) (x : Outcome S) (Q : S → Type 0) → ((a : Answer) → x ≡ Stays a → Q before) → Onward P x → ((a : Answer) (s : S) → x ≡ Goes a s → P a s → Q s) → Q (state_of before x)
+  at_next before (Stays a) Q q onward f = q a refl
   at_next before (Goes a s) Q q onward f = f a s refl onward.holds
+
+-- ---- where the state stays, the event is refused
+
+abbrev pub IsResting : {S : Type 0} → Outcome S → Type 0
+IsResting (Stays a) = is_refusal a ≡ true
+IsResting (Goes a s) = Unit {0}
+
+pub record Resting {S : Type 0} (x : Outcome S) : Type 0 where
+  pub stays : IsResting x
+
+module _ {S : Type 0} where
+  pub rests : {a : Answer} {s : S} → Resting (Goes a s)
+  rests = record { stays = tt }
+
+  pub rest_past : {p : Outcome S} (b : Bool) (why : Refusal) → Resting p → Resting (refuse_if b why >> p)
+  rest_past true why h = record { stays = refl }
+  rest_past false why h = h
+
+  pub rest_found : {X : Type 0} {p : X → Outcome S} (x : Option X) (why : Refusal) → ((z : X) → Resting (p z)) → Resting (found x why >>= p)
+  rest_found None why h = record { stays = refl }
+  rest_found (Some z) why h = h z
+
+  pub rest_within : {R : Type 0} {x : Outcome R} (put : R → S) → Resting x → Resting (within put x)
+  rest_within {x = Stays a} put h = record { stays = h.stays }
+  rest_within {x = Goes a r} put h = record { stays = tt }
 
 -- ---- where an event happens, over any layers
 

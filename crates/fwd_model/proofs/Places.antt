@@ -4,11 +4,11 @@ use Rattle.std.proofs.Math.ListN.{set}
 use Rattle.std.specs.Prelude.{map, option_map, slice_get, ◌&&◌, not, nat_lt, ◌==◌}
 use Rattle.std.specs.List.{list_all}
 use Rattle.std.proofs.lemmas.Bool.Decides.{nat_tests}
-use Rattle.fwd_chunks.specs.History.{load_of}
 use Rattle.fwd_source.specs.History.{SourceHistory}
 use Rattle.fwd_source.specs.Live.{live_source}
-use Rattle.fwd_model.specs.Outputs.{OutputHistory, carry_of}
-use Rattle.fwd_model.specs.Sessions.{SessionHistory, live_session}
+use Rattle.fwd_session.specs.History.{SessionHistory}
+use Rattle.fwd_session.specs.Live.{live_session}
+use Rattle.fwd_model.specs.Outputs.{OutputHistory, carried_by}
 use Rattle.fwd_model.specs.History.{Connection, source_at, with_source, with_gone, is_fresh}
 use Rattle.fwd_model.specs.Live.{live_connection, known, last_id, live_worker, live_workers, live_source_at, with_live_source, without}
 
@@ -153,9 +153,7 @@ slice_get-set_same (a ∷ xs) (suc i) x y h = slice_get-set_same xs i x y h
 
 -- what a worker has behind more cells, and behind more that is carried
 pub live_workers-same : (o p : OutputHistory) (w : ℕ) (ss : List (Option SessionHistory))
-    → ((k : ℕ)
-    → option_map (λ c. load_of o.buffer c.number) (carry_of k o.buffer.carried)
-    ≡ option_map (λ c. load_of p.buffer c.number) (carry_of k p.buffer.carried))
+    → ((k : ℕ) → carried_by o.buffer k ≡ carried_by p.buffer k)
     → live_workers o w ss ≡ live_workers p w ss
 live_workers-same o p w [] h = refl
 live_workers-same o p w (s ∷ ss) h = λ i. record { chunk = h w i; session = option_map live_session s } ∷ live_workers-same o p (suc w) ss h i

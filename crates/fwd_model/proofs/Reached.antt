@@ -1,42 +1,34 @@
 -- What holds of each history that a run reaches.
-use Rattle.std.proofs.Common.{◌≡◌, ◌≢◌, ℕ, zero, suc, ◌≤◌, Bool, true, false, cond, eqb, List, [], ◌∷◌, ◌++◌, length, Option, Some, None, refl, sym, ap, ◌∙◌, subst, inl, inr, arith}
+use Rattle.std.proofs.Common.{◌≡◌, ◌≢◌, ℕ, zero, suc, ◌<◌, ◌^◌, Bool, true, false, cond, eqb, List, [], ◌∷◌, ◌++◌, Option, Some, None, refl, ap, subst, inl, inr, arith}
 use Rattle.std.proofs.Math.ListN.{set}
 use Rattle.std.specs.Prelude.{◌⊎◌, slice_get}
-use Rattle.fwd_msgpack.specs.Scans.{Split}
-use Rattle.fwd_msgpack.specs.Scans.Split.{Open, Broken}
-use Rattle.fwd_chunks.specs.Cells.{Carry}
+use Rattle.fwd_chunks.specs.History.{BufferHistory, Load}
 use Rattle.fwd_chunks.proofs.Sane.{IsSane as IsSaneBuffer}
 use Rattle.fwd_source.specs.History.{SourceHistory, IsSane as IsSaneSource}
-use Rattle.fwd_model.specs.Sessions.{SessionHistory}
+use Rattle.fwd_session.specs.History.{SessionHistory, IsSane as IsSaneHistory}
 use Rattle.fwd_model.specs.History.{Connection, source_at, with_source, with_gone, Lane, History, is_fresh}
 use Rattle.fwd_model.specs.Live.{last_id, is_above}
 use Rattle.fwd_model.proofs.Places.{Once}
-use Rattle.fwd_model.specs.Outputs.{carry_of}
+use Rattle.fwd_model.specs.Outputs.{carried_by}
 use Rattle.fwd_model.proofs.Settling.{AreApart}
-use Rattle.fwd_model.specs.Replies.{reply_stream}
 
 abbrev pub AllSources : List Connection → Type 0
 AllSources [] = Unit {0}
 AllSources (c ∷ cs) = IsSaneSource c.source × AllSources cs
 
-abbrev pub is_open : Split → Bool
-is_open (Open values rest) = true
-is_open (Broken values fault) = false
-
--- what holds of a session: its chunk is the one that its worker has, no more was sent than was
--- appended, and what was heard while it was up is no broken stream
-pub record IsSaneSession (w : ℕ) (carried : List Carry) (s : SessionHistory) : Type 0 where
-  pub carries : (k : ℕ) → s.loaded ≡ Some k → carry_of w carried ≡ Some (record { worker = w; number = k })
-  pub sent : s.sent ≤ length s.appended
-  pub opened : s.down ≡ false → is_open (reply_stream s.heard) ≡ true
+-- what holds of a session: its history is sane, and its chunk is the one that its worker has
+pub record IsSaneSession (w : ℕ) (b : BufferHistory) (s : SessionHistory) : Type 0 where
+  pub own : IsSaneHistory s
+  pub carries : (c : Load) → s.loaded ≡ Some c → carried_by b w ≡ Some c
 
 -- what holds of an output and its sessions: its buffer is sane, its workers carry apart, and its
--- book knows of the numbers that were acknowledged
+-- book knows of the numbers that were acknowledged. The waits of its servers fit 64 bits
 pub record IsSaneLane (l : Lane) : Type 0 where
   pub buffer : IsSaneBuffer l.output.buffer
   pub apart : AreApart l.output.buffer.carried
   pub marks : l.output.book.settled ≡ l.output.buffer.acknowledged
-  pub sessions : (w : ℕ) (s : SessionHistory) → slice_get l.sessions w ≡ Some (Some s) → IsSaneSession w l.output.buffer.carried s
+  pub waits : l.output.setting.retry_max < 2 ^ 64
+  pub sessions : (w : ℕ) (s : SessionHistory) → slice_get l.sessions w ≡ Some (Some s) → IsSaneSession w l.output.buffer s
 
 abbrev pub AllSane : List Lane → Type 0
 AllSane [] = Unit {0}
@@ -93,11 +85,6 @@ pub AllSane-set : (ls : List Lane) (o : ℕ) (l : Lane) → AllSane ls → IsSan
 AllSane-set [] o l all own = tt
 AllSane-set (k ∷ ls) zero l all own = (own, all.1)
 AllSane-set (k ∷ ls) (suc o) l all own = (all.0, AllSane-set ls o l all.1 own)
-
--- a session is sane beside more that others carry, and beside less
-pub sane_beside : (w : ℕ) (cs ds : List Carry) (s : SessionHistory)
-    → (carry_of w cs ≡ carry_of w ds) → IsSaneSession w cs s → IsSaneSession w ds s
-sane_beside w cs ds s same sane = record { carries = λ k e. sym same ∙ sane.carries k e; sent = sane.sent; opened = sane.opened }
 
 -- the session at a place, after another one was put somewhere
 pub slice_get-set : {X : Type 0} (xs : List X) (i j : ℕ) (x y : X)

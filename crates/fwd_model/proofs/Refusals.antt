@@ -1,7 +1,7 @@
 -- An event that is refused leaves the state as it was: what it goes on to is answered otherwise,
 -- whatever the layers are.
-use Rattle.std.proofs.Common.{◌≡◌, ℕ, ◌+◌, Bool, true, false, List, length, Option, Some, None, refl}
-use Rattle.std.specs.Prelude.{not, is_some, nat_lt, ◌==◌}
+use Rattle.std.proofs.Common.{◌≡◌, ℕ, ◌+◌, true, false, List, length, Option, Some, None, refl}
+use Rattle.std.specs.Prelude.{not, is_some, option_map, nat_lt, ◌==◌}
 use Rattle.fwd_modes.specs.Requests.{Request}
 use Rattle.fwd_match.specs.Patterns.{route}
 use Rattle.fwd_source.specs.declared.piece.Piece.{Piece}
@@ -16,14 +16,16 @@ use Rattle.fwd_model.specs.declared.event.Event.TheVariants as event
 use Rattle.fwd_model.specs.declared.answer.Answer.{Answer}
 use Rattle.fwd_model.specs.declared.answer.Answer.TheVariants as answer
 use Rattle.fwd_model.specs.declared.fault.Refusal.TheVariants.{Closed, NoSuch, NotNow, NotUp}
-use Rattle.fwd_model.specs.declared.fault.SessionFault.{SessionFault}
-use Rattle.fwd_model.specs.Outcome.{Outcome, Stays, Goes, answer_of, state_of, is_refusal, of_piece, first_of, chunk_answer}
+use Rattle.fwd_session.specs.declared.told.Heard.{Heard}
+use Rattle.fwd_session.specs.declared.told.Heard.TheVariants as heard_as
+use Rattle.fwd_session.specs.Evidence.{frame_of}
+use Rattle.fwd_model.specs.declared.config.OutputConfig.{OutputConfig}
+use Rattle.fwd_model.specs.declared.event.EndKind.{EndKind}
+use Rattle.fwd_model.specs.Outcome.{Outcome, Stays, Goes, answer_of, state_of, is_refusal, of_piece, of_heard, first_of, chunk_answer}
 use Rattle.fwd_model.specs.Layers.{Worker, Layers}
 use Rattle.fwd_model.specs.Step as steps
 use Rattle.fwd_model.specs.Step.{step}
 use Rattle.fwd_model.specs.Setups.{setup_of}
-use Rattle.fwd_model.specs.Replies.{is_loaded, reply_answer}
-use Rattle.fwd_model.specs.Outputs.{frame_of}
 use Rattle.fwd_model.proofs.Onward.{Onward, to, past, past_found, source_on, lane_on, both_on, worker_on, session_on}
 
 -- what is gone on to is no refusal
@@ -34,12 +36,13 @@ chunk_counts : (c : Option Load) → is_refusal (chunk_answer c) ≡ false
 chunk_counts None = refl
 chunk_counts (Some c) = refl
 
-reply_counts : (accepted : Bool) (fault : Option SessionFault)
-    → is_refusal (reply_answer accepted fault) ≡ false
-reply_counts true None = refl
-reply_counts false None = refl
-reply_counts true (Some f) = refl
-reply_counts false (Some f) = refl
+heard_counts : {S : Type 0} (told : Heard) (out : List ℕ) (s : S)
+    → Onward Answered (of_heard told out s)
+heard_counts heard_as.NotUp out s = record { holds = tt }
+heard_counts heard_as.Quiet out s = to refl
+heard_counts heard_as.Ready out s = to refl
+heard_counts heard_as.Acked out s = to refl
+heard_counts (heard_as.Fault why) out s = to refl
 
 piece_counts : {S : Type 0} (p : Piece) (count : ℕ) (out : List ℕ) (s : S)
     → Onward Answered (of_piece p count out s)
@@ -68,24 +71,30 @@ module _ (L : Layers) where
   collect_counts : (id : ℕ) (s : L.Source) (l : L.Lane) → Onward Answered (steps.collect L id s l)
   collect_counts id s l = past Closed {b = L.is_shut s} (λ up. to refl)
 
-  up_counts : (servers server now : ℕ) (x : Worker L.Session) → Onward Answered (steps.up L servers server now x)
-  up_counts servers server now x = past NoSuch {b = not (nat_lt server servers)} (λ known. past NotNow {b = is_some x.session} (λ none. to {a = answer.Done} refl))
+  choose_counts : (l : L.Lane) (w now : ℕ) → Onward Answered (steps.choose L l w now)
+  choose_counts l w now = past_found NoSuch {x = L.worker_at l w} (λ x at. to {a = answer.Chose (L.chosen l w now)} refl)
+
+  up_counts : (c : OutputConfig) (server : ℕ) (salt : List ℕ) (now : ℕ) (x : Worker L.Session) → Onward Answered (steps.up L c server salt now x)
+  up_counts c server salt now x = past NoSuch {b = not (nat_lt server (length c.standby))} (λ known. past NotNow {b = is_some x.session} (λ none. to {a = answer.Done} refl))
 
   take_counts : (l : L.Lane) (w now : ℕ) → Onward Answered (steps.take L l w now)
   take_counts l w now = past_found NoSuch {x = L.worker_at l w} (λ x at. past NotNow {b = is_some x.chunk} (λ none. to {a = chunk_answer (L.given l now)} (chunk_counts (L.given l now))))
 
   load_counts : (now : ℕ) (x : Worker L.Session) → Onward Answered (steps.load L now x)
   load_counts now x =
-      past_found NotNow {x = x.session} (λ s f. past_found NotNow {x = x.chunk} (λ c g. past NotNow {b = is_loaded (L.loaded s) c.number} (λ fresh. past NotUp {b = L.is_down s} (λ up. to {a = answer.Frame (frame_of c)} refl))))
+      past_found NotNow {x = x.session} (λ s f. past_found NotNow {x = x.chunk} (λ c g. past NotNow {b = is_some (L.loaded s)} (λ fresh. past NotUp {b = not (L.is_ready s)} (λ up. to {a = answer.Frame (frame_of c)} refl))))
 
   wrote_counts : (count : ℕ) (s : L.Session) → Onward Answered (steps.wrote L count s)
   wrote_counts count s = past NotNow {b = nat_lt (length (L.to_send s)) count} (λ few. to {a = answer.Done} refl)
 
-  heard_counts : (name : List ℕ) (o : ℕ) (bytes : List ℕ) (s : L.Session) → Onward Answered (steps.heard L name o bytes s)
-  heard_counts name o bytes s = past NotUp {b = L.is_down s} (λ up. to (reply_counts (L.replies s name o bytes).accepted (L.replies s name o bytes).fault))
+  late_counts : (now : ℕ) (s : L.Session) → Onward Answered (steps.late L now s)
+  late_counts now s = past NotUp {b = L.is_down s} (λ up. to {a = answer.Late (L.is_late s now)} refl)
+
+  end_counts : (l : L.Lane) (w : ℕ) (kind : EndKind) (now : ℕ) → Onward Answered (steps.end L l w kind now)
+  end_counts l w kind now = past_found NoSuch {x = L.worker_at l w} (λ x at. past NotNow {b = steps.is_idle L x} (λ some. past NotNow {b = steps.has_acked L x.session} (λ none. to {a = answer.Ended (option_map (λ c. c.number) x.chunk)} refl)))
 
   settle_counts : (l : L.Lane) (w : ℕ) → Onward Answered (steps.settle L l w)
-  settle_counts l w = past_found NoSuch {x = L.worker_at l w} (λ x at. past_found NotNow {x = x.session} (λ s f. past_found NotNow {x = steps.acked L s} (λ k acked. to {a = answer.Settled (L.entries_at l k)} refl)))
+  settle_counts l w = past_found NoSuch {x = L.worker_at l w} (λ x at. past_found NotNow {x = x.session} (λ s f. past_found NotNow {x = L.acked s} (λ c acked. to {a = answer.Settled (L.entries_at l c.number)} refl)))
 
   accept_counts : (r : L.Relay) (setup : Setup) → Onward Answered (steps.accept L r setup)
   accept_counts r setup = past NotNow {b = not (L.is_fresh r setup.conn)} (λ fresh. to {a = answer.Accepted (opening_text setup)} refl)
@@ -98,11 +107,14 @@ module _ (L : Layers) where
   event_counts r (event.Piece id bytes) = source_on L r id Answered _ (λ s here. piece_counts (L.piece_answer s bytes) (length (L.waiting (L.hears s bytes))) (L.pong s bytes) (L.hears s bytes))
   event_counts r (event.Admit id o now) = both_on L r id o Answered _ (λ s l here lane. admit_counts (L.routes r) id o now s l)
   event_counts r (event.Flush o now kind) = lane_on L r o Answered (λ l. steps.flush L l now kind) (λ l here. to refl)
-  event_counts r (event.Up o w server salt now) = lane_on L r o Answered _ (λ l here. worker_on L l w Answered _ (λ x at. up_counts (L.config l).servers server now x))
+  event_counts r (event.Up o w server salt now) = lane_on L r o Answered _ (λ l here. worker_on L l w Answered _ (λ x at. up_counts (L.config l) server salt now x))
+  event_counts r (event.Choose o w now) = lane_on L r o Answered _ (λ l here. choose_counts l w now)
   event_counts r (event.Take o w now) = lane_on L r o Answered _ (λ l here. take_counts l w now)
   event_counts r (event.Load o w now) = lane_on L r o Answered _ (λ l here. worker_on L l w Answered _ (λ x at. load_counts now x))
   event_counts r (event.Wrote o w count) = lane_on L r o Answered _ (λ l here. worker_on L l w Answered _ (λ x at. session_on L x Answered _ (λ s f. wrote_counts count s)))
-  event_counts r (event.Heard o w bytes) = lane_on L r o Answered _ (λ l here. worker_on L l w Answered _ (λ x at. session_on L x Answered _ (λ s f. heard_counts (L.run r) o bytes s)))
+  event_counts r (event.Heard o w bytes) = lane_on L r o Answered _ (λ l here. worker_on L l w Answered _ (λ x at. session_on L x Answered _ (λ s f. heard_counts (L.told s bytes) (L.ping s bytes) (L.listens s bytes))))
+  event_counts r (event.Late o w now) = lane_on L r o Answered _ (λ l here. worker_on L l w Answered _ (λ x at. session_on L x Answered _ (λ s f. late_counts now s)))
+  event_counts r (event.End o w kind now) = lane_on L r o Answered _ (λ l here. end_counts l w kind now)
   event_counts r (event.Settle o w) = lane_on L r o Answered _ (λ l here. settle_counts l w)
   event_counts r (event.Collect id o) = both_on L r id o Answered _ (λ s l here lane. collect_counts id s l)
   event_counts r (event.Forget id o) = lane_on L r o Answered (λ l. steps.forget L l id) (λ l here. to refl)

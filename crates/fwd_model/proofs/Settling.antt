@@ -1,9 +1,10 @@
 -- What is carried, where a worker takes a number, and where a number is settled.
-use Rattle.std.proofs.Common.{◌≡◌, ◌≢◌, ℕ, Bool, true, false, cond, eqb, List, [], ◌∷◌, ◌++◌, Some, None, refl, sym, ap, ◌∙◌, arith}
-use Rattle.std.specs.Prelude.{not, ◌||◌, ◌==◌}
+use Rattle.std.proofs.Common.{◌≡◌, ◌≢◌, ℕ, Bool, true, false, cond, eqb, List, [], ◌∷◌, ◌++◌, Option, Some, None, refl, sym, ap, ◌∙◌, arith}
+use Rattle.std.specs.Prelude.{not, ◌||◌, ◌==◌, option_map}
 use Rattle.std.proofs.lemmas.Bool.Decides.{nat_tests}
 use Rattle.fwd_chunks.specs.Cells.{Carry, is_carried, without}
-use Rattle.fwd_model.specs.Outputs.{carry_of}
+use Rattle.fwd_chunks.specs.History.{BufferHistory, Load, load_of}
+use Rattle.fwd_model.specs.Outputs.{carry_of, carried_by}
 
 -- each worker carries one number, and each number is carried by one worker
 abbrev pub AreApart : List Carry → Type 0
@@ -14,6 +15,31 @@ pub carry_of-carried : (w : ℕ) (cs : List Carry) (c : Carry) → carry_of w cs
     → is_carried c.number cs ≡ true
 carry_of-carried w [] c h = absurd cc
 carry_of-carried w (d ∷ cs) c h = grind (arith, nat_tests, carry_of-carried w cs c)
+
+carry_of-worker : (w : ℕ) (cs : List Carry) (c : Carry) → carry_of w cs ≡ Some c
+    → c ≡ record { worker = w; number = c.number }
+carry_of-worker w [] c h = absurd cc
+carry_of-worker w (d ∷ cs) c h = grind (arith, nat_tests, carry_of-worker w cs c)
+
+-- what a chunk that a worker has says of the buffer
+pub record IsHis (b : BufferHistory) (w : ℕ) (c : Load) : Type 0 where
+  pub has : carry_of w b.carried ≡ Some (record { worker = w; number = c.number })
+  pub carried : is_carried c.number b.carried ≡ true
+  pub same : load_of b c.number ≡ c
+
+pub his : (b : BufferHistory) (w : ℕ) (c : Load) → carried_by b w ≡ Some c → IsHis b w c
+his b w c e = by (carry_of w b.carried) refl e
+  where
+    by : (d : Option Carry) → carry_of w b.carried ≡ d → option_map (λ d. load_of b d.number) d ≡ Some c → IsHis b w c
+    by None f g = absurd cc
+    by (Some d) f g =
+        let same : load_of b d.number ≡ c = cc in
+        let number : d.number ≡ c.number = ap (λ (y : Load). y.number) same in
+        record {
+          has = f ∙ ap Some (carry_of-worker w b.carried d f ∙ ap (λ n. record { worker = w; number = n }) number);
+          carried = ap (λ n. is_carried n b.carried) (sym number) ∙ carry_of-carried w b.carried d f;
+          same = ap (load_of b) (sym number) ∙ same;
+        }
 
 -- ---- one more carry
 

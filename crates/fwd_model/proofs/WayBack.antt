@@ -1,138 +1,129 @@
 -- What comes back from a server, and who is told at once.
 use Rattle.std.proofs.Common.{◌≡◌, ℕ, zero, suc, Bool, true, false, cond, List, [], ◌∷◌, Option, Some, None, refl, ap, subst, ◌∙◌, arith}
-use Rattle.std.specs.Prelude.{map, filter, not, ◌&&◌, ◌||◌, option_map, slice_get}
+use Rattle.std.specs.Prelude.{map, filter, is_some, not, ◌&&◌, ◌||◌, option_map, slice_get}
 use Rattle.std.specs.List.{list_all}
 use Rattle.std.proofs.lemmas.Bool.Decides.{nat_tests}
-use Rattle.fwd_msgpack.specs.Scans.{Split}
-use Rattle.fwd_msgpack.specs.Scans.Split.{Open, Broken}
-use Rattle.fwd_modes.specs.Frames.{chunk_name}
+use Rattle.fwd_chunks.specs.History.{Load}
+use Rattle.fwd_session.specs.declared.fault.SessionFault.{SessionFault}
+use Rattle.fwd_session.specs.declared.told.Heard.{Heard}
+use Rattle.fwd_session.specs.declared.told.Heard.TheVariants as heard_as
+use Rattle.fwd_session.specs.Said.{Said, said_in, out_of}
+use Rattle.fwd_session.specs.History.{SessionHistory, handshake_of, is_handed_on, is_done, awaited, says, newly_heard, listens, acked, told_by, told_of}
+use Rattle.fwd_session.proofs.Saying.{silent}
 use Rattle.fwd_chunks.specs.declared.span.Span.{Span}
 use Rattle.fwd_chunks.specs.Cells.{has_number}
 use Rattle.fwd_model.specs.Outputs.{count_at}
 use Rattle.fwd_model.specs.declared.answer.Answer.TheVariants as answer
 use Rattle.fwd_model.specs.declared.event.Event.TheVariants as event
-use Rattle.fwd_model.specs.declared.fault.SessionFault.{SessionFault}
-use Rattle.fwd_model.specs.declared.fault.SessionFault.TheVariants.{BadReply}
-use Rattle.fwd_model.specs.Replies.{Replies, Reply, reply_of, reply_named, reply_then, replies, replies_in, silence, failing}
-use Rattle.fwd_model.specs.Replies.Reply.{Skipped, Accepted, Failed}
-use Rattle.fwd_modes.specs.Acks.{ack_name}
-use Rattle.fwd_modes.specs.Kinds.{is_nil}
 use Rattle.fwd_source.specs.History.{SourceHistory}
-use Rattle.fwd_model.specs.declared.fault.Refusal.TheVariants.{Closed, NoSuch, NotNow, NotUp}
-use Rattle.fwd_model.specs.Outcome.{answer_of, state_of, within, found as sought, refuse_if, Goes, ◌>>=◌, ◌>>◌}
+use Rattle.fwd_model.specs.declared.fault.Refusal.TheVariants.{Closed, NoSuch, NotNow}
+use Rattle.fwd_model.specs.Outcome.{answer_of, state_of, within, found as sought, refuse_if, Outcome, Goes, of_heard, ◌>>=◌, ◌>>◌}
 use Rattle.fwd_model.specs.Step as steps
-use Rattle.fwd_model.specs.Replies.{reply_answer}
 use Rattle.fwd_model.specs.Step.{step}
 use Rattle.fwd_model.specs.Books.{Untold, Admission, is_untold, is_of, is_settled, is_due, numbers_of}
-use Rattle.fwd_model.specs.Sessions.{SessionHistory, is_handed_on, awaited, replies_to, newly_heard, listens}
 use Rattle.fwd_model.specs.History.{Lane, History, source_at, with_lane, with_session, with_connection, history_worker, histories}
 use Rattle.fwd_model.proofs.Places.{slice_get-set_same}
-
--- ---- nothing is accepted where nothing is awaited
-
-none_named : (found : Option (List ℕ)) → reply_named None found ≡ Accepted → ⊥
-none_named None h = cc
-none_named (Some name) h = cc
-
-none_accepted-by : (v : List ℕ) (b : Bool)
-    → cond b Skipped (reply_named None (ack_name v)) ≡ Accepted → ⊥
-none_accepted-by v true h = cc
-none_accepted-by v false h = none_named (ack_name v) h
-
-none_then : (r : Reply) (x y : Replies) → (r ≡ Accepted → ⊥) → x.accepted ≡ false
-    → (reply_then r x y).accepted ≡ false
-none_then Skipped x y other h = h
-none_then Accepted x y other h = absurd (other refl)
-none_then (Failed f) x y other h = refl
-
-none_accepted : (vs : List (List ℕ)) (end : Replies) → end.accepted ≡ false
-    → (replies None vs end).accepted ≡ false
-none_accepted [] end h = h
-none_accepted (v ∷ vs) end h = none_then (reply_of None v) (replies None vs end) (replies None vs end) (λ e. none_accepted-by v (is_nil v) e) (none_accepted vs end h)
-
-none_in : (s : Split) → (replies_in None s).accepted ≡ false
-none_in (Open vs rest) = none_accepted vs silence refl
-none_in (Broken vs fault) = none_accepted vs (failing BadReply) refl
 
 -- ---- a session that heard
 
 -- what settling comes to at a worker whose session is this one
 settled_as : (h : History) (o w : ℕ) (l : Lane) (s : SessionHistory)
     → slice_get h.lanes o ≡ Some l → slice_get l.sessions w ≡ Some (Some s)
-    → answer_of (step histories h (event.Settle o w)) ≡ answer_of (sought (steps.acked histories s) NotNow >>= (λ k. Goes (answer.Settled (count_at k l.output)) (histories.settles l w s k)))
+    → answer_of (step histories h (event.Settle o w)) ≡ answer_of (sought (acked s) NotNow >>= (λ c. Goes (answer.Settled (count_at c.number l.output)) (histories.settles l w s c.number s.setup.server)))
 settled_as h o w l s here at =
     ap (λ x. answer_of (sought x NoSuch >>= (λ m. within (λ n. with_lane o n h) (steps.settle histories m w)))) here
-    ∙ ap (λ x. answer_of (within (λ n. with_lane o n h) (sought (option_map (history_worker l w) x) NoSuch >>= (λ y. sought y.session NotNow >>= (λ u. sought (steps.acked histories u) NotNow >>= (λ k. Goes (answer.Settled (count_at k l.output)) (histories.settles l w u k))))))) at
-    ∙ outside (steps.acked histories s)
+    ∙ ap (λ x. answer_of (within (λ n. with_lane o n h) (sought (option_map (history_worker l w) x) NoSuch >>= (λ y. sought y.session NotNow >>= (λ u. sought (acked u) NotNow >>= (λ c. Goes (answer.Settled (count_at c.number l.output)) (histories.settles l w u c.number u.setup.server))))))) at
+    ∙ outside (acked s)
   where
-    outside : (k : Option ℕ) → answer_of (within (λ n. with_lane o n h) (sought k NotNow >>= (λ k. Goes (answer.Settled (count_at k l.output)) (histories.settles l w s k))))
-        ≡ answer_of (sought k NotNow >>= (λ k. Goes (answer.Settled (count_at k l.output)) (histories.settles l w s k)))
+    outside : (k : Option Load) → answer_of (within (λ n. with_lane o n h) (sought k NotNow >>= (λ c. Goes (answer.Settled (count_at c.number l.output)) (histories.settles l w s c.number s.setup.server))))
+        ≡ answer_of (sought k NotNow >>= (λ c. Goes (answer.Settled (count_at c.number l.output)) (histories.settles l w s c.number s.setup.server)))
     outside None = refl
     outside (Some k) = refl
 
 -- what hearing comes to there
-heard_as : (h : History) (o w : ℕ) (bytes : List ℕ) (l : Lane) (s : SessionHistory)
+heard_at : (h : History) (o w : ℕ) (bytes : List ℕ) (l : Lane) (s : SessionHistory)
     → slice_get h.lanes o ≡ Some l → slice_get l.sessions w ≡ Some (Some s)
-    → step histories h (event.Heard o w bytes) ≡ (refuse_if s.down NotUp >> Goes (reply_answer (replies_to s h.run o bytes).accepted (replies_to s h.run o bytes).fault) (with_lane o (with_session w (listens s bytes (replies_to s h.run o bytes)) l) h))
-heard_as h o w bytes l s here at =
-    ap (λ x. sought x NoSuch >>= (λ m. within (λ n. with_lane o n h) (steps.at_worker histories m w (λ x. steps.at_session histories x (steps.heard histories h.run o bytes))))) here
-    ∙ ap (λ x. within (λ n. with_lane o n h) (sought (option_map (history_worker l w) x) NoSuch >>= (λ y. within (histories.puts_worker l w) (steps.at_session histories y (steps.heard histories h.run o bytes))))) at
-    ∙ outside s.down
-  where
-    outside : (b : Bool) → within (λ n. with_lane o n h) (within (histories.puts_worker l w) (within (steps.with_session (history_worker l w (Some s))) (refuse_if b NotUp >> Goes (reply_answer (replies_to s h.run o bytes).accepted (replies_to s h.run o bytes).fault) (listens s bytes (replies_to s h.run o bytes)))))
-        ≡ (refuse_if b NotUp >> Goes (reply_answer (replies_to s h.run o bytes).accepted (replies_to s h.run o bytes).fault) (with_lane o (with_session w (listens s bytes (replies_to s h.run o bytes)) l) h))
-    outside true = refl
-    outside false = refl
+    → step histories h (event.Heard o w bytes) ≡ within (λ n. with_lane o n h) (within (histories.puts_worker l w) (within (steps.with_session (history_worker l w (Some s))) (steps.heard histories bytes s)))
+heard_at h o w bytes l s here at =
+    ap (λ x. sought x NoSuch >>= (λ m. within (λ n. with_lane o n h) (steps.at_worker histories m w (λ x. steps.at_session histories x (steps.heard histories bytes))))) here
+    ∙ ap (λ x. within (λ n. with_lane o n h) (sought (option_map (history_worker l w) x) NoSuch >>= (λ y. within (histories.puts_worker l w) (steps.at_session histories y (steps.heard histories bytes))))) at
+
+-- what comes of it lies in its place
+abbrev placed : (h : History) (o w : ℕ) (l : Lane) (s : SessionHistory)
+    → Outcome SessionHistory → Outcome History
+placed h o w l s x = within (λ n. with_lane o n h) (within (histories.puts_worker l w) (within (steps.with_session (history_worker l w (Some s))) x))
 
 -- what settling comes to after that
 settled_after : (h : History) (o w : ℕ) (l : Lane) (s u : SessionHistory)
     → slice_get h.lanes o ≡ Some l → slice_get l.sessions w ≡ Some (Some s)
-    → answer_of (step histories (with_lane o (with_session w u l) h) (event.Settle o w)) ≡ answer_of (sought (steps.acked histories u) NotNow >>= (λ k. Goes (answer.Settled (count_at k l.output)) (histories.settles (with_session w u l) w u k)))
+    → answer_of (step histories (with_lane o (with_session w u l) h) (event.Settle o w)) ≡ answer_of (sought (acked u) NotNow >>= (λ c. Goes (answer.Settled (count_at c.number l.output)) (histories.settles (with_session w u l) w u c.number u.setup.server)))
 settled_after h o w l s u here at =
     settled_as (with_lane o (with_session w u l) h) o w (with_session w u l) u (slice_get-set_same h.lanes o (with_session w u l) l here) (slice_get-set_same l.sessions w (Some u) (Some s) at)
 
+-- a session without a reply settles nothing
+none_settled : (s : SessionHistory) (l m : Lane) (w : ℕ) → is_some s.reply ≡ false
+    → answer_of (sought (acked s) NotNow >>= (λ c. Goes (answer.Settled (count_at c.number l.output)) (histories.settles m w s c.number s.setup.server))) ≡ answer.Refused NotNow
+none_settled s l m w none = ap (λ b. answer_of (sought (cond b s.loaded None) NotNow >>= (λ c. Goes (answer.Settled (count_at c.number l.output)) (histories.settles m w s c.number s.setup.server)))) none
+
 pub early-nothing : (h : History) (o w : ℕ) (bytes : List ℕ) (l : Lane) (s : SessionHistory)
     → slice_get h.lanes o ≡ Some l → slice_get l.sessions w ≡ Some (Some s)
-    → s.accepted ≡ false → is_handed_on s ≡ false
+    → is_some s.reply ≡ false → is_handed_on s ≡ false
     → answer_of (step histories (state_of h (step histories h (event.Heard o w bytes))) (event.Settle o w)) ≡ answer.Refused NotNow
 early-nothing h o w bytes l s here at none early =
-    ap (λ x. answer_of (step histories (state_of h x) (event.Settle o w))) (heard_as h o w bytes l s here at) ∙ by s.down
+    ap (λ x. answer_of (step histories (state_of h x) (event.Settle o w))) (heard_at h o w bytes l s here at) ∙ by s.down refl
   where
-    u : SessionHistory
-    u = listens s bytes (replies_to s h.run o bytes)
+    said : Said
+    said = says s bytes
 
-    nobody : awaited h.run o s ≡ None
-    nobody = (λ i. cond (none i || not (early i)) None (option_map (chunk_name h.run o) s.loaded))
+    nobody : awaited s ≡ None
+    nobody = λ i. cond (none i || not (early i)) None (option_map (λ (c : Load). c.name) s.loaded)
 
-    refused : (replies_to s h.run o bytes).accepted ≡ false
-    refused = ap (λ a. (replies_in a (newly_heard s bytes)).accepted) nobody ∙ none_in (newly_heard s bytes)
+    refused : said.reply ≡ None
+    refused = ap (λ a. (said_in s.setup.login s.setup.salt (handshake_of s) a (newly_heard s bytes)).reply) nobody ∙ silent s.setup.login s.setup.salt (handshake_of s) (newly_heard s bytes)
 
-    by : (b : Bool) → answer_of (step histories (state_of h (refuse_if b NotUp >> Goes (reply_answer (replies_to s h.run o bytes).accepted (replies_to s h.run o bytes).fault) (with_lane o (with_session w u l) h))) (event.Settle o w)) ≡ answer.Refused NotNow
-    by true =
-        settled_as h o w l s here at
-        ∙ ap (λ b. answer_of (sought (cond b s.loaded None) NotNow >>= (λ k. Goes (answer.Settled (count_at k l.output)) (histories.settles l w s k)))) none
-    by false =
-        settled_after h o w l s u here at
-        ∙ (λ i. answer_of (sought (cond (none i || refused i) s.loaded None) NotNow >>= (λ k. Goes (answer.Settled (count_at k l.output)) (histories.settles (with_session w u l) w u k))))
+    still : is_some (listens s bytes said).reply ≡ false
+    still = ap (λ r. is_some (cond (is_some r) r s.reply)) refused ∙ none
 
-either_true : (b : Bool) → (b || true) ≡ true
-either_true true = refl
-either_true false = refl
+    unheard : answer_of (step histories h (event.Settle o w)) ≡ answer.Refused NotNow
+    unheard = settled_as h o w l s here at ∙ none_settled s l l w none
 
-pub before_fault-stands : (h : History) (o w k : ℕ) (bytes : List ℕ) (l : Lane)
+    after : answer_of (step histories (with_lane o (with_session w (listens s bytes said) l) h) (event.Settle o w)) ≡ answer.Refused NotNow
+    after = settled_after h o w l s (listens s bytes said) here at ∙ none_settled (listens s bytes said) l (with_session w (listens s bytes said) l) w still
+
+    told : (t : Heard) (out : List ℕ) → answer_of (step histories (state_of h (placed h o w l s (of_heard t out (listens s bytes said)))) (event.Settle o w)) ≡ answer.Refused NotNow
+    told heard_as.NotUp out = unheard
+    told heard_as.Quiet out = after
+    told heard_as.Ready out = after
+    told heard_as.Acked out = after
+    told (heard_as.Fault f) out = after
+
+    by : (b : Bool) → s.down ≡ b
+        → answer_of (step histories (state_of h (placed h o w l s (of_heard (cond b heard_as.NotUp (told_of (handshake_of s) said)) (cond b [] (out_of said)) (cond b s (listens s bytes said))))) (event.Settle o w)) ≡ answer.Refused NotNow
+    by true e = unheard
+    by false e = told (told_of (handshake_of s) said) (out_of said)
+
+pub before_fault-stands : (h : History) (o w : ℕ) (c : Load) (bytes : List ℕ) (l : Lane)
     (s : SessionHistory) (f : SessionFault) → slice_get h.lanes o ≡ Some l
-    → slice_get l.sessions w ≡ Some (Some s) → s.down ≡ false → s.loaded ≡ Some k
-    → (replies_to s h.run o bytes).accepted ≡ true → (replies_to s h.run o bytes).fault ≡ Some f
-    → (answer_of (step histories h (event.Heard o w bytes)) ≡ answer.SessionFaulted f) × (answer_of (step histories (state_of h (step histories h (event.Heard o w bytes))) (event.Settle o w)) ≡ answer.Settled (count_at k l.output))
-before_fault-stands h o w k bytes l s f here at up loaded accepted fault =
-    let u = listens s bytes (replies_to s h.run o bytes) in
-    let heard = heard_as h o w bytes l s here at ∙ ap (λ b. refuse_if b NotUp >> Goes (reply_answer (replies_to s h.run o bytes).accepted (replies_to s h.run o bytes).fault) (with_lane o (with_session w u l) h)) up in (
-      ap answer_of heard ∙ (λ i. reply_answer (accepted i) (fault i)),
+    → slice_get l.sessions w ≡ Some (Some s) → s.down ≡ false → s.loaded ≡ Some c
+    → is_some (says s bytes).reply ≡ true → (says s bytes).fault ≡ Some f
+    → (answer_of (step histories h (event.Heard o w bytes)) ≡ answer.SessionFaulted f) × (answer_of (step histories (state_of h (step histories h (event.Heard o w bytes))) (event.Settle o w)) ≡ answer.Settled (count_at c.number l.output))
+before_fault-stands h o w c bytes l s f here at up loaded accepted fault =
+    let said = says s bytes in
+    let u = listens s bytes said in
+    let told : told_of (handshake_of s) said ≡ heard_as.Fault f = ap (λ x. told_by x said.reply (is_done (handshake_of s)) (is_done said.handshake)) fault in
+    let heard = heard_at h o w bytes l s here at
+    ∙ ap (λ b. placed h o w l s (of_heard (cond b heard_as.NotUp (told_of (handshake_of s) said)) (cond b [] (out_of said)) (cond b s u))) up
+    ∙ ap (λ t. placed h o w l s (of_heard t (out_of said) u)) told in
+    let has : is_some u.reply ≡ true = replied said.reply s.reply accepted in (
+      ap answer_of heard,
       ap (λ x. answer_of (step histories (state_of h x) (event.Settle o w))) heard
           ∙ settled_after h o w l s u here at
-          ∙ (λ i. answer_of (sought (cond (s.accepted || accepted i) s.loaded None) NotNow >>= (λ k. Goes (answer.Settled (count_at k l.output)) (histories.settles (with_session w u l) w u k))))
-          ∙ (λ i. answer_of (sought (cond (either_true s.accepted i) (loaded i) None) NotNow >>= (λ k. Goes (answer.Settled (count_at k l.output)) (histories.settles (with_session w u l) w u k)))),
+          ∙ (λ i. answer_of (sought (cond (has i) (loaded i) None) NotNow >>= (λ d. Goes (answer.Settled (count_at d.number l.output)) (histories.settles (with_session w u l) w u d.number u.setup.server)))),
     )
+  where
+    replied : (r before : Option (List ℕ)) → is_some r ≡ true → is_some (cond (is_some r) r before) ≡ true
+    replied None before e = absurd cc
+    replied (Some value) before e = refl
 
 -- ---- a request without entries
 

@@ -3,10 +3,11 @@
 use Rattle.std.proofs.Common.{◌≡◌, ℕ, Option, Some, None, false, refl, sym, ap, ◌∙◌}
 use Rattle.std.specs.Prelude.{option_map, is_some, slice_get}
 use Rattle.fwd_chunks.specs.Cells.{Carry}
-use Rattle.fwd_chunks.specs.History.{Load, load_of}
-use Rattle.fwd_model.specs.Outputs.{carry_of}
+use Rattle.fwd_chunks.specs.History.{load_of}
+use Rattle.fwd_model.specs.Outputs.{carry_of, carried_by}
 use Rattle.fwd_model.specs.Layers.{Worker}
-use Rattle.fwd_model.specs.Sessions.{SessionHistory, live_session}
+use Rattle.fwd_session.specs.History.{SessionHistory}
+use Rattle.fwd_session.specs.Live.{live_session}
 use Rattle.fwd_model.specs.History.{Lane, history_worker, histories}
 use Rattle.fwd_model.specs.Live as model
 
@@ -46,19 +47,7 @@ none_carried l w x at none = by (carry_of w l.output.buffer.carried) (ap (λ y. 
     by None e = refl
     by (Some c) e = absurd cc
 
--- the number that a worker's chunk has is the one that it carries
-pub record IsCarriedBy (l : Lane) (w : ℕ) (c : Load) : Type 0 where
-  pub carry : Carry
-  pub here : carry_of w l.output.buffer.carried ≡ Some carry
-  pub number : carry.number ≡ c.number
-  pub chunk_is : load_of l.output.buffer carry.number ≡ c
-
-pub carried_is : (l : Lane) (w : ℕ) (x : Worker SessionHistory) (c : Load) → IsWorker l w x
-    → x.chunk ≡ Some c → IsCarriedBy l w c
-carried_is l w x c at e = by (carry_of w l.output.buffer.carried) refl (ap (λ y. y.chunk) at.is ∙ e)
-  where
-    by : (d : Option Carry) → carry_of w l.output.buffer.carried ≡ d → option_map (λ d. load_of l.output.buffer d.number) d ≡ Some c → IsCarriedBy l w c
-    by None f e = absurd cc
-    by (Some d) f e =
-        let same : load_of l.output.buffer d.number ≡ c = cc in
-        record { carry = d; here = f; number = ap (λ y. y.number) same; chunk_is = same }
+-- a worker's chunk is the one that it carries
+pub carried_is : (l : Lane) (w : ℕ) (x : Worker SessionHistory) → IsWorker l w x
+    → carried_by l.output.buffer w ≡ x.chunk
+carried_is l w x at = ap (λ (y : Worker SessionHistory). y.chunk) at.is

@@ -17,7 +17,8 @@ use Rattle.fwd_source.specs.History.{SourceHistory, judged}
 use Rattle.fwd_model.specs.declared.answer.Answer.{Answer}
 use Rattle.fwd_model.specs.Outcome.{answer_of}
 use Rattle.fwd_model.specs.Step.{step, after}
-use Rattle.fwd_model.specs.Sessions.{SessionHistory, newly_heard}
+use Rattle.fwd_session.specs.History.{SessionHistory, newly_heard}
+use Rattle.fwd_model.specs.declared.event.EndKind.{EndKind}
 use Rattle.fwd_model.specs.History.{source_at, Lane, History, opening, histories}
 
 -- where events lead from the opening state of the settings
@@ -42,15 +43,14 @@ session_at w (Some l) = slice_get l.sessions w
 abbrev pub session_of : History → ℕ → ℕ → Option SessionHistory
 session_of h o w = standing (session_at w (slice_get h.lanes o))
 
--- after these events, none of the later ones began a session of the worker
-abbrev pub NoneBegan : Config → List Event → List Event → ℕ → ℕ → Type 0
-NoneBegan config before later o w =
-    (between rest : List Event) (server : ℕ) (salt : List ℕ) (moment : ℕ) →
-    later ≡ between ++ event.Up o w server salt moment ∷ rest →
-    answered config (before ++ between) (event.Up o w server salt moment) ≡ answer.Done → ⊥
+-- after these events, none of the later ones ended the worker's session
+abbrev pub NoneEnded : Config → List Event → List Event → ℕ → ℕ → Type 0
+NoneEnded config before later o w =
+    (between rest : List Event) (kind : EndKind) (moment : ℕ) (number : Option ℕ) →
+    later ≡ between ++ event.End o w kind moment ∷ rest →
+    answered config (before ++ between) (event.End o w kind moment) ≡ answer.Ended number → ⊥
 
--- among the events the worker's session with a server of the output began, and no other of that
--- worker's began since
+-- among the events the worker's session with a server of the output began, and it did not end since
 pub record HasBegun (config : Config) (es : List Event) (o w : ℕ) : Type 0 where
   pub before : List Event
   pub server : ℕ
@@ -59,9 +59,9 @@ pub record HasBegun (config : Config) (es : List Event) (o w : ℕ) : Type 0 whe
   pub later : List Event
   pub split : es ≡ before ++ event.Up o w server salt moment ∷ later
   pub done : answered config before (event.Up o w server salt moment) ≡ answer.Done
-  pub alone : NoneBegan config (before ++ event.Up o w server salt moment ∷ []) later o w
+  pub kept : NoneEnded config (before ++ event.Up o w server salt moment ∷ []) later o w
 
--- among the events, after that, the session was loaded with the frame
+-- among the events, after that, the session was loaded with the frame, and it did not end since
 pub record WasLoaded (config : Config) (es : List Event) (o w : ℕ)
     (frame : List ℕ) : Type 0 where
   pub before : List Event
@@ -69,6 +69,7 @@ pub record WasLoaded (config : Config) (es : List Event) (o w : ℕ)
   pub later : List Event
   pub split : es ≡ before ++ event.Load o w moment ∷ later
   pub loads : answered config before (event.Load o w moment) ≡ answer.Frame frame
+  pub kept : NoneEnded config (before ++ event.Load o w moment ∷ []) later o w
   pub begun : HasBegun config before o w
 
 -- the link took all bytes of the session, of which the last are the frame
@@ -77,7 +78,8 @@ pub record IsTaken (s : SessionHistory) (frame : List ℕ) : Type 0 where
   pub ends : s.appended ≡ front ++ frame
   pub through : length s.appended ≤ s.sent
 
--- among the events, after that, the link took the frame's last byte
+-- among the events, after that, the link took the frame's last byte, and the session did not end
+-- since
 pub record WasSent (config : Config) (es : List Event) (o w : ℕ) (frame : List ℕ) : Type 0 where
   pub before : List Event
   pub count : ℕ
@@ -88,6 +90,7 @@ pub record WasSent (config : Config) (es : List Event) (o w : ℕ) (frame : List
   pub stands : session_of (reached config (before ++ event.Wrote o w count ∷ [])) o w
       ≡ Some session
   pub taken : IsTaken session frame
+  pub kept : NoneEnded config (before ++ event.Wrote o w count ∷ []) later o w
   pub loaded : WasLoaded config before o w frame
 
 -- among the events, after that, a piece was heard from the session while it was up, and with it

@@ -10,11 +10,13 @@ use Rattle.fwd_model.specs.declared.config.OutputConfig.{OutputConfig}
 use Rattle.fwd_model.specs.declared.event.Event.{Event}
 use Rattle.fwd_chunks.specs.declared.counts.Counts.{Counts}
 use Rattle.fwd_chunks.specs.History as buffer
-use Rattle.fwd_chunks.specs.History.{BufferSetting, BufferHistory, load_of, looks}
+use Rattle.fwd_chunks.specs.History.{BufferHistory, load_of, looks}
+use Rattle.fwd_session.specs.History.{SessionHistory, unloads}
 use Rattle.fwd_model.specs.Books as book
 use Rattle.fwd_model.specs.Books.{BookHistory, telling}
-use Rattle.fwd_model.specs.Outputs.{OutputHistory, carry_of, no_history, output_history_enters, output_history_settles, count_at}
-use Rattle.fwd_model.specs.Sessions.{SessionHistory, unloads, session_histories}
+use Rattle.fwd_model.specs.Setups.{setting_of, servers_of}
+use Rattle.fwd_model.specs.Outputs.{OutputHistory, carried_by, no_history, output_history_enters, output_history_settles, output_history_choice, output_history_looks, output_history_ends, count_at}
+use Rattle.fwd_model.specs.Sessions.{session_histories}
 use Rattle.fwd_model.specs.Layers.{Worker, Lanes, Layers}
 use Rattle.fwd_model.specs.Step.{after}
 
@@ -41,16 +43,11 @@ pub record History : Type 0 where
   pub connections : List Connection
   pub lanes : List Lane
 
--- what an output's buffer is set to: its limits, and the run and the output's number, which its
--- chunks' names tell
-abbrev pub setting_of : List ℕ → ℕ → OutputConfig → BufferSetting
-setting_of run o c = record { limits = c.limits; run = run; output = o }
-
 -- an output before any event
 abbrev pub new_lane : List ℕ → ℕ → OutputConfig → Lane
 new_lane run o c = record {
   config = c;
-  output = no_history (setting_of run o c);
+  output = no_history (setting_of run o c) (servers_of c);
   sessions = replicate c.workers None;
 }
 
@@ -123,15 +120,19 @@ with_output l o = record l { output = o }
 
 -- the output has other entries
 abbrev pub with_buffer : Lane → BufferHistory → Lane
-with_buffer l b = with_output l (record { buffer = b; book = l.output.book })
+with_buffer l b = with_output l (record (l.output) { buffer = b })
 
 -- the output has another book
 abbrev pub with_book : Lane → BookHistory → Lane
-with_book l b = with_output l (record { buffer = l.output.buffer; book = b })
+with_book l b = with_output l (record (l.output) { book = b })
 
 -- the worker has this session
 abbrev pub with_session : ℕ → SessionHistory → Lane → Lane
 with_session w s l = record l { sessions = slice_set l.sessions w (Some s) }
+
+-- the worker has no session
+abbrev pub without_session : ℕ → Lane → Lane
+without_session w l = record l { sessions = slice_set l.sessions w None }
 
 -- the output of this number is another
 abbrev pub with_lane : ℕ → Lane → History → History
@@ -141,11 +142,7 @@ with_lane o l h = record h { lanes = slice_set h.lanes o l }
 
 -- a worker, with the chunk that it carries
 abbrev pub history_worker : Lane → ℕ → Option SessionHistory → Worker SessionHistory
-history_worker l w s = record {
-  chunk =
-      option_map (λ c. load_of l.output.buffer c.number) (carry_of w l.output.buffer.carried);
-  session = s;
-}
+history_worker l w s = record { chunk = carried_by l.output.buffer w; session = s }
 
 -- outputs as all that ever came to them
 abbrev pub lane_histories : Lanes SessionHistory
@@ -162,12 +159,16 @@ lane_histories = record {
   forgets = λ l conn. with_book l (book.forgets l.output.book conn);
   worker_at = λ l w. option_map (history_worker l w) (slice_get l.sessions w);
   puts_worker = λ l w x. record l { sessions = slice_set l.sessions w x.session };
+  chosen = λ l w now. output_history_choice l.output w now;
+  watches = λ l now. with_output l (output_history_looks l.output now);
   given = λ l now.
       option_map (load_of l.output.buffer) (buffer.given (looks l.output.buffer now));
   takes = λ l w x now. with_buffer l (buffer.takes l.output.buffer w now);
   entries_at = λ l number. count_at number l.output;
-  settles = λ l w s number.
-      with_session w (unloads s) (with_output l (output_history_settles l.output number));
+  settles = λ l w s number server.
+      with_session w (unloads s) (with_output l (output_history_settles l.output number server));
+  ends = λ l w back server now.
+      without_session w (with_output l (output_history_ends l.output back server now));
 }
 
 -- the relay as all that ever came to it

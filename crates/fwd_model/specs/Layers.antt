@@ -9,9 +9,11 @@ use Rattle.fwd_source.specs.Layer.{Sources}
 use Rattle.fwd_chunks.specs.declared.fault.AdmitError.{AdmitError}
 use Rattle.fwd_chunks.specs.declared.flush.FlushKind.{FlushKind}
 use Rattle.fwd_chunks.specs.History.{Load}
+use Rattle.fwd_session.specs.declared.told.Heard.{Heard}
+use Rattle.fwd_session.specs.History as session
 use Rattle.fwd_model.specs.declared.config.OutputConfig.{OutputConfig}
-use Rattle.fwd_model.specs.Replies.{Replies}
 use Rattle.fwd_model.specs.Books.{Telling}
+use Rattle.fwd_model.specs.Outputs.{Return}
 
 -- a worker: the chunk that it has, with its entries, and its session
 pub record Worker (Session : Type 0) : Type 0 where
@@ -21,21 +23,30 @@ pub record Worker (Session : Type 0) : Type 0 where
 -- a session of a worker with a server
 pub record Sessions : Type 1 where
   pub Session : Type 0
-  -- the number that it is loaded with, whether that one's acknowledgement was accepted, whether a
-  -- fault put it down
-  pub loaded : Session → Option ℕ
-  pub is_acked : Session → Bool
+  -- its server, by its place in the output's list
+  pub server : Session → ℕ
+  -- the chunk that it is loaded with, and that chunk once its acknowledgement was accepted
+  pub loaded : Session → Option Load
+  pub acked : Session → Option Load
+  -- whether its handshake is done, whether a chunk may be loaded, whether a fault or lateness put
+  -- it down, whether it is late at a moment
+  pub is_greeted : Session → Bool
+  pub is_ready : Session → Bool
   pub is_down : Session → Bool
+  pub is_late : Session → ℕ → Bool
   -- the bytes that wait to be sent
   pub to_send : Session → List ℕ
-  -- what a piece says, by the run and the output's number
-  pub replies : Session → List ℕ → ℕ → List ℕ → Replies
-  -- it begins with a server; is loaded with a number's frame; its link takes bytes; a piece is
-  -- heard
-  pub begins : ℕ → ℕ → Session
-  pub loads : Session → ℕ → List ℕ → ℕ → Session
+  -- what a piece is told, and the PING that it brings
+  pub told : Session → List ℕ → Heard
+  pub ping : Session → List ℕ → List ℕ
+  -- it begins; is loaded with a chunk; its link takes bytes; a piece is heard; it is asked whether
+  -- it is late; its chunk is taken out
+  pub begins : session.Setup → Session
+  pub loads : Session → Load → ℕ → Session
   pub sends : Session → ℕ → Session
-  pub listens : Session → List ℕ → Replies → Session
+  pub listens : Session → List ℕ → Session
+  pub looks : Session → ℕ → Session
+  pub unloads : Session → Session
 
 -- a lane: an output with its workers
 pub record Lanes (Session : Type 0) : Type 1 where
@@ -57,12 +68,18 @@ pub record Lanes (Session : Type 0) : Type 1 where
   -- a worker, and that another stands in its place
   pub worker_at : Lane → ℕ → Option (Worker Session)
   pub puts_worker : Lane → ℕ → Worker Session → Lane
+  -- the server that a worker tries at a moment, and that the moment was handed in
+  pub chosen : Lane → ℕ → ℕ → Option ℕ
+  pub watches : Lane → ℕ → Lane
   -- the chunk that has the least free number at a moment, and that the worker has it
   pub given : Lane → ℕ → Option Load
   pub takes : Lane → ℕ → Worker Session → ℕ → Lane
-  -- how many entries a number has, and that they are settled
+  -- how many entries a number has, and that they are settled by a server, whose session is left so
   pub entries_at : Lane → ℕ → ℕ
-  pub settles : Lane → ℕ → Session → ℕ → Lane
+  pub settles : Lane → ℕ → Session → (number server : ℕ) → Lane
+  -- a worker has no session and no chunk any more: what it gives back, the server that is lost,
+  -- and the moment
+  pub ends : Lane → ℕ → Option Return → (server : Option ℕ) → (now : ℕ) → Lane
 
 -- the relay over its layers
 pub record Layers : Type 1 where

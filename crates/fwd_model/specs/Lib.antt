@@ -3,10 +3,9 @@
 -- what is promised of it; Live is what of it still matters, which the code shows.
 pub mod Outcome
 pub mod Setups
-pub mod Replies
-pub mod Layers
 pub mod Books
 pub mod Outputs
+pub mod Layers
 pub mod Step
 pub mod Sessions
 pub mod History

@@ -8,12 +8,14 @@ use Rattle.fwd_source.specs.Layer.{live_sources}
 use Rattle.fwd_model.specs.declared.config.OutputConfig.{OutputConfig}
 use Rattle.fwd_model.specs.declared.cell.Entered.{Entered}
 use Rattle.fwd_chunks.specs.declared.counts.Counts.{Counts}
-use Rattle.fwd_chunks.specs.History.{Load, load_of}
+use Rattle.fwd_chunks.specs.History.{Load}
 use Rattle.fwd_chunks.specs.Live as buffer
 use Rattle.fwd_chunks.specs.Live.{LiveBuffer, live_refusal, live_closing, live_flushes, live_given, live_load, live_looks, live_counts}
 use Rattle.fwd_model.specs.Books.{telling, book_due, book_tells, book_owed, book_forgets}
-use Rattle.fwd_model.specs.Outputs.{OutputHistory, carry_of, LiveOutput, live_output, output_enters, output_settles, live_count_at}
-use Rattle.fwd_model.specs.Sessions.{SessionHistory, LiveSession, live_session, session_unloads, live_sessions}
+use Rattle.fwd_session.specs.History.{SessionHistory}
+use Rattle.fwd_session.specs.Live.{LiveSession, live_session, session_unloads}
+use Rattle.fwd_model.specs.Outputs.{OutputHistory, carried_by, Return, LiveOutput, live_output, output_enters, output_settles, output_choice, output_looks, output_ends, live_count_at}
+use Rattle.fwd_model.specs.Sessions.{live_sessions}
 use Rattle.fwd_model.specs.Layers.{Worker, Lanes, Layers}
 use Rattle.fwd_model.specs.History.{Connection, Lane, History}
 
@@ -56,7 +58,7 @@ last_id (c ∷ d ∷ cs) = last_id (d ∷ cs)
 -- the live part of a worker: the chunk that it carries, with its entries, and its session
 abbrev pub live_worker : OutputHistory → ℕ → Option SessionHistory → Worker LiveSession
 live_worker o w s = record {
-  chunk = option_map (λ c. load_of o.buffer c.number) (carry_of w o.buffer.carried);
+  chunk = carried_by o.buffer w;
   session = option_map live_session s;
 }
 
@@ -130,11 +132,11 @@ with_live_output l o = record l { output = o }
 
 -- the output has other entries
 abbrev pub with_live_buffer : LiveLane → LiveBuffer → LiveLane
-with_live_buffer l b = with_live_output l (record { buffer = b; book = l.output.book })
+with_live_buffer l b = with_live_output l (record (l.output) { buffer = b })
 
 -- the output has another book
 abbrev pub with_live_book : LiveLane → List Entered → LiveLane
-with_live_book l b = with_live_output l (record { buffer = l.output.buffer; book = b })
+with_live_book l b = with_live_output l (record (l.output) { book = b })
 
 -- another worker stands in this place
 abbrev pub with_live_worker : LiveLane → ℕ → Worker LiveSession → LiveLane
@@ -148,15 +150,23 @@ lane_gives l now =
 -- the worker has that chunk, if there is one
 abbrev pub lane_takes : LiveLane → ℕ → Worker LiveSession → ℕ → LiveLane
 lane_takes l w x now = record l {
-  output = record { buffer = buffer.live_takes l.output.buffer w now; book = l.output.book };
+  output = record (l.output) { buffer = buffer.live_takes l.output.buffer w now };
   workers = slice_set l.workers w (record { chunk = lane_gives l now; session = x.session });
 }
 
--- the worker's chunk is settled
-abbrev pub lane_settles : LiveLane → ℕ → LiveSession → ℕ → LiveLane
-lane_settles l w s number = record l {
-  output = output_settles l.output number;
+-- the worker's chunk is settled by a server
+abbrev pub lane_settles : LiveLane → ℕ → LiveSession → (number server : ℕ) → LiveLane
+lane_settles l w s number server = record l {
+  output = output_settles l.output number server;
   workers = slice_set l.workers w (record { chunk = None; session = Some (session_unloads s) });
+}
+
+-- the worker has neither a session nor a chunk any more
+abbrev pub lane_ends : LiveLane → ℕ → Option Return → (server : Option ℕ) → (now : ℕ)
+    → LiveLane
+lane_ends l w back server now = record l {
+  output = output_ends l.output back server now;
+  workers = slice_set l.workers w (record { chunk = None; session = None });
 }
 
 -- the output of this number is another
@@ -180,10 +190,13 @@ live_lanes = record {
   forgets = λ l conn. with_live_book l (book_forgets l.output.book conn);
   worker_at = λ l w. slice_get l.workers w;
   puts_worker = with_live_worker;
+  chosen = λ l w now. output_choice l.output w now;
+  watches = λ l now. with_live_output l (output_looks l.output now);
   given = lane_gives;
   takes = lane_takes;
   entries_at = λ l number. live_count_at number l.output;
   settles = lane_settles;
+  ends = lane_ends;
 }
 
 -- the relay as what still matters of it

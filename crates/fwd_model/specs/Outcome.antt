@@ -3,13 +3,15 @@ use Rattle.std.specs.Prelude.{ℕ, Bool, true, false, List, [], ◌∷◌, lengt
 use Rattle.fwd_modes.specs.Requests.{Request}
 use Rattle.fwd_source.specs.declared.piece.Piece.{Piece}
 use Rattle.fwd_source.specs.declared.piece.Piece.TheVariants as told
+use Rattle.fwd_session.specs.declared.told.Heard.{Heard}
+use Rattle.fwd_session.specs.declared.told.Heard.TheVariants as heard
 use Rattle.fwd_chunks.specs.declared.fault.AdmitError.{AdmitError}
 use Rattle.fwd_chunks.specs.declared.fault.AdmitError.TheVariants as unfit
 use Rattle.fwd_chunks.specs.History.{Load}
 use Rattle.fwd_model.specs.declared.answer.Answer.{Answer}
 use Rattle.fwd_model.specs.declared.answer.Answer.TheVariants as answer
 use Rattle.fwd_model.specs.declared.fault.Refusal.{Refusal}
-use Rattle.fwd_model.specs.declared.fault.Refusal.TheVariants.{Closed}
+use Rattle.fwd_model.specs.declared.fault.Refusal.TheVariants.{Closed, NotUp}
 
 infixr 1 ◌>>=◌ ◌>>◌
 -- an answer where the state stays, or an answer and the next state
@@ -71,6 +73,15 @@ abbrev pub of_piece : {S : Type 0} → Piece → ℕ → List ℕ → S → Outc
 of_piece told.Closed count out s = Stays (answer.Refused Closed)
 of_piece (told.Waiting waiting) count out s = Goes (answer.Requests waiting out) s
 of_piece (told.Fault fault) count out s = Goes (answer.Faulted fault count out) s
+
+-- bytes are refused once the session is down; else it is told what they did, and the PING that
+-- they brought
+abbrev pub of_heard : {S : Type 0} → Heard → List ℕ → S → Outcome S
+of_heard heard.NotUp out s = Stays (answer.Refused NotUp)
+of_heard heard.Quiet out s = Goes (answer.Quiet out) s
+of_heard heard.Ready out s = Goes (answer.Ready out) s
+of_heard heard.Acked out s = Goes (answer.Acked out) s
+of_heard (heard.Fault f) out s = Goes (answer.SessionFaulted f) s
 
 -- a request that its output has no place for, and that its source is shut
 abbrev pub of_fault : {S : Type 0} → AdmitError → S → Outcome S

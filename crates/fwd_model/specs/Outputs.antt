@@ -1,40 +1,64 @@
--- An output is made of parts: its buffer, which has the entries, and its book, which has the
--- requests that they came with. Each part has its own history and its own live part, and neither
--- looks into the other: what ties them is that both are told what is settled.
-use Rattle.std.specs.Prelude.{ℕ, ◌==◌, List, [], length, filter, find, Option}
+-- An output is made of parts: its buffer, which has the entries, its book, which has the requests
+-- that they came with, and its servers, with what was lost at each. Each part has its own history
+-- and its own live part, and none looks into another: what ties them is that they are told of the
+-- same events.
+use Rattle.std.specs.Prelude.{ℕ, ◌==◌, Bool, List, [], length, max, filter, find, Option, Some, None, option_map, if◌then◌else◌}
 use Rattle.fwd_modes.specs.Requests.{Request}
-use Rattle.fwd_modes.specs.Frames.{chunk_frame}
 use Rattle.fwd_source.specs.declared.origin.Origin.{Origin}
 use Rattle.fwd_chunks.specs.Cells.{Carry, contents}
 use Rattle.fwd_chunks.specs.History as buffer
-use Rattle.fwd_chunks.specs.History.{BufferSetting, BufferHistory, Load, spans_of}
-use Rattle.fwd_chunks.specs.Live.{LiveBuffer, live_buffer, live_opening, live_enters, live_settles, live_spans, held_in, is_at}
+use Rattle.fwd_chunks.specs.History.{BufferSetting, BufferHistory, Load, load_of, spans_of}
+use Rattle.fwd_chunks.specs.Live.{LiveBuffer, live_buffer, live_opening, live_looks, live_enters, live_settles, live_frees, live_spans, held_in, is_at}
+use Rattle.fwd_failover.specs.History as servers
+use Rattle.fwd_failover.specs.History.{ServersSetting, ServersHistory}
+use Rattle.fwd_failover.specs.Choices.{choice}
+use Rattle.fwd_failover.specs.Live.{LiveServers, live_servers, live_choice, live_looked, live_lost, live_settled}
 use Rattle.fwd_model.specs.declared.cell.Entered.{Entered}
 use Rattle.fwd_model.specs.Books as book
 use Rattle.fwd_model.specs.Books.{BookHistory, entered_as, live_book, no_admissions, book_enters, book_settles}
-
--- the frame of a chunk, as a session sends it
-abbrev pub frame_of : Load → List ℕ
-frame_of c = chunk_frame c.tag c.entries c.name
 
 -- what the worker has, if it has a chunk
 abbrev pub carry_of : ℕ → List Carry → Option Carry
 carry_of worker carried = find (λ c. c.worker == worker) carried
 
+-- the chunk that the worker has, with its entries
+abbrev pub carried_by : BufferHistory → ℕ → Option Load
+carried_by b worker = option_map (λ c. load_of b c.number) (carry_of worker b.carried)
+
+-- what a worker gives back: the number of its chunk, and whether that counts as a loss
+pub record Return : Type 0 where
+  pub number : ℕ
+  pub lost : Bool
+
+-- the chunk that a worker has is given back
+abbrev pub returned : Option Load → (lost : Bool) → Option Return
+returned chunk lost = option_map (λ c. record { number = c.number; lost = lost }) chunk
+
+-- the moment of a loss, if it is one
+abbrev pub moment_if : Bool → ℕ → Option ℕ
+moment_if lost now = if lost then Some now else None
+
 -- ---- the history
 
 -- all that ever came to an output
 pub record OutputHistory : Type 0 where
+  pub setting : ServersSetting
   pub buffer : BufferHistory
   pub book : BookHistory
+  pub servers : ServersHistory
 
 -- before any event
-abbrev pub no_history : BufferSetting → OutputHistory
-no_history setting = record { buffer = buffer.opening setting; book = no_admissions }
+abbrev pub no_history : BufferSetting → ServersSetting → OutputHistory
+no_history setting servers_setting = record {
+  setting = servers_setting;
+  buffer = buffer.opening setting;
+  book = no_admissions;
+  servers = servers.opening;
+}
 
 -- a request is entered, with its entries
 abbrev pub output_history_enters : OutputHistory → Origin → Request → ℕ → OutputHistory
-output_history_enters o origin q now = record {
+output_history_enters o origin q now = record o {
   buffer = buffer.enters o.buffer origin q now;
   book = book.enters o.book (entered_as q origin (spans_of o.buffer origin q now));
 }
@@ -43,31 +67,73 @@ output_history_enters o origin q now = record {
 abbrev pub count_at : ℕ → OutputHistory → ℕ
 count_at number o = length (contents number o.buffer.cells)
 
--- a chunk is settled
-abbrev pub output_history_settles : OutputHistory → ℕ → OutputHistory
-output_history_settles o number = record {
+-- a chunk is settled, by a server
+abbrev pub output_history_settles : OutputHistory → (number server : ℕ) → OutputHistory
+output_history_settles o number server = record o {
   buffer = buffer.settles o.buffer number;
   book = book.settles o.book number;
+  servers = servers.settled o.setting o.servers server;
+}
+
+-- the server that a worker tries at a moment: one that is usable at the greatest moment of all
+-- that were handed in
+abbrev pub output_history_choice : OutputHistory → (worker now : ℕ) → Option ℕ
+output_history_choice o worker now =
+    choice o.setting o.servers.happened worker (max o.servers.moment (max o.buffer.moment now))
+
+-- a moment is handed in
+abbrev pub output_history_looks : OutputHistory → ℕ → OutputHistory
+output_history_looks o now = record o {
+  buffer = buffer.looks o.buffer now;
+  servers = servers.looked o.servers (max o.buffer.moment now);
+}
+
+-- a chunk is given back to a buffer, if one is
+abbrev pub gets_back : BufferHistory → Option Return → ℕ → BufferHistory
+gets_back b None now = b
+gets_back b (Some back) now = buffer.frees b back.number (moment_if back.lost now)
+
+-- a server is lost at a moment, if one is
+abbrev pub loses : ServersSetting → ServersHistory → Option ℕ → ℕ → ServersHistory
+loses setting s None moment = s
+loses setting s (Some server) moment = servers.lost setting s server moment
+
+-- a worker's end at a moment: its chunk is given back, and its server may be lost
+abbrev pub output_history_ends : OutputHistory → Option Return → (server : Option ℕ) → (now : ℕ)
+    → OutputHistory
+output_history_ends o back server now = record o {
+  buffer = gets_back (buffer.looks o.buffer now) back now;
+  servers = loses o.setting o.servers server (max o.buffer.moment now);
 }
 
 -- ---- what still matters
 
--- the chunks that are not settled, and the requests that are owed an answer
+-- the chunks that are not settled, the requests that are owed an answer, and what was lost at the
+-- servers
 pub record LiveOutput : Type 0 where
   pub buffer : LiveBuffer
   pub book : List Entered
+  pub servers : LiveServers
 
 -- the live part of a history
 unfoldable pub live_output : OutputHistory → LiveOutput
-live_output o = record { buffer = live_buffer o.buffer; book = live_book o.book }
+live_output o = record {
+  buffer = live_buffer o.buffer;
+  book = live_book o.book;
+  servers = live_servers o.setting o.servers;
+}
 
 -- before any event
-abbrev pub no_requests : BufferSetting → LiveOutput
-no_requests setting = record { buffer = live_opening setting; book = [] }
+abbrev pub no_requests : BufferSetting → ServersSetting → LiveOutput
+no_requests setting servers_setting = record {
+  buffer = live_opening setting;
+  book = [];
+  servers = live_servers servers_setting servers.opening;
+}
 
 -- a request is entered, with its entries
 abbrev pub output_enters : LiveOutput → Origin → Request → ℕ → LiveOutput
-output_enters o origin q now = record {
+output_enters o origin q now = record o {
   buffer = live_enters o.buffer q now;
   book = book_enters o.book (entered_as q origin (live_spans o.buffer q now));
 }
@@ -76,9 +142,40 @@ output_enters o origin q now = record {
 abbrev pub live_count_at : ℕ → LiveOutput → ℕ
 live_count_at number o = held_in (filter (is_at number) o.buffer.chunks)
 
--- a chunk is settled
-abbrev pub output_settles : LiveOutput → ℕ → LiveOutput
-output_settles o number = record {
+-- a chunk is settled, by a server
+abbrev pub output_settles : LiveOutput → (number server : ℕ) → LiveOutput
+output_settles o number server = record {
   buffer = live_settles o.buffer number;
   book = book_settles o.book number;
+  servers = live_settled o.servers server;
+}
+
+-- the server that a worker tries at a moment
+abbrev pub output_choice : LiveOutput → (worker now : ℕ) → Option ℕ
+output_choice o worker now =
+    live_choice o.servers worker (max o.servers.moment (max o.buffer.moment now))
+
+-- a moment is handed in
+abbrev pub output_looks : LiveOutput → ℕ → LiveOutput
+output_looks o now = record o {
+  buffer = live_looks o.buffer now;
+  servers = live_looked o.servers (max o.buffer.moment now);
+}
+
+-- a chunk is given back to a buffer, if one is
+abbrev pub live_gets_back : LiveBuffer → Option Return → ℕ → LiveBuffer
+live_gets_back b None now = b
+live_gets_back b (Some back) now = live_frees b back.number (moment_if back.lost now)
+
+-- a server is lost at a moment, if one is
+abbrev pub live_loses : LiveServers → Option ℕ → ℕ → LiveServers
+live_loses s None moment = s
+live_loses s (Some server) moment = live_lost s server moment
+
+-- a worker's end at a moment
+abbrev pub output_ends : LiveOutput → Option Return → (server : Option ℕ) → (now : ℕ)
+    → LiveOutput
+output_ends o back server now = record o {
+  buffer = live_gets_back (live_looks o.buffer now) back now;
+  servers = live_loses o.servers server (max o.buffer.moment now);
 }

@@ -1,7 +1,7 @@
 -- What one event does to a relay. It is said once, over any layers: the history of all that came,
 -- or what of it still matters. Each event reads from the top: its checks in their order, and then
 -- its answer and what it changes.
-use Rattle.std.specs.Prelude.{ℕ, ◌+◌, not, List, [], ◌∷◌, length, Option, Some, None, is_some, nat_lt, ◌==◌, if◌then◌else◌}
+use Rattle.std.specs.Prelude.{ℕ, ◌+◌, Bool, true, false, not, ◌&&◌, ◌||◌, List, [], ◌∷◌, length, Option, Some, None, is_some, option_map, nat_lt, ◌==◌, if◌then◌else◌}
 use Rattle.fwd_modes.specs.Requests.{Request}
 use Rattle.fwd_match.specs.Patterns.{route}
 use Rattle.fwd_source.specs.declared.origin.Origin.{Origin}
@@ -10,21 +10,29 @@ use Rattle.fwd_model.specs.declared.event.Event.{Event}
 use Rattle.fwd_model.specs.declared.event.Event.TheVariants as event
 use Rattle.fwd_chunks.specs.declared.fault.AdmitError.{AdmitError}
 use Rattle.fwd_chunks.specs.declared.flush.FlushKind.{FlushKind}
+use Rattle.fwd_session.specs.Evidence.{frame_of}
+use Rattle.fwd_model.specs.declared.config.OutputConfig.{OutputConfig}
+use Rattle.fwd_model.specs.declared.event.EndKind.{EndKind}
+use Rattle.fwd_model.specs.declared.event.EndKind.TheVariants.{Kept, Lost}
 use Rattle.fwd_model.specs.declared.answer.Answer.{Answer}
 use Rattle.fwd_model.specs.declared.answer.Answer.TheVariants as answer
 use Rattle.fwd_model.specs.declared.fault.Refusal.TheVariants.{Closed, NoSuch, NotNow, NotUp}
-use Rattle.fwd_model.specs.Outcome.{Outcome, Goes, answer_of, state_of, within, ◌>>=◌, ◌>>◌, found, refuse_if, of_piece, of_fault, first_of, chunk_answer}
+use Rattle.fwd_model.specs.Outcome.{Outcome, Goes, answer_of, state_of, within, ◌>>=◌, ◌>>◌, found, refuse_if, of_piece, of_heard, of_fault, first_of, chunk_answer}
 use Rattle.fwd_model.specs.Layers.{Worker, Layers}
-use Rattle.fwd_model.specs.Setups.{setup_of}
-use Rattle.fwd_model.specs.Outputs.{frame_of}
-use Rattle.fwd_model.specs.Replies.{reply_answer, is_loaded}
+use Rattle.fwd_model.specs.Setups.{setup_of, session_setup}
+use Rattle.fwd_model.specs.Outputs.{returned}
 
 -- the worker with this session
 abbrev pub with_session : {S : Type 0} → Worker S → S → Worker S
 with_session x s = record { chunk = x.chunk; session = Some s }
 
+-- the session was lost with its link
+abbrev pub is_lost : EndKind → Bool
+is_lost Kept = false
+is_lost Lost = true
+
 module _ (L : Layers) where
-  open L use {Relay, Source, Lane, Session, run, routes, security, is_fresh, source_at, lane_at, accepts, leaves, puts_source, puts_lane, is_shut, waiting, admitted, unsent, piece_answer, pong, hears, gives, appends, drains, shuts, config, refusal, closing, given, entries_at, due, owed, worker_at, enters, flushes, takes, settles, tells, forgets, puts_worker, begins, loaded, is_acked, is_down, to_send, replies, loads, sends, listens}
+  open L use {Relay, Source, Lane, Session, run, routes, security, is_fresh, source_at, lane_at, accepts, leaves, puts_source, puts_lane, is_shut, waiting, admitted, unsent, piece_answer, pong, hears, gives, appends, drains, shuts, config, refusal, closing, given, entries_at, due, owed, worker_at, enters, flushes, chosen, watches, takes, settles, ends, tells, forgets, puts_worker, begins, server, loaded, acked, is_greeted, is_ready, is_down, is_late, to_send, told, ping, loads, sends, listens, looks}
 
   -- at the connection of this id
   abbrev pub at_source : Relay → ℕ → (Source → Outcome Source) → Outcome Relay
@@ -136,12 +144,18 @@ module _ (L : Layers) where
   abbrev pub flush : Lane → ℕ → FlushKind → Outcome Lane
   flush l now kind = Goes (answer.Closed (closing l now kind)) (flushes l now kind)
 
+  -- which server a worker is to try; the moment has grown either way
+  abbrev pub choose : Lane → ℕ → ℕ → Outcome Lane
+  choose l w now = do
+    x ← found (worker_at l w) NoSuch
+    Goes (answer.Chose (chosen l w now)) (watches l now)
+
   -- a worker's session with a server begins
-  abbrev pub up : ℕ → ℕ → ℕ → Worker Session → Outcome (Worker Session)
-  up servers server now x = do
-    refuse_if (not (nat_lt server servers)) NoSuch
+  abbrev pub up : OutputConfig → ℕ → List ℕ → ℕ → Worker Session → Outcome (Worker Session)
+  up c server salt now x = do
+    refuse_if (not (nat_lt server (length c.standby))) NoSuch
     refuse_if (is_some x.session) NotNow
-    Goes answer.Done (with_session x (begins server now))
+    Goes answer.Done (with_session x (begins (session_setup c server salt now)))
 
   -- a worker carries the least free number, if there is one; the moment has grown either way
   abbrev pub take : Lane → ℕ → ℕ → Outcome Lane
@@ -155,9 +169,9 @@ module _ (L : Layers) where
   load now x = do
     s ← found x.session NotNow
     c ← found x.chunk NotNow
-    refuse_if (is_loaded (loaded s) c.number) NotNow
-    refuse_if (is_down s) NotUp
-    Goes (answer.Frame (frame_of c)) (with_session x (loads s c.number (frame_of c) now))
+    refuse_if (is_some (loaded s)) NotNow
+    refuse_if (not (is_ready s)) NotUp
+    Goes (answer.Frame (frame_of c)) (with_session x (loads s c now))
 
   -- a session's link took some of the bytes that wait to be sent
   abbrev pub wrote : ℕ → Session → Outcome Session
@@ -166,23 +180,57 @@ module _ (L : Layers) where
     Goes answer.Done (sends s count)
 
   -- bytes are read from a session's link
-  abbrev pub heard : List ℕ → ℕ → List ℕ → Session → Outcome Session
-  heard name o bytes s = do
+  abbrev pub heard : List ℕ → Session → Outcome Session
+  heard bytes s = of_heard (told s bytes) (ping s bytes) (listens s bytes)
+
+  -- it is asked whether a session is late; if it is, it is down
+  abbrev pub late : ℕ → Session → Outcome Session
+  late now s = do
     refuse_if (is_down s) NotUp
-    Goes (reply_answer (replies s name o bytes).accepted (replies s name o bytes).fault)
-        (listens s bytes (replies s name o bytes))
+    Goes (answer.Late (is_late s now)) (looks s now)
 
-  -- the number whose acknowledgement was accepted
-  abbrev pub acked : Session → Option ℕ
-  acked s = if is_acked s then loaded s else None
-
-  -- a worker's acknowledged chunk leaves the output
+  -- a worker's acknowledged chunk leaves the output, and its server's losses count no more
   abbrev pub settle : Lane → ℕ → Outcome Lane
   settle l w = do
     x ← found (worker_at l w) NoSuch
     s ← found x.session NotNow
-    k ← found (acked s) NotNow
-    Goes (answer.Settled (entries_at l k)) (settles l w s k)
+    c ← found (acked s) NotNow
+    Goes (answer.Settled (entries_at l c.number)) (settles l w s c.number (server s))
+
+  -- the worker has neither a chunk nor a session
+  abbrev pub is_idle : Worker Session → Bool
+  is_idle x = not (is_some x.chunk) && not (is_some x.session)
+
+  -- its chunk is acknowledged, and not settled
+  abbrev pub has_acked : Option Session → Bool
+  has_acked None = false
+  has_acked (Some s) = is_some (acked s)
+
+  -- its chunk was loaded
+  abbrev pub has_loaded : Option Session → Bool
+  has_loaded None = false
+  has_loaded (Some s) = is_some (loaded s)
+
+  -- the server did not do what it owed: it is said to be lost, or its session is down, or the
+  -- handshake is not done, or the chunk was loaded
+  abbrev pub is_fault_of : EndKind → Session → Bool
+  is_fault_of kind s =
+      is_lost kind || (is_down s || (not (is_greeted s) || is_some (loaded s)))
+
+  -- the server that is lost, if one is
+  abbrev pub lost_server : EndKind → Option Session → Option ℕ
+  lost_server kind None = None
+  lost_server kind (Some s) = if is_fault_of kind s then Some (server s) else None
+
+  -- a worker's session is no more. A chunk that it has is given back, with a loss where it was
+  -- loaded
+  abbrev pub end : Lane → ℕ → EndKind → ℕ → Outcome Lane
+  end l w kind now = do
+    x ← found (worker_at l w) NoSuch
+    refuse_if (is_idle x) NotNow
+    refuse_if (has_acked x.session) NotNow
+    Goes (answer.Ended (option_map (λ c. c.number) x.chunk))
+        (ends l w (returned x.chunk (has_loaded x.session)) (lost_server kind x.session) now)
 
   -- what one event comes to
   abbrev pub step : Relay → Event → Outcome Relay
@@ -190,15 +238,19 @@ module _ (L : Layers) where
   step r (event.Piece id bytes) = at_source r id (λ s. piece s bytes)
   step r (event.Admit id o now) = at_both r id o (admit (routes r) id o now)
   step r (event.Flush o now kind) = at_lane r o (λ l. flush l now kind)
+  step r (event.Choose o w now) = at_lane r o (λ l. choose l w now)
   step r (event.Up o w server salt now) =
-      at_lane r o (λ l. at_worker l w (up (config l).servers server now))
+      at_lane r o (λ l. at_worker l w (up (config l) server salt now))
   step r (event.Take o w now) = at_lane r o (λ l. take l w now)
   step r (event.Load o w now) = at_lane r o (λ l. at_worker l w (load now))
   step r (event.Wrote o w count) =
       at_lane r o (λ l. at_worker l w (λ x. at_session x (wrote count)))
   step r (event.Heard o w bytes) =
-      at_lane r o (λ l. at_worker l w (λ x. at_session x (heard (run r) o bytes)))
+      at_lane r o (λ l. at_worker l w (λ x. at_session x (heard bytes)))
+  step r (event.Late o w now) =
+      at_lane r o (λ l. at_worker l w (λ x. at_session x (late now)))
   step r (event.Settle o w) = at_lane r o (λ l. settle l w)
+  step r (event.End o w kind now) = at_lane r o (λ l. end l w kind now)
   step r (event.Collect id o) = at_both r id o (collect id)
   step r (event.Forget id o) = at_lane r o (λ l. forget l id)
   step r (event.Drained id count) = at_source r id (λ s. drained s count)

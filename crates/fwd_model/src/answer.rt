@@ -1,5 +1,6 @@
-use crate::fault::{Refusal, SessionFault};
+use crate::fault::Refusal;
 use fwd_msgpack::{Bytes, Seq};
+use fwd_session::SessionFault;
 use fwd_source::SourceFault;
 
 /// What the relay answers to an event. `out` is what the event appended to the bytes that wait to
@@ -38,6 +39,10 @@ pub enum Answer {
     Closed {
         chunks: usize,
     },
+    /// The server that the worker tries, by its place in the output's list, if one is usable.
+    Chose {
+        server: Option<u16>,
+    },
     /// Nothing else is to be told.
     Done,
     /// The worker has the chunk of this number, with so many entries.
@@ -55,6 +60,10 @@ pub enum Answer {
     Quiet {
         out: Bytes,
     },
+    /// The handshake is done: chunks may be loaded.
+    Ready {
+        out: Bytes,
+    },
     /// The server acknowledged the session's chunk.
     Acked {
         out: Bytes,
@@ -64,6 +73,14 @@ pub enum Answer {
     /// The chunk, of so many entries, is settled.
     Settled {
         entries: usize,
+    },
+    /// Whether the session is late. Then it is down.
+    Late {
+        late: bool,
+    },
+    /// The session is no more. The chunk of this number is put back, if there was one.
+    Ended {
+        number: Option<u64>,
     },
     /// The connection's requests of these numbers are told that all their entries were
     /// acknowledged.

@@ -1,19 +1,26 @@
-ghost use Rattle.std.specs.Prelude.{◌≤◌, ◌^◌, length};
+ghost use Rattle.std.specs.Prelude.{◌≡◌, ◌≤◌, ◌^◌, length, not, true};
+ghost use Rattle.std.specs.List.{list_any};
 
 use fwd_chunks::BufferLimits;
-use fwd_handshake::Security;
+use fwd_handshake::{Login, Security};
 use fwd_match::Routes;
 use fwd_msgpack::Seq;
 
 /// What one output is set to.
-#[derive(Clone, Copy, Debug, PartialEq, Eq)]
+#[derive(Drop)]
 pub struct OutputConfig {
     /// How many workers it has.
     pub workers: u16,
-    /// How many servers it has.
-    pub servers: u16,
-    /// What its buffer is limited to.
+    /// Which of its servers are standbys, in file order: 1 to 16 servers, and not all of them are.
+    pub standby: Seq<bool>,
+    /// What its buffer is limited to. Its waits after losses are its servers' too.
     pub limits: BufferLimits,
+    /// How long a session waits for what its server owes it, in milliseconds.
+    pub ack_wait: u64,
+    /// What its sessions prove to their servers.
+    pub login: Login,
+    ghost few: { length standby ≤ 16 },
+    ghost has_primary: { list_any not standby ≡ true },
 }
 
 /// What a relay is set to.

@@ -1,5 +1,15 @@
 use fwd_chunks::FlushKind;
 use fwd_msgpack::Bytes;
+use fwd_session::OwnedSalt;
+
+/// How a session's link ended.
+#[derive(Clone, Copy, Debug, PartialEq, Eq)]
+pub enum EndKind {
+    /// Nothing was lost with it.
+    Kept,
+    /// The server was lost.
+    Lost,
+}
 
 /// What happens to the relay. Moments are in milliseconds.
 #[derive(Debug, Drop)]
@@ -27,12 +37,18 @@ pub enum Event {
         now: u64,
         kind: FlushKind,
     },
-    /// A worker of an output has a link to one of the output's servers.
+    /// A worker of an output asks which of the output's servers it is to try.
+    Choose {
+        output: u16,
+        worker: u16,
+        now: u64,
+    },
+    /// A worker of an output has a link to one of the output's servers. The salt is for the PING.
     Up {
         output: u16,
         worker: u16,
         server: u16,
-        salt: Bytes,
+        salt: OwnedSalt,
         now: u64,
     },
     /// A worker takes the least free chunk of its output.
@@ -63,6 +79,19 @@ pub enum Event {
     Settle {
         output: u16,
         worker: u16,
+    },
+    /// It is asked whether a session is late.
+    Late {
+        output: u16,
+        worker: u16,
+        now: u64,
+    },
+    /// A worker's session is no more, and a chunk that it has goes back to its output.
+    End {
+        output: u16,
+        worker: u16,
+        kind: EndKind,
+        now: u64,
     },
     /// A connection's requests whose entries are all acknowledged are told so.
     Collect {

@@ -8,40 +8,27 @@ ghost use Rattle.std.specs.Prelude.{
   List,
   [],
   length,
-  take,
-  drop,
   Option,
-  None,
   Some,
   true,
   false,
+  is_some,
   slice_get,
 };
-ghost use Rattle.fwd_msgpack.specs.declared.fault.ScanFault.{ScanFault};
-ghost use Rattle.fwd_msgpack.specs.Scans.{Whole, Short, Bad, first_of};
 ghost use Rattle.fwd_source.specs.History.{SourceHistory};
 ghost use Rattle.fwd_model.specs.declared.answer.Answer.TheVariants as answer;
 ghost use Rattle.fwd_model.specs.declared.config.Config.{Config};
 ghost use Rattle.fwd_model.specs.declared.event.Event.{Event};
 ghost use Rattle.fwd_model.specs.declared.event.Event.TheVariants as event;
 ghost use Rattle.fwd_model.specs.declared.fault.Refusal.TheVariants.{NotNow};
-ghost use Rattle.fwd_model.specs.declared.fault.SessionFault.{SessionFault};
-ghost use Rattle.fwd_model.specs.declared.fault.SessionFault.TheVariants.{BadReply};
 ghost use Rattle.fwd_model.specs.Outcome.{answer_of, state_of, within, is_refusal};
 ghost use Rattle.fwd_model.specs.Step.{step, answers, after};
 ghost use Rattle.fwd_chunks.specs.Cells.{has_number};
 ghost use Rattle.fwd_model.specs.Outputs.{count_at};
 ghost use Rattle.fwd_model.specs.Books.{Untold, Told, Admission};
-ghost use Rattle.fwd_model.specs.Replies.{
-  reply_of,
-  reply_then,
-  replies_in,
-  reply_stream,
-  rest_of,
-  silence,
-  failing,
-};
-ghost use Rattle.fwd_model.specs.Sessions.{SessionHistory, is_handed_on, replies_to};
+ghost use Rattle.fwd_chunks.specs.History.{Load};
+ghost use Rattle.fwd_session.specs.declared.fault.SessionFault.{SessionFault};
+ghost use Rattle.fwd_session.specs.History.{SessionHistory, is_handed_on, says};
 ghost use Rattle.fwd_model.specs.History.{History, Lane, histories, source_at, counts, IsReached};
 ghost use Rattle.fwd_model.specs.Delivered.{IsTold, IsToldAmong, IsDelivered, reached};
 ghost use Rattle.fwd_model.specs.Live.{LiveRelay, live, lives, live_relay_counts};
@@ -70,26 +57,6 @@ pub fn refusal_changes_nothing()
     ensures live { (r : LiveRelay) (e : Event)
         → is_refusal (answer_of (step lives r e)) ≡ true →
         state_of r (step lives r e) ≡ r }
-{}
-
-/// What a server's bytes say where a name is awaited, and what is left of them, by what stands at
-/// their front.
-pub fn replies_by_front()
-    ensures whole { (awaited : Option (List ℕ)) (bytes : List ℕ) (used : ℕ) →
-        first_of 65536 64 bytes ≡ Whole used →
-        replies_in awaited (reply_stream bytes) ≡ reply_then (reply_of awaited (take used bytes))
-        (replies_in awaited (reply_stream (drop used bytes)))
-        (replies_in None (reply_stream (drop used bytes))) }
-    ensures behind { (bytes : List ℕ) (used : ℕ) → first_of 65536 64 bytes ≡ Whole used →
-        rest_of (reply_stream bytes) ≡ rest_of (reply_stream (drop used bytes)) }
-    ensures short { (awaited : Option (List ℕ)) (bytes : List ℕ)
-        → first_of 65536 64 bytes ≡ Short →
-        replies_in awaited (reply_stream bytes) ≡ silence }
-    ensures rest { (bytes : List ℕ) → first_of 65536 64 bytes ≡ Short
-        → rest_of (reply_stream bytes) ≡ bytes }
-    ensures bad { (awaited : Option (List ℕ)) (bytes : List ℕ) (fault : ScanFault) →
-        first_of 65536 64 bytes ≡ Bad fault
-        → replies_in awaited (reply_stream bytes) ≡ failing BadReply }
 {}
 
 /// Whoever is told was delivered: where a connection was told, among any list of events, that a
@@ -131,7 +98,7 @@ pub fn told_without_entries()
 pub fn early_reply_settles_nothing()
     ensures { (h : History) (o w : ℕ) (bytes : List ℕ) (l : Lane) (s : SessionHistory) →
         slice_get h.lanes o ≡ Some l → slice_get l.sessions w ≡ Some (Some s)
-        → s.accepted ≡ false →
+        → is_some s.reply ≡ false →
         is_handed_on s ≡ false →
         answer_of
         (step histories (state_of h (step histories h (event.Heard o w bytes)))
@@ -142,15 +109,15 @@ pub fn early_reply_settles_nothing()
 /// An acknowledgement that was accepted before a fault in the same piece stands: the fault is
 /// answered, and the chunk can be settled.
 pub fn acknowledgement_before_fault_stands()
-    ensures { (h : History) (o w k : ℕ) (bytes : List ℕ) (l : Lane) (s : SessionHistory)
+    ensures { (h : History) (o w : ℕ) (c : Load) (bytes : List ℕ) (l : Lane) (s : SessionHistory)
         (f : SessionFault) →
         slice_get h.lanes o ≡ Some l → slice_get l.sessions w ≡ Some (Some s)
         → s.down ≡ false →
-        s.loaded ≡ Some k → (replies_to s h.run o bytes).accepted ≡ true →
-        (replies_to s h.run o bytes).fault ≡ Some f →
+        s.loaded ≡ Some c → is_some (says s bytes).reply ≡ true →
+        (says s bytes).fault ≡ Some f →
         (answer_of (step histories h (event.Heard o w bytes)) ≡ answer.SessionFaulted f)
         × (answer_of
         (step histories (state_of h (step histories h (event.Heard o w bytes)))
         (event.Settle o w))
-        ≡ answer.Settled (count_at k l.output)) }
+        ≡ answer.Settled (count_at c.number l.output)) }
 {}

@@ -12,12 +12,13 @@ mod laws;
 pub use answer::Answer;
 pub use cell::Entered;
 pub use config::{Config, OutputConfig};
-pub use event::Event;
-pub use fault::{Refusal, SessionFault};
+pub use event::{EndKind, Event};
+pub use fault::Refusal;
 pub use fwd_chunks::{BufferLimits, Counts, FlushKind, Span};
+pub use fwd_session::{OwnedSalt, SessionFault};
 pub use fwd_source::{Origin, SourceFault};
 pub use laws::{
     acknowledgement_before_fault_stands, early_reply_settles_nothing, live_follows,
-    live_run_follows, marked_is_told, refusal_changes_nothing, replies_by_front,
-    told_among_is_delivered, told_is_delivered, told_without_entries,
+    live_run_follows, marked_is_told, refusal_changes_nothing, told_among_is_delivered,
+    told_is_delivered, told_without_entries,
 };

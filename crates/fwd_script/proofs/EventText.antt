@@ -10,10 +10,12 @@ use Rattle.std.proofs.lemmas.Fmt.{IsAscii-decimal}
 use Rattle.hex.specs.Hex.{encode_lower, lower_digits}
 use Rattle.hex.proofs.HexLemmas.{IsAscii-encode_with}
 use Rattle.fwd_model.specs.declared.event.Event.{Event}
+use Rattle.fwd_model.specs.declared.event.EndKind.{EndKind}
+use Rattle.fwd_model.specs.declared.event.EndKind.TheVariants.{Kept, Lost}
 use Rattle.fwd_chunks.specs.declared.flush.FlushKind.{FlushKind}
 use Rattle.fwd_chunks.specs.declared.flush.FlushKind.TheVariants.{Due, All}
 use Rattle.fwd_script.specs.Words.{hex_text}
-use Rattle.fwd_script.specs.Lines.{Kind, Long, Short, Hex, Sixteen, Closing, Meaning, Fits, text_at, Field, kind_text, form_of, words_of, line_of, AllFit, InRange, event_of}
+use Rattle.fwd_script.specs.Lines.{Kind, Long, Short, Hex, Sixteen, Salt, Closing, Ending, Meaning, Fits, text_at, Field, kind_text, ending_text, form_of, words_of, line_of, AllFit, InRange, event_of}
 use Rattle.fwd_script.proofs.Spelling.{spelled, event_of-some}
 
 -- a text whose bytes pass the test
@@ -45,6 +47,10 @@ IsAscii-kind : (k : FlushKind) → IsAscii (kind_text k)
 IsAscii-kind Due = IsAscii-tested (codes "due") refl
 IsAscii-kind All = IsAscii-tested (codes "all") refl
 
+IsAscii-ending : (k : EndKind) → IsAscii (ending_text k)
+IsAscii-ending Kept = IsAscii-tested (codes "kept") refl
+IsAscii-ending Lost = IsAscii-tested (codes "lost") refl
+
 IsAscii-words : (ws : List (List ℕ)) → AllAscii ws → IsAscii (join_with_byte 32 ws)
 IsAscii-words [] h = IsAscii-nil
 IsAscii-words (first ∷ more) h = IsAscii-join first more h
@@ -55,7 +61,9 @@ IsAscii-text_at Long n r = IsAscii-decimal n r
 IsAscii-text_at Short n r = IsAscii-decimal n (omega arith)
 IsAscii-text_at Hex bytes r = IsAscii-hex_text bytes
 IsAscii-text_at Sixteen bytes r = IsAscii-hex bytes
+IsAscii-text_at Salt bytes r = IsAscii-hex_text bytes
 IsAscii-text_at Closing kind r = IsAscii-kind kind
+IsAscii-text_at Ending kind r = IsAscii-ending kind
 
 AllAscii-fields : (fields : List Field) → AllFit fields
     → AllAscii (map (λ f. text_at f.0 f.1) fields)

@@ -1,17 +1,17 @@
 -- Bytes as lower-case hexadecimal digits, in both directions.
-use Rattle.std.proofs.Common.{◌≡◌, ℕ, zero, suc, ◌+◌, ◌*◌, ◌<◌, ◌/◌, ◌%◌, ◌==◌, ◌&&◌, ◌||◌, Bool, true, false, not, cond, List, [], ◌∷◌, length, slice_index, Option, Some, None, Result, Ok, Err, refl, sym, ap, ◌∙◌, arith, inl, inr, ◌⊎◌}
+use Rattle.std.proofs.Common.{◌≡◌, ℕ, zero, suc, ◌+◌, ◌*◌, ◌^◌, ◌<◌, ◌/◌, ◌%◌, ◌==◌, ◌&&◌, ◌||◌, Bool, true, false, not, cond, nat_lt, List, [], ◌∷◌, length, slice_index, Option, Some, None, Result, Ok, Err, refl, sym, ap, ◌∙◌, arith, inl, inr, ◌⊎◌}
 use Rattle.std.specs.Prelude.{codes, option_and_then}
 use Rattle.std.specs.Char.{is_ascii_hexdigit, is_ascii_uppercase}
 use Rattle.std.specs.List.{list_all, list_any}
 use Rattle.std.specs.Result.{result_ok}
 use Rattle.std.specs.Str.{bytes_eq}
-use Rattle.std.proofs.lemmas.Bool.{and_parts, cases_lt, eqb-true, false≢true}
+use Rattle.std.proofs.lemmas.Bool.{and_parts, cases_lt, eqb-true, false≢true, lt-ltb, ltb-true}
 use Rattle.std.proofs.lemmas.Bool.Decides.{nat_tests}
 use Rattle.std.proofs.lemmas.List.Sums.{AllPass-from_list_all, list_all-from_AllPass}
 use Rattle.hex.specs.Hex.{IsBytes, encode_lower, encode_with, lower_digits, decode_of, decode_pairs, decode_sized, digit_or_error, is_hex_digit, pair_value, value_at, hex_digit_value, ◌>>=◌}
 use Rattle.hex.specs.declared.error.FromHexError.{FromHexError}
 use Rattle.hex.proofs.HexLemmas.{IsDigits-lower_digits, decode_of-digits, decode_of-encode_lower, decode_of-ok, decode_sized-encode_lower, decode_of-even, decode_sized-ok, decode_sized-twice, length-encode_with}
-use Rattle.fwd_script.specs.Words.{hex_text, is_hex, spelled, bytes_of, sixteen_of}
+use Rattle.fwd_script.specs.Words.{hex_text, is_hex, spelled, bytes_of, sixteen_of, salt_of}
 use Rattle.fwd_script.proofs.WordLemmas.{bytes_eq-same, bytes_eq-true, chosen_some}
 
 -- what an `Ok` after `>>=` shows
@@ -321,3 +321,19 @@ sixteen_of-decoded word low (Err x) e =
     sixteen_of-none word (λ bytes fits len is.
     let read : decode_sized word 16 ≡ Ok bytes = rw is (decode_sized-encode_lower bytes 16 len fits) in
     cc)
+
+-- ---- a salt
+
+pub salt_of-some : (word bytes : List ℕ) → salt_of word ≡ Some bytes
+    → IsBytes bytes × (length bytes < 2 ^ 32) × (word ≡ hex_text bytes)
+unfolding salt_of
+salt_of-some word bytes e =
+    let found = then_some (bytes_of word) _ bytes e in
+    let c = chosen_some (nat_lt (length found.0) (2 ^ 32)) found.0 bytes found.2 in
+    let s = bytes_of-some word found.0 found.1 in
+    rw (← c.1) (s.0, ltb-true _ _ c.0, s.1)
+
+pub salt_of-hex_text : (bytes : List ℕ) → IsBytes bytes → length bytes < 2 ^ 32
+    → salt_of (hex_text bytes) ≡ Some bytes
+unfolding salt_of
+salt_of-hex_text bytes fits lt = rw (bytes_of-hex_text bytes fits, lt-ltb (length bytes) (2 ^ 32) lt) refl

@@ -10,3 +10,4 @@ pub mod History
 pub mod Examples
 pub mod Results
 pub mod CheckLemmas
+pub mod Ranges

@@ -1,5 +1,5 @@
 -- A line spells an event exactly where it is that event's line.
-use Rattle.std.proofs.Common.{◌≡◌, ℕ, suc, ◌^◌, ◌<◌, ◌==◌, ◌/◌, ◌%◌, true, false, nat_lt, cond, List, [], ◌∷◌, ◌++◌, map, Option, Some, None, refl, sym, ap, ◌∙◌, arith, inl, inr}
+use Rattle.std.proofs.Common.{◌≡◌, ℕ, suc, ◌^◌, ◌<◌, ◌==◌, ◌/◌, ◌%◌, true, false, nat_lt, cond, List, [], ◌∷◌, ◌++◌, map, Option, Some, None, refl, sym, ap, ◌∙◌, arith, inl, inr, ◌⊎◌}
 use Rattle.std.specs.Prelude.{codes, ◌↔◌}
 use Rattle.std.specs.List.{list_any, list_all, join_with_byte}
 use Rattle.std.specs.Str.{bytes_eq}
@@ -11,13 +11,15 @@ use Rattle.std.proofs.lemmas.Str.Parse.{digit_from_value}
 use Rattle.std.proofs.lemmas.List.Splits.{join_with_byte-slice_split}
 use Rattle.hex.specs.Hex.{IsBytes, encode_lower, encode_with}
 use Rattle.fwd_model.specs.declared.event.Event.{Event}
-use Rattle.fwd_model.specs.declared.event.Event.TheVariants.{Accept, Piece, Admit, Flush, Up, Take, Load, Wrote, Heard, Settle, Collect, Forget, Drained, Shut}
+use Rattle.fwd_model.specs.declared.event.Event.TheVariants.{Accept, Piece, Admit, Flush, Choose, Up, Take, Load, Wrote, Heard, Settle, Late, End, Collect, Forget, Drained, Shut}
+use Rattle.fwd_model.specs.declared.event.EndKind.{EndKind}
+use Rattle.fwd_model.specs.declared.event.EndKind.TheVariants.{Kept, Lost}
 use Rattle.fwd_chunks.specs.declared.flush.FlushKind.{FlushKind}
 use Rattle.fwd_chunks.specs.declared.flush.FlushKind.TheVariants.{Due, All}
 use Rattle.fwd_script.specs.Words.{words, hex_text}
-use Rattle.fwd_script.specs.Lines.{Kind, Long, Short, Hex, Sixteen, Closing, Meaning, Fits, text_at, Field, kind_text, form_of, words_of, line_of, AllFit, InRange, kind_of, read_at, Makes, read_as, named, of_words, event_of}
+use Rattle.fwd_script.specs.Lines.{Kind, Long, Short, Hex, Sixteen, Salt, Closing, Ending, Meaning, Fits, text_at, Field, kind_text, ending_text, form_of, words_of, line_of, AllFit, InRange, kind_of, ending_of, read_at, Makes, read_as, worker_named, named, of_words, event_of}
 use Rattle.fwd_script.proofs.WordLemmas.{bytes_eq-true, number_of-some, number_of-decimal}
-use Rattle.fwd_script.proofs.HexText.{chosen, then_some, or_false, no_space, bytes_of-some, bytes_of-hex_text, sixteen_of-some, sixteen_of-encode_lower}
+use Rattle.fwd_script.proofs.HexText.{chosen, then_some, or_false, no_space, bytes_of-some, bytes_of-hex_text, sixteen_of-some, sixteen_of-encode_lower, salt_of-some, salt_of-hex_text}
 
 -- ---- words and the spaces between them
 
@@ -97,23 +99,47 @@ just x = Some x
 some_is : {A : Type 0} (x y : A) → just x ≡ just y → x ≡ y
 some_is x y e = cc
 
+-- a word that is one of two, and what it stands for
+one_of_two : {A : Type 0} (word first second : List ℕ) (a b x : A)
+    → cond (bytes_eq word first) (Some a) (cond (bytes_eq word second) (Some b) None) ≡ Some x
+    → ((a ≡ x) × (word ≡ first)) ⊎ ((b ≡ x) × (word ≡ second))
+one_of_two word first second a b x h =
+    elim (chosen (bytes_eq word first) (Some a) (cond (bytes_eq word second) (Some b) None) (Some x) h) [
+      | inl is ↦ inl (some_is a x is.1, bytes_eq-true word first is.0)
+      | inr other ↦
+          elim (chosen (bytes_eq word second) (Some b) None (Some x) other.1) [
+            | inl is ↦ inr (some_is b x is.1, bytes_eq-true word second is.0)
+            | inr neither ↦ absurd (let bad = neither.1 in cc)
+          ]
+    ]
+
 kind_of-some : (word : List ℕ) (k : FlushKind) → kind_of word ≡ Some k
     → word ≡ kind_text k
 unfolding kind_of
 kind_of-some word k h =
-    elim (chosen (bytes_eq word (codes "due")) (Some Due) (cond (bytes_eq word (codes "all")) (Some All) None) (Some k) h) [
-      | inl due ↦ rw (← some_is Due k due.1) (bytes_eq-true word (codes "due") due.0)
-      | inr other ↦
-          elim (chosen (bytes_eq word (codes "all")) (Some All) None (Some k) other.1) [
-            | inl all ↦ rw (← some_is All k all.1) (bytes_eq-true word (codes "all") all.0)
-            | inr neither ↦ absurd (let bad = neither.1 in cc)
-          ]
+    elim (one_of_two word (codes "due") (codes "all") Due All k h) [
+      | inl due ↦ rw (← due.0) due.1
+      | inr all ↦ rw (← all.0) all.1
     ]
 
 kind_of-kind_text : (k : FlushKind) → kind_of (kind_text k) ≡ Some k
 unfolding kind_of
 kind_of-kind_text Due = refl
 kind_of-kind_text All = refl
+
+ending_of-some : (word : List ℕ) (k : EndKind) → ending_of word ≡ Some k
+    → word ≡ ending_text k
+unfolding ending_of
+ending_of-some word k h =
+    elim (one_of_two word (codes "kept") (codes "lost") Kept Lost k h) [
+      | inl kept ↦ rw (← kept.0) kept.1
+      | inr lost ↦ rw (← lost.0) lost.1
+    ]
+
+ending_of-ending_text : (k : EndKind) → ending_of (ending_text k) ≡ Some k
+unfolding ending_of
+ending_of-ending_text Kept = refl
+ending_of-ending_text Lost = refl
 
 -- a word that is read is the spelling of what it says
 read_at-some : (kind : Kind) (word : List ℕ) (x : Meaning kind)
@@ -122,7 +148,9 @@ read_at-some Long word n h = number_of-some (2 ^ 64) word n h
 read_at-some Short word n h = number_of-some (2 ^ 16) word n h
 read_at-some Hex word bytes h = bytes_of-some word bytes h
 read_at-some Sixteen word bytes h = let s = sixteen_of-some word bytes h in ((s.0, s.1), s.2)
+read_at-some Salt word bytes h = let s = salt_of-some word bytes h in ((s.0, s.1), s.2)
 read_at-some Closing word kind h = (tt, kind_of-some word kind h)
+read_at-some Ending word kind h = (tt, ending_of-some word kind h)
 
 -- a spelling is read
 read_at-text_at : (kind : Kind) (x : Meaning kind) → Fits kind x
@@ -131,7 +159,9 @@ read_at-text_at Long n r = number_of-decimal (2 ^ 64) n r r
 read_at-text_at Short n r = number_of-decimal (2 ^ 16) n r (omega arith)
 read_at-text_at Hex bytes r = bytes_of-hex_text bytes r
 read_at-text_at Sixteen bytes r = sixteen_of-encode_lower bytes r.0 r.1
+read_at-text_at Salt bytes r = salt_of-hex_text bytes r.0 r.1
 read_at-text_at Closing kind r = kind_of-kind_text kind
+read_at-text_at Ending kind r = ending_of-ending_text kind
 
 -- words that are read are the spellings of what they say
 read_as-some : (kinds : List Kind) (make : Makes kinds) (ws : List (List ℕ)) (e : Event)
@@ -182,6 +212,20 @@ if_named name text kinds make form other ws e is_other h =
       | inr is_not ↦ is_other is_not.1
     ]
 
+worker_named-some : (name : List ℕ) (ws : List (List ℕ)) (e : Event)
+    → worker_named name ws ≡ Some e → InRange e × (name ∷ ws ≡ words_of e)
+unfolding worker_named
+worker_named-some name ws e =
+    if_named name (codes "choose") (Short ∷ Short ∷ Long ∷ []) Choose (λ xs. refl) _ ws e (
+    if_named name (codes "up") (Short ∷ Short ∷ Short ∷ Salt ∷ Long ∷ []) Up (λ xs. refl) _ ws e (
+    if_named name (codes "take") (Short ∷ Short ∷ Long ∷ []) Take (λ xs. refl) _ ws e (
+    if_named name (codes "load") (Short ∷ Short ∷ Long ∷ []) Load (λ xs. refl) _ ws e (
+    if_named name (codes "wrote") (Short ∷ Short ∷ Long ∷ []) Wrote (λ xs. refl) _ ws e (
+    if_named name (codes "heard") (Short ∷ Short ∷ Hex ∷ []) Heard (λ xs. refl) _ ws e (
+    if_named name (codes "settle") (Short ∷ Short ∷ []) Settle (λ xs. refl) _ ws e (
+    if_named name (codes "late") (Short ∷ Short ∷ Long ∷ []) Late (λ xs. refl) _ ws e (
+    if_named name (codes "end") (Short ∷ Short ∷ Ending ∷ Long ∷ []) End (λ xs. refl) None ws e (λ none. absurd cc)))))))))
+
 named-some : (name : List ℕ) (ws : List (List ℕ)) (e : Event) → named name ws ≡ Some e
     → InRange e × (name ∷ ws ≡ words_of e)
 unfolding named
@@ -190,16 +234,10 @@ named-some name ws e =
     if_named name (codes "piece") (Long ∷ Hex ∷ []) Piece (λ xs. refl) _ ws e (
     if_named name (codes "admit") (Long ∷ Short ∷ Long ∷ []) Admit (λ xs. refl) _ ws e (
     if_named name (codes "flush") (Short ∷ Long ∷ Closing ∷ []) Flush (λ xs. refl) _ ws e (
-    if_named name (codes "up") (Short ∷ Short ∷ Short ∷ Hex ∷ Long ∷ []) Up (λ xs. refl) _ ws e (
-    if_named name (codes "take") (Short ∷ Short ∷ Long ∷ []) Take (λ xs. refl) _ ws e (
-    if_named name (codes "load") (Short ∷ Short ∷ Long ∷ []) Load (λ xs. refl) _ ws e (
-    if_named name (codes "wrote") (Short ∷ Short ∷ Long ∷ []) Wrote (λ xs. refl) _ ws e (
-    if_named name (codes "heard") (Short ∷ Short ∷ Hex ∷ []) Heard (λ xs. refl) _ ws e (
-    if_named name (codes "settle") (Short ∷ Short ∷ []) Settle (λ xs. refl) _ ws e (
     if_named name (codes "collect") (Long ∷ Short ∷ []) Collect (λ xs. refl) _ ws e (
     if_named name (codes "forget") (Long ∷ Short ∷ []) Forget (λ xs. refl) _ ws e (
     if_named name (codes "drained") (Long ∷ Long ∷ []) Drained (λ xs. refl) _ ws e (
-    if_named name (codes "shut") (Long ∷ []) Shut (λ xs. refl) None ws e (λ none. absurd cc))))))))))))))
+    if_named name (codes "shut") (Long ∷ []) Shut (λ xs. refl) (worker_named name ws) ws e (worker_named-some name ws e))))))))
 
 of_words-some : (ws : List (List ℕ)) (e : Event) → of_words ws ≡ Some e → InRange e
     × (ws ≡ words_of e)
@@ -216,17 +254,20 @@ pub record IsSpelled (e : Event) : Type 0 where
   pub has_no_space : Lacks (form_of e).0
 
 pub spelled : (e : Event) → InRange e → IsSpelled e
-unfolding of_words named
+unfolding of_words named worker_named
 spelled (Accept conn nonce auth) r = record { is_read = read_as-texts (Long ∷ Sixteen ∷ Sixteen ∷ []) Accept (conn, (nonce, (auth, tt))) r; is_ascii = refl; has_no_space = refl }
 spelled (Piece conn bytes) r = record { is_read = read_as-texts (Long ∷ Hex ∷ []) Piece (conn, (bytes, tt)) r; is_ascii = refl; has_no_space = refl }
 spelled (Admit conn output now) r = record { is_read = read_as-texts (Long ∷ Short ∷ Long ∷ []) Admit (conn, (output, (now, tt))) r; is_ascii = refl; has_no_space = refl }
 spelled (Flush output now kind) r = record { is_read = read_as-texts (Short ∷ Long ∷ Closing ∷ []) Flush (output, (now, (kind, tt))) r; is_ascii = refl; has_no_space = refl }
-spelled (Up output worker server salt now) r = record { is_read = read_as-texts (Short ∷ Short ∷ Short ∷ Hex ∷ Long ∷ []) Up (output, (worker, (server, (salt, (now, tt))))) r; is_ascii = refl; has_no_space = refl }
+spelled (Choose output worker now) r = record { is_read = read_as-texts (Short ∷ Short ∷ Long ∷ []) Choose (output, (worker, (now, tt))) r; is_ascii = refl; has_no_space = refl }
+spelled (Up output worker server salt now) r = record { is_read = read_as-texts (Short ∷ Short ∷ Short ∷ Salt ∷ Long ∷ []) Up (output, (worker, (server, (salt, (now, tt))))) r; is_ascii = refl; has_no_space = refl }
 spelled (Take output worker now) r = record { is_read = read_as-texts (Short ∷ Short ∷ Long ∷ []) Take (output, (worker, (now, tt))) r; is_ascii = refl; has_no_space = refl }
 spelled (Load output worker now) r = record { is_read = read_as-texts (Short ∷ Short ∷ Long ∷ []) Load (output, (worker, (now, tt))) r; is_ascii = refl; has_no_space = refl }
 spelled (Wrote output worker count) r = record { is_read = read_as-texts (Short ∷ Short ∷ Long ∷ []) Wrote (output, (worker, (count, tt))) r; is_ascii = refl; has_no_space = refl }
 spelled (Heard output worker bytes) r = record { is_read = read_as-texts (Short ∷ Short ∷ Hex ∷ []) Heard (output, (worker, (bytes, tt))) r; is_ascii = refl; has_no_space = refl }
 spelled (Settle output worker) r = record { is_read = read_as-texts (Short ∷ Short ∷ []) Settle (output, (worker, tt)) r; is_ascii = refl; has_no_space = refl }
+spelled (Late output worker now) r = record { is_read = read_as-texts (Short ∷ Short ∷ Long ∷ []) Late (output, (worker, (now, tt))) r; is_ascii = refl; has_no_space = refl }
+spelled (End output worker kind now) r = record { is_read = read_as-texts (Short ∷ Short ∷ Ending ∷ Long ∷ []) End (output, (worker, (kind, (now, tt)))) r; is_ascii = refl; has_no_space = refl }
 spelled (Collect conn output) r = record { is_read = read_as-texts (Long ∷ Short ∷ []) Collect (conn, (output, tt)) r; is_ascii = refl; has_no_space = refl }
 spelled (Forget conn output) r = record { is_read = read_as-texts (Long ∷ Short ∷ []) Forget (conn, (output, tt)) r; is_ascii = refl; has_no_space = refl }
 spelled (Drained conn count) r = record { is_read = read_as-texts (Long ∷ Long ∷ []) Drained (conn, (count, tt)) r; is_ascii = refl; has_no_space = refl }
@@ -236,12 +277,18 @@ Lacks-kind : (k : FlushKind) → Lacks (kind_text k)
 Lacks-kind Due = refl
 Lacks-kind All = refl
 
+Lacks-ending : (k : EndKind) → Lacks (ending_text k)
+Lacks-ending Kept = refl
+Lacks-ending Lost = refl
+
 Lacks-text_at : (kind : Kind) (x : Meaning kind) → Fits kind x → Lacks (text_at kind x)
 Lacks-text_at Long n r = Lacks-decimal n r
 Lacks-text_at Short n r = Lacks-decimal n (omega arith)
 Lacks-text_at Hex bytes r = Lacks-hex_text bytes r
 Lacks-text_at Sixteen bytes r = Lacks-encode_lower bytes r.0
+Lacks-text_at Salt bytes r = Lacks-hex_text bytes r.0
 Lacks-text_at Closing kind r = Lacks-kind kind
+Lacks-text_at Ending kind r = Lacks-ending kind
 
 AllLack-texts : (fields : List Field) → AllFit fields → AllLack (texts fields)
 AllLack-texts [] r = tt

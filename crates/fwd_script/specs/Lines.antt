@@ -5,21 +5,25 @@ use Rattle.std.specs.Str.{bytes_eq}
 use Rattle.std.specs.Fmt.{decimal}
 use Rattle.hex.specs.Hex.{encode_lower, IsBytes}
 use Rattle.fwd_model.specs.declared.event.Event.{Event}
-use Rattle.fwd_model.specs.declared.event.Event.TheVariants.{Accept, Piece, Admit, Flush, Up, Take, Load, Wrote, Heard, Settle, Collect, Forget, Drained, Shut}
+use Rattle.fwd_model.specs.declared.event.Event.TheVariants.{Accept, Piece, Admit, Flush, Choose, Up, Take, Load, Wrote, Heard, Settle, Late, End, Collect, Forget, Drained, Shut}
+use Rattle.fwd_model.specs.declared.event.EndKind.{EndKind}
+use Rattle.fwd_model.specs.declared.event.EndKind.TheVariants.{Kept, Lost}
 use Rattle.fwd_chunks.specs.declared.flush.FlushKind.{FlushKind}
 use Rattle.fwd_chunks.specs.declared.flush.FlushKind.TheVariants.{Due, All}
-use Rattle.fwd_script.specs.Words.{◌>>=◌, words, hex_text, number_of, bytes_of, sixteen_of}
+use Rattle.fwd_script.specs.Words.{◌>>=◌, words, hex_text, number_of, bytes_of, sixteen_of, salt_of}
 
 -- ---- what a word says
 
--- the kinds of words: a number of 64 or of 16 bits, any bytes, sixteen bytes, and which open
--- chunks a flush closes
+-- the kinds of words: a number of 64 or of 16 bits, any bytes, sixteen bytes, the bytes of a
+-- PING's salt, which open chunks a flush closes, and how a session's link ended
 pub data Kind : Type 0 where
   Long : Kind
   Short : Kind
   Hex : Kind
   Sixteen : Kind
+  Salt : Kind
   Closing : Kind
+  Ending : Kind
 
 -- what a word of a kind says
 abbrev pub Meaning : Kind → Type 0
@@ -27,7 +31,9 @@ Meaning Long = ℕ
 Meaning Short = ℕ
 Meaning Hex = List ℕ
 Meaning Sixteen = List ℕ
+Meaning Salt = List ℕ
 Meaning Closing = FlushKind
+Meaning Ending = EndKind
 
 -- it is in range
 abbrev pub Fits : (kind : Kind) → Meaning kind → Type 0
@@ -35,12 +41,19 @@ Fits Long n = n < 2 ^ 64
 Fits Short n = n < 2 ^ 16
 Fits Hex bytes = IsBytes bytes
 Fits Sixteen bytes = IsBytes bytes × (length bytes ≡ 16)
+Fits Salt bytes = IsBytes bytes × (length bytes < 2 ^ 32)
 Fits Closing kind = Unit {0}
+Fits Ending kind = Unit {0}
 
 -- which open chunks a flush closes, in a word
 abbrev pub kind_text : FlushKind → List ℕ
 kind_text Due = codes "due"
 kind_text All = codes "all"
+
+-- how a session's link ended, in a word
+abbrev pub ending_text : EndKind → List ℕ
+ending_text Kept = codes "kept"
+ending_text Lost = codes "lost"
 
 -- its one spelling: numbers in decimal, bytes in hexadecimal
 abbrev pub text_at : (kind : Kind) → Meaning kind → List ℕ
@@ -48,7 +61,9 @@ text_at Long n = decimal n
 text_at Short n = decimal n
 text_at Hex bytes = hex_text bytes
 text_at Sixteen bytes = encode_lower bytes
+text_at Salt bytes = hex_text bytes
 text_at Closing kind = kind_text kind
+text_at Ending kind = ending_text kind
 
 -- ---- the line of an event
 
@@ -65,9 +80,11 @@ form_of (Admit conn output now) =
     (codes "admit", (Long, conn) ∷ (Short, output) ∷ (Long, now) ∷ [])
 form_of (Flush output now kind) =
     (codes "flush", (Short, output) ∷ (Long, now) ∷ (Closing, kind) ∷ [])
+form_of (Choose output worker now) =
+    (codes "choose", (Short, output) ∷ (Short, worker) ∷ (Long, now) ∷ [])
 form_of (Up output worker server salt now) = (
   codes "up",
-  (Short, output) ∷ (Short, worker) ∷ (Short, server) ∷ (Hex, salt)
+  (Short, output) ∷ (Short, worker) ∷ (Short, server) ∷ (Salt, salt)
       ∷ (Long, now) ∷ [],
 )
 form_of (Take output worker now) =
@@ -79,6 +96,12 @@ form_of (Wrote output worker count) =
 form_of (Heard output worker bytes) =
     (codes "heard", (Short, output) ∷ (Short, worker) ∷ (Hex, bytes) ∷ [])
 form_of (Settle output worker) = (codes "settle", (Short, output) ∷ (Short, worker) ∷ [])
+form_of (Late output worker now) =
+    (codes "late", (Short, output) ∷ (Short, worker) ∷ (Long, now) ∷ [])
+form_of (End output worker kind now) = (
+  codes "end",
+  (Short, output) ∷ (Short, worker) ∷ (Ending, kind) ∷ (Long, now) ∷ [],
+)
 form_of (Collect conn output) = (codes "collect", (Long, conn) ∷ (Short, output) ∷ [])
 form_of (Forget conn output) = (codes "forget", (Long, conn) ∷ (Short, output) ∷ [])
 form_of (Drained conn count) = (codes "drained", (Long, conn) ∷ (Long, count) ∷ [])
@@ -110,13 +133,22 @@ kind_of word =
     else if bytes_eq word (codes "all") then Some All
     else None
 
+-- how a session's link ended, by its word
+unfoldable pub ending_of : List ℕ → Option EndKind
+ending_of word =
+    if bytes_eq word (codes "kept") then Some Kept
+    else if bytes_eq word (codes "lost") then Some Lost
+    else None
+
 -- what a word of a kind says, if it is a spelling
 abbrev pub read_at : (kind : Kind) → List ℕ → Option (Meaning kind)
 read_at Long word = number_of (2 ^ 64) word
 read_at Short word = number_of (2 ^ 16) word
 read_at Hex word = bytes_of word
 read_at Sixteen word = sixteen_of word
+read_at Salt word = salt_of word
 read_at Closing word = kind_of word
+read_at Ending word = ending_of word
 
 -- what makes an event of the words of some kinds
 abbrev pub Makes : List Kind → Type 0
@@ -132,6 +164,22 @@ read_as (kind ∷ kinds) make (word ∷ rest) = do
   x ← read_at kind word
   read_as kinds (make x) rest
 
+-- the event of a worker, by its name and the words after it
+unfoldable pub worker_named : List ℕ → List (List ℕ) → Option Event
+worker_named name rest =
+    if bytes_eq name (codes "choose") then read_as (Short ∷ Short ∷ Long ∷ []) Choose rest
+    else if bytes_eq name (codes "up")
+    then read_as (Short ∷ Short ∷ Short ∷ Salt ∷ Long ∷ []) Up rest
+    else if bytes_eq name (codes "take") then read_as (Short ∷ Short ∷ Long ∷ []) Take rest
+    else if bytes_eq name (codes "load") then read_as (Short ∷ Short ∷ Long ∷ []) Load rest
+    else if bytes_eq name (codes "wrote") then read_as (Short ∷ Short ∷ Long ∷ []) Wrote rest
+    else if bytes_eq name (codes "heard") then read_as (Short ∷ Short ∷ Hex ∷ []) Heard rest
+    else if bytes_eq name (codes "settle") then read_as (Short ∷ Short ∷ []) Settle rest
+    else if bytes_eq name (codes "late") then read_as (Short ∷ Short ∷ Long ∷ []) Late rest
+    else if bytes_eq name (codes "end")
+    then read_as (Short ∷ Short ∷ Ending ∷ Long ∷ []) End rest
+    else None
+
 -- the event of a name and the words after it
 unfoldable pub named : List ℕ → List (List ℕ) → Option Event
 named name rest =
@@ -140,18 +188,11 @@ named name rest =
     else if bytes_eq name (codes "admit") then read_as (Long ∷ Short ∷ Long ∷ []) Admit rest
     else if bytes_eq name (codes "flush")
     then read_as (Short ∷ Long ∷ Closing ∷ []) Flush rest
-    else if bytes_eq name (codes "up")
-    then read_as (Short ∷ Short ∷ Short ∷ Hex ∷ Long ∷ []) Up rest
-    else if bytes_eq name (codes "take") then read_as (Short ∷ Short ∷ Long ∷ []) Take rest
-    else if bytes_eq name (codes "load") then read_as (Short ∷ Short ∷ Long ∷ []) Load rest
-    else if bytes_eq name (codes "wrote") then read_as (Short ∷ Short ∷ Long ∷ []) Wrote rest
-    else if bytes_eq name (codes "heard") then read_as (Short ∷ Short ∷ Hex ∷ []) Heard rest
-    else if bytes_eq name (codes "settle") then read_as (Short ∷ Short ∷ []) Settle rest
     else if bytes_eq name (codes "collect") then read_as (Long ∷ Short ∷ []) Collect rest
     else if bytes_eq name (codes "forget") then read_as (Long ∷ Short ∷ []) Forget rest
     else if bytes_eq name (codes "drained") then read_as (Long ∷ Long ∷ []) Drained rest
     else if bytes_eq name (codes "shut") then read_as (Long ∷ []) Shut rest
-    else None
+    else worker_named name rest
 
 -- the event of a line's words
 unfoldable pub of_words : List (List ℕ) → Option Event

@@ -1,5 +1,5 @@
 -- The line of each answer, without its line feed.
-use Rattle.std.specs.Prelude.{ℕ, List, [], ◌∷◌, map, codes}
+use Rattle.std.specs.Prelude.{ℕ, Bool, true, false, List, [], ◌∷◌, map, codes, Option, Some, None}
 use Rattle.std.specs.List.{join_with_byte}
 use Rattle.std.specs.Fmt.{decimal}
 use Rattle.fwd_msgpack.specs.declared.fault.ScanFault.{ScanFault}
@@ -8,12 +8,12 @@ use Rattle.fwd_modes.specs.declared.fault.InputFault.{InputFault}
 use Rattle.fwd_modes.specs.declared.fault.InputFault.TheVariants.{BadShape, BadTag, BadEntry, BadOption, Compressed}
 use Rattle.fwd_source.specs.declared.fault.SourceFault.{SourceFault}
 use Rattle.fwd_source.specs.declared.fault.SourceFault.TheVariants.{Scan, Input, NotPing, Denied, Closed as SourceClosed}
-use Rattle.fwd_model.specs.declared.fault.SessionFault.{SessionFault}
-use Rattle.fwd_model.specs.declared.fault.SessionFault.TheVariants.{BadReply, WrongAck, EarlyAck}
+use Rattle.fwd_session.specs.declared.fault.SessionFault.{SessionFault}
+use Rattle.fwd_session.specs.declared.fault.SessionFault.TheVariants as session
 use Rattle.fwd_model.specs.declared.fault.Refusal.{Refusal}
 use Rattle.fwd_model.specs.declared.fault.Refusal.TheVariants as refusal
 use Rattle.fwd_model.specs.declared.answer.Answer.{Answer}
-use Rattle.fwd_model.specs.declared.answer.Answer.TheVariants.{Accepted, Requests, Faulted, Admitted, NoRoute, Full, NumbersSpent, Closed, Done, Took, TookNothing, Frame, Quiet, Acked, SessionFaulted, Settled, Told, Forgot, Refused, Memory}
+use Rattle.fwd_model.specs.declared.answer.Answer.TheVariants.{Accepted, Requests, Faulted, Admitted, NoRoute, Full, NumbersSpent, Closed, Chose, Done, Took, TookNothing, Frame, Quiet, Ready, Acked, SessionFaulted, Settled, Late, Ended, Told, Forgot, Refused, Memory}
 use Rattle.fwd_script.specs.Words.{hex_text}
 
 -- the name of each fault of a value's spelling
@@ -40,9 +40,12 @@ source_name SourceClosed = codes "Closed"
 
 -- the name of each fault of a server
 abbrev pub session_name : SessionFault → List ℕ
-session_name BadReply = codes "BadReply"
-session_name WrongAck = codes "WrongAck"
-session_name EarlyAck = codes "EarlyAck"
+session_name session.BadReply = codes "BadReply"
+session_name session.WrongAck = codes "WrongAck"
+session_name session.EarlyAck = codes "EarlyAck"
+session_name session.NotHelo = codes "NotHelo"
+session_name session.Denied = codes "Denied"
+session_name session.BadDigest = codes "BadDigest"
 
 -- the name of each refusal
 abbrev pub refusal_name : Refusal → List ℕ
@@ -74,6 +77,16 @@ abbrev pub told_words : List ℕ → List ℕ → List (List ℕ)
 told_words requests out =
     codes "told" ∷ list_text requests ∷ codes "out" ∷ hex_text out ∷ []
 
+-- a number in decimal, or `-` for none
+abbrev pub maybe_text : Option ℕ → List ℕ
+maybe_text (Some n) = decimal n
+maybe_text None = codes "-"
+
+-- yes or no, in a word
+abbrev pub yes_text : Bool → List ℕ
+yes_text true = codes "yes"
+yes_text false = codes "no"
+
 -- the words of an answer
 abbrev pub answer_words : Answer → List (List ℕ)
 answer_words (Accepted out) = out_words (codes "accepted") out
@@ -85,15 +98,19 @@ answer_words NoRoute = codes "fault" ∷ codes "NoRoute" ∷ []
 answer_words Full = codes "fault" ∷ codes "Full" ∷ []
 answer_words NumbersSpent = codes "fault" ∷ codes "NumbersSpent" ∷ []
 answer_words (Closed chunks) = codes "closed" ∷ decimal chunks ∷ []
+answer_words (Chose server) = codes "server" ∷ maybe_text server ∷ []
 answer_words Done = codes "done" ∷ []
 answer_words (Took number entries) =
     codes "took" ∷ decimal number ∷ codes "entries" ∷ decimal entries ∷ []
 answer_words TookNothing = codes "took" ∷ codes "-" ∷ []
 answer_words (Frame out) = codes "frame" ∷ hex_text out ∷ []
 answer_words (Quiet out) = out_words (codes "quiet") out
+answer_words (Ready out) = out_words (codes "ready") out
 answer_words (Acked out) = out_words (codes "acked") out
 answer_words (SessionFaulted fault) = codes "fault" ∷ session_name fault ∷ []
 answer_words (Settled entries) = codes "settled" ∷ decimal entries ∷ []
+answer_words (Late late) = codes "late" ∷ yes_text late ∷ []
+answer_words (Ended number) = codes "ended" ∷ maybe_text number ∷ []
 answer_words (Told requests out) = told_words requests out
 answer_words (Forgot requests) = codes "forgot" ∷ decimal requests ∷ []
 answer_words (Refused refused) = codes "refused" ∷ refusal_name refused ∷ []

@@ -1,5 +1,5 @@
 -- The words of a script line, and the numbers and bytes that they spell.
-use Rattle.std.specs.Prelude.{ℕ, ◌%◌, ◌==◌, ◌&&◌, not, Bool, nat_lt, if◌then◌else◌, List, [], ◌∷◌, length, codes, Option, Some, None, Result, Ok, Err, option_and_then}
+use Rattle.std.specs.Prelude.{ℕ, ◌%◌, ◌==◌, ◌&&◌, ◌^◌, not, Bool, nat_lt, if◌then◌else◌, List, [], ◌∷◌, length, codes, Option, Some, None, Result, Ok, Err, option_and_then}
 use Rattle.std.specs.Char.{is_ascii_hexdigit, is_ascii_uppercase}
 use Rattle.std.specs.List.{list_all, list_any, slice_split}
 use Rattle.std.specs.Str.{bytes_eq}
@@ -49,3 +49,9 @@ unfoldable pub sixteen_of : List ℕ → Option (List ℕ)
 sixteen_of word = do
   bytes ← bytes_of word
   if length bytes == 16 then Some bytes else None
+
+-- the bytes that a word spells, where a PING can hold them as its salt
+unfoldable pub salt_of : List ℕ → Option (List ℕ)
+salt_of word = do
+  bytes ← bytes_of word
+  if nat_lt (length bytes) (2 ^ 32) then Some bytes else None

@@ -3,14 +3,14 @@
 ghost use Rattle.std.specs.Prelude.{◌≡◌, ◌≢◌, ◌≤◌, ◌^◌, ◌<◌, true, map, length, vec_len, IfOk, Err};
 ghost use Rattle.std.specs.List.{list_all};
 ghost use Rattle.fwd_settings.specs.Ranges.{in_range, output_in_range, relay_in_range};
-ghost use Rattle.fwd_script.specs.Configs.{settings_text, numbers_known, numbers_set, user_of, IsConfig, Configures};
+ghost use Rattle.fwd_script.specs.Configs.{settings_text, parts_known, parts_set, user_of, IsConfig, Configures};
 
-use fwd_handshake::{Security, User};
+use fwd_handshake::{Login, Security, User};
 use fwd_match::{Pattern, Routes};
 use fwd_model::{BufferLimits, Config, OutputConfig};
 use fwd_msgpack::{Bytes, Seq};
 use fwd_settings::{
-    OutputSettings, RelaySettings, Settings, SettingsFault, Text, UserSettings,
+    OutputSettings, RelaySettings, ServerSettings, Settings, SettingsFault, Text, UserSettings,
     accepted_is_in_range, read_settings,
 };
 use std::alloc::{AllocError, Global};
@@ -42,14 +42,43 @@ fn settings_text(text: &[u8]) -> &[u8]
     if text.is_empty() { ROW_SETTINGS } else { text }
 }
 
-/// What an output is set to.
-fn config_for(output: &OutputSettings) -> OutputConfig
-    requires { output_in_range output.now ≡ true }
-    ensures { numbers_known result ≡ numbers_set output.now }
+/// Which servers are standbys.
+fn standbys_of(alloc: Global, servers: &[ServerSettings]) -> Result<Vec<bool>, AllocError>
+    ensures { IfOk result (λ list. list.items ≡ map (λ s. s.standby) servers.now) }
 {
-    OutputConfig {
+    servers.iter().map(|server| server.standby).collect(alloc)
+}
+
+/// What an output proves to its servers.
+fn login_of(alloc: Global, output: &OutputSettings) -> Result<Login, AllocError>
+    requires { output_in_range output.now ≡ true }
+    ensures hostname { IfOk result (λ login. login.hostname ≡ output.now.hostname) }
+    ensures key { IfOk result (λ login. login.shared_key ≡ output.now.shared_key) }
+    ensures username { IfOk result (λ login. login.username ≡ output.now.username) }
+    ensures password { IfOk result (λ login. login.password ≡ output.now.password) }
+{
+    let hostname = bytes_of(alloc, &output.hostname)?;
+    let shared_key = key_of(alloc, &output.shared_key)?;
+    let username = bytes_of(alloc, &output.username)?;
+    let password = bytes_of(alloc, &output.password)?;
+    Ok(Login {
+        hostname,
+        shared_key,
+        username,
+        password,
+    })
+}
+
+/// What an output is set to.
+fn config_for(alloc: Global, output: &OutputSettings) -> Result<OutputConfig, AllocError>
+    requires { output_in_range output.now ≡ true }
+    ensures { IfOk result (λ config. parts_known config ≡ parts_set output.now) }
+{
+    let standby = standbys_of(alloc, output.servers.as_slice())?;
+    let login = login_of(alloc, output)?;
+    Ok(OutputConfig {
         workers: output.workers,
-        servers: output.servers.len() as u16,
+        standby: Seq::from_vec(standby),
         limits: BufferLimits {
             chunk: output.chunk_limit as u32,
             total: output.total_limit,
@@ -58,19 +87,21 @@ fn config_for(output: &OutputSettings) -> OutputConfig
             retry_max: output.retry_max,
             first: 1,
         },
-    }
+        ack_wait: output.ack_wait,
+        login,
+    })
 }
 
 /// What each output is set to.
 fn configs_of(alloc: Global, outputs: &[OutputSettings]) -> Result<Vec<OutputConfig>, AllocError>
     requires { list_all output_in_range outputs.now ≡ true }
-    ensures numbers { IfOk result (λ configs.
-        map numbers_known configs.items ≡ map numbers_set outputs.now) }
+    ensures parts { IfOk result (λ configs.
+        map parts_known configs.items ≡ map parts_set outputs.now) }
     ensures count { IfOk result (λ configs. length configs.items ≡ length outputs.now) }
 {
     let mut configs = Vec::new(alloc);
     for output in outputs {
-        configs.push(config_for(output))?;
+        configs.push(config_for(alloc, output)?)?;
     }
     Ok(configs)
 }

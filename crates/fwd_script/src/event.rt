@@ -6,12 +6,15 @@ ghost use Rattle.fwd_model.specs.declared.event.Event.TheVariants.{
   Piece,
   Admit,
   Flush,
+  Choose,
   Up,
   Take,
   Load,
   Wrote,
   Heard,
   Settle,
+  Late,
+  End,
   Collect,
   Forget,
   Drained,
@@ -22,17 +25,21 @@ ghost use Rattle.fwd_script.specs.Lines.{
   Short,
   Hex,
   Sixteen,
+  Salt,
   Closing,
+  Ending,
   kind_of,
+  ending_of,
   read_as,
   named,
+  worker_named,
   event_of,
   InRange,
   line_of,
 };
 
-use crate::word::{bytes, number, sixteen, small_number, split_words};
-use fwd_model::{Event, FlushKind};
+use crate::word::{bytes, number, salt, sixteen, small_number, split_words};
+use fwd_model::{EndKind, Event, FlushKind};
 use std::alloc::{AllocError, Global};
 
 /// The event of a script line, where the line has the form of one: words with one space between
@@ -73,6 +80,29 @@ fn event_named(alloc: Global, name: &[u8], rest: &[&[u8]]) -> Result<Option<Even
         Ok(admit(rest))
     } else if name == b"flush".as_slice() {
         Ok(flush(rest))
+    } else if name == b"collect".as_slice() {
+        Ok(collect(rest))
+    } else if name == b"forget".as_slice() {
+        Ok(forget(rest))
+    } else if name == b"drained".as_slice() {
+        Ok(drained(rest))
+    } else if name == b"shut".as_slice() {
+        Ok(shut(rest))
+    } else {
+        worker_event_named(alloc, name, rest)
+    }
+}
+
+#[tactic(auto, unfolding(crate::specs::Lines::worker_named))]
+fn worker_event_named(
+    alloc: Global,
+    name: &[u8],
+    rest: &[&[u8]],
+) -> Result<Option<Event>, AllocError>
+    ensures { IfOk result (λ e. e ≡ worker_named name.now (map (λ w. w.now) rest.now)) }
+{
+    if name == b"choose".as_slice() {
+        Ok(choose(rest))
     } else if name == b"up".as_slice() {
         up(alloc, rest)
     } else if name == b"take".as_slice() {
@@ -85,14 +115,10 @@ fn event_named(alloc: Global, name: &[u8], rest: &[&[u8]]) -> Result<Option<Even
         heard(alloc, rest)
     } else if name == b"settle".as_slice() {
         Ok(settle(rest))
-    } else if name == b"collect".as_slice() {
-        Ok(collect(rest))
-    } else if name == b"forget".as_slice() {
-        Ok(forget(rest))
-    } else if name == b"drained".as_slice() {
-        Ok(drained(rest))
-    } else if name == b"shut".as_slice() {
-        Ok(shut(rest))
+    } else if name == b"late".as_slice() {
+        Ok(late(rest))
+    } else if name == b"end".as_slice() {
+        Ok(end(rest))
     } else {
         Ok(None)
     }
@@ -170,12 +196,27 @@ fn flush(words: &[&[u8]]) -> Option<Event>
 }
 
 #[tactic(auto, unfolding(crate::specs::Lines::read_as))]
+fn choose(words: &[&[u8]]) -> Option<Event>
+    ensures { result
+        ≡ read_as (Short ∷ Short ∷ Long ∷ []) Choose (map (λ w. w.now) words.now) }
+{
+    let [output, worker, now] = words else {
+        return None;
+    };
+    Some(Event::Choose {
+        output: small_number(output)?,
+        worker: small_number(worker)?,
+        now: number(now)?,
+    })
+}
+
+#[tactic(auto, unfolding(crate::specs::Lines::read_as))]
 fn up(alloc: Global, words: &[&[u8]]) -> Result<Option<Event>, AllocError>
     ensures { IfOk result (λ e.
-        e ≡ read_as (Short ∷ Short ∷ Short ∷ Hex ∷ Long
+        e ≡ read_as (Short ∷ Short ∷ Short ∷ Salt ∷ Long
         ∷ []) Up (map (λ w. w.now) words.now)) }
 {
-    let [output, worker, server, salt, now] = words else {
+    let [output, worker, server, word, now] = words else {
         return Ok(None);
     };
     let Some(output) = small_number(output) else {
@@ -187,7 +228,7 @@ fn up(alloc: Global, words: &[&[u8]]) -> Result<Option<Event>, AllocError>
     let Some(server) = small_number(server) else {
         return Ok(None);
     };
-    let Some(salt) = bytes(alloc, salt)? else {
+    let Some(salt) = salt(alloc, word)? else {
         return Ok(None);
     };
     Ok(number(now).map(|now| Event::Up {
@@ -276,6 +317,48 @@ fn settle(words: &[&[u8]]) -> Option<Event>
     Some(Event::Settle {
         output: small_number(output)?,
         worker: small_number(worker)?,
+    })
+}
+
+#[tactic(auto, unfolding(crate::specs::Lines::read_as))]
+fn late(words: &[&[u8]]) -> Option<Event>
+    ensures { result
+        ≡ read_as (Short ∷ Short ∷ Long ∷ []) Late (map (λ w. w.now) words.now) }
+{
+    let [output, worker, now] = words else {
+        return None;
+    };
+    Some(Event::Late {
+        output: small_number(output)?,
+        worker: small_number(worker)?,
+        now: number(now)?,
+    })
+}
+
+#[tactic(auto, unfolding(crate::specs::Lines::ending_of))]
+fn end_kind(word: &[u8]) -> Option<EndKind>
+    ensures { result ≡ ending_of word.now }
+{
+    match word {
+        b"kept" => Some(EndKind::Kept),
+        b"lost" => Some(EndKind::Lost),
+        _ => None,
+    }
+}
+
+#[tactic(auto, unfolding(crate::specs::Lines::read_as))]
+fn end(words: &[&[u8]]) -> Option<Event>
+    ensures { result
+        ≡ read_as (Short ∷ Short ∷ Ending ∷ Long ∷ []) End (map (λ w. w.now) words.now) }
+{
+    let [output, worker, kind, now] = words else {
+        return None;
+    };
+    Some(Event::End {
+        output: small_number(output)?,
+        worker: small_number(worker)?,
+        kind: end_kind(kind)?,
+        now: number(now)?,
     })
 }
 

@@ -1,9 +1,9 @@
-ghost use Rattle.std.specs.Prelude.{◌≡◌, ◌∷◌, map, IfOk};
+ghost use Rattle.std.specs.Prelude.{◌≡◌, ◌∷◌, [], map, IfOk};
 ghost use Rattle.std.specs.Fmt.{decimal};
 ghost use Rattle.std.specs.List.{join_with_byte};
 ghost use Rattle.std.specs.String.{string_bytes};
 ghost use Rattle.fwd_script.specs.Words.{hex_text};
-ghost use Rattle.fwd_script.specs.Texts.{scan_name, input_name, source_name, session_name, refusal_name, out_words, requests_words, faulted_words, list_text, told_words, text_of};
+ghost use Rattle.fwd_script.specs.Texts.{scan_name, input_name, source_name, session_name, refusal_name, out_words, requests_words, faulted_words, list_text, told_words, maybe_text, yes_text, text_of};
 
 use fwd_model::{Answer, Refusal, SessionFault, SourceFault};
 use fwd_modes::InputFault;
@@ -29,6 +29,7 @@ pub fn print_answer(alloc: Global, answer: &Answer) -> Result<String, AllocError
         Answer::Full => String::from_str(alloc, "fault Full"),
         Answer::NumbersSpent => String::from_str(alloc, "fault NumbersSpent"),
         Answer::Closed { chunks } => format!(in alloc; "closed {chunks}"),
+        Answer::Chose { server } => with_maybe(alloc, "server", server.map(u64::from)),
         Answer::Done => String::from_str(alloc, "done"),
         Answer::Took { number, entries } => format!(in alloc; "took {number} entries {entries}"),
         Answer::TookNothing => String::from_str(alloc, "took -"),
@@ -37,18 +38,15 @@ pub fn print_answer(alloc: Global, answer: &Answer) -> Result<String, AllocError
             format!(in alloc; "frame {out}")
         }
         Answer::Quiet { out } => with_out(alloc, "quiet", out.as_slice()),
+        Answer::Ready { out } => with_out(alloc, "ready", out.as_slice()),
         Answer::Acked { out } => with_out(alloc, "acked", out.as_slice()),
-        Answer::SessionFaulted(fault) => {
-            let name = session_fault_name(*fault);
-            format!(in alloc; "fault {name}")
-        }
+        Answer::SessionFaulted(fault) => with_name(alloc, "fault", session_fault_name(*fault)),
         Answer::Settled { entries } => format!(in alloc; "settled {entries}"),
+        Answer::Late { late } => with_name(alloc, "late", yes_or_no(*late)),
+        Answer::Ended { number } => with_maybe(alloc, "ended", *number),
         Answer::Told { requests, out } => told(alloc, requests.as_slice(), out.as_slice()),
         Answer::Forgot { requests } => format!(in alloc; "forgot {requests}"),
-        Answer::Refused(refusal) => {
-            let name = refusal_name(*refusal);
-            format!(in alloc; "refused {name}")
-        }
+        Answer::Refused(refusal) => with_name(alloc, "refused", refusal_name(*refusal)),
         Answer::Memory => String::from_str(alloc, "memory"),
     }
 }
@@ -60,6 +58,25 @@ fn with_out(alloc: Global, word: &str, out: &[u8]) -> Result<String, AllocError>
 {
     let out = hex_word(alloc, out)?;
     format!(in alloc; "{word} out {out}")
+}
+
+/// A word, and a name.
+fn with_name(alloc: Global, word: &str, name: &str) -> Result<String, AllocError>
+    ensures { IfOk result (λ text.
+        string_bytes text ≡ join_with_byte 32 (word.now ∷ name.now ∷ [])) }
+{
+    format!(in alloc; "{word} {name}")
+}
+
+/// A word, and the number in decimal, or `-` for none.
+fn with_maybe(alloc: Global, word: &str, number: Option<u64>) -> Result<String, AllocError>
+    ensures { IfOk result (λ text.
+        string_bytes text ≡ join_with_byte 32 (word.now ∷ maybe_text number ∷ [])) }
+{
+    match number {
+        Some(number) => format!(in alloc; "{word} {number}"),
+        None => format!(in alloc; "{word} -"),
+    }
 }
 
 /// A fault that closed a connection, and the requests before it.
@@ -104,6 +121,13 @@ fn hex_word(alloc: Global, bytes: &[u8]) -> Result<String, AllocError>
         return String::from_str(alloc, "-");
     }
     hex::encode(alloc, bytes)
+}
+
+/// Yes or no, in a word.
+fn yes_or_no(yes: bool) -> &'static str
+    ensures { result.now ≡ yes_text yes }
+{
+    if yes { "yes" } else { "no" }
 }
 
 /// The numbers in decimal with one comma between each two, or `-` for no numbers.
@@ -172,6 +196,9 @@ pub fn session_fault_name(fault: SessionFault) -> &'static str
         SessionFault::BadReply => "BadReply",
         SessionFault::WrongAck => "WrongAck",
         SessionFault::EarlyAck => "EarlyAck",
+        SessionFault::NotHelo => "NotHelo",
+        SessionFault::Denied => "Denied",
+        SessionFault::BadDigest => "BadDigest",
     }
 }
 

@@ -16,8 +16,9 @@ ghost use Rattle.std.specs.Prelude.{
 ghost use Rattle.std.specs.Char.{is_ascii_hexdigit, is_ascii_uppercase};
 ghost use Rattle.std.specs.List.{list_all, list_any};
 ghost use Rattle.std.specs.Str.Parse.{AllDigits, digits_value};
-ghost use Rattle.fwd_script.specs.Words.{words, is_hex, number_of, bytes_of, sixteen_of};
+ghost use Rattle.fwd_script.specs.Words.{words, is_hex, number_of, bytes_of, sixteen_of, salt_of};
 
+use fwd_model::OwnedSalt;
 use fwd_msgpack::Bytes;
 use hex::FromHex;
 use std::alloc::{AllocError, Global};
@@ -117,4 +118,15 @@ pub fn sixteen(word: &[u8]) -> Option<[u8; 16]>
         return None;
     }
     <[u8; 16] as FromHex>::from_hex(word).ok()
+}
+
+/// The salt that the word spells: less than 2^32 bytes.
+#[tactic(auto, unfolding(crate::specs::Words::salt_of))]
+pub fn salt(alloc: Global, word: &[u8]) -> Result<Option<OwnedSalt>, AllocError>
+    ensures { IfOk result (λ s. s ≡ salt_of word.now) }
+{
+    let Some(bytes) = bytes(alloc, word)? else {
+        return Ok(None);
+    };
+    Ok(OwnedSalt::new(bytes))
 }

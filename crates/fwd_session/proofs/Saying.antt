@@ -1,10 +1,10 @@
 -- What a server's bytes say: by what stands at their front, and by the name that is awaited.
-use Rattle.std.proofs.Common.{◌≡◌, ℕ, Bool, true, false, cond, List, [], ◌∷◌, take, drop, Option, Some, None, refl, sym, ap, subst, ◌∙◌}
-use Rattle.std.specs.Prelude.{option_map}
+use Rattle.std.proofs.Common.{◌≡◌, ℕ, zero, suc, Bool, true, false, cond, List, [], ◌∷◌, take, drop, Option, Some, None, refl, sym, ap, subst, ◌∙◌}
+use Rattle.std.specs.Prelude.{option_map, slice_get}
 use Rattle.std.specs.Str.{bytes_eq}
 use Rattle.std.proofs.lemmas.Slice.Eq.{bytes_eq-Decides}
 use Rattle.fwd_msgpack.specs.declared.fault.ScanFault.{ScanFault}
-use Rattle.fwd_msgpack.specs.Scans.{Split, split_of, with_front, Whole, Short, Bad, first_of}
+use Rattle.fwd_msgpack.specs.Scans.{Split, split_of, values_of, with_front, Whole, Short, Bad, first_of}
 use Rattle.fwd_msgpack.specs.Scans.Split.{Open, Broken}
 use Rattle.fwd_msgpack.proofs.Rows.{by_first, told_first, split_first}
 use Rattle.fwd_modes.specs.Kinds.{is_nil}
@@ -158,3 +158,36 @@ names-named b loaded None e = tt
 names-named true loaded (Some value) e = absurd e
 names-named false None (Some value) e = absurd e
 names-named false (Some c) (Some value) e = e
+
+-- ---- where the value stands that acknowledged
+
+-- the value that acknowledged, if one did, is one of these
+abbrev pub Placed : List (List ℕ) → Option (List ℕ) → Type 0
+Placed vs None = Unit {0}
+Placed vs (Some value) = (place : ℕ) × (slice_get vs place ≡ Some value)
+
+further : (v : List ℕ) (vs : List (List ℕ)) (reply : Option (List ℕ)) → Placed vs reply
+    → Placed (v ∷ vs) reply
+further v vs None p = tt
+further v vs (Some value) p = (suc p.0, p.1)
+
+placed_then : (at : Handshake) (a : Option (List ℕ)) (v : List ℕ) (vs : List (List ℕ))
+    (w : Word) (others : Handshake → Option (List ℕ) → Said)
+    → ((g : Handshake) (name : Option (List ℕ)) → Placed vs (others g name).reply)
+    → Placed (v ∷ vs) (word_then at a v w others).reply
+placed_then at a v vs Skipped others rest = further v vs (others at a).reply (rest at a)
+placed_then at a v vs (Greets out next) others rest = further v vs (others next a).reply (rest next a)
+placed_then at a v vs Acks others rest = (zero, refl)
+placed_then at a v vs (Fails f) others rest = tt
+
+placed : (login : Login) (salt : List ℕ) (at : Handshake) (a : Option (List ℕ))
+    (vs : List (List ℕ)) (end : Handshake → Said) → HasNoReply end
+    → Placed vs (said_of login salt at a vs end).reply
+placed login salt at a [] end none = subst (Placed []) (sym (none at)) tt
+placed login salt at a (v ∷ vs) end none =
+    placed_then at a v vs (word_of login salt at a v) (λ g name. said_of login salt g name vs end) (λ g name. placed login salt g name vs end none)
+
+pub placed_in : (login : Login) (salt : List ℕ) (at : Handshake) (a : Option (List ℕ))
+    (s : Split) → Placed (values_of s) (said_in login salt at a s).reply
+placed_in login salt at a (Open vs rest) = placed login salt at a vs silence (λ g. refl)
+placed_in login salt at a (Broken vs broken) = placed login salt at a vs (failing fault.BadReply) (λ g. refl)

@@ -1,6 +1,6 @@
 -- The definitions at work on small values and texts.
 use Rattle.std.proofs.Common.{◌≡◌, [], ◌∷◌, Some, None, pos, negsuc, refl}
-use Rattle.std.specs.Prelude.{codes}
+use Rattle.std.specs.Prelude.{codes, replicate}
 use Rattle.std.specs.Fmt.{digits}
 use Rattle.std.specs.Net.Reader.{read_number, read_octet, read_ipv4, read_segment, read_segments, read_ipv6, read_port, read_scope_id, read_socket_v4, read_socket_v6}
 use Rattle.hex.specs.Hex.{decode_pairs}
@@ -10,8 +10,8 @@ use Rattle.fwd_settings.specs.declared.place.Place.TheVariants.{Output, Server}
 use Rattle.fwd_settings.specs.declared.place.Flaw.TheVariants.{WrongKind, OutOfRange}
 use Rattle.fwd_settings.specs.Addresses.{v4_from, v6_from, socket_of, address_of_text}
 use Rattle.fwd_settings.specs.Faults.{key_under, fault_text}
-use Rattle.fwd_settings.specs.Kinds.{number_flaw, flag_flaw, text_flaw, digits_flaw, fault_at, setting_at, number_key, required_address_key}
-use Rattle.fwd_settings.specs.Keys.{retry_max, server_fault}
+use Rattle.fwd_settings.specs.Kinds.{number_flaw, flag_flaw, text_flaw, digits_flaw, fault_at, setting_at, number_key, text_key, optional_text_key, required_address_key}
+use Rattle.fwd_settings.specs.Keys.{retry_max, output_shared_key, login_table, first, server_fault}
 use Rattle.fwd_settings.specs.Unknown.{least}
 
 greatest_worker : number_flaw 1 16 (integer (pos 16)) ≡ None
@@ -83,6 +83,51 @@ below_the_wait : fault_at (Output 0) (member (codes "retry_max") (integer (pos 9
     (retry_max no_members) ≡ Some (faults.OutOfRange (codes "output[0].retry_max"))
 unfolding fault_at setting_at number_key digits
 below_the_wait = refl
+
+-- an output has no key of its own accord
+no_key : setting_at no_members output_shared_key ≡ None
+unfolding setting_at optional_text_key
+no_key = refl
+
+no_key_is_good : fault_at (Output 0) no_members output_shared_key ≡ None
+unfolding fault_at optional_text_key
+no_key_is_good = refl
+
+a_key_of_servers : setting_at (member (codes "shared_key") (string (codes "k")) no_members)
+    output_shared_key ≡ Some (codes "k")
+unfolding setting_at optional_text_key
+a_key_of_servers = refl
+
+a_longest_key : fault_at (Output 0)
+    (member (codes "shared_key") (string (replicate 1024 107)) no_members) output_shared_key
+    ≡ None
+unfolding fault_at optional_text_key
+a_longest_key = refl
+
+a_longer_key : fault_at (Output 0)
+    (member (codes "shared_key") (string (replicate 1025 107)) no_members) output_shared_key
+    ≡ Some (faults.OutOfRange (codes "output[0].shared_key"))
+unfolding fault_at optional_text_key digits
+a_longer_key = refl
+
+an_empty_key : fault_at (Output 0) (member (codes "shared_key") (string []) no_members)
+    output_shared_key ≡ Some (faults.OutOfRange (codes "output[0].shared_key"))
+unfolding fault_at optional_text_key digits
+an_empty_key = refl
+
+a_number_is_no_key : fault_at (Output 0)
+    (member (codes "shared_key") (integer (pos 1)) no_members) output_shared_key
+    ≡ Some (faults.WrongKind (codes "output[0].shared_key"))
+unfolding fault_at optional_text_key digits
+a_number_is_no_key = refl
+
+-- the key is judged before the user
+first_the_key : first (login_table 0
+    (member (codes "username") (integer (pos 1))
+    (member (codes "shared_key") (integer (pos 1)) no_members)))
+    ≡ Some (faults.WrongKind (codes "output[0].shared_key"))
+unfolding fault_at text_key optional_text_key digits
+first_the_key = refl
 
 -- the address is judged before the flag
 first_the_address : server_fault 0 1 (table (member (codes "standby") (integer (pos 1)) no_members))

@@ -13,7 +13,7 @@ use Rattle.fwd_settings.specs.declared.settings.Settings.{Settings}
 use Rattle.fwd_settings.specs.declared.settings.ServerSettings.{ServerSettings}
 use Rattle.fwd_settings.specs.Faults.{fault_with, key_under}
 use Rattle.fwd_settings.specs.Kinds.{Key, optional, required, given, unless_out, is_within, number_flaw, number_of, number_key, text_flaw, text_key, optional_text_key, required_text_key, data_in, list_flaw, list_of, required_list_key, allowed_list_flaw, optional_list_key, each, fault_at, setting_at}
-use Rattle.fwd_settings.specs.Keys.{first, table_in, outputs, relay_table, relay_settings, connections, relay_hostname, shared_key, users, user_name, user_password, user_table, user_fault, user_settings, output_table, output_fault, output_settings, retry_wait, username, password, servers, server_settings, is_standby, standby_fault}
+use Rattle.fwd_settings.specs.Keys.{first, table_in, outputs, relay_table, relay_settings, connections, relay_hostname, shared_key, users, user_name, user_password, user_table, user_fault, user_settings, output_table, output_fault, output_settings, retry_wait, output_shared_key, username, password, servers, server_settings, is_standby, standby_fault}
 use Rattle.fwd_settings.specs.Whole.{relay_fault, root_table, root_settings, judged, of_document, document_of, settings_of}
 use Rattle.fwd_settings.specs.Ranges.{user_in_range, key_in_range, have_key, relay_in_range, output_in_range, in_range}
 
@@ -114,10 +114,10 @@ key_given (Some (datetime x)) h = absurd cc
 key_given (Some (array x)) h = absurd cc
 key_given (Some (table x)) h = absurd cc
 
-key_within : (members : Members) → fault_at Relay members shared_key ≡ None
+key_within : (place : Place) (members : Members) → fault_at place members shared_key ≡ None
     → key_in_range (setting_at members shared_key) ≡ true
 unfolding setting_at optional_text_key
-key_within members h = key_given (get_member (codes "shared_key") members) (no_flaw Relay members shared_key h)
+key_within place members h = key_given (get_member (codes "shared_key") members) (no_flaw place members shared_key h)
 
 required_given : (least most : ℕ) (value : Option Data)
     → required (text_flaw least most) value ≡ None
@@ -200,7 +200,7 @@ relay_within : (members : Members) → first (relay_table members) ≡ None
     → relay_in_range (relay_settings members) ≡ true
 relay_within members h =
     let name = text_within Relay members (codes "hostname") 1 255 (codes "relay") refl (none_at (relay_table members) 2 (fault_at Relay members relay_hostname) h refl) in
-    let key = key_within members (none_at (relay_table members) 3 (fault_at Relay members shared_key) h refl) in
+    let key = key_within Relay members (none_at (relay_table members) 3 (fault_at Relay members shared_key) h refl) in
     let count = number_within Relay members (codes "connections") 1 1024 256 refl (none_at (relay_table members) 6 (fault_at Relay members connections) h refl) in
     let allowed = users_allowed members (none_at (relay_table members) 7 (fault_at Relay members (users members)) h refl) in
     let all = users_within 0 (setting_at members (users members)) (none_at (relay_table members) 8 (first (each user_fault 0 (setting_at members (users members)))) h refl) in
@@ -241,11 +241,12 @@ module _ (output : ℕ) (members : Members) (h : first (output_table output memb
   members_within =
       let wait = number_here 5 (codes "retry_wait") 1 86400000 1000 refl refl in
       let most = number_here 6 (codes "retry_max") (setting_at members retry_wait) 86400000 (max 60000 (setting_at members retry_wait)) (greater_default (setting_at members retry_wait) wait) refl in
-      let user = at_most 0 255 (length (setting_at members username)) (text_here 9 (codes "username") 0 (codes "") refl refl) in
-      let secret = at_most 0 255 (length (setting_at members password)) (text_here 10 (codes "password") 0 (codes "") refl refl) in
-      let listed = list_within (Output output) members (codes "server") 16 (none_at (output_table output members) 11 (fault_at (Output output) members servers) h refl) in
+      let key = key_within (Output output) members (none_at (output_table output members) 9 (fault_at (Output output) members output_shared_key) h refl) in
+      let user = at_most 0 255 (length (setting_at members username)) (text_here 10 (codes "username") 0 (codes "") refl refl) in
+      let secret = at_most 0 255 (length (setting_at members password)) (text_here 11 (codes "password") 0 (codes "") refl refl) in
+      let listed = list_within (Output output) members (codes "server") 16 (none_at (output_table output members) 12 (fault_at (Output output) members servers) h refl) in
       let count = ap (is_within 1 16) (length-map (setting_at members servers) server_settings) ∙ listed in
-      let usable = standby_none output (setting_at members servers) (none_at (output_table output members) 12 (standby_fault output (setting_at members servers)) h refl) in
+      let usable = standby_none output (setting_at members servers) (none_at (output_table output members) 13 (standby_fault output (setting_at members servers)) h refl) in
       grind (
         arith,
         nat_tests,
@@ -257,6 +258,7 @@ module _ (output : ℕ) (members : Members) (h : first (output_table output memb
         most,
         number_here 7 (codes "ack_wait") 1 86400000 190000 refl refl,
         text_here 8 (codes "hostname") 1 (codes "relay") refl refl,
+        key,
         user,
         secret,
         count,

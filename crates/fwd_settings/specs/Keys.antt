@@ -218,7 +218,9 @@ ack_wait = number_key (codes "ack_wait") 1 86400000 190000
 abbrev pub output_hostname : Key (List ℕ)
 output_hostname = text_key (codes "hostname") 1 255 (codes "relay")
 
--- here stands `shared_key`, a text of 1 to 1,024 bytes, once sessions log in
+-- the key that a server has to prove, if one is set: 1 to 1,024 bytes
+abbrev pub output_shared_key : Key (Option (List ℕ))
+output_shared_key = optional_text_key (codes "shared_key") 1 1024
 
 -- the name that servers ask for: at most 255 bytes
 abbrev pub username : Key (List ℕ)
@@ -238,8 +240,8 @@ output_names =
     codes "match" ∷ codes "workers" ∷ codes "chunk_limit" ∷ codes "total_limit"
     ∷ codes "flush_interval" ∷
     codes "retry_wait" ∷ codes "retry_max" ∷ codes "ack_wait" ∷ codes "hostname"
-    ∷ codes "username" ∷
-    codes "password" ∷ codes "server" ∷ []
+    ∷ codes "shared_key" ∷
+    codes "username" ∷ codes "password" ∷ codes "server" ∷ []
 
 -- the servers of an output, by their keys
 abbrev pub servers_in : Members → List ServerSettings
@@ -274,6 +276,7 @@ wait_table output members =
 abbrev pub login_table : ℕ → Members → List (Option SettingsFault)
 login_table output members =
     fault_at (Output output) members output_hostname ∷
+    fault_at (Output output) members output_shared_key ∷
     fault_at (Output output) members username ∷
     fault_at (Output output) members password ∷ []
 
@@ -312,6 +315,7 @@ output_waits output = record {
 abbrev pub output_login : Members → Login
 output_login output = record {
   hostname = setting_at output output_hostname;
+  shared_key = setting_at output output_shared_key;
   username = setting_at output username;
   password = setting_at output password;
 }
@@ -333,6 +337,7 @@ output_settings value = let output = table_of value in record {
   retry_max = setting_at output (retry_max output);
   ack_wait = setting_at output ack_wait;
   hostname = setting_at output output_hostname;
+  shared_key = setting_at output output_shared_key;
   username = setting_at output username;
   password = setting_at output password;
   servers = servers_in output;

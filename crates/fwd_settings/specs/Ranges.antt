@@ -40,10 +40,11 @@ output_in_range o =
     (is_within o.retry_wait 86400000 o.retry_max &&
     (is_within 1 86400000 o.ack_wait &&
     (is_within 1 255 (length o.hostname) &&
+    (key_in_range o.shared_key &&
     (nat_le (length o.username) 255 &&
     (nat_le (length o.password) 255 &&
     (is_within 1 16 (length o.servers)
-    && not (list_all (λ server. server.standby) o.servers)))))))))))
+    && not (list_all (λ server. server.standby) o.servers))))))))))))
 
 -- all settings are in their ranges
 abbrev pub in_range : Settings → Bool

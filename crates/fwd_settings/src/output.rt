@@ -37,6 +37,7 @@ struct Waits {
 #[derive(Drop)]
 struct Login {
     hostname: Text,
+    shared_key: Option<Text>,
     username: Text,
     password: Text,
 }
@@ -77,7 +78,7 @@ fn waits_in(alloc: Global, output: usize, table: &Table) -> Result<Waits, Settin
     })
 }
 
-/// The names and the password in an output's table.
+/// The names, the key and the password in an output's table.
 fn login_in(alloc: Global, output: usize, table: &Table) -> Result<Login, SettingsFault>
     ensures { let members = table_view table.now in
         Answers (first (login_table output members)) (output_login members) result }
@@ -85,10 +86,12 @@ fn login_in(alloc: Global, output: usize, table: &Table) -> Result<Login, Settin
     let place = Place::Output(output);
     let section = Section { place, table };
     let hostname = section.text(alloc, "hostname", 1, 255, "relay")?;
+    let shared_key = section.optional_text(alloc, "shared_key", 1, 1024)?;
     let username = section.text(alloc, "username", 0, 255, "")?;
     let password = section.text(alloc, "password", 0, 255, "")?;
     Ok(Login {
         hostname,
+        shared_key,
         username,
         password,
     })
@@ -133,6 +136,7 @@ fn output_in(alloc: Global, output: usize, table: &Table) -> Result<OutputSettin
         retry_max: waits.retry_max,
         ack_wait: waits.ack_wait,
         hostname: login.hostname,
+        shared_key: login.shared_key,
         username: login.username,
         password: login.password,
         servers,

@@ -47,7 +47,7 @@ pub struct UserSettings {
     pub password: Text,
 }
 
-/// The settings of an output. They are not printed, since they hold a password.
+/// The settings of an output. They are not printed, since the key and the password are secrets.
 #[derive(Drop)]
 pub struct OutputSettings {
     /// Which tags come here.
@@ -68,6 +68,9 @@ pub struct OutputSettings {
     pub ack_wait: u64,
     /// The name that it gives to its servers, 1 to 255 bytes.
     pub hostname: Text,
+    /// The key that its servers have to know, 1 to 1,024 bytes. Without one there is no handshake
+    /// with them.
+    pub shared_key: Option<Text>,
     /// The user that it is to its servers, 0 to 255 bytes.
     pub username: Text,
     /// The user's password, 0 to 255 bytes.

@@ -29,7 +29,7 @@ const RELAY: [&str; 8] = [
 
 const USER: [&str; 2] = ["name", "password"];
 
-const OUTPUT: [&str; 12] = [
+const OUTPUT: [&str; 13] = [
     "match",
     "workers",
     "chunk_limit",
@@ -39,6 +39,7 @@ const OUTPUT: [&str; 12] = [
     "retry_max",
     "ack_wait",
     "hostname",
+    "shared_key",
     "username",
     "password",
     "server",

@@ -1,9 +1,9 @@
 //! The relay where many requests wait.
 
-use crate::settings::{LIMITS, open_to_all, routes_of};
+use crate::settings::config_of;
 use fwd_core::Relay;
-use fwd_model::{Answer, Config, Event, OutputConfig};
-use fwd_msgpack::{Bytes, Seq};
+use fwd_model::{Answer, Event};
+use fwd_msgpack::Bytes;
 use std::alloc::{AllocError, Global};
 use std::process::Abort;
 use std::test::Fail;
@@ -13,17 +13,7 @@ const REQUEST: &[u8] = b"\x93\xa1a\x01\x80";
 
 /// A relay of one output that takes each tag.
 fn one_output(alloc: Global) -> Result<Relay, Fail> {
-    let output = OutputConfig {
-        workers: 1,
-        servers: 1,
-        limits: LIMITS,
-    };
-    let config = Config {
-        run: [0; 6],
-        routes: routes_of(alloc, &["**"])?,
-        security: open_to_all(alloc)?,
-        outputs: Seq::from_slice(alloc, &[output])?,
-    };
+    let config = config_of(alloc, [0; 6], &["**"], &[1])?;
     Ok(Relay::new(alloc, config)?)
 }
 

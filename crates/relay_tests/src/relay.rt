@@ -1,9 +1,9 @@
 //! The relay, called as a library.
 
-use crate::settings::{LIMITS, open_to_all, routes_of};
+use crate::settings::config_of;
 use fwd_core::Relay;
-use fwd_model::{Answer, Config, Event, FlushKind, OutputConfig, Refusal};
-use fwd_msgpack::{Bytes, Seq};
+use fwd_model::{Answer, Config, Event, FlushKind, OwnedSalt, Refusal};
+use fwd_msgpack::Bytes;
 use std::alloc::{AllocError, Global};
 use std::test::Fail;
 
@@ -13,24 +13,14 @@ const REQUEST: &[u8] = b"\x93\xa1a\x01\x80";
 /// The same, which asks for an acknowledgement with the text `x`.
 const ASKING_REQUEST: &[u8] = b"\x94\xa1a\x01\x80\x81\xa5chunk\xa1x";
 
+/// No salt, as where an output has no key.
+fn no_salt(alloc: Global) -> Result<OwnedSalt, AllocError> {
+    OwnedSalt::new(Bytes::new(alloc)).ok_or(AllocError)
+}
+
 /// The first output takes the tag `a`, the second each other.
 fn two_outputs(alloc: Global) -> Result<Config, Fail> {
-    let first = OutputConfig {
-        workers: 2,
-        servers: 1,
-        limits: LIMITS,
-    };
-    let second = OutputConfig {
-        workers: 1,
-        servers: 1,
-        limits: LIMITS,
-    };
-    Ok(Config {
-        run: [0xff; 6],
-        routes: routes_of(alloc, &["a", "**"])?,
-        security: open_to_all(alloc)?,
-        outputs: Seq::from_slice(alloc, &[first, second])?,
-    })
+    config_of(alloc, [0xff; 6], &["a", "**"], &[2, 1])
 }
 
 /// From a source's bytes to the frame.
@@ -59,7 +49,7 @@ fn seven_events(alloc: Global, source: &[u8]) -> Result<Vec<Event>, AllocError> 
         output: 0,
         worker: 1,
         server: 0,
-        salt: Bytes::new(alloc),
+        salt: no_salt(alloc)?,
         now: 5,
     })?;
     events.push(Event::Take {

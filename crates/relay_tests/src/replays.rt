@@ -1,4 +1,5 @@
-use fwd_model::{Answer, BufferLimits, OutputConfig};
+use crate::settings::LIMITS;
+use fwd_model::Answer;
 use fwd_msgpack::{Bytes, Seq};
 use fwd_script::{Status, print_answer, read_config, read_event, replay};
 use fwd_settings::SettingsFault;
@@ -94,19 +95,17 @@ fn reads_configs(rt: HostRuntime) -> Result<(), Fail> {
     };
     assert_eq!(rt; row.run, [0; 6]);
     assert_eq!(rt; row.routes.first(b"a.b"), Some(0));
-    let two_of_each = OutputConfig {
-        workers: 2,
-        servers: 2,
-        limits: BufferLimits {
-            chunk: 1000,
-            total: 100_000,
-            interval: 1000,
-            retry_wait: 500,
-            retry_max: 4000,
-            first: 1,
-        },
+    let [output] = row.outputs.as_slice() else {
+        return Err(Fail::from("not one output"));
     };
-    assert_eq!(rt; row.outputs.as_slice(), [two_of_each].as_slice());
+    assert_eq!(rt; output.workers, 2);
+    assert_eq!(rt; output.standby.as_slice(), [false, true].as_slice());
+    assert_eq!(rt; output.limits, LIMITS);
+    assert_eq!(rt; output.ack_wait, 10_000);
+    assert_eq!(rt; output.login.hostname.as_slice(), b"relay".as_slice());
+    assert!(rt; output.login.shared_key.is_none());
+    assert!(rt; output.login.username.is_empty());
+    assert!(rt; output.login.password.is_empty());
     Ok(())
 }
 

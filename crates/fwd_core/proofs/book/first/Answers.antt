@@ -1,4 +1,4 @@
-use Rattle.std.proofs.Common.{◌≡◌, ◌∷◌, [], true, sym, ap, ◌∙◌, rules}
+use Rattle.std.proofs.Common.{◌∷◌, [], sym, ap, ◌∙◌, rules}
 use Rattle.fwd_core.specs.Due.{is_one}
 use Rattle.fwd_core.proofs.DueLemmas.{some_passes, is_itself}
 use Rattle.fwd_core.proofs.book.first.Goals as goal

@@ -1,4 +1,4 @@
-use Rattle.std.proofs.Common.{◌≡◌, ◌∷◌, [], length, ap, sym, ◌∙◌, arith}
+use Rattle.std.proofs.Common.{◌∷◌, [], length, ap, sym, ◌∙◌, arith}
 use Rattle.std.specs.Prelude.{filter, not}
 use Rattle.fwd_model.specs.Books.{is_of, book_forgets}
 use Rattle.fwd_core.specs.Due.{is_one}
@@ -13,15 +13,16 @@ loop-origin-smaller c =
 
 pub loop-origin-preserved : goal.loop-origin-preserved
 loop-origin-preserved c =
-    let rs = c.loop-origin.output.book in (
-      ap (λ o. o.buffer) c.forget.ensures ∙ c.loop-origin.invariant.0,
-      ap (λ o. filter (λ q. not (is_of c.args.conn q)) o.book) c.forget.ensures
-          ∙ others_left c.args.conn c.in-Some.origin rs c.in-Some.ensures.some.0 ∙ c.loop-origin.invariant.1,
+    let own = c.loop-origin.output in
+    let is = c.forget.ensures in (
+      is ∙ (λ i. record (c.loop-origin.invariant.0 i) { book = filter (λ q. not (is_one (c.in-Some.origin ∷ []) q)) own.book })
+          ∙ (λ i. record (c.args.output.now) { book = sym (ap (λ o. o.book) is) i }),
+      ap (λ o. filter (λ q. not (is_of c.args.conn q)) o.book) is
+          ∙ others_left c.args.conn c.in-Some.origin own.book c.in-Some.ensures.some.0 ∙ c.loop-origin.invariant.1,
     )
 
 pub returns : goal.returns
 unfolding book_forgets
-returns c = λ i. record {
-  buffer = c.loop-origin.invariant.0 i;
-  book = (sym (all_others c.args.conn c.loop-origin.output.book c.in_default.ensures.none) ∙ c.loop-origin.invariant.1) i;
-}
+returns c =
+    c.loop-origin.invariant.0
+    ∙ (λ i. record (c.args.output.now) { book = (sym (all_others c.args.conn c.loop-origin.output.book c.in_default.ensures.none) ∙ c.loop-origin.invariant.1) i })

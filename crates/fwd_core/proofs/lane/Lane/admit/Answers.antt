@@ -1,6 +1,5 @@
 use Rattle.std.proofs.Common.{◌≡◌, sym, ap, subst}
-use Rattle.fwd_chunks.specs.Live.{live_enters}
-use Rattle.fwd_model.specs.Outputs.{LiveOutput, output_enters}
+use Rattle.fwd_model.specs.Outputs.{output_enters}
 use Rattle.fwd_core.specs.Lanes.{AreHeld}
 use Rattle.fwd_core.proofs.HeldLemmas.{held-enters, either_way}
 use Rattle.fwd_core.proofs.lane.Lane.admit.Goals as goal

@@ -1,4 +1,4 @@
-use Rattle.std.proofs.Common.{◌≡◌, sym, ap, subst}
+use Rattle.std.proofs.Common.{sym, ap, subst}
 use Rattle.fwd_core.specs.Lanes.{AreHeld}
 use Rattle.fwd_core.proofs.HeldLemmas.{held-flushes}
 use Rattle.fwd_core.proofs.lane.Lane.flush.Goals as goal

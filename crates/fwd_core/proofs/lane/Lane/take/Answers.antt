@@ -1,7 +1,6 @@
 use Rattle.std.proofs.lemmas.Option.{slice_get_read}
-use Rattle.std.proofs.Common.{◌≡◌, length, sym, ap, subst, ◌∙◌, Some, None}
+use Rattle.std.proofs.Common.{◌≡◌, length, sym, ap, subst, ◌∙◌, Some}
 use Rattle.std.specs.Prelude.{slice_get, slice_set, is_some}
-use Rattle.fwd_chunks.specs.Live.{live_takes}
 use Rattle.fwd_model.specs.Outcome.{answer_of, state_of, chunk_answer}
 use Rattle.fwd_model.specs.Step as steps
 use Rattle.fwd_model.specs.Live.{lives}

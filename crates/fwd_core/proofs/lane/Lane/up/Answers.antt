@@ -1,9 +1,11 @@
+use Rattle.std.proofs.lemmas.Result.{on_ok_weaker, IfOk-weaker}
 use Rattle.std.proofs.lemmas.Option.{slice_get_read}
-use Rattle.std.proofs.Common.{◌≡◌, length, true, sym, ap, subst, ◌∙◌, Some}
+use Rattle.std.proofs.Common.{◌≡◌, length, ap, ◌∙◌, Some}
 use Rattle.std.specs.Prelude.{slice_get}
 use Rattle.fwd_model.specs.Step as steps
 use Rattle.fwd_model.specs.Live.{lives}
 use Rattle.fwd_model.specs.Outcome.{answer_of, state_of}
+use Rattle.fwd_core.specs.Runs.{is_free}
 use Rattle.fwd_core.proofs.RelayLemmas.{worker_done, worker_told}
 use Rattle.fwd_core.proofs.HeldLemmas.{held-put}
 use Rattle.fwd_core.proofs.lane.Lane.up.Goals as goal
@@ -22,7 +24,15 @@ returns-clause-answer c =
     let x = c.index_mut.result.now in
     let size : c.len.result ≡ length workers.items = c.len.ensures ∙ workers.ok.0 in
     let here : slice_get workers.items c.from-place.result ≡ Some x = slice_get_read workers.items c.len.result c.from-place.result x size c.if-place-len.false c.index_mut.ensures.value in
-    c.up.ensures.answer ∙ ap (λ l. answer_of (steps.up lives l.config.servers c.args.server c.args.now x)) c.self.view_is ∙ worker_told _ c.args.self.now c.self.view_is c.args.worker c.from-place.result c.from-place.ensures x here (steps.up lives c.args.self.now.config.servers c.args.server c.args.now)
+    IfOk-weaker c.up.result _ _ (λ a e. e ∙ ap (λ l. answer_of (steps.up lives l.config c.args.server c.args.salt.now c.args.now x)) c.self.view_is ∙ worker_told _ c.args.self.now c.self.view_is c.args.worker c.from-place.result c.from-place.ensures x here (steps.up lives c.args.self.now.config c.args.server c.args.salt.now c.args.now)) c.up.ensures.answer
+
+pub returns-clause-sure : goal.returns-clause-sure
+returns-clause-sure c = λ free.
+    let workers = c.self.inside.workers in
+    let x = c.index_mut.result.now in
+    let size : c.len.result ≡ length workers.items = c.len.ensures ∙ workers.ok.0 in
+    let here : slice_get workers.items c.from-place.result ≡ Some x = slice_get_read workers.items c.len.result c.from-place.result x size c.if-place-len.false c.index_mut.ensures.value in
+    c.up.ensures.sure (ap is_free (ap (λ l. answer_of (steps.up lives l.config c.args.server c.args.salt.now c.args.now x)) c.self.view_is ∙ worker_told _ c.args.self.now c.self.view_is c.args.worker c.from-place.result c.from-place.ensures x here (steps.up lives c.args.self.now.config c.args.server c.args.salt.now c.args.now)) ∙ free)
 
 pub returns-clause-next : goal.returns-clause-next
 returns-clause-next c =
@@ -30,4 +40,4 @@ returns-clause-next c =
     let x = c.index_mut.result.now in
     let size : c.len.result ≡ length workers.items = c.len.ensures ∙ workers.ok.0 in
     let here : slice_get workers.items c.from-place.result ≡ Some x = slice_get_read workers.items c.len.result c.from-place.result x size c.if-place-len.false c.index_mut.ensures.value in
-    worker_done _ c.args.self.now c.self.view_is c.args.worker c.from-place.result c.from-place.ensures x c.up.new.self here (steps.up lives c.args.self.now.config.servers c.args.server c.args.now) (c.up.ensures.next ∙ ap (λ l. state_of x (steps.up lives l.config.servers c.args.server c.args.now x)) c.self.view_is)
+    on_ok_weaker c.up.result (λ d. worker_done _ c.args.self.now c.self.view_is c.args.worker c.from-place.result c.from-place.ensures x c.up.new.self here (steps.up lives c.args.self.now.config c.args.server c.args.salt.now c.args.now) (d ∙ ap (λ l. state_of x (steps.up lives l.config c.args.server c.args.salt.now c.args.now x)) c.self.view_is)) c.up.ensures.next

@@ -1,9 +1,8 @@
 use Rattle.std.proofs.lemmas.Option.{slice_get_read}
-use Rattle.std.proofs.Common.{◌≡◌, length, true, sym, ap, subst, ◌∙◌, Some}
+use Rattle.std.proofs.Common.{◌≡◌, length, ◌∙◌, Some}
 use Rattle.std.specs.Prelude.{slice_get}
 use Rattle.fwd_model.specs.Step as steps
 use Rattle.fwd_model.specs.Live.{lives}
-use Rattle.fwd_core.specs.Runs.{is_free}
 use Rattle.fwd_core.proofs.RelayLemmas.{worker_done, worker_told}
 use Rattle.fwd_core.proofs.HeldLemmas.{held-put}
 use Rattle.fwd_core.proofs.lane.Lane.wrote.Goals as goal

@@ -3,4 +3,4 @@ use Rattle.fwd_core.proofs.OpeningLemmas.{opening-live}
 use Rattle.fwd_core.proofs.relay.Relay.new.Goals as goal
 
 pub returns : goal.returns
-returns c = rw (opening-live c.args.config, c.in_ok-security.ensures.ok, c.new-connections.ensures.items, c.in_ok-lanes.ensures, c.as_slice.ensures) refl
+returns c = rw (opening-live c.args.config, c.in_ok-security.ensures.ok, c.new-connections.ensures.items, c.in_ok-lanes.ensures) refl

@@ -1,0 +1,323 @@
+//! A worker of an output: the chunk that it has, and its session.
+
+ghost use Rattle.std.specs.Prelude.{◌≡◌, ℕ, None, Some, false, true, is_some, not, nat_lt, length, option_map, IfOk, IsOk, IfSome, IfNone, OnOk, OnErr};
+ghost use Rattle.std.specs.Arc.{arc_value};
+ghost use Rattle.fwd_chunks.specs.History.{Load};
+ghost use Rattle.fwd_session.specs.Live.{LiveSession};
+ghost use Rattle.fwd_model.specs.Outcome.{answer_of, state_of, of_heard};
+ghost use Rattle.fwd_model.specs.Step.{at_session, up, load, wrote, heard, late, is_idle, has_acked, has_loaded, lost_server};
+ghost use Rattle.fwd_model.specs.Live.{lives};
+ghost use Rattle.fwd_core.specs.Lanes.{no_work, first_there, acked_in, server_in, worker_settled};
+ghost use Rattle.fwd_core.specs.Runs.{is_free};
+
+use crate::lane_config::LaneConfig;
+use fwd_chunks::Carried;
+use fwd_model::{Answer, EndKind, OwnedSalt, Refusal};
+use fwd_msgpack::Bytes;
+use fwd_session::{Acked, Heard, LoadFailed, Session, Told, frame_of};
+use std::alloc::{AllocError, Global};
+use std::marker::Model;
+use std::sync::Arc;
+
+/// A worker. Its chunk lies in its session once it is loaded.
+pub(crate) struct Worker {
+    chunk: Option<Carried>,
+    session: Option<Session>,
+}
+
+impl Model for Worker {
+    ghost use Rattle.std.specs.Prelude.{◌≡◌, Some, None};
+    ghost use Rattle.fwd_chunks.specs.History.{Load};
+    ghost use Rattle.fwd_session.specs.Live.{LiveSession};
+    ghost use Rattle.fwd_model.specs.Layers.{Worker};
+    ghost use Rattle.fwd_core.specs.Lanes.{first_there, loaded_in};
+
+    ghost Value = { Worker LiveSession };
+
+    ghost view = { λ w. record {
+      chunk = first_there w.chunk (loaded_in w.session);
+      session = w.session;
+    } };
+
+    ghost invariant = { λ w. (c : Load) → w.chunk ≡ Some c → loaded_in w.session ≡ None };
+}
+
+/// A worker ends together with its output, and so do its chunk and its session.
+impl Drop for Worker {
+    fn drop(self) {
+        let Worker { chunk, session } = self;
+        if let Some(carried) = chunk {
+            carried.spend();
+        }
+        if let Some(session) = session {
+            session.spend();
+        }
+    }
+}
+
+/// What a worker leaves at its end: its chunk, whether that was loaded, and the server that is
+/// lost.
+pub(crate) struct Leaving {
+    pub chunk: Option<Carried>,
+    pub lost: bool,
+    pub server: Option<u16>,
+}
+
+/// What a piece did, as an answer.
+fn answer_for(told: Told) -> Answer
+    ensures { (s : LiveSession) → result ≡ answer_of (of_heard told.heard told.out s) }
+{
+    let Told { heard, out } = told;
+    match heard {
+        Heard::Quiet => Answer::Quiet { out },
+        Heard::Ready => Answer::Ready { out },
+        Heard::Acked => Answer::Acked { out },
+        Heard::Fault(fault) => Answer::SessionFaulted(fault),
+        Heard::NotUp => Answer::Refused(Refusal::NotUp),
+    }
+}
+
+/// Puts a chunk where there is none.
+fn put(place: &mut Option<Carried>, chunk: Carried)
+    requires { place.old ≡ None }
+    ensures { place.new ≡ Some chunk }
+{
+    match place.replace(chunk) {
+        None => {}
+        Some(_) => unreachable!(),
+    }
+}
+
+/// The chunk that a worker took, or the one that its session has: it has not both.
+fn only_one(taken: Option<Carried>, loaded: Option<Carried>) -> Option<Carried>
+    requires { (c : Load) → taken ≡ Some c → loaded ≡ None }
+    ensures { result ≡ first_there taken loaded }
+{
+    let Some(chunk) = taken else {
+        return loaded;
+    };
+    match loaded {
+        None => Some(chunk),
+        Some(_) => unreachable!(),
+    }
+}
+
+impl Worker {
+    /// A worker that has nothing.
+    pub fn new() -> Self
+        ensures { result ≡ no_work }
+    {
+        Worker {
+            chunk: None,
+            session: None,
+        }
+    }
+
+    /// Whether it has a chunk, loaded or not.
+    pub fn has_chunk(&self) -> bool
+        ensures { result ≡ is_some self.now.chunk }
+    {
+        if self.chunk.is_some() {
+            return true;
+        }
+        match &self.session {
+            None => false,
+            Some(session) => session.has_chunk(),
+        }
+    }
+
+    /// Whether it has neither a chunk nor a session.
+    pub fn is_idle(&self) -> bool
+        ensures { result ≡ is_idle lives self.now }
+    {
+        self.chunk.is_none() && self.session.is_none()
+    }
+
+    /// Whether its chunk is acknowledged.
+    pub fn is_acked(&self) -> bool
+        ensures { result ≡ has_acked lives self.now.session }
+    {
+        match &self.session {
+            None => false,
+            Some(session) => session.is_acked(),
+        }
+    }
+
+    /// The worker, which has none, has the chunk, if there is one.
+    pub fn set_chunk(&mut self, chunk: Option<Carried>)
+        requires { self.old.chunk ≡ None }
+        ensures { self.new ≡ record { chunk = chunk; session = self.old.session } }
+    {
+        if let Some(carried) = chunk {
+            put(&mut self.chunk, carried);
+        }
+    }
+
+    /// The worker's session with one of the output's servers begins. On an error nothing has
+    /// changed.
+    pub fn up(
+        &mut self,
+        alloc: Global,
+        config: &LaneConfig,
+        server: u16,
+        salt: &OwnedSalt,
+        now: u64,
+    ) -> Result<Answer, AllocError>
+        ensures answer { IfOk result (λ a.
+            a ≡ answer_of (up lives config.now server salt.now now self.old)) }
+        ensures sure { is_free (answer_of (up lives config.now server salt.now now self.old)) ≡ true
+            → IsOk result }
+        ensures next { OnOk result (self.new
+            ≡ state_of self.old (up lives config.now server salt.now now self.old)) }
+        ensures chunk { self.new.chunk ≡ self.old.chunk }
+        ensures err { OnErr result (self.new ≡ self.old) }
+    {
+        if usize::from(server) >= config.servers() {
+            return Ok(Answer::Refused(Refusal::NoSuch));
+        }
+        if self.session.is_some() {
+            return Ok(Answer::Refused(Refusal::NotNow));
+        }
+        let session = config.session(alloc, server, salt, now)?;
+        match self.session.replace(session) {
+            None => Ok(Answer::Done),
+            Some(_) => unreachable!(),
+        }
+    }
+
+    /// The worker's chunk is put into its session. On an error nothing has changed.
+    pub fn load(&mut self, alloc: Global, now: u64) -> Result<Answer, AllocError>
+        ensures answer { IfOk result (λ a. a ≡ answer_of (load lives now self.old)) }
+        ensures sure { is_free (answer_of (load lives now self.old)) ≡ true → IsOk result }
+        ensures next { OnOk result (self.new ≡ state_of self.old (load lives now self.old)) }
+        ensures chunk { self.new.chunk ≡ self.old.chunk }
+        ensures err { OnErr result (self.new ≡ self.old) }
+    {
+        let Some(session) = &mut self.session else {
+            return Ok(Answer::Refused(Refusal::NotNow));
+        };
+        let Some(chunk) = self.chunk.take() else {
+            return Ok(Answer::Refused(Refusal::NotNow));
+        };
+        if !session.is_ready() {
+            put(&mut self.chunk, chunk);
+            return Ok(Answer::Refused(Refusal::NotUp));
+        }
+        let Ok(frame) = frame_of(alloc, &chunk) else {
+            put(&mut self.chunk, chunk);
+            return Err(AllocError);
+        };
+        match session.load(alloc, chunk, now) {
+            Ok(()) => Ok(Answer::Frame {
+                out: Bytes::from_vec(frame),
+            }),
+            Err(LoadFailed { chunk, error: _ }) => {
+                put(&mut self.chunk, chunk);
+                Err(AllocError)
+            }
+        }
+    }
+
+    /// The link took so many bytes of the worker's session.
+    pub fn wrote(&mut self, count: u64) -> Answer
+        ensures answer { result ≡ answer_of (at_session lives self.old (wrote lives count)) }
+        ensures next { self.new
+            ≡ state_of self.old (at_session lives self.old (wrote lives count)) }
+        ensures chunk { self.new.chunk ≡ self.old.chunk }
+    {
+        let Some(session) = &mut self.session else {
+            return Answer::Refused(Refusal::NotNow);
+        };
+        if count > session.out().len() as u64 {
+            return Answer::Refused(Refusal::NotNow);
+        }
+        session.wrote(count as usize);
+        Answer::Done
+    }
+
+    /// Bytes are read from the link of the worker's session. On an error nothing has changed.
+    pub fn heard(&mut self, alloc: Global, bytes: &[u8]) -> Result<Answer, AllocError>
+        ensures answer { IfOk result (λ a.
+            a ≡ answer_of (at_session lives self.old (heard lives bytes.now))) }
+        ensures sure { is_free (answer_of (at_session lives self.old (heard lives bytes.now)))
+            ≡ true → IsOk result }
+        ensures next { OnOk result (self.new
+            ≡ state_of self.old (at_session lives self.old (heard lives bytes.now))) }
+        ensures chunk { self.new.chunk ≡ self.old.chunk }
+        ensures err { OnErr result (self.new ≡ self.old) }
+    {
+        let Some(session) = &mut self.session else {
+            return Ok(Answer::Refused(Refusal::NotNow));
+        };
+        let told = session.heard(alloc, bytes)?;
+        Ok(answer_for(told))
+    }
+
+    /// It is asked whether the worker's session is late.
+    #[tactic(auto, unfolding(fwd_session::specs::Live::session_looks))]
+    pub fn late(&mut self, now: u64) -> Answer
+        ensures answer { result ≡ answer_of (at_session lives self.old (late lives now)) }
+        ensures next { self.new ≡ state_of self.old (at_session lives self.old (late lives now)) }
+        ensures chunk { self.new.chunk ≡ self.old.chunk }
+    {
+        let Some(session) = &mut self.session else {
+            return Answer::Refused(Refusal::NotNow);
+        };
+        match session.late(now) {
+            Ok(late) => Answer::Late { late },
+            Err(_) => Answer::Refused(Refusal::NotUp),
+        }
+    }
+
+    /// Takes out the chunk that was acknowledged, with what is kept of it.
+    pub fn acked(&mut self) -> Option<(Arc<Acked>, Carried)>
+        ensures chunk { option_map (λ pair. pair.1) result ≡ acked_in self.old.session }
+        ensures held { IfSome result (λ pair. self.old.chunk ≡ Some pair.1) }
+        ensures server { IfSome result (λ pair.
+            server_in self.old.session ≡ Some (arc_value pair.0).server) }
+        ensures settled { IfSome result (λ pair. self.new ≡ worker_settled self.old.session) }
+        ensures none { IfNone result (self.new ≡ self.old) }
+    {
+        match &mut self.session {
+            None => None,
+            Some(session) => session.acked(),
+        }
+    }
+
+    /// The worker has nothing any more. What it leaves goes back to its output.
+    pub fn end(&mut self, kind: EndKind) -> Leaving
+        requires { has_acked lives self.old.session ≡ false }
+        ensures chunk { result.chunk ≡ self.old.chunk }
+        ensures lost { result.lost ≡ has_loaded lives self.old.session }
+        ensures server { result.server ≡ lost_server lives kind self.old.session }
+        ensures idle { self.new ≡ no_work }
+    {
+        let chunk = self.chunk.take();
+        let Some(session) = self.session.take() else {
+            return Leaving {
+                chunk,
+                lost: false,
+                server: None,
+            };
+        };
+        if session.is_acked() {
+            unreachable!();
+        }
+        let lost = session.has_chunk();
+        let at_fault = matches!(kind, EndKind::Lost)
+            || session.is_down()
+            || !session.is_greeted()
+            || lost;
+        let server = if at_fault {
+            Some(session.server())
+        } else {
+            None
+        };
+        let loaded = session.end();
+        Leaving {
+            chunk: only_one(chunk, loaded),
+            lost,
+            server,
+        }
+    }
+}
