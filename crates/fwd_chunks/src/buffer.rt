@@ -269,12 +269,12 @@ impl Buffer {
         Ok(spans)
     }
 
-    /// Enters a request's entries at a moment: each joins its tag's open chunk where that stays
-    /// within the chunk limit, and begins a new one otherwise. Answers the runs of the entries in
-    /// their chunks. It is refused as `Full` where the bytes held would be more than the total
-    /// limit, and then as `NumbersSpent` where a chunk number above 2^64 - 1 or a count of 2^64
-    /// entries would be needed. On an error nothing has changed. The entries' origin is no part
-    /// of what a buffer keeps.
+    /// Enters a request's entries at a moment (milliseconds): each joins its tag's open chunk where
+    /// that stays within the chunk limit, and begins a new one otherwise. Answers the runs of the
+    /// entries in their chunks. It is refused as `Full` where the bytes held would be more than the
+    /// total limit, and then as `NumbersSpent` where a chunk number above 2^64 - 1 or a count of
+    /// 2^64 entries would be needed. On an error nothing has changed. The entries' origin is no
+    /// part of what a buffer keeps.
     pub fn admit(
         &mut self,
         alloc: Global,
@@ -310,7 +310,7 @@ impl Buffer {
         moment
     }
 
-    /// Closes the open chunks that a flush closes at a moment, and answers how many.
+    /// Closes the open chunks that a flush closes at a moment (milliseconds), and answers how many.
     pub fn flush(&mut self, now: u64, kind: FlushKind) -> usize
         ensures count { result ≡ length (live_closing self.old now kind) }
         ensures flushed { self.new ≡ live_flushes self.old now kind }
@@ -343,8 +343,8 @@ impl Buffer {
         self.moment = moment;
     }
 
-    /// Gives a worker the free chunk of the least number, if there is one, and takes no memory
-    /// where there is none. On an error nothing has changed.
+    /// Gives a worker the free chunk of the least number at a moment (milliseconds), if there is
+    /// one, and takes no memory where there is none. On an error nothing has changed.
     pub fn take(
         &mut self,
         alloc: Global,

@@ -98,7 +98,7 @@ impl Book {
         owed(conn, &self.requests)
     }
 
-    /// The origin of a connection's first request, if it has one.
+    /// The origin of a request of a connection, if it has one.
     pub(crate) fn first(&self, conn: u64) -> Option<Origin>
         ensures some { IfSome result (λ origin. (origin.conn ≡ conn)
             × (0 < length (filter (is_one (origin ∷ [])) self.now.requests))) }
@@ -182,7 +182,7 @@ fn owed(conn: u64, requests: &[Pending]) -> usize
     count
 }
 
-/// The origin of a connection's first request, if it has one.
+/// The origin of a request of a connection, if it has one.
 fn first(conn: u64, requests: &[Pending]) -> Option<Origin>
     ensures some { IfSome result (λ origin. (origin.conn ≡ conn)
         × (0 < length (filter (is_one (origin ∷ [])) requests.now))) }

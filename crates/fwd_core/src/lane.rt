@@ -314,7 +314,8 @@ impl Lane {
         Answer::Ended { number }
     }
 
-    /// The origins of a connection's requests that were not told yet, by rising number.
+    /// The origins of a connection's requests that were not told yet, in the order in which they
+    /// were entered.
     pub fn untold(&self, alloc: Global, conn: u64) -> Result<Vec<Origin>, AllocError>
         ensures { IfOk result (λ origins. origins.items ≡ origins_of conn self.now.output.book) }
     {

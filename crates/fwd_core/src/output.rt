@@ -146,7 +146,7 @@ impl OutputState {
         Ok(())
     }
 
-    /// Closes the open chunks that a flush closes, and answers how many.
+    /// Closes the open chunks that a flush closes at a moment (milliseconds), and answers how many.
     pub fn flush(&mut self, now: u64, kind: FlushKind) -> usize
         ensures count { result ≡ length (live_closing self.old.buffer now kind) }
         ensures flushed { self.new ≡ record self.old {
@@ -156,8 +156,8 @@ impl OutputState {
         self.buffer.flush(now, kind)
     }
 
-    /// Gives a worker the free chunk of the least number, if there is one. On an error nothing
-    /// has changed.
+    /// Gives a worker the free chunk of the least number at a moment (milliseconds), if there is
+    /// one. On an error nothing has changed.
     pub fn take(
         &mut self,
         alloc: Global,
@@ -223,7 +223,8 @@ impl OutputState {
         }
     }
 
-    /// The origins of a connection's requests that were not told yet, by rising number.
+    /// The origins of a connection's requests that were not told yet, in the order in which they
+    /// were entered.
     pub fn untold(&self, alloc: Global, conn: u64) -> Result<Vec<Origin>, AllocError>
         ensures { IfOk result (λ origins. origins.items ≡ origins_of conn self.now.book) }
     {
@@ -237,7 +238,7 @@ impl OutputState {
         self.book.owed(conn)
     }
 
-    /// The origin of a connection's first request that was not told yet, if there is one.
+    /// The origin of a request of a connection that was not told yet, if there is one.
     pub fn first_untold(&self, conn: u64) -> Option<Origin>
         ensures some { IfSome result (λ origin. (origin.conn ≡ conn)
             × (0 < length (filter (is_one (origin ∷ [])) self.now.book))) }

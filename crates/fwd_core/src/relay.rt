@@ -361,8 +361,8 @@ impl Relay {
         ensures sure { is_free
             (answer_of (step lives self.old (event.Up output worker server salt.now now))) ≡ true
             → IsOk result }
-        ensures next { OnOk result (self.new
-            ≡ state_of self.old (step lives self.old (event.Up output worker server salt.now now))) }
+        ensures next { OnOk result (self.new ≡ state_of self.old
+            (step lives self.old (event.Up output worker server salt.now now))) }
         ensures err { OnErr result (self.new ≡ self.old) }
     {
         let place = usize::from(output);

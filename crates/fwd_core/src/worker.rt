@@ -3,6 +3,7 @@
 ghost use Rattle.std.specs.Prelude.{◌≡◌, ℕ, None, Some, false, true, is_some, not, nat_lt, length, option_map, IfOk, IsOk, IfSome, IfNone, OnOk, OnErr};
 ghost use Rattle.std.specs.Arc.{arc_value};
 ghost use Rattle.fwd_chunks.specs.History.{Load};
+ghost use Rattle.fwd_session.specs.Evidence.{IsEvidence};
 ghost use Rattle.fwd_session.specs.Live.{LiveSession};
 ghost use Rattle.fwd_model.specs.Outcome.{answer_of, state_of, of_heard};
 ghost use Rattle.fwd_model.specs.Step.{at_session, up, load, wrote, heard, late, is_idle, has_acked, has_loaded, lost_server};
@@ -273,6 +274,7 @@ impl Worker {
     pub fn acked(&mut self) -> Option<(Arc<Acked>, Carried)>
         ensures chunk { option_map (λ pair. pair.1) result ≡ acked_in self.old.session }
         ensures held { IfSome result (λ pair. self.old.chunk ≡ Some pair.1) }
+        ensures evidence { IfSome result (λ pair. IsEvidence (arc_value pair.0) pair.1) }
         ensures server { IfSome result (λ pair.
             server_in self.old.session ≡ Some (arc_value pair.0).server) }
         ensures settled { IfSome result (λ pair. self.new ≡ worker_settled self.old.session) }

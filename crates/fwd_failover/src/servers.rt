@@ -114,9 +114,9 @@ impl Servers {
             .find(|server| self.is_usable(*server))
     }
 
-    /// The server that a worker tries at a moment, if one is usable: the first usable one of the
-    /// primaries, once round from the place that is the worker's number modulo their count, and
-    /// then of the standbys in file order.
+    /// The server that a worker tries at a moment (milliseconds), if one is usable: the first
+    /// usable one of the primaries, once round from the place that is the worker's number modulo
+    /// their count, and then of the standbys in file order.
     pub fn choose(&mut self, worker: u16, now: u64) -> Option<u16>
         ensures choice { result ≡ live_choice self.old worker (max self.old.moment now) }
         ensures after { self.new ≡ live_looked self.old now }
@@ -137,7 +137,8 @@ impl Servers {
             .or(self.first_usable(&self.standbys))
     }
 
-    /// A server was lost at a moment, and waits from then on. An unknown server changes nothing.
+    /// A server was lost at a moment (milliseconds), and waits from then on. An unknown server
+    /// changes nothing.
     pub fn failed(&mut self, server: u16, now: u64)
         ensures after { self.new ≡ live_lost self.old server now }
         ensures history { (s : ServersSetting) (h : ServersHistory)

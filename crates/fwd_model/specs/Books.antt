@@ -96,8 +96,7 @@ is_owed conn a = is_untold a.fate && is_of conn a.request
 abbrev pub is_due : ℕ → List ℕ → Admission → Bool
 is_due conn settled a = is_owed conn a && is_settled settled a.request
 
--- the requests that a collect tells, in the order in which they were entered, which is that of
--- their numbers
+-- the requests that a collect tells, in the order in which they were entered
 abbrev pub due : BookHistory → ℕ → List Entered
 due b conn = map (λ a. a.request) (filter (is_due conn b.settled) b.admissions)
 

@@ -50,7 +50,7 @@ NoneEnded config before later o w =
     later ≡ between ++ event.End o w kind moment ∷ rest →
     answered config (before ++ between) (event.End o w kind moment) ≡ answer.Ended number → ⊥
 
--- among the events the worker's session with a server of the output began, and it did not end since
+-- among the events the worker's session with a server began, and it did not end since
 pub record HasBegun (config : Config) (es : List Event) (o w : ℕ) : Type 0 where
   pub before : List Event
   pub server : ℕ

@@ -114,7 +114,7 @@ leaves id h = record h { connections = with_gone id h.connections }
 
 -- ---- outputs
 
--- the output has other entries and requests
+-- the output has another history
 abbrev pub with_output : Lane → OutputHistory → Lane
 with_output l o = record l { output = o }
 

@@ -78,7 +78,8 @@ pub enum Answer {
     Late {
         late: bool,
     },
-    /// The session is no more. The chunk of this number is put back, if there was one.
+    /// The worker has neither a session nor a chunk any more. The chunk of this number is put back,
+    /// if it had one.
     Ended {
         number: Option<u64>,
     },

@@ -2,12 +2,13 @@ use fwd_chunks::FlushKind;
 use fwd_msgpack::Bytes;
 use fwd_session::OwnedSalt;
 
-/// How a session's link ended.
+/// How a worker's session ends.
 #[derive(Clone, Copy, Debug, PartialEq, Eq)]
 pub enum EndKind {
-    /// Nothing was lost with it.
+    /// The server is at fault only for what it owed: the session is down, its handshake is not
+    /// done, or its chunk was loaded and not acknowledged.
     Kept,
-    /// The server was lost.
+    /// The server is at fault whatever it owed.
     Lost,
 }
 

@@ -1,11 +1,13 @@
 /// Why a session is down. Session faults are numbered by themselves.
 #[derive(Clone, Copy, Debug, PartialEq, Eq)]
 pub enum SessionFault {
-    /// What the server sent is no acknowledgement, or no PONG where one is awaited.
+    /// What the server sent is no acknowledgement, no PONG where one is awaited, or begins no value
+    /// of at most 65,536 bytes, 64 deep.
     BadReply = 1,
     /// The server acknowledged another chunk than the one that it was sent.
     WrongAck = 2,
-    /// The server acknowledged before it was sent a whole chunk.
+    /// The server named a chunk while none was awaited: none is loaded, its frame was not taken
+    /// whole, or it is acknowledged already.
     EarlyAck = 3,
     /// The first that the server sent is no HELO.
     NotHelo = 4,

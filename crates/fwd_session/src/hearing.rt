@@ -1,13 +1,14 @@
 //! What a server's bytes say: how far the handshake came, whether the awaited chunk is
 //! acknowledged, the first fault, and the bytes of an unfinished value.
 
-ghost use Rattle.std.specs.Prelude.{◌≡◌, None, Some, option_copied, unwrap_or, IfOk};
+ghost use Rattle.std.specs.Prelude.{◌≡◌, None, Some, true, false, option_copied, unwrap_or, IfOk, IsOk};
 ghost use Rattle.fwd_handshake.specs.Shown.{salt_bytes};
 ghost use Rattle.fwd_msgpack.specs.Values.{bytes_of};
 ghost use Rattle.fwd_session.specs.Said.{helo_word, pong_word, ack_word, word_of, said_in, reply_stream, rest_of};
 ghost use Rattle.fwd_handshake.specs.Verdicts.{helo_answer, pong_verdict};
 ghost use Rattle.fwd_modes.specs.Acks.{ack_name};
-ghost use Rattle.fwd_session.specs.Hearing.{shown, IsNext};
+ghost use Rattle.fwd_session.specs.History.{is_done};
+ghost use Rattle.fwd_session.specs.Hearing.{shown, is_greeting, IsNext};
 
 use crate::fault::SessionFault;
 use crate::handshake::Handshake;
@@ -128,8 +129,10 @@ fn word_of(
     awaited: Option<&[u8]>,
     value: Value<'_>,
 ) -> Result<Word, AllocError>
-    ensures { IfOk result (λ word. word ≡ word_of login.now (salt_bytes salt.entry) at.now
+    ensures word { IfOk result (λ word. word ≡ word_of login.now (salt_bytes salt.entry) at.now
         (option_copied awaited.entry) (bytes_of value.entry)) }
+    ensures sure { is_done at.now ≡ true → IsOk result }
+    ensures done { is_done at.now ≡ true → IfOk result (λ word. is_greeting word ≡ false) }
 {
     if matches!(value.head(), Head::Nil) {
         return Ok(Word::Skipped);
@@ -169,6 +172,7 @@ pub(crate) fn hear<'a>(
         (reply_stream bytes.now)) }
     ensures rest { IfOk result (λ heard. heard.fault ≡ None
         → heard.rest.now ≡ rest_of (reply_stream bytes.now)) }
+    ensures sure { is_done before.now ≡ true → IsOk result }
 {
     let mut awaited = awaited;
     let mut handshake = None;

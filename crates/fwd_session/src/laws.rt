@@ -100,8 +100,8 @@ pub fn faults_put_down()
 ///
 /// Where both know one key and the source lets the login in, both are past the handshake, and else
 /// as they began: a chunk may be loaded. The piece that ends PONG is told Ready. Where the source
-/// has cause to deny the PING, the piece that ends PONG is told Denied, and the session is down. The
-/// cause is said of digests, not of keys and passwords: two keys may have one digest.
+/// has cause to deny the PING, the piece that ends PONG is told Denied, and the session is down.
+/// The cause is said of digests, not of keys and passwords: two keys may have one digest.
 ///
 /// Asked is that the pieces are all that waited to be sent; that HELO and PONG have 65,536 bytes at
 /// most, and PING less than 2^32 and no more than the source's limits let be, which let an array

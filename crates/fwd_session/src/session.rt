@@ -1,6 +1,6 @@
 //! A session, from its first byte to its end.
 
-ghost use Rattle.std.specs.Prelude.{◌≡◌, ◌≤◌, None, Some, Ok, true, false, [], ◌++◌, ◌+◌, ◌||◌, nat_le, if◌then◌else◌, length, is_some, option_copied, unwrap_or, IfOk, IfErr, IfSome, IsOk, IsErr, OnOk, OnErr};
+ghost use Rattle.std.specs.Prelude.{◌≡◌, ◌≢◌, ◌≤◌, None, Some, Ok, true, false, [], ◌++◌, ◌+◌, ◌||◌, nat_le, if◌then◌else◌, length, is_some, option_copied, unwrap_or, IfOk, IfErr, IfSome, IsOk, IsErr, OnOk, OnErr};
 ghost use Rattle.std.specs.Option.{option_map};
 ghost use Rattle.std.specs.Arc.{arc_value};
 ghost use Rattle.fwd_session.specs.Evidence.{frame_of, reply_in, IsEvidence, IsBacked, IsNamed};
@@ -149,16 +149,6 @@ fn told_of(before: &Handshake, hearing: &Hearing<'_>) -> Heard
     }
 }
 
-/// What is told to be sent: nothing, once there is a fault.
-fn told_out(alloc: Global, out: &[u8], fault: Option<SessionFault>) -> Result<Bytes, AllocError>
-    ensures { IfOk result (λ told. told ≡ (if is_some fault then [] else out.now)) }
-{
-    match fault {
-        None => Bytes::from_slice(alloc, out),
-        Some(_) => Ok(Bytes::new(alloc)),
-    }
-}
-
 impl Session {
     /// A session that begins: where the login has a shared key, HELO is awaited. It waits for what
     /// it is owed `ack_wait` milliseconds. It takes no memory.
@@ -267,8 +257,9 @@ impl Session {
         }
     }
 
-    /// Puts the frame of a chunk behind the bytes that wait. On an error nothing has changed, and
-    /// the chunk comes back.
+    /// Puts the frame of a chunk behind the bytes that wait, at a moment (milliseconds). It is
+    /// refused as NotUp where the session is not ready; else the only error is want of memory. On
+    /// an error nothing has changed, and the chunk comes back.
     pub fn load(&mut self, alloc: Global, chunk: Carried, now: u64) -> Result<(), LoadFailed>
         requires { self.old.loaded ≡ None }
         ensures ok { OnOk result (self.new ≡ session_loads self.old chunk now) }
@@ -331,6 +322,7 @@ impl Session {
             → hearing.rest.now ≡ rest_of (reply_stream bytes.now)) }
         ensures named { IfOk result (λ hearing.
             IsNamed self.now.loaded (option_copied hearing.reply)) }
+        ensures sure { is_done self.now.handshake ≡ true → IsOk result }
     {
         hear(
             alloc,
@@ -353,6 +345,7 @@ impl Session {
             IsBacked self.now.setup.server (option_map arc_value acked) self.now.loaded) }
         ensures reply { IfOk result (λ acked.
             reply_in (option_map arc_value acked) ≡ option_copied reply.entry) }
+        ensures sure { reply.entry ≡ None → IsOk result }
     {
         let (Some(reply), Some(chunk)) = (reply, &self.loaded) else {
             return Ok(None);
@@ -392,6 +385,7 @@ impl Session {
         ensures next { OnOk result (self.new ≡ session_takes self.old
             (shown self.old.handshake hearing.entry) hearing.entry.rest.now) }
         ensures chunk { self.new.loaded ≡ self.old.loaded }
+        ensures sure { hearing.entry.fault ≢ None → hearing.entry.reply ≡ None → IsOk result }
         ensures err { OnErr result (self.new ≡ self.old) }
     {
         let heard = told_of(&self.handshake, &hearing);
@@ -403,14 +397,31 @@ impl Session {
             rest,
         } = hearing;
         let acked = self.evidence(alloc, reply)?;
-        let rest = Vec::from_slice(alloc, rest)?;
-        let told = told_out(alloc, &out, fault)?;
-        self.waiting.append(out)?;
-        self.rest = rest;
+        let told = match fault {
+            None => self.put_by(alloc, out, rest)?,
+            Some(_) => Bytes::new(alloc),
+        };
         self.greet(handshake);
         self.keep(acked);
         self.fall_for(fault);
         Ok(Told { heard, out: told })
+    }
+
+    /// Bytes wait to be sent, and bytes of an unfinished value are left. Answers the former again.
+    /// On an error nothing has changed.
+    fn put_by(&mut self, alloc: Global, out: Vec<u8>, rest: &[u8]) -> Result<Bytes, AllocError>
+        ensures told { IfOk result (λ told. told ≡ out.items) }
+        ensures next { OnOk result (self.new ≡ record self.old {
+          waiting = self.old.waiting ++ out.items;
+          rest = rest.now;
+        }) }
+        ensures err { OnErr result (self.new ≡ self.old) }
+    {
+        let rest = Vec::from_slice(alloc, rest)?;
+        let told = Bytes::from_slice(alloc, &out)?;
+        self.waiting.append(out)?;
+        self.rest = rest;
+        Ok(told)
     }
 
     /// The handshake went on, if this says how far.
@@ -468,6 +479,10 @@ impl Session {
         ensures next { OnOk result (self.new ≡ session_hears self.old bytes.now) }
         ensures chunk { self.new.loaded ≡ self.old.loaded }
         ensures down { self.old.down ≡ true → IsOk result }
+        // Where a fault asks for nothing, it is told.
+        ensures fault { is_done self.old.handshake ≡ true → self.old.rest ≡ [] →
+            (live_says self.old bytes.now).fault ≢ None →
+            (live_says self.old bytes.now).reply ≡ None → IsOk result }
         ensures err { OnErr result (self.new ≡ self.old) }
     {
         if self.is_down() {
@@ -503,8 +518,9 @@ impl Session {
         Some((acked, chunk))
     }
 
-    /// Whether the session is late at a moment: its handshake is not done or its chunk is not
-    /// acknowledged, and it waits for that since `ack_wait` or longer. Then it is down.
+    /// Whether the session is late at a moment (milliseconds): its handshake is not done or its
+    /// chunk is not acknowledged, and it waits for that since `ack_wait` or longer. Then it is
+    /// down. It is refused as NotUp where it is down already, and then nothing has changed.
     #[tactic(auto, unfolding(crate::specs::Live::session_looks))]
     pub fn late(&mut self, now: u64) -> Result<bool, NotUp>
         ensures down { self.old.down ≡ true → IsErr result × (self.new ≡ self.old) }

@@ -60,11 +60,12 @@ pub struct OutputSettings {
     pub total_limit: u64,
     /// How long a chunk waits for more entries, in milliseconds, 0 to 86,400,000.
     pub flush_interval: u64,
-    /// How long a server is left alone after its first loss, in milliseconds, 1 to 86,400,000.
+    /// How long a lost chunk or server waits after its first loss, in milliseconds, 1 to
+    /// 86,400,000.
     pub retry_wait: u64,
-    /// The longest that a server is left alone, in milliseconds, `retry_wait` to 86,400,000.
+    /// The longest that a lost chunk or server waits, in milliseconds, `retry_wait` to 86,400,000.
     pub retry_max: u64,
-    /// How long an acknowledgement is waited for, in milliseconds, 1 to 86,400,000.
+    /// How long a handshake or an acknowledgement is waited for, in milliseconds, 1 to 86,400,000.
     pub ack_wait: u64,
     /// The name that it gives to its servers, 1 to 255 bytes.
     pub hostname: Text,

@@ -129,7 +129,7 @@ fn runs_seven_events(rt: HostRuntime) -> Result<(), Fail> {
 }
 
 #[test]
-fn runs_all_eleven_events(rt: HostRuntime) -> Result<(), Fail> {
+fn runs_there_and_back(rt: HostRuntime) -> Result<(), Fail> {
     let alloc = rt.alloc();
     let mut relay = Relay::new(alloc, two_outputs(alloc)?)?;
     let there = relay.run(alloc, seven_events(alloc, ASKING_REQUEST)?.as_slice())?;

@@ -65,6 +65,7 @@ fn output_has_defaults<R: Abort>(rt: &R, output: &OutputSettings) -> Result<(), 
         [1, 8_000_000, 512_000_000, 5000, 1000, 60_000, 190_000]
     );
     assert_eq!(rt; names(output), ["relay", "", ""]);
+    assert!(rt; output.shared_key.is_none());
     has_server(rt, output, "127.0.0.1:1")
 }
 
@@ -135,6 +136,7 @@ fn every_key_of_an_output(rt: HostRuntime) -> Result<(), Fail> {
     let text = "[[output]]\nmatch = \"a.b\"\nworkers = 3\nchunk_limit = 4\ntotal_limit = 5\n\
         flush_interval = 6\nretry_wait = 7\n\
         retry_max = 8\nack_wait = 9\nhostname = \"o\"\nusername = \"u\"\npassword = \"p\"\n\
+        shared_key = \"s\"\n\
         [[output.server]]\naddress = \"10.0.0.1:2\"\nstandby = true\n[[output.server]]\n\
         address = \"10.0.0.2:3\"\nstandby = false\n\
         [[output]]\nmatch = \"c\"\n[[output.server]]\naddress = \"10.0.0.3:4\"\n";
@@ -150,6 +152,8 @@ fn output_is_set<R: Abort>(rt: &R, output: &OutputSettings) -> Result<(), Fail> 
     assert!(rt; output.pattern.matches(b"a.b"));
     assert_eq!(rt; numbers(output), [3, 4, 5, 6, 7, 8, 9]);
     assert_eq!(rt; names(output), ["o", "u", "p"]);
+    let key = output.shared_key.as_ref();
+    assert_eq!(rt; key.map(|key| key.as_str()), Some("s"));
     let servers = output.servers.as_slice();
     assert_eq!(rt; servers.len(), 2);
     assert_eq!(rt; servers[0].address, address("10.0.0.1:2")?);

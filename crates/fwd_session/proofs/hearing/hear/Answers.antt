@@ -22,7 +22,7 @@ values-preserved c =
     let others = λ (g : Handshake) (n : Option (List ℕ)). said_in login salt g n (reply_stream c.in-Value.behind.now) in
     let behind : Said = others at None in
     let next : said_in login salt at awaited (reply_stream c.values.rest.now) ≡ word_then at awaited value (word_of login salt at awaited value) others = c.in-Value.ensures.2 login salt at awaited in
-    let word : word_of login salt at awaited value ≡ Acks = ap (λ g. word_of login salt g awaited value) (sym c.reached-at.ensures) ∙ sym c.in_ok-word_of-in-Value.ensures ∙ c.in-Acks.is in
+    let word : word_of login salt at awaited value ≡ Acks = ap (λ g. word_of login salt g awaited value) (sym c.reached-at.ensures) ∙ sym c.in_ok-word_of-in-Value.ensures.word ∙ c.in-Acks.is in
     let none : behind.reply ≡ None = silent login salt at (reply_stream c.in-Value.behind.now) in
     let value_is : value ≡ c.bytes.result.now = sym c.bytes.ensures.value in
     let kept : before_others out reply (acking value behind) ≡ before_others out (Some c.bytes.result.now) behind =
@@ -30,4 +30,5 @@ values-preserved c =
     record {
       said = c.values.invariant.said ∙ ap (before_others out reply) (next ∙ ap (λ (w : Word). word_then at awaited value w others) word) ∙ kept;
       rests = c.values.invariant.rests ∙ c.in-Value.ensures.1;
+      done = c.values.invariant.done;
     }

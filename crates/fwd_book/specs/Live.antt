@@ -1,0 +1,98 @@
+-- What of a book's history still matters: the requests that are owed an answer, and what was
+-- acknowledged of their entries.
+use Rattle.std.specs.Prelude.{◌≡◌, ◌<◌, ◌≤◌, ℕ, true, not, List, [], ◌∷◌, ◌++◌, length, map, filter, Option, Some, option_to_list, take, drop, slice_get}
+use Rattle.std.specs.List.{flat_map}
+use Rattle.fwd_modes.specs.Acks.{ack_name}
+use Rattle.fwd_source.specs.declared.origin.Origin.{Origin}
+use Rattle.fwd_chunks.specs.declared.span.Span.{Span}
+use Rattle.fwd_session.specs.Evidence.{Evidence}
+use Rattle.fwd_book.specs.History.{BookSetting, Entered, BookHistory, name_at, is_among, untold, evidence_of, has_run}
+use Rattle.fwd_book.specs.Receipts.{run_in, AreRising}
+
+-- the requests that are owed an answer, in the order in which they were entered, and what was
+-- acknowledged under their numbers, one run after the other
+pub record LiveBook : Type 0 where
+  pub setting : BookSetting
+  pub requests : List Entered
+  pub settled : List Evidence
+
+-- what is found under the numbers of runs, one run after the other
+abbrev pub found_under : (ℕ → Option Evidence) → List Span → List Evidence
+found_under found spans = flat_map (λ s. option_to_list (found s.number)) spans
+
+-- what is found under the numbers of requests, one request after the other
+abbrev pub found_for : (ℕ → Option Evidence) → List Entered → List Evidence
+found_for found qs = flat_map (λ q. found_under found q.spans) qs
+
+-- what was acknowledged under the numbers of requests
+abbrev pub evidence_for : List Entered → List Evidence → List Evidence
+evidence_for qs settled = found_for (evidence_of settled) qs
+
+-- the live part of a history
+unfoldable pub live_book : BookHistory → LiveBook
+live_book b = record {
+  setting = b.setting;
+  requests = untold b;
+  settled = evidence_for (untold b) b.settled;
+}
+
+-- before any event
+abbrev pub live_opening : BookSetting → LiveBook
+live_opening setting = record { setting = setting; requests = []; settled = [] }
+
+-- a request is entered
+abbrev pub live_enters : LiveBook → Entered → LiveBook
+live_enters b q = record b { requests = b.requests ++ q ∷ [] }
+
+-- a server acknowledged a chunk: it is kept where some request has entries in it
+abbrev pub live_settles : LiveBook → Evidence → LiveBook
+live_settles b e = record b { settled = evidence_for b.requests (b.settled ++ e ∷ []) }
+
+-- the requests of these origins leave
+abbrev pub live_left : LiveBook → List Origin → List Entered
+live_left b origins = filter (λ q. not (is_among origins q.origin)) b.requests
+
+-- and with them what was acknowledged of their entries alone
+abbrev pub live_leaves : LiveBook → List Origin → LiveBook
+live_leaves b origins = record b {
+  requests = live_left b origins;
+  settled = evidence_for (live_left b origins) b.settled;
+}
+
+-- how many leave
+abbrev pub live_owed : LiveBook → List Origin → ℕ
+live_owed b origins = length (filter (λ q. is_among origins q.origin) b.requests)
+
+-- ---- what was acknowledged is of what was entered
+
+-- the entries of a chunk under a request's runs, one run after the other, are its own: each run of
+-- the number has its entries there
+abbrev pub HasItsRuns : ℕ → (chunk : List (List ℕ)) → List Span → (own : List (List ℕ)) → Type 0
+HasItsRuns number chunk [] own = Unit {0}
+HasItsRuns number chunk (s ∷ spans) own =
+    (s.number ≡ number → run_in chunk s ≡ take s.count own)
+    × HasItsRuns number chunk spans (drop s.count own)
+
+-- runs cut entries to the last, and each has one
+abbrev pub AreCutBy : List Span → (own : List (List ℕ)) → Type 0
+AreCutBy [] own = own ≡ []
+AreCutBy (s ∷ spans) own =
+    (0 < s.count) × (s.count ≤ length own) × AreCutBy spans (drop s.count own)
+
+-- What was acknowledged is of what a request has: where the request has its number, it is under the
+-- request's tag, and each run of that number is there.
+pub record IsOf (q : Entered) (e : Evidence) : Type 0 where
+  pub tag : has_run e.number q ≡ true → e.tag ≡ q.tag
+  pub runs : HasItsRuns e.number e.entries q.spans q.entries
+
+-- A book is sound where the runs of each request cut its entries, and their numbers rise; the
+-- reply of what was acknowledged names the chunk at this output; and it is of what each request
+-- has.
+pub record IsSound (b : LiveBook) : Type 0 where
+  pub cut : (i : ℕ) (q : Entered) → slice_get b.requests i ≡ Some q → AreCutBy q.spans q.entries
+  pub rising : (i : ℕ) (q : Entered) → slice_get b.requests i ≡ Some q
+      → AreRising (map (λ s. s.number) q.spans)
+  pub names : (j : ℕ) (e : Evidence) → slice_get b.settled j ≡ Some e
+      → ack_name e.reply ≡ Some (name_at b.setting e.number)
+  pub of : (i j : ℕ) (q : Entered) (e : Evidence) → slice_get b.requests i ≡ Some q
+      → slice_get b.settled j ≡ Some e → IsOf q e
