@@ -2,7 +2,7 @@
 use Rattle.std.proofs.Common.{◌≡◌, [], ◌∷◌, List, ℕ, Some, None, refl}
 use Rattle.fwd_source.specs.declared.origin.Origin.{Origin}
 use Rattle.fwd_session.specs.Evidence.{Evidence}
-use Rattle.fwd_book.specs.History.{Entered, BookHistory, Told, Forgotten, opening, enters, settles, leaves, untold}
+use Rattle.fwd_book.specs.History.{Entered, BookHistory, opening, enters, settles, leaves, tells, forgets, untold}
 use Rattle.fwd_book.specs.Receipts.{receipts}
 use Rattle.fwd_book.specs.Live.{live_book, live_opening}
 
@@ -75,18 +75,18 @@ both_at_last : receipts after_both.settled (untold after_both) (origin_at 2 ∷ 
 both_at_last = refl
 
 -- what nobody is owed any more is not kept
-two_is_needed : live_book (leaves Told after_both (origin_at 2 ∷ []))
+two_is_needed : live_book (tells after_both (origin_at 2 ∷ []))
     ≡ record { setting = record { run = []; output = 0 }; requests = split_one ∷ []; settled = chunk_one ∷ chunk_two ∷ [] }
 unfolding live_book leaves
 two_is_needed = refl
 
-none_is_needed : live_book (leaves Forgotten after_both (origin_at 1 ∷ origin_at 2 ∷ []))
+none_is_needed : live_book (forgets after_both (origin_at 1 ∷ origin_at 2 ∷ []))
     ≡ live_opening (record { run = []; output = 0 })
 unfolding live_book leaves
 none_is_needed = refl
 
 -- a forgotten request is told no more
-forgotten : receipts after_both.settled (untold (leaves Forgotten after_both (origin_at 1 ∷ []))) (origin_at 1 ∷ [])
+forgotten : receipts after_both.settled (untold (forgets after_both (origin_at 1 ∷ []))) (origin_at 1 ∷ [])
     ≡ []
 unfolding leaves
 forgotten = refl

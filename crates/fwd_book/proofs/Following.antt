@@ -1,6 +1,6 @@
 -- What a book keeps goes on as its history does.
 use Rattle.std.proofs.Common.{◌≡◌, ℕ, Bool, true, false, cond, Option, Some, None, List, [], ◌∷◌, ◌++◌, length, refl, sym, ap, ◌∙◌, suc}
-use Rattle.std.specs.Prelude.{map, filter, find, not, ◌&&◌, ◌||◌, ◌==◌, is_some, option_to_list}
+use Rattle.std.specs.Prelude.{map, filter, find, not, ◌&&◌, ◌||◌, ◌==◌, is_some, option_to_list, slice_get}
 use Rattle.std.specs.Option.{option_or}
 use Rattle.std.specs.List.{list_any, list_all, flat_map}
 use Rattle.std.proofs.lemmas.Bool.{eq-eqb}
@@ -11,15 +11,15 @@ use Rattle.std.proofs.lemmas.Grind.{flat_map-append}
 use Rattle.fwd_source.specs.declared.origin.Origin.{Origin}
 use Rattle.fwd_chunks.specs.declared.span.Span.{Span}
 use Rattle.fwd_session.specs.Evidence.{Evidence}
-use Rattle.fwd_book.specs.History.{BookSetting, Entered, Fate, Untold, Admission, BookHistory, opening, is_untold, untold, is_among, is_origin, request_at, evidence_of, has_run, is_fresh, enters, settles, becomes, is_owed, leaves, owed}
+use Rattle.fwd_book.specs.History.{BookSetting, Entered, Fate, Untold, Told, Forgotten, Admission, BookHistory, opening, is_untold, untold, is_among, is_origin, request_at, evidence_of, has_run, is_settled, is_fresh, enters, settles, becomes, is_owed, leaves, tells, forgets, CanBeTold, owed}
 use Rattle.fwd_book.specs.Receipts.{part_of, parts_of, receipt_if, once, receipts}
 use Rattle.fwd_book.specs.Live.{found_under, found_for, evidence_for, live_book, live_opening, live_enters, live_settles, live_left, live_leaves, live_owed}
 use Rattle.fwd_book.proofs.Found.{IsNumbered, numbered, for-alike, for-found}
-use Rattle.fwd_book.proofs.Tests.{apart, neither_left, neither_right, or-false, true-or, or-true, is_not, turned}
+use Rattle.fwd_book.proofs.Facts.{apart, neither_left, neither_right, or-false, true-or, or-true, is_not, turned}
 
 -- ---- lists
 
-any-last : {X : Type 0} (p : X → Bool) (xs : List X) (x : X)
+pub any-last : {X : Type 0} (p : X → Bool) (xs : List X) (x : X)
     → list_any p (xs ++ x ∷ []) ≡ (list_any p xs || p x)
 any-last p [] x = or-false (p x)
 any-last p (y ∷ xs) x = by (p y) (any-last p xs x)
@@ -28,7 +28,7 @@ any-last p (y ∷ xs) x = by (p y) (any-last p xs x)
     by false e = e
     by true e = refl
 
-any-filter : {X : Type 0} (p r : X → Bool) (xs : List X) → list_any r (filter p xs) ≡ true
+pub any-filter : {X : Type 0} (p r : X → Bool) (xs : List X) → list_any r (filter p xs) ≡ true
     → list_any r xs ≡ true
 any-filter p r [] e = e
 any-filter p r (x ∷ xs) e = by (p x) (r x) refl (any-filter p r xs) e
@@ -50,7 +50,7 @@ untold-enters b q =
     last (a ∷ xs) = ap (λ qs. a.request ∷ qs) (last xs)
 
 -- where none was acknowledged, nothing is found under runs
-none-found : (spans : List Span) (settled : List Evidence)
+pub none-found : (spans : List Span) (settled : List Evidence)
     → list_any (λ e. list_any (λ s. s.number == e.number) spans) settled ≡ false
     → found_under (evidence_of settled) spans ≡ []
 none-found [] settled fresh = refl
@@ -121,29 +121,35 @@ push_filter : {X : Type 0} (p : X → Bool) (k : Bool) (x : X) (xs : List X)
 push_filter p true x xs = refl
 push_filter p false x xs = refl
 
-untold-leaves : (fate : Fate) (b : BookHistory) (origins : List Origin) → is_untold fate ≡ false
-    → untold (leaves fate b origins) ≡ live_left (live_book b) origins
+untold-leaves : (fate : Fate) (b : BookHistory) (origins : List Origin) (gone : Admission → Bool)
+    → is_untold fate ≡ false
+    → ((i : ℕ) (a : Admission) → slice_get b.admissions i ≡ Some a → (is_untold a.fate && gone a) ≡ is_owed origins a)
+    → untold (leaves fate gone b) ≡ live_left (live_book b) origins
 unfolding live_book leaves
-untold-leaves fate b origins gone = each b.admissions
+untold-leaves fate b origins gone left same = each b.admissions same
   where
     stays : Entered → Bool
     stays q = not (is_among origins q.origin)
 
     new : Admission → Admission
-    new a = becomes fate (is_owed origins a) a
+    new a = becomes fate (is_untold a.fate && gone a) a
 
     two : (u m : Bool) (a : Admission) → is_untold a.fate ≡ u → (qs rs : List Entered) → qs ≡ rs
         → cond (is_untold (becomes fate (u && m) a).fate) ((becomes fate (u && m) a).request ∷ qs) qs ≡ cond (u && not m) (a.request ∷ rs) rs
-    two true true a is_u qs rs more = ap (λ k. cond k (a.request ∷ qs) qs) gone ∙ more
+    two true true a is_u qs rs more = ap (λ k. cond k (a.request ∷ qs) qs) left ∙ more
     two true false a is_u qs rs more = ap (λ k. cond k (a.request ∷ qs) qs) is_u ∙ ap (λ xs. a.request ∷ xs) more
     two false m a is_u qs rs more = ap (λ k. cond k (a.request ∷ qs) qs) is_u ∙ more
 
-    each : (xs : List Admission) → map (λ a. a.request) (filter (λ a. is_untold a.fate) (map new xs)) ≡ filter stays (map (λ a. a.request) (filter (λ a. is_untold a.fate) xs))
-    each [] = refl
-    each (a ∷ xs) =
-        push_map (λ a. a.request) (is_untold (new a).fate) (new a) (filter (λ a. is_untold a.fate) (map new xs))
-        ∙ two (is_untold a.fate) (is_among origins a.request.origin) a refl (map (λ a. a.request) (filter (λ a. is_untold a.fate) (map new xs))) (filter stays (map (λ a. a.request) (filter (λ a. is_untold a.fate) xs))) (each xs)
-        ∙ sym (ap (filter stays) (push_map (λ a. a.request) (is_untold a.fate) a (filter (λ a. is_untold a.fate) xs)) ∙ push_filter stays (is_untold a.fate) a.request (map (λ a. a.request) (filter (λ a. is_untold a.fate) xs)))
+    each : (xs : List Admission) → ((i : ℕ) (a : Admission) → slice_get xs i ≡ Some a → (is_untold a.fate && gone a) ≡ is_owed origins a)
+        → map (λ a. a.request) (filter (λ a. is_untold a.fate) (map new xs)) ≡ filter stays (map (λ a. a.request) (filter (λ a. is_untold a.fate) xs))
+    each [] alike = refl
+    each (a ∷ xs) alike =
+        let rest : List Entered = map (λ x. x.request) (filter (λ x. is_untold x.fate) (map new xs)) in
+        let more = each xs (λ i x at. alike (suc i) x at) in
+        push_map (λ x. x.request) (is_untold (new a).fate) (new a) (filter (λ x. is_untold x.fate) (map new xs))
+        ∙ ap (λ k. cond (is_untold (becomes fate k a).fate) ((becomes fate k a).request ∷ rest) rest) (alike 0 a refl)
+        ∙ two (is_untold a.fate) (is_among origins a.request.origin) a refl rest (filter stays (map (λ x. x.request) (filter (λ x. is_untold x.fate) xs))) more
+        ∙ sym (ap (filter stays) (push_map (λ x. x.request) (is_untold a.fate) a (filter (λ x. is_untold x.fate) xs)) ∙ push_filter stays (is_untold a.fate) a.request (map (λ x. x.request) (filter (λ x. is_untold x.fate) xs)))
 
 -- what leaves takes nothing from what is found for the others
 pub left-found : (f : ℕ → Option Evidence) (qs : List Entered) (stays : Entered → Bool) → IsNumbered f
@@ -151,14 +157,30 @@ pub left-found : (f : ℕ → Option Evidence) (qs : List Entered) (stays : Ente
 left-found f qs stays numbers =
     for-alike f (evidence_of (found_for f qs)) (filter stays qs) (λ n used. sym (for-found f qs n numbers (any-filter stays (has_run n) qs used)))
 
-pub follows-leaves : (fate : Fate) (b : BookHistory) (origins : List Origin)
+follows-leaves : (fate : Fate) (b : BookHistory) (origins : List Origin) (gone : Admission → Bool)
     → is_untold fate ≡ false
-    → live_book (leaves fate b origins) ≡ live_leaves (live_book b) origins
+    → ((i : ℕ) (a : Admission) → slice_get b.admissions i ≡ Some a → (is_untold a.fate && gone a) ≡ is_owed origins a)
+    → live_book (leaves fate gone b) ≡ live_leaves (live_book b) origins
 unfolding live_book leaves
-follows-leaves fate b origins gone =
-    let left = untold-leaves fate b origins gone in
+follows-leaves fate b origins gone told same =
+    let left = untold-leaves fate b origins gone told same in
     let less = left-found (evidence_of b.settled) (untold b) (λ q. not (is_among origins q.origin)) (numbered b.settled) in
     λ i. record { setting = b.setting; requests = left i; settled = (ap (λ qs. evidence_for qs b.settled) left ∙ less) i }
+
+pub follows-forgets : (b : BookHistory) (origins : List Origin)
+    → live_book (forgets b origins) ≡ live_leaves (live_book b) origins
+follows-forgets b origins = follows-leaves Forgotten b origins (λ a. is_among origins a.request.origin) refl (λ i a at. refl)
+
+pub follows-tells : (b : BookHistory) (origins : List Origin) → CanBeTold b origins
+    → live_book (tells b origins) ≡ live_leaves (live_book b) origins
+follows-tells b origins can =
+    follows-leaves Told b origins (λ a. is_among origins a.request.origin && is_settled b.settled a.request) refl
+    (λ i a at. by (is_untold a.fate) (is_among origins a.request.origin) (is_settled b.settled a.request) (can i a at))
+  where
+    by : (u m s : Bool) → ((u && m) ≡ true → s ≡ true) → (u && (m && s)) ≡ (u && m)
+    by false m s all = refl
+    by true false s all = refl
+    by true true s all = all refl
 
 pub follows-owed : (b : BookHistory) (origins : List Origin)
     → owed b origins ≡ live_owed (live_book b) origins

@@ -9,7 +9,7 @@ use Rattle.fwd_chunks.specs.declared.span.Span.{Span}
 use Rattle.fwd_session.specs.Evidence.{Evidence}
 use Rattle.fwd_book.specs.History.{Entered, evidence_of, has_run}
 use Rattle.fwd_book.specs.Live.{found_under, found_for}
-use Rattle.fwd_book.proofs.Tests.{apart, some_is, none_some, neither_left, neither_right, true-or, or-true}
+use Rattle.fwd_book.proofs.Facts.{apart, some_is, none_some, neither_left, neither_right, true-or, or-true}
 
 -- what is found under a number has it
 abbrev pub IsNumbered : (ℕ → Option Evidence) → Type 0

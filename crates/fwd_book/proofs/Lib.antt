@@ -1,6 +1,10 @@
 mod Examples
-pub mod Tests
+pub mod Facts
 pub mod Found
+pub mod Noting
+pub mod Slotting
+pub mod Keeping
+pub mod Stepping
 pub mod Following
 pub mod Right
 pub mod Sound

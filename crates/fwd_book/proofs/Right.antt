@@ -10,7 +10,7 @@ use Rattle.fwd_session.specs.Evidence.{Evidence}
 use Rattle.fwd_book.specs.History.{Entered, is_origin, request_at, evidence_of, is_settled}
 use Rattle.fwd_book.specs.Receipts.{Part, Receipt, span_of, shown_by, part_of, parts_of, receipt_of, receipt_if, once, receipts, IsRightFor, AreRising}
 use Rattle.fwd_book.specs.Live.{LiveBook, HasItsRuns, AreCutBy, IsSound}
-use Rattle.fwd_book.proofs.Tests.{apart, some_is, none_some, true-or, or-true, both_left, both_right}
+use Rattle.fwd_book.proofs.Facts.{origin-is, apart, some_is, none_some, true-or, or-true, both_left, both_right}
 
 -- what is found stands at a place
 pub record Stands {X : Type 0} (p : X → Bool) (xs : List X) (x : X) : Type 0 where
@@ -18,9 +18,9 @@ pub record Stands {X : Type 0} (p : X → Bool) (xs : List X) (x : X) : Type 0 w
   pub here : slice_get xs place ≡ Some x
   pub passes : p x ≡ true
 
-found_at : {X : Type 0} (p : X → Bool) (xs : List X) (x : X) → find p xs ≡ Some x → Stands p xs x
-found_at p [] x found = absurd cc
-found_at p (y ∷ xs) x found = by (p y) refl found (λ e. found_at p xs x e)
+pub found_stands : {X : Type 0} (p : X → Bool) (xs : List X) (x : X) → find p xs ≡ Some x → Stands p xs x
+found_stands p [] x found = absurd cc
+found_stands p (y ∷ xs) x found = by (p y) refl found (λ e. found_stands p xs x e)
   where
     by : (a : Bool) → p y ≡ a → cond a (Some y) (find p xs) ≡ Some x → (find p xs ≡ Some x → Stands p xs x) → Stands p (y ∷ xs) x
     by true e f more = record { place = 0; here = f; passes = sym (ap p (some_is f)) ∙ e }
@@ -49,7 +49,7 @@ parts_are settled (s ∷ spans) own all cut runs =
         → AreParts settled (s ∷ spans) own (part_of o s ++ parts_of settled spans)
     by None none more = absurd (apart (sym (ap is_some none) ∙ both_left (is_some (evidence_of settled s.number)) (list_all (λ t. is_some (evidence_of settled t.number)) spans) all))
     by (Some e) some more =
-        let at = found_at (λ x. x.number == s.number) settled e some in
+        let at = found_stands (λ x. x.number == s.number) settled e some in
         let number : e.number ≡ s.number = eqb-true e.number s.number at.passes in
         let shown = (runs at.place e at.here).0 (sym number) in record {
           spans_are = λ i. record { number = number i; from = s.from; count = s.count } ∷ more.spans_are i;
@@ -91,7 +91,7 @@ in_flat {X = X} {Y = Y} f (x ∷ xs) i y e = by (in_both (f x) (flat_map f xs) i
 -- ---- a receipt
 
 -- the receipt of a request whose entries are all acknowledged is right
-good : (b : LiveBook) (q : Entered) (place : ℕ) → IsSound b → slice_get b.requests place ≡ Some q
+pub good : (b : LiveBook) (q : Entered) (place : ℕ) → IsSound b → slice_get b.requests place ≡ Some q
     → is_settled b.settled q ≡ true → IsRightFor b.setting q (receipt_of b.settled q)
 good b q place sound here all =
     let parts = parts_are b.settled q.spans q.entries all (sound.cut place q here) (λ j e there. (sound.of place j q e here there).runs) in record {
@@ -108,23 +108,25 @@ good b q place sound here all =
 
 pub right : (b : LiveBook) (origins : List Origin) (i : ℕ) (r : Receipt) → IsSound b
     → slice_get (receipts b.settled b.requests origins) i ≡ Some r
-    → (j : ℕ) × (q : Entered) × (slice_get b.requests j ≡ Some q) × IsRightFor b.setting q r
+    → (q : Entered) × (request_at b.requests r.origin ≡ Some q) × IsRightFor b.setting q r
 right b origins i r sound here = at (in_flat (λ origin. receipt_if b.settled (request_at b.requests origin)) (once origins) i r here)
   where
     Result : Type 0
-    Result = (j : ℕ) × (q : Entered) × (slice_get b.requests j ≡ Some q) × IsRightFor b.setting q r
+    Result = (q : Entered) × (request_at b.requests r.origin ≡ Some q) × IsRightFor b.setting q r
 
-    one : (q : Entered) (place j : ℕ) → slice_get b.requests place ≡ Some q → (a : Bool) → is_settled b.settled q ≡ a
+    one : (origin : Origin) (q : Entered) (place j : ℕ) → slice_get b.requests place ≡ Some q → request_at b.requests origin ≡ Some q → is_origin origin q.origin ≡ true
+        → (a : Bool) → is_settled b.settled q ≡ a
         → slice_get (cond a (receipt_of b.settled q ∷ []) []) j ≡ Some r → Result
-    one q place j stands false all e = absurd (none_some e)
-    one q place zero stands true all e = (place, q, stands, subst (λ x. IsRightFor b.setting q x) (some_is e) (good b q place sound stands all))
-    one q place (suc j) stands true all e = absurd (none_some e)
+    one origin q place j stands found is false all e = absurd (none_some e)
+    one origin q place zero stands found is true all e =
+        (q, ap (λ (x : Receipt). request_at b.requests x.origin) (sym (some_is e)) ∙ ap (request_at b.requests) (origin-is origin q.origin is) ∙ found, subst (λ x. IsRightFor b.setting q x) (some_is e) (good b q place sound stands all))
+    one origin q place (suc j) stands found is true all e = absurd (none_some e)
 
     by : (origin : Origin) (o : Option Entered) (j : ℕ) → request_at b.requests origin ≡ o → slice_get (receipt_if b.settled o) j ≡ Some r → Result
     by origin None j found e = absurd (none_some e)
     by origin (Some q) j found e =
-        let st = found_at (λ x. is_origin origin x.origin) b.requests q found in
-        one q st.place j st.here (is_settled b.settled q) refl e
+        let st = found_stands (λ x. is_origin origin x.origin) b.requests q found in
+        one origin q st.place j st.here found st.passes (is_settled b.settled q) refl e
 
     at : (origin : Origin) × (j : ℕ) × (slice_get (receipt_if b.settled (request_at b.requests origin)) j ≡ Some r) → Result
     at found = by found.0 (request_at b.requests found.0) found.1 refl found.2

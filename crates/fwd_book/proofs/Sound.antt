@@ -1,18 +1,44 @@
 -- A sound book stays sound.
-use Rattle.std.proofs.Common.{◌≡◌, ℕ, Bool, true, false, zero, suc, cond, Some, List, [], ◌∷◌, ◌++◌, sym, ap, subst, ◌∙◌, inl, inr}
-use Rattle.std.specs.Prelude.{◌⊎◌, map, filter, drop, not, ◌==◌, slice_get}
+use Rattle.std.proofs.Common.{◌≡◌, ℕ, Bool, true, false, zero, suc, cond, Some, None, List, [], ◌∷◌, ◌++◌, refl, sym, ap, subst, ◌∙◌, inl, inr}
+use Rattle.std.specs.Option.{option_or}
+use Rattle.std.proofs.lemmas.List.Folds.{find-append}
+use Rattle.std.specs.Prelude.{find, ◌&&◌, ◌⊎◌, map, filter, drop, not, ◌==◌, slice_get}
 use Rattle.std.specs.List.{list_any}
-use Rattle.std.proofs.lemmas.Bool.{eq-eqb}
+use Rattle.std.proofs.lemmas.Bool.{eqb-true, eq-eqb}
 use Rattle.fwd_modes.specs.Acks.{ack_name}
 use Rattle.fwd_source.specs.declared.origin.Origin.{Origin}
 use Rattle.fwd_chunks.specs.declared.span.Span.{Span}
 use Rattle.fwd_session.specs.Evidence.{Evidence}
-use Rattle.fwd_book.specs.History.{BookSetting, Entered, is_among, evidence_of, has_run, is_fresh, name_at}
+use Rattle.fwd_book.specs.History.{BookSetting, Entered, is_origin, request_at, is_among, evidence_of, has_run, is_fresh, name_at}
 use Rattle.fwd_book.specs.Receipts.{AreRising}
-use Rattle.fwd_book.specs.Live.{LiveBook, evidence_for, live_opening, live_enters, live_settles, live_left, live_leaves, HasItsRuns, AreCutBy, IsOf, IsSound}
+use Rattle.fwd_book.specs.Live.{LiveBook, evidence_for, live_opening, live_enters, live_settles, live_left, live_leaves, HasItsRuns, AreCutBy, AreApart, IsOf, IsSound}
 use Rattle.fwd_book.proofs.Found.{comes, found_there}
 use Rattle.fwd_book.proofs.Found.{in_both}
-use Rattle.fwd_book.proofs.Tests.{apart, some_is, none_some, neither_left, neither_right, is_not}
+use Rattle.fwd_book.proofs.Facts.{apart, some_is, none_some, neither_left, neither_right, is_not}
+
+-- one origin is the other, either way
+one_way : (a b : Origin) → is_origin a b ≡ is_origin b a
+one_way a b = λ i. either (a.conn) (b.conn) i && either (a.request) (b.request) i
+  where
+    either : (m n : ℕ) → (m == n) ≡ (n == m)
+    either m n = by (m == n) (n == m) refl refl
+      where
+        by : (x y : Bool) → (m == n) ≡ x → (n == m) ≡ y → x ≡ y
+        by true true e f = refl
+        by false false e f = refl
+        by true false e f = sym (sym e ∙ ap (λ k. k == n) (eqb-true m n e) ∙ eq-eqb n n refl) ∙ absurd (apart (sym f ∙ ap (λ k. n == k) (eqb-true m n e) ∙ eq-eqb n n refl))
+        by false true e f = absurd (apart (sym e ∙ ap (λ k. m == k) (eqb-true n m f) ∙ eq-eqb m m refl))
+
+-- what is nowhere is nowhere once some leave
+pub find_left : {X : Type 0} (p q : X → Bool) (xs : List X) → find p xs ≡ None
+    → find p (filter q xs) ≡ None
+find_left p q [] none = refl
+find_left p q (x ∷ xs) none = by (p x) (q x) refl none (find_left p q xs)
+  where
+    by : (a b : Bool) → p x ≡ a → cond a (Some x) (find p xs) ≡ None → (find p xs ≡ None → find p (filter q xs) ≡ None) → find p (cond b (x ∷ filter q xs) (filter q xs)) ≡ None
+    by true b e n more = absurd (none_some (sym n))
+    by false true e n more = ap (λ k. cond k (Some x) (find p (filter q xs))) e ∙ more n
+    by false false e n more = more n
 
 -- the last one is the only one of a list of one
 only : {X : Type 0} (x y : X) (i : ℕ) → slice_get (x ∷ []) i ≡ Some y → x ≡ y
@@ -49,16 +75,45 @@ no_runs number chunk (s ∷ spans) own none = (
 
 pub sound-opening : (setting : BookSetting) → IsSound (live_opening setting)
 sound-opening setting = record {
+  apart = tt;
   cut = λ i q e. absurd (none_some e);
   rising = λ i q e. absurd (none_some e);
   names = λ j e at. absurd (none_some at);
   of = λ i j q e at there. absurd (none_some at);
 }
 
-pub sound-enters : (b : LiveBook) (q : Entered) → IsSound b → AreCutBy q.spans q.entries
+-- a request of a new origin stands apart from the others
+apart_behind : (qs : List Entered) (q : Entered) → AreApart qs → request_at qs q.origin ≡ None
+    → AreApart (qs ++ q ∷ [])
+apart_behind [] q alone new = (refl, tt)
+apart_behind (r ∷ qs) q alone new = by (is_origin q.origin r.origin) refl new (λ e. apart_behind qs q alone.1 e)
+  where
+    other : is_origin q.origin r.origin ≡ false → is_origin r.origin q.origin ≡ false
+    other e = sym (one_way q.origin r.origin) ∙ e
+
+    by : (a : Bool) → is_origin q.origin r.origin ≡ a → cond a (Some r) (request_at qs q.origin) ≡ None
+        → (request_at qs q.origin ≡ None → AreApart (qs ++ q ∷ [])) → AreApart (r ∷ qs ++ q ∷ [])
+    by true same n more = absurd (none_some (sym n))
+    by false same n more = (
+      find-append (λ (x : Entered). is_origin r.origin x.origin) qs (q ∷ [])
+          ∙ (λ i. option_or (alone.0 i) (cond (other same i) (Some q) None)),
+      more n,
+    )
+
+-- what stands apart stands so where some leave
+apart_left : (p : Entered → Bool) (qs : List Entered) → AreApart qs → AreApart (filter p qs)
+apart_left p [] alone = tt
+apart_left p (q ∷ qs) alone = by (p q) (apart_left p qs alone.1)
+  where
+    by : (a : Bool) → AreApart (filter p qs) → AreApart (cond a (q ∷ filter p qs) (filter p qs))
+    by true more = (find_left (λ (r : Entered). is_origin q.origin r.origin) p qs alone.0, more)
+    by false more = more
+
+pub sound-enters : (b : LiveBook) (q : Entered) → IsSound b → request_at b.requests q.origin ≡ None → AreCutBy q.spans q.entries
     → AreRising (map (λ s. s.number) q.spans) → is_fresh b.settled q ≡ true
     → IsSound (live_enters b q)
-sound-enters b q sound cut rising fresh = record {
+sound-enters b q sound new cut rising fresh = record {
+  apart = apart_behind b.requests q sound.apart new;
   cut = λ i r at. by_cut i r (in_both b.requests (q ∷ []) i r at);
   rising = λ i r at. by_rising i r (in_both b.requests (q ∷ []) i r at);
   names = sound.names;
@@ -90,6 +145,7 @@ pub sound-settles : (b : LiveBook) (e : Evidence) → IsSound b
     → ((i : ℕ) (q : Entered) → slice_get b.requests i ≡ Some q → IsOf q e)
     → IsSound (live_settles b e)
 sound-settles b e sound names of = record {
+  apart = sound.apart;
   cut = sound.cut;
   rising = sound.rising;
   names = λ j d there. by_names d (where_from j d there);
@@ -116,6 +172,7 @@ sound-settles b e sound names of = record {
 pub sound-leaves : (b : LiveBook) (origins : List Origin) → IsSound b
     → IsSound (live_leaves b origins)
 sound-leaves b origins sound = record {
+  apart = apart_left (λ q. not (is_among origins q.origin)) b.requests sound.apart;
   cut = λ i q here. let at = in_left i q here in sound.cut at.0 q at.1;
   rising = λ i q here. let at = in_left i q here in sound.rising at.0 q at.1;
   names = λ j e there. let on = in_kept j e there in sound.names on.0 e on.1;

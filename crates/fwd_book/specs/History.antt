@@ -1,6 +1,6 @@
 -- Who is to be told, and on what evidence: every request that an output entered, what became of
 -- it, and every chunk that a server acknowledged, as it was sent, with the server's reply.
-use Rattle.std.specs.Prelude.{ℕ, Bool, true, false, not, ◌&&◌, List, [], ◌∷◌, ◌++◌, length, map, filter, find, is_some, Option, ◌==◌}
+use Rattle.std.specs.Prelude.{◌≡◌, ℕ, Bool, true, false, not, ◌&&◌, List, [], ◌∷◌, ◌++◌, length, map, filter, find, is_some, Option, Some, slice_get, ◌==◌}
 use Rattle.std.specs.List.{list_all, list_any}
 use Rattle.fwd_modes.specs.Requests.{Request}
 use Rattle.fwd_modes.specs.Frames.{chunk_name}
@@ -93,9 +93,14 @@ is_settled settled q = list_all (λ s. is_some (evidence_of settled s.number)) q
 abbrev pub has_run : ℕ → Entered → Bool
 has_run number q = list_any (λ s. s.number == number) q.spans
 
+-- no number of these runs was acknowledged
+abbrev pub are_fresh : List Evidence → List Span → Bool
+are_fresh settled spans =
+    not (list_any (λ e. list_any (λ s. s.number == e.number) spans) settled)
+
 -- no number of the request's entries was acknowledged, as is so of a request that comes
 abbrev pub is_fresh : List Evidence → Entered → Bool
-is_fresh settled q = not (list_any (λ e. has_run e.number q) settled)
+is_fresh settled q = are_fresh settled q.spans
 
 -- ---- what happens to it
 
@@ -116,10 +121,26 @@ becomes fate false a = a
 abbrev pub is_owed : List Origin → Admission → Bool
 is_owed origins a = is_untold a.fate && is_among origins a.request.origin
 
--- the requests of these origins that are owed an answer are told or forgotten
-unfoldable pub leaves : Fate → BookHistory → List Origin → BookHistory
-leaves fate b origins =
-    record b { admissions = map (λ a. becomes fate (is_owed origins a) a) b.admissions }
+-- what becomes of the requests where the test holds
+unfoldable pub leaves : Fate → (Admission → Bool) → BookHistory → BookHistory
+leaves fate gone b = record b {
+  admissions = map (λ a. becomes fate (is_untold a.fate && gone a) a) b.admissions;
+}
+
+-- the requests of these origins that are owed an answer are told, where all their entries are
+-- acknowledged
+abbrev pub tells : BookHistory → List Origin → BookHistory
+tells b origins = leaves Told
+    (λ a. is_among origins a.request.origin && is_settled b.settled a.request) b
+
+-- the requests of these origins that are owed an answer are forgotten
+abbrev pub forgets : BookHistory → List Origin → BookHistory
+forgets b origins = leaves Forgotten (λ a. is_among origins a.request.origin) b
+
+-- all requests of these origins that are owed an answer can be told
+abbrev pub CanBeTold : BookHistory → List Origin → Type 0
+CanBeTold b origins = (i : ℕ) (a : Admission) → slice_get b.admissions i ≡ Some a
+    → is_owed origins a ≡ true → is_settled b.settled a.request ≡ true
 
 -- how many of them are owed an answer
 abbrev pub owed : BookHistory → List Origin → ℕ

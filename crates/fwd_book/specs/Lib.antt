@@ -1,3 +1,7 @@
+-- what a reader has to believe
 pub mod History
 pub mod Receipts
 pub mod Live
+-- how the code keeps it
+pub mod Slots
+pub mod Notes

@@ -1,12 +1,13 @@
 -- What of a book's history still matters: the requests that are owed an answer, and what was
 -- acknowledged of their entries.
-use Rattle.std.specs.Prelude.{◌≡◌, ◌<◌, ◌≤◌, ℕ, true, not, List, [], ◌∷◌, ◌++◌, length, map, filter, Option, Some, option_to_list, take, drop, slice_get}
+use Rattle.std.specs.Prelude.{◌≡◌, ◌<◌, ◌≤◌, ℕ, Bool, true, false, not, List, [], ◌∷◌, ◌++◌, length, map, filter, Option, Some, None, option_to_list, take, drop, slice_get}
 use Rattle.std.specs.List.{flat_map}
+use Rattle.fwd_modes.specs.Requests.{Request}
 use Rattle.fwd_modes.specs.Acks.{ack_name}
 use Rattle.fwd_source.specs.declared.origin.Origin.{Origin}
 use Rattle.fwd_chunks.specs.declared.span.Span.{Span}
 use Rattle.fwd_session.specs.Evidence.{Evidence}
-use Rattle.fwd_book.specs.History.{BookSetting, Entered, BookHistory, name_at, is_among, untold, evidence_of, has_run}
+use Rattle.fwd_book.specs.History.{BookSetting, Entered, BookHistory, entered_as, name_at, is_among, request_at, untold, evidence_of, is_settled, has_run}
 use Rattle.fwd_book.specs.Receipts.{run_in, AreRising}
 
 -- the requests that are owed an answer, in the order in which they were entered, and what was
@@ -59,6 +60,15 @@ live_leaves b origins = record b {
   settled = evidence_for (live_left b origins) b.settled;
 }
 
+-- a request is there, and all its entries are acknowledged
+abbrev pub settled_if : List Evidence → Option Entered → Bool
+settled_if settled None = false
+settled_if settled (Some q) = is_settled settled q
+
+-- the request of an origin is there, and all its entries are acknowledged
+abbrev pub live_is_settled : LiveBook → Origin → Bool
+live_is_settled b origin = settled_if b.settled (request_at b.requests origin)
+
 -- how many leave
 abbrev pub live_owed : LiveBook → List Origin → ℕ
 live_owed b origins = length (filter (λ q. is_among origins q.origin) b.requests)
@@ -85,10 +95,16 @@ pub record IsOf (q : Entered) (e : Evidence) : Type 0 where
   pub tag : has_run e.number q ≡ true → e.tag ≡ q.tag
   pub runs : HasItsRuns e.number e.entries q.spans q.entries
 
--- A book is sound where the runs of each request cut its entries, and their numbers rise; the
--- reply of what was acknowledged names the chunk at this output; and it is of what each request
--- has.
+-- no two requests have one origin
+abbrev pub AreApart : List Entered → Type 0
+AreApart [] = Unit {0}
+AreApart (q ∷ qs) = (request_at qs q.origin ≡ None) × AreApart qs
+
+-- A book is sound where no two requests have one origin; the runs of each request cut its entries,
+-- and their numbers rise; the reply of what was acknowledged names the chunk at this output; and it
+-- is of what each request has.
 pub record IsSound (b : LiveBook) : Type 0 where
+  pub apart : AreApart b.requests
   pub cut : (i : ℕ) (q : Entered) → slice_get b.requests i ≡ Some q → AreCutBy q.spans q.entries
   pub rising : (i : ℕ) (q : Entered) → slice_get b.requests i ≡ Some q
       → AreRising (map (λ s. s.number) q.spans)
@@ -96,3 +112,20 @@ pub record IsSound (b : LiveBook) : Type 0 where
       → ack_name e.reply ≡ Some (name_at b.setting e.number)
   pub of : (i j : ℕ) (q : Entered) (e : Evidence) → slice_get b.requests i ≡ Some q
       → slice_get b.settled j ≡ Some e → IsOf q e
+
+-- ---- a book as its calls show it
+
+-- a book, and the request that it made room for, if it did for one
+pub record BookState : Type 0 where
+  pub live : LiveBook
+  pub ready : Option Request
+
+-- a request, if there is one, is entered under the runs of its entries
+abbrev pub enters_if : BookState → Option Request → Origin → List Span → BookState
+enters_if b None origin spans = b
+enters_if b (Some r) origin spans =
+    record { live = live_enters b.live (entered_as r origin spans); ready = None }
+
+-- the request that room was made for is entered
+abbrev pub ready_enters : BookState → Origin → List Span → BookState
+ready_enters b origin spans = enters_if b b.ready origin spans

@@ -1,6 +1,16 @@
 //! Who is to be told that all entries of its request were acknowledged, and on what evidence.
 #![tactic(auto)]
 
+mod book;
+mod kept;
 mod laws;
+mod numbers;
+mod receipt;
+mod requests;
+mod stored;
+#[cfg(test)]
+mod tests;
 
+pub use book::Book;
 pub use laws::{live_follows, receipts_are_right, stays_sound};
+pub use receipt::{Part, Receipt};

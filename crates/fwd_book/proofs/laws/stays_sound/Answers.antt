@@ -5,7 +5,7 @@ pub returns-clause-opening : goal.returns-clause-opening
 returns-clause-opening c = λ setting. sound-opening setting
 
 pub returns-clause-enters : goal.returns-clause-enters
-returns-clause-enters c = λ b q sound cut rising fresh. sound-enters b q sound cut rising fresh
+returns-clause-enters c = λ b q sound new cut rising fresh. sound-enters b q sound new cut rising fresh
 
 pub returns-clause-settles : goal.returns-clause-settles
 returns-clause-settles c = λ b e sound names of. sound-settles b e sound names of

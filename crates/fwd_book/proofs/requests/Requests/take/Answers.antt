@@ -1,0 +1,42 @@
+use Rattle.std.proofs.Common.{◌≡◌, None, filter, sym, ap, subst, ◌∙◌}
+use Rattle.std.specs.Prelude.{not}
+use Rattle.std.specs.Map.{set_value}
+use Rattle.fwd_book.specs.History.{is_origin, request_at}
+use Rattle.fwd_book.specs.Slots.{Held, AreKeyed, present, key_of, is_key}
+use Rattle.fwd_book.proofs.Slotting.{held_in, slot_found, emptied, keyed_emptied, any_none, filter_none}
+use Rattle.fwd_book.proofs.requests.Requests.take.Goals as goal
+
+pub returns-in_err-get_mut-clause-taken : goal.returns-in_err-get_mut-clause-taken
+returns-in_err-get_mut-clause-taken c =
+    c.from_residual.ensures ∙ ap held_in c.in_err-get_mut.ensures.value
+    ∙ slot_found c.self.inside.slots.entries c.args.origin c.self.invariant.0 c.self.invariant.1
+    ∙ ap (λ (h : Held). request_at h.items c.args.origin) c.self.view_is
+
+pub returns-in_err-get_mut-clause-left : goal.returns-in_err-get_mut-clause-left
+returns-in_err-get_mut-clause-left c =
+    let same : c.get_mut.follows.lender-at-none ≡ c.self.inside.slots = c.get_mut.follows.holds-at-none in
+    let none : request_at c.args.self.now.items c.args.origin ≡ None =
+    sym (ap held_in c.in_err-get_mut.ensures.value
+    ∙ slot_found c.self.inside.slots.entries c.args.origin c.self.invariant.0 c.self.invariant.1
+    ∙ ap (λ (h : Held). request_at h.items c.args.origin) c.self.view_is) in
+    (λ i. present (same i).entries) ∙ ap (λ (h : Held). h.items) c.self.view_is
+    ∙ sym (filter_none (λ q. is_origin c.args.origin q.origin) c.args.self.now.items (any_none (λ q. is_origin c.args.origin q.origin) c.args.self.now.items none))
+
+pub invariant_of-self-2 : goal.invariant_of-self-2
+invariant_of-self-2 c =
+    let new : (c.get_mut.follows.lender c.take.new.self).entries ≡ set_value (is_key (key_of c.args.origin)) c.self.inside.slots.entries None =
+    (c.get_mut.follows.holds c.take.new.self).0 ∙ ap (set_value (is_key (key_of c.args.origin)) c.self.inside.slots.entries) c.take.ensures.after in
+    (subst AreKeyed (sym new) (keyed_emptied c.self.inside.slots.entries (is_key (key_of c.args.origin)) c.self.invariant.0), (c.get_mut.follows.holds c.take.new.self).4)
+
+pub returns-clause-taken : goal.returns-clause-taken
+returns-clause-taken c =
+    c.take.ensures.value ∙ ap held_in c.in_ok-get_mut.ensures.value
+    ∙ slot_found c.self.inside.slots.entries c.args.origin c.self.invariant.0 c.self.invariant.1
+    ∙ ap (λ (h : Held). request_at h.items c.args.origin) c.self.view_is
+
+pub returns-clause-left : goal.returns-clause-left
+returns-clause-left c =
+    let new : (c.get_mut.follows.lender c.take.new.self).entries ≡ set_value (is_key (key_of c.args.origin)) c.self.inside.slots.entries None =
+    (c.get_mut.follows.holds c.take.new.self).0 ∙ ap (set_value (is_key (key_of c.args.origin)) c.self.inside.slots.entries) c.take.ensures.after in
+    ap present new ∙ emptied c.self.inside.slots.entries c.args.origin c.self.invariant.0 c.self.invariant.1
+    ∙ ap (λ (h : Held). filter (λ q. not (is_origin c.args.origin q.origin)) h.items) c.self.view_is

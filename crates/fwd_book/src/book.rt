@@ -1,0 +1,270 @@
+//! The requests of an output that are owed an answer, with what was acknowledged of their entries.
+
+ghost use Rattle.std.specs.Prelude.{◌≡◌, ◌≢◌, ◌<◌, ◌≤◌, ◌^◌, ℕ, true, false, None, Some, [], ◌∷◌, ◌++◌, ◌==◌, length, map, is_some, slice_get, if◌then◌else◌, option_to_list, IsSome, IfSome, IfOk, OnOk, OnErr};
+ghost use Rattle.std.specs.Arc.{arc_value};
+ghost use Rattle.std.specs.List.{list_any};
+ghost use Rattle.fwd_modes.specs.Acks.{ack_name};
+ghost use Rattle.fwd_book.specs.History.{Entered, entered_as, name_at, request_at, are_fresh};
+ghost use Rattle.fwd_book.specs.Receipts.{Receipt as AbstractReceipt, IsRightFor, AreRising, once, receipts, receipt_if};
+ghost use Rattle.fwd_book.specs.Live.{AreCutBy, IsOf, IsSound, live_opening, ready_enters, live_settles, live_leaves, live_owed, live_is_settled, evidence_for};
+ghost use Rattle.fwd_book.specs.Notes.{note_at, uses_in, used_more, used_less};
+
+use crate::kept::Kept;
+use crate::laws::receipts_are_right;
+use crate::numbers::Numbers;
+use crate::receipt::Receipt;
+use crate::requests::Requests;
+use crate::stored::Stored;
+use fwd_chunks::Span;
+use fwd_modes::Batch;
+use fwd_session::Acked;
+use fwd_source::Origin;
+use indexmap::IndexSet;
+use std::alloc::{AllocError, Global};
+use std::marker::Model;
+use std::sync::Arc;
+
+/// The requests of one output that are owed an answer. What was acknowledged is kept once for each
+/// number, and as long as a request needs it. No call looks at more than it is asked about, but
+/// that room is made anew once the places are all taken.
+#[derive(Debug, Drop)]
+pub struct Book {
+    run: [u8; 6],
+    output: u16,
+    requests: Requests,
+    numbers: Numbers,
+    /// The request that room was made for.
+    ready: Option<Stored>,
+}
+
+impl Model for Book {
+    ghost use Rattle.fwd_book.specs.Live.{BookState, IsSound};
+    ghost use Rattle.fwd_book.specs.Notes.{AreOf, live_of, HasRoom};
+
+    ghost Value = { BookState };
+
+    ghost view = { λ b. record {
+      live = live_of (record { run = b.run; output = b.output }) b.requests.items b.numbers.notes;
+      ready = b.ready;
+    } };
+
+    ghost invariant = { λ b. AreOf b.numbers.notes b.requests.items
+        × IsSound (live_of (record { run = b.run; output = b.output }) b.requests.items
+        b.numbers.notes)
+        × HasRoom b.ready b.requests.room b.numbers.room };
+}
+
+/// One request more has the numbers of these runs, which rise.
+fn use_all(numbers: &mut Numbers, spans: &[Span])
+    requires room { length spans.now ≤ numbers.old.room }
+    requires few { (n : ℕ) → uses_in (note_at n numbers.old.notes) < 2 ^ 63 }
+    requires rising { AreRising (map (λ s. s.number) spans.now) }
+    ensures { (n : ℕ) → note_at n numbers.new.notes
+        ≡ (if list_any (λ s. s.number == n) spans.now
+        then Some (used_more (note_at n numbers.old.notes)) else note_at n numbers.old.notes) }
+{
+    for span in spans {
+        numbers.more(span.number);
+    }
+}
+
+/// One request less has the numbers of these runs, which rise.
+fn leave_all(numbers: &mut Numbers, spans: &[Span])
+    requires rising { AreRising (map (λ s. s.number) spans.now) }
+    ensures noted { (n : ℕ) → note_at n numbers.new.notes
+        ≡ (if list_any (λ s. s.number == n) spans.now
+        then used_less (note_at n numbers.old.notes) else note_at n numbers.old.notes) }
+    ensures room { numbers.old.room ≤ numbers.new.room }
+{
+    for span in spans {
+        numbers.less(span.number);
+    }
+}
+
+/// Each origin once, where it stands first.
+fn once(alloc: Global, origins: &[Origin]) -> Result<Vec<Origin>, AllocError>
+    ensures { IfOk result (λ asked. asked.items ≡ once origins.now) }
+{
+    let mut known = IndexSet::new(alloc);
+    let mut asked = Vec::new(alloc);
+    for origin in origins {
+        if known.insert((origin.conn, origin.request))? {
+            asked.push(*origin)?;
+        }
+    }
+    Ok(asked)
+}
+
+impl Book {
+    /// A book without requests, of the output with this number in this run.
+    pub fn new(alloc: Global, run: [u8; 6], output: u16) -> Self
+        ensures { result ≡ record {
+          live = live_opening (record { run = run; output = output });
+          ready = None;
+        } }
+    {
+        Book {
+            run,
+            output,
+            requests: Requests::new(alloc),
+            numbers: Numbers::new(alloc),
+            ready: None,
+        }
+    }
+
+    /// Makes room for a request. On an error nothing has changed.
+    pub fn prepare(&mut self, alloc: Global, batch: &Batch) -> Result<(), AllocError>
+        ensures ok { OnOk result (self.new ≡ record self.old { ready = Some batch.now }) }
+        ensures err { OnErr result (self.new ≡ self.old) }
+    {
+        let stored = Stored::new(alloc, batch)?;
+        self.requests.reserve()?;
+        self.numbers.reserve(stored.len())?;
+        self.ready = Some(stored);
+        Ok(())
+    }
+
+    /// The request that room was made for is entered, under the runs that its entries took.
+    pub fn enter(&mut self, origin: Origin, spans: Vec<Span>)
+        requires ready { IsSome self.old.ready }
+        requires alone { request_at self.old.live.requests origin ≡ None }
+        requires cut { IfSome self.old.ready (λ r. AreCutBy spans.items r.entries) }
+        requires rising { AreRising (map (λ s. s.number) spans.items) }
+        requires fresh { are_fresh self.old.live.settled spans.items ≡ true }
+        ensures { self.new ≡ ready_enters self.old origin spans.items }
+    {
+        let Some(stored) = self.ready.take() else {
+            unreachable!();
+        };
+        self.requests.are_few();
+        use_all(&mut self.numbers, &spans);
+        self.requests.push(Kept::new(origin, stored, spans));
+    }
+
+    /// Whether the request of an origin is owed an answer.
+    pub fn holds(&self, origin: Origin) -> bool
+        ensures { result ≡ is_some (request_at self.now.live.requests origin) }
+    {
+        self.requests.get(origin).is_some()
+    }
+
+    /// The request of an origin leaves. Answers whether it was there.
+    fn leave(&mut self, origin: Origin) -> bool
+        ensures held { result ≡ is_some (request_at self.old.live.requests origin) }
+        ensures left { self.new ≡ record self.old {
+          live = live_leaves self.old.live (origin ∷ []);
+        } }
+    {
+        let Some(kept) = self.requests.take(origin) else {
+            return false;
+        };
+        leave_all(&mut self.numbers, kept.spans());
+        true
+    }
+
+    /// A server acknowledged a chunk: it is kept where some request has entries in it. Answers how
+    /// many entries it has.
+    pub fn settle(&mut self, acked: Arc<Acked>) -> usize
+        requires named { ack_name (arc_value acked).reply
+            ≡ Some (name_at self.old.live.setting (arc_value acked).number) }
+        requires own { (i : ℕ) (q : Entered) → slice_get self.old.live.requests i ≡ Some q
+            → IsOf q (arc_value acked) }
+        ensures count { result ≡ length (arc_value acked).entries }
+        ensures settled { self.new ≡ record self.old {
+          live = live_settles self.old.live (arc_value acked);
+        } }
+    {
+        let count = acked.ends().len();
+        self.numbers.put(acked);
+        count
+    }
+
+    /// What is true of every book, so that each receipt that it gives is right. And what it shows
+    /// as acknowledged is what its requests need of it.
+    pub fn is_sound(&self)
+        ensures sound { IsSound self.now.live }
+        ensures kept { evidence_for self.now.live.requests self.now.live.settled
+            ≡ self.now.live.settled }
+    {
+        let _output = self.output;
+    }
+
+    /// The requests of these origins leave: they were told, or nobody is to be told any more.
+    /// Answers how many there were.
+    pub fn forget(&mut self, origins: &[Origin]) -> usize
+        ensures count { result ≡ live_owed self.old.live origins.now }
+        ensures left { self.new ≡ record self.old {
+          live = live_leaves self.old.live origins.now;
+        } }
+    {
+        self.is_sound();
+        let mut count = 0;
+        for origin in origins {
+            if self.leave(*origin) {
+                count += 1;
+            }
+        }
+        count
+    }
+
+    /// Whether the request of an origin is owed an answer, and all its entries are acknowledged.
+    pub fn is_settled(&self, origin: Origin) -> bool
+        ensures { result ≡ live_is_settled self.now.live origin }
+    {
+        match self.requests.get(origin) {
+            None => false,
+            Some(kept) => self.numbers.has_all(kept.spans()),
+        }
+    }
+
+    /// Whether this request is owed an answer under this origin, with these runs of its entries.
+    pub fn shows(&self, origin: Origin, batch: &Batch, spans: &[Span]) -> bool
+        ensures shown { result ≡ true → request_at self.now.live.requests origin
+            ≡ Some (entered_as batch.now origin spans.now) }
+        ensures other { result ≡ false → request_at self.now.live.requests origin
+            ≢ Some (entered_as batch.now origin spans.now) }
+    {
+        match self.requests.get(origin) {
+            None => false,
+            Some(kept) => kept.is_of(batch, spans),
+        }
+    }
+
+    /// The receipts of the requests of these origins whose entries are all acknowledged, in the
+    /// order of the origins, each once; each is right for the request of its origin. The only
+    /// error is want of memory.
+    pub fn gather(&self, alloc: Global, origins: &[Origin]) -> Result<Vec<Receipt>, AllocError>
+        ensures given { IfOk result (λ given. given.items
+            ≡ receipts self.now.live.settled self.now.live.requests origins.now) }
+        ensures right { IfOk result (λ given. (i : ℕ) (r : AbstractReceipt) →
+            slice_get given.items i ≡ Some r →
+            (q : Entered) × (request_at self.now.live.requests r.origin ≡ Some q)
+            × IsRightFor self.now.live.setting q r) }
+    {
+        self.is_sound();
+        receipts_are_right();
+        let asked = once(alloc, origins)?;
+        let mut given = Vec::new(alloc);
+        for origin in &asked {
+            if let Some(receipt) = self.receipt(alloc, *origin)? {
+                given.push(receipt)?;
+            }
+        }
+        Ok(given)
+    }
+
+    /// The receipt of an origin's request, if it is here and its entries are all acknowledged.
+    fn receipt(&self, alloc: Global, origin: Origin) -> Result<Option<Receipt>, AllocError>
+        ensures { IfOk result (λ given. option_to_list given
+            ≡ receipt_if self.now.live.settled (request_at self.now.live.requests origin)) }
+    {
+        let Some(kept) = self.requests.get(origin) else {
+            return Ok(None);
+        };
+        if !self.numbers.has_all(kept.spans()) {
+            return Ok(None);
+        }
+        let parts = self.numbers.parts(alloc, kept.spans())?;
+        Ok(Some(Receipt::new(alloc, kept, parts)?))
+    }
+}

@@ -1,0 +1,144 @@
+//! What shows a source that all entries of its request were acknowledged.
+
+ghost use Rattle.std.specs.Prelude.{◌≡◌, option_copied, IfOk};
+ghost use Rattle.std.specs.Arc.{arc_value};
+ghost use Rattle.std.specs.List.{flat_map};
+ghost use Rattle.fwd_book.specs.Receipts.{shown_by};
+
+use crate::kept::Kept;
+use crate::stored::copy_of;
+use fwd_msgpack::Bytes;
+use fwd_session::Acked;
+use fwd_source::Origin;
+use std::alloc::{AllocError, Global};
+use std::marker::Model;
+use std::sync::Arc;
+
+/// A run of a request's entries in a chunk that a server acknowledged.
+#[derive(Debug, Drop)]
+pub struct Part {
+    chunk: Arc<Acked>,
+    from: u64,
+    count: u64,
+}
+
+impl Model for Part {
+    ghost use Rattle.std.specs.Arc.{arc_value};
+    ghost use Rattle.fwd_book.specs.Receipts.{Part};
+
+    ghost Value = { Part };
+
+    ghost view = { λ p. record {
+      evidence = arc_value p.chunk;
+      from = p.from;
+      count = p.count;
+    } };
+}
+
+impl Part {
+    /// A run in a chunk.
+    pub(crate) fn new(chunk: Arc<Acked>, from: u64, count: u64) -> Self
+        ensures { result
+            ≡ record { evidence = arc_value chunk; from = from; count = count } }
+    {
+        Part { chunk, from, count }
+    }
+
+    /// The chunk, as it was sent, with the server's reply.
+    pub fn chunk(&self) -> &Acked
+        ensures { result.now ≡ self.now.evidence }
+    {
+        &self.chunk
+    }
+
+    /// The place in the chunk of the run's first entry, counted from 0.
+    pub fn from(&self) -> u64
+        ensures { result ≡ self.now.from }
+    {
+        self.from
+    }
+
+    /// How many entries the run has.
+    pub fn count(&self) -> u64
+        ensures { result ≡ self.now.count }
+    {
+        self.count
+    }
+}
+
+/// That all entries of a request were acknowledged. Only a book gives one.
+#[derive(Debug, Drop)]
+pub struct Receipt {
+    origin: Origin,
+    tag: Bytes,
+    chunk: Option<Bytes>,
+    parts: Vec<Part>,
+}
+
+impl Model for Receipt {
+    ghost use Rattle.std.specs.List.{flat_map};
+    ghost use Rattle.fwd_book.specs.Receipts.{Receipt, shown_by};
+
+    ghost Value = { Receipt };
+
+    ghost view = { λ r. record {
+      origin = r.origin;
+      tag = r.tag;
+      entries = flat_map shown_by r.parts.items;
+      chunk = r.chunk;
+      parts = r.parts.items;
+    } };
+}
+
+impl Receipt {
+    /// The receipt of a request by its parts. The only error is want of memory.
+    pub(crate) fn new(alloc: Global, kept: &Kept, parts: Vec<Part>) -> Result<Self, AllocError>
+        ensures { IfOk result (λ receipt. receipt ≡ record {
+          origin = kept.now.origin;
+          tag = kept.now.tag;
+          entries = flat_map shown_by parts.items;
+          chunk = kept.now.chunk;
+          parts = parts.items;
+        }) }
+    {
+        Ok(Receipt {
+            origin: kept.origin(),
+            tag: Bytes::from_slice(alloc, kept.tag())?,
+            chunk: copy_of(alloc, kept.chunk())?,
+            parts,
+        })
+    }
+
+    /// The request's connection, and its number there.
+    pub fn origin(&self) -> Origin
+        ensures { result ≡ self.now.origin }
+    {
+        self.origin
+    }
+
+    /// The tag's bytes.
+    pub fn tag(&self) -> &[u8]
+        ensures { result.now ≡ self.now.tag }
+    {
+        self.tag.as_slice()
+    }
+
+    /// The bytes of the option's `chunk` value, if there is one (Forward Protocol Specification
+    /// v1, "Option").
+    pub fn chunk(&self) -> Option<&[u8]>
+        ensures { option_copied result ≡ self.now.chunk }
+    {
+        match &self.chunk {
+            None => None,
+            Some(chunk) => Some(chunk.as_slice()),
+        }
+    }
+
+    /// The runs of its entries, in their order. The entries of these runs, one after the other,
+    /// are the request's.
+    pub fn parts(&self) -> &[Part]
+        ensures { result.now ≡ self.now.parts }
+    {
+        &self.parts
+    }
+}

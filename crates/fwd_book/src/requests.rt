@@ -1,0 +1,105 @@
+//! The requests that a book holds, each found by its origin.
+
+ghost use Rattle.std.specs.Prelude.{◌≡◌, ◌<◌, ◌≤◌, ◌^◌, length, ◌++◌, ◌∷◌, [], None, is_some, not, filter, option_copied, OnOk};
+ghost use Rattle.fwd_book.specs.History.{is_origin, request_at};
+
+use crate::kept::Kept;
+use fwd_source::Origin;
+use indexmap::IndexMap;
+use std::alloc::{AllocError, Global};
+use std::marker::Model;
+
+/// Requests in the order in which they were entered. A slot stays, empty, until room is made anew,
+/// so that what leaves moves nothing.
+#[derive(Debug, Drop)]
+pub(crate) struct Requests {
+    slots: IndexMap<(u64, u64), Option<Kept>>,
+}
+
+impl Model for Requests {
+    ghost use Rattle.std.specs.Map.{keys_of};
+    ghost use Rattle.std.specs.List.{IsDistinct};
+    ghost use Rattle.indexmap.specs.IndexMap.{spare};
+    ghost use Rattle.fwd_book.specs.Slots.{Held, is_key, present, AreKeyed};
+
+    ghost Value = { Held };
+
+    ghost view = { λ r. record { items = present r.slots.entries; room = spare r.slots } };
+
+    ghost invariant = { λ r. AreKeyed r.slots.entries
+        × IsDistinct is_key (keys_of r.slots.entries) };
+}
+
+impl Requests {
+    /// No requests.
+    pub(crate) fn new(alloc: Global) -> Self
+        ensures { result.items ≡ [] }
+    {
+        Requests {
+            slots: IndexMap::new(alloc),
+        }
+    }
+
+    /// The request of an origin.
+    pub(crate) fn get(&self, origin: Origin) -> Option<&Kept>
+        ensures { option_copied result ≡ request_at self.now.items origin }
+    {
+        self.slots.get(&(origin.conn, origin.request))?.as_ref()
+    }
+
+    /// Makes room for one more request. On an error nothing has changed.
+    pub(crate) fn reserve(&mut self) -> Result<(), AllocError>
+        ensures ok { OnOk result (0 < self.new.room) }
+        ensures same { self.new.items ≡ self.old.items }
+        ensures more { self.old.room ≤ self.new.room }
+    {
+        if self.slots.len() == self.slots.capacity() {
+            self.compact();
+            self.slots.reserve(self.slots.len())?;
+        }
+        self.slots.reserve(1)
+    }
+
+    /// Empty slots leave.
+    fn compact(&mut self)
+        ensures same { self.new.items ≡ self.old.items }
+        ensures more { self.old.room ≤ self.new.room }
+    {
+        self.slots.retain(
+            |_key: &(u64, u64), slot: &mut Option<Kept>| -> bool
+                ensures { (result ≡ is_some slot.old) × (slot.new ≡ slot.old) }
+            { slot.is_some() },
+        );
+    }
+
+    /// There are less than 2^63 requests.
+    pub(crate) fn are_few(&self)
+        ensures { length self.now.items < 2 ^ 63 }
+    {
+        let _len = self.slots.len();
+    }
+
+    /// A request comes, into room that was made for it.
+    pub(crate) fn push(&mut self, kept: Kept)
+        requires room { 0 < self.old.room }
+        requires fresh { request_at self.old.items kept.origin ≡ None }
+        ensures { self.new.items ≡ self.old.items ++ kept ∷ [] }
+    {
+        let origin = kept.origin();
+        let key = (origin.conn, origin.request);
+        self.slots.shift_remove(&key);
+        let Ok(_) = self.slots.insert(key, Some(kept)) else {
+            unreachable!();
+        };
+    }
+
+    /// The request of an origin leaves, if it is there.
+    pub(crate) fn take(&mut self, origin: Origin) -> Option<Kept>
+        ensures taken { result ≡ request_at self.old.items origin }
+        ensures left { self.new.items
+            ≡ filter (λ q. not (is_origin origin q.origin)) self.old.items }
+        ensures room { self.old.room ≤ self.new.room }
+    {
+        self.slots.get_mut(&(origin.conn, origin.request))?.take()
+    }
+}
