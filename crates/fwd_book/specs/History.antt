@@ -1,6 +1,27 @@
 -- Who is to be told, and on what evidence: every request that an output entered, what became of
 -- it, and every chunk that a server acknowledged, as it was sent, with the server's reply.
-use Rattle.std.specs.Prelude.{◌≡◌, ℕ, Bool, true, false, not, ◌&&◌, List, [], ◌∷◌, ◌++◌, length, map, filter, find, is_some, Option, Some, slice_get, ◌==◌}
+use Rattle.std.specs.Prelude.{
+  ◌≡◌,
+  ℕ,
+  Bool,
+  true,
+  false,
+  not,
+  ◌&&◌,
+  List,
+  [],
+  ◌∷◌,
+  ◌++◌,
+  length,
+  map,
+  filter,
+  find,
+  is_some,
+  Option,
+  Some,
+  slice_get,
+  ◌==◌,
+}
 use Rattle.std.specs.List.{list_all, list_any}
 use Rattle.fwd_modes.specs.Requests.{Request}
 use Rattle.fwd_modes.specs.Frames.{chunk_name}

@@ -1,13 +1,48 @@
 -- What of a book's history still matters: the requests that are owed an answer, and what was
 -- acknowledged of their entries.
-use Rattle.std.specs.Prelude.{◌≡◌, ◌<◌, ◌≤◌, ℕ, Bool, true, false, not, List, [], ◌∷◌, ◌++◌, length, map, filter, Option, Some, None, option_to_list, take, drop, slice_get}
+use Rattle.std.specs.Prelude.{
+  ◌≡◌,
+  ◌<◌,
+  ◌≤◌,
+  ℕ,
+  Bool,
+  true,
+  false,
+  not,
+  List,
+  [],
+  ◌∷◌,
+  ◌++◌,
+  length,
+  map,
+  filter,
+  Option,
+  Some,
+  None,
+  option_to_list,
+  take,
+  drop,
+  slice_get,
+}
 use Rattle.std.specs.List.{flat_map}
 use Rattle.fwd_modes.specs.Requests.{Request}
 use Rattle.fwd_modes.specs.Acks.{ack_name}
 use Rattle.fwd_source.specs.declared.origin.Origin.{Origin}
 use Rattle.fwd_chunks.specs.declared.span.Span.{Span}
 use Rattle.fwd_session.specs.Evidence.{Evidence}
-use Rattle.fwd_book.specs.History.{BookSetting, Entered, BookHistory, entered_as, name_at, is_among, request_at, untold, evidence_of, is_settled, has_run}
+use Rattle.fwd_book.specs.History.{
+  BookSetting,
+  Entered,
+  BookHistory,
+  entered_as,
+  name_at,
+  is_among,
+  request_at,
+  untold,
+  evidence_of,
+  is_settled,
+  has_run,
+}
 use Rattle.fwd_book.specs.Receipts.{run_in, AreRising}
 
 -- the requests that are owed an answer, in the order in which they were entered, and what was

@@ -1,5 +1,22 @@
 -- What a book's code keeps of the numbers that its requests have.
-use Rattle.std.specs.Prelude.{◌≡◌, ◌<◌, ◌≤◌, ℕ, ◌+◌, ◌-◌, ◌==◌, List, length, filter, Option, Some, None, is_some, nat_lt, if◌then◌else◌}
+use Rattle.std.specs.Prelude.{
+  ◌≡◌,
+  ◌<◌,
+  ◌≤◌,
+  ℕ,
+  ◌+◌,
+  ◌-◌,
+  ◌==◌,
+  List,
+  length,
+  filter,
+  Option,
+  Some,
+  None,
+  is_some,
+  nat_lt,
+  if◌then◌else◌,
+}
 use Rattle.std.specs.Map.{lookup}
 use Rattle.fwd_modes.specs.Requests.{Request}
 use Rattle.fwd_session.specs.Evidence.{Evidence}

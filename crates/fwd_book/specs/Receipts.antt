@@ -1,11 +1,35 @@
 -- Receipts: what shows a source that all entries of its request were acknowledged.
-use Rattle.std.specs.Prelude.{◌≡◌, ◌<◌, ℕ, not, List, [], ◌∷◌, map, filter, take, drop, Option, Some, None, slice_get}
+use Rattle.std.specs.Prelude.{
+  ◌≡◌,
+  ◌<◌,
+  ℕ,
+  not,
+  List,
+  [],
+  ◌∷◌,
+  map,
+  filter,
+  take,
+  drop,
+  Option,
+  Some,
+  None,
+  slice_get,
+}
 use Rattle.std.specs.List.{flat_map}
 use Rattle.fwd_modes.specs.Acks.{ack_name}
 use Rattle.fwd_source.specs.declared.origin.Origin.{Origin}
 use Rattle.fwd_chunks.specs.declared.span.Span.{Span}
 use Rattle.fwd_session.specs.Evidence.{Evidence}
-use Rattle.fwd_book.specs.History.{BookSetting, Entered, name_at, is_origin, request_at, evidence_of, is_settled}
+use Rattle.fwd_book.specs.History.{
+  BookSetting,
+  Entered,
+  name_at,
+  is_origin,
+  request_at,
+  evidence_of,
+  is_settled,
+}
 
 -- a run of a request's entries in a chunk that was acknowledged: from which entry of it on, and
 -- how many

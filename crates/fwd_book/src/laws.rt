@@ -4,9 +4,35 @@ ghost use Rattle.std.specs.Prelude.{◌≡◌, ℕ, List, Some, None, false, tru
 ghost use Rattle.fwd_modes.specs.Acks.{ack_name};
 ghost use Rattle.fwd_source.specs.declared.origin.Origin.{Origin};
 ghost use Rattle.fwd_session.specs.Evidence.{Evidence};
-ghost use Rattle.fwd_book.specs.History.{BookSetting, Entered, CanBeTold, BookHistory, opening, name_at, request_at, untold, is_fresh, enters, settles, tells, forgets, owed};
+ghost use Rattle.fwd_book.specs.History.{
+  BookSetting,
+  Entered,
+  CanBeTold,
+  BookHistory,
+  opening,
+  name_at,
+  request_at,
+  untold,
+  is_fresh,
+  enters,
+  settles,
+  tells,
+  forgets,
+  owed,
+};
 ghost use Rattle.fwd_book.specs.Receipts.{Receipt, IsRightFor, AreRising, receipts};
-ghost use Rattle.fwd_book.specs.Live.{LiveBook, AreCutBy, IsOf, IsSound, live_book, live_opening, live_enters, live_settles, live_leaves, live_owed};
+ghost use Rattle.fwd_book.specs.Live.{
+  LiveBook,
+  AreCutBy,
+  IsOf,
+  IsSound,
+  live_book,
+  live_opening,
+  live_enters,
+  live_settles,
+  live_leaves,
+  live_owed,
+};
 
 /// The live part is enough: what happens to a book's history happens alike to its live part, and
 /// what is asked of it is answered alike. No number of a request that comes was acknowledged, and

@@ -1,6 +1,22 @@
 //! The numbers that a book's requests have, with what was acknowledged under them.
 
-ghost use Rattle.std.specs.Prelude.{◌≡◌, ◌<◌, ◌≤◌, ◌+◌, ◌^◌, ◌==◌, ℕ, [], Some, is_some, option_map, option_copied, if◌then◌else◌, IfOk, OnOk};
+ghost use Rattle.std.specs.Prelude.{
+  ◌≡◌,
+  ◌<◌,
+  ◌≤◌,
+  ◌+◌,
+  ◌^◌,
+  ◌==◌,
+  ℕ,
+  [],
+  Some,
+  is_some,
+  option_map,
+  option_copied,
+  if◌then◌else◌,
+  IfOk,
+  OnOk,
+};
 ghost use Rattle.std.specs.List.{list_all, flat_map};
 ghost use Rattle.std.specs.Arc.{arc_value};
 ghost use Rattle.fwd_book.specs.Receipts.{part_of};

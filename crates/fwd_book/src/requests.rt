@@ -1,6 +1,21 @@
 //! The requests that a book holds, each found by its origin.
 
-ghost use Rattle.std.specs.Prelude.{◌≡◌, ◌<◌, ◌≤◌, ◌^◌, length, ◌++◌, ◌∷◌, [], None, is_some, not, filter, option_copied, OnOk};
+ghost use Rattle.std.specs.Prelude.{
+  ◌≡◌,
+  ◌<◌,
+  ◌≤◌,
+  ◌^◌,
+  length,
+  ◌++◌,
+  ◌∷◌,
+  [],
+  None,
+  is_some,
+  not,
+  filter,
+  option_copied,
+  OnOk,
+};
 ghost use Rattle.fwd_book.specs.History.{is_origin, request_at};
 
 use crate::kept::Kept;

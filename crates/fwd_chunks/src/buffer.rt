@@ -1,6 +1,33 @@
 //! The entries of one output that are not yet settled, in chunks of one tag each.
 
-ghost use Rattle.std.specs.Prelude.{◌≡◌, ◌+◌, ◌-◌, ◌<◌, ◌≤◌, ◌^◌, ◌↔◌, IsTrue, IfOk, IsOk, OnOk, OnErr, IfSome, IfNone, Some, None, length, option_map, option_copied, find, ℕ, max, nat_lt, nat_le, ◌||◌, IfErr};
+ghost use Rattle.std.specs.Prelude.{
+  ◌≡◌,
+  ◌+◌,
+  ◌-◌,
+  ◌<◌,
+  ◌≤◌,
+  ◌^◌,
+  ◌↔◌,
+  IsTrue,
+  IfOk,
+  IsOk,
+  OnOk,
+  OnErr,
+  IfSome,
+  IfNone,
+  Some,
+  None,
+  length,
+  option_map,
+  option_copied,
+  find,
+  ℕ,
+  max,
+  nat_lt,
+  nat_le,
+  ◌||◌,
+  IfErr,
+};
 ghost use Rattle.fwd_chunks.specs.Live.{
   IsCarried,
   live_opening,

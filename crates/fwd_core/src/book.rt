@@ -15,7 +15,14 @@ ghost use Rattle.std.specs.Prelude.{
   IfNone,
   OnOk,
 };
-ghost use Rattle.fwd_model.specs.Books.{is_of, numbers_of, acks_of, book_settles, book_owed, settled_in};
+ghost use Rattle.fwd_model.specs.Books.{
+  is_of,
+  numbers_of,
+  acks_of,
+  book_settles,
+  book_owed,
+  settled_in,
+};
 ghost use Rattle.fwd_core.specs.Due.{is_among, is_one, is_due_among, due_among, origins_of};
 
 use crate::pending::Pending;

@@ -32,7 +32,20 @@ ghost use Rattle.fwd_model.specs.Books.{numbers_of, acks_of, book_forgets};
 ghost use Rattle.fwd_core.specs.Lanes.{new_live_lane};
 ghost use Rattle.fwd_core.specs.Runs.{is_free};
 ghost use Rattle.fwd_model.specs.Outcome.{answer_of, state_of, chunk_answer};
-ghost use Rattle.fwd_model.specs.Step.{at_worker, at_session, choose, up, take, load, wrote, heard, late, settle, end, forget};
+ghost use Rattle.fwd_model.specs.Step.{
+  at_worker,
+  at_session,
+  choose,
+  up,
+  take,
+  load,
+  wrote,
+  heard,
+  late,
+  settle,
+  end,
+  forget,
+};
 ghost use Rattle.fwd_model.specs.Live.{lives};
 
 use crate::lane_config::LaneConfig;

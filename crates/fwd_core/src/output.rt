@@ -38,7 +38,16 @@ ghost use Rattle.fwd_chunks.specs.Live.{
 };
 ghost use Rattle.fwd_chunks.specs.Soundness.{IsSound};
 ghost use Rattle.fwd_model.specs.Books.{is_of, numbers_of, acks_of, book_owed, entered_as};
-ghost use Rattle.fwd_model.specs.Outputs.{no_requests, output_enters, output_settles, output_choice, output_looks, output_ends, returned, live_count_at};
+ghost use Rattle.fwd_model.specs.Outputs.{
+  no_requests,
+  output_enters,
+  output_settles,
+  output_choice,
+  output_looks,
+  output_ends,
+  returned,
+  live_count_at,
+};
 
 use crate::book::Book;
 use crate::pending::Pending;

@@ -1,6 +1,21 @@
 //! The relay: connections, outputs, and one step at a time.
 
-ghost use Rattle.std.specs.Prelude.{◌≡◌, ◌≢◌, ◌≤◌, ◌^◌, ◌++◌, ℕ, List, true, map, IfOk, IsOk, OnOk, OnErr, []};
+ghost use Rattle.std.specs.Prelude.{
+  ◌≡◌,
+  ◌≢◌,
+  ◌≤◌,
+  ◌^◌,
+  ◌++◌,
+  ℕ,
+  List,
+  true,
+  map,
+  IfOk,
+  IsOk,
+  OnOk,
+  OnErr,
+  [],
+};
 ghost use Rattle.fwd_model.specs.History.{opening};
 ghost use Rattle.fwd_model.specs.Live.{live, live_relay_counts};
 ghost use Rattle.std.specs.Prelude.{length};

@@ -1,12 +1,41 @@
 //! A worker of an output: the chunk that it has, and its session.
 
-ghost use Rattle.std.specs.Prelude.{◌≡◌, ℕ, None, Some, false, true, is_some, not, nat_lt, length, option_map, IfOk, IsOk, IfSome, IfNone, OnOk, OnErr};
+ghost use Rattle.std.specs.Prelude.{
+  ◌≡◌,
+  ℕ,
+  None,
+  Some,
+  false,
+  true,
+  is_some,
+  not,
+  nat_lt,
+  length,
+  option_map,
+  IfOk,
+  IsOk,
+  IfSome,
+  IfNone,
+  OnOk,
+  OnErr,
+};
 ghost use Rattle.std.specs.Arc.{arc_value};
 ghost use Rattle.fwd_chunks.specs.History.{Load};
 ghost use Rattle.fwd_session.specs.Evidence.{IsEvidence};
 ghost use Rattle.fwd_session.specs.Live.{LiveSession};
 ghost use Rattle.fwd_model.specs.Outcome.{answer_of, state_of, of_heard};
-ghost use Rattle.fwd_model.specs.Step.{at_session, up, load, wrote, heard, late, is_idle, has_acked, has_loaded, lost_server};
+ghost use Rattle.fwd_model.specs.Step.{
+  at_session,
+  up,
+  load,
+  wrote,
+  heard,
+  late,
+  is_idle,
+  has_acked,
+  has_loaded,
+  lost_server,
+};
 ghost use Rattle.fwd_model.specs.Live.{lives};
 ghost use Rattle.fwd_core.specs.Lanes.{no_work, first_there, acked_in, server_in, worker_settled};
 ghost use Rattle.fwd_core.specs.Runs.{is_free};

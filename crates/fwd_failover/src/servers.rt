@@ -1,8 +1,34 @@
-ghost use Rattle.std.specs.Prelude.{◌≡◌, ◌<◌, ◌≤◌, max, length, false, Contains, IfOk, IfSome, All, find};
+ghost use Rattle.std.specs.Prelude.{
+  ◌≡◌,
+  ◌<◌,
+  ◌≤◌,
+  max,
+  length,
+  false,
+  Contains,
+  IfOk,
+  IfSome,
+  All,
+  find,
+};
 ghost use Rattle.fwd_failover.specs.Waits.{wait_after};
-ghost use Rattle.fwd_failover.specs.History.{ServersSetting, ServersHistory, opening, looked, lost, settled};
+ghost use Rattle.fwd_failover.specs.History.{
+  ServersSetting,
+  ServersHistory,
+  opening,
+  looked,
+  lost,
+  settled,
+};
 ghost use Rattle.fwd_failover.specs.Choices.{places, choice};
-ghost use Rattle.fwd_failover.specs.Live.{live_servers, live_choice, live_looked, live_lost, live_settled, is_live_usable};
+ghost use Rattle.fwd_failover.specs.Live.{
+  live_servers,
+  live_choice,
+  live_looked,
+  live_lost,
+  live_settled,
+  is_live_usable,
+};
 
 use crate::losses::Losses;
 use crate::retry::Retry;

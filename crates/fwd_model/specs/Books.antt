@@ -1,6 +1,24 @@
 -- Who is to be told: the requests that an output entered, when all their entries are settled, and
 -- what became of them. A book learns of a chunk only that its number is settled.
-use Rattle.std.specs.Prelude.{ℕ, Bool, true, false, not, ◌&&◌, List, [], ◌∷◌, ◌++◌, length, map, filter, Option, Some, None, ◌==◌}
+use Rattle.std.specs.Prelude.{
+  ℕ,
+  Bool,
+  true,
+  false,
+  not,
+  ◌&&◌,
+  List,
+  [],
+  ◌∷◌,
+  ◌++◌,
+  length,
+  map,
+  filter,
+  Option,
+  Some,
+  None,
+  ◌==◌,
+}
 use Rattle.std.specs.List.{list_all, concat}
 use Rattle.fwd_modes.specs.Requests.{Request}
 use Rattle.fwd_modes.specs.Acks.{ack_text}

@@ -1,6 +1,29 @@
 -- The history of a relay: all that ever came, with nothing removed. It is one reading of the
 -- layers of a step.
-use Rattle.std.specs.Prelude.{◌≡◌, ℕ, suc, Bool, true, false, List, [], ◌∷◌, ◌++◌, length, map, replicate, Option, Some, None, option_map, nat_lt, ◌==◌, if◌then◌else◌, slice_get, slice_set}
+use Rattle.std.specs.Prelude.{
+  ◌≡◌,
+  ℕ,
+  suc,
+  Bool,
+  true,
+  false,
+  List,
+  [],
+  ◌∷◌,
+  ◌++◌,
+  length,
+  map,
+  replicate,
+  Option,
+  Some,
+  None,
+  option_map,
+  nat_lt,
+  ◌==◌,
+  if◌then◌else◌,
+  slice_get,
+  slice_set,
+}
 use Rattle.std.specs.List.{list_all}
 use Rattle.fwd_handshake.specs.declared.credentials.Security.{Security}
 use Rattle.fwd_source.specs.History.{Setup, SourceHistory, opened}
@@ -15,7 +38,17 @@ use Rattle.fwd_session.specs.History.{SessionHistory, unloads}
 use Rattle.fwd_model.specs.Books as book
 use Rattle.fwd_model.specs.Books.{BookHistory, telling}
 use Rattle.fwd_model.specs.Setups.{setting_of, servers_of}
-use Rattle.fwd_model.specs.Outputs.{OutputHistory, carried_by, no_history, output_history_enters, output_history_settles, output_history_choice, output_history_looks, output_history_ends, count_at}
+use Rattle.fwd_model.specs.Outputs.{
+  OutputHistory,
+  carried_by,
+  no_history,
+  output_history_enters,
+  output_history_settles,
+  output_history_choice,
+  output_history_looks,
+  output_history_ends,
+  count_at,
+}
 use Rattle.fwd_model.specs.Sessions.{session_histories}
 use Rattle.fwd_model.specs.Layers.{Worker, Lanes, Layers}
 use Rattle.fwd_model.specs.Step.{after}

@@ -1,5 +1,20 @@
 -- What the parts of a hearing show, in the words of the definitions.
-use Rattle.std.specs.Prelude.{◌≡◌, ℕ, Bool, true, false, ◌++◌, ◌<◌, List, length, Option, option_copied, unwrap_or, is_some, if◌then◌else◌}
+use Rattle.std.specs.Prelude.{
+  ◌≡◌,
+  ℕ,
+  Bool,
+  true,
+  false,
+  ◌++◌,
+  ◌<◌,
+  List,
+  length,
+  Option,
+  option_copied,
+  unwrap_or,
+  is_some,
+  if◌then◌else◌,
+}
 use Rattle.fwd_msgpack.specs.Values.{bytes_of}
 use Rattle.fwd_handshake.specs.declared.credentials.Login.{Login}
 use Rattle.fwd_session.specs.declared.fault.SessionFault.TheVariants.{BadReply}
@@ -9,7 +24,16 @@ use Rattle.fwd_session.specs.declared.hearing.Next.{Next}
 use Rattle.fwd_session.specs.declared.hearing.Next.TheVariants as next
 use Rattle.fwd_session.specs.declared.word.Word.{Word}
 use Rattle.fwd_session.specs.declared.word.Word.TheVariants.{Greets}
-use Rattle.fwd_session.specs.Said.{Said, silence, failing, word_of, word_then, said_in, reply_stream, rest_of}
+use Rattle.fwd_session.specs.Said.{
+  Said,
+  silence,
+  failing,
+  word_of,
+  word_then,
+  said_in,
+  reply_stream,
+  rest_of,
+}
 
 -- the handshake goes on by what a value says
 abbrev pub is_greeting : Word → Bool

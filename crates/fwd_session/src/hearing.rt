@@ -1,10 +1,28 @@
 //! What a server's bytes say: how far the handshake came, whether the awaited chunk is
 //! acknowledged, the first fault, and the bytes of an unfinished value.
 
-ghost use Rattle.std.specs.Prelude.{◌≡◌, None, Some, true, false, option_copied, unwrap_or, IfOk, IsOk};
+ghost use Rattle.std.specs.Prelude.{
+  ◌≡◌,
+  None,
+  Some,
+  true,
+  false,
+  option_copied,
+  unwrap_or,
+  IfOk,
+  IsOk,
+};
 ghost use Rattle.fwd_handshake.specs.Shown.{salt_bytes};
 ghost use Rattle.fwd_msgpack.specs.Values.{bytes_of};
-ghost use Rattle.fwd_session.specs.Said.{helo_word, pong_word, ack_word, word_of, said_in, reply_stream, rest_of};
+ghost use Rattle.fwd_session.specs.Said.{
+  helo_word,
+  pong_word,
+  ack_word,
+  word_of,
+  said_in,
+  reply_stream,
+  rest_of,
+};
 ghost use Rattle.fwd_handshake.specs.Verdicts.{helo_answer, pong_verdict};
 ghost use Rattle.fwd_modes.specs.Acks.{ack_name};
 ghost use Rattle.fwd_session.specs.History.{is_done};

@@ -1,6 +1,20 @@
 //! Laws, each the contract of a function that does nothing.
 
-ghost use Rattle.std.specs.Prelude.{◌≡◌, ◌≤◌, ◌<◌, ℕ, List, ◌∷◌, Option, is_some, true, false, length, take, drop};
+ghost use Rattle.std.specs.Prelude.{
+  ◌≡◌,
+  ◌≤◌,
+  ◌<◌,
+  ℕ,
+  List,
+  ◌∷◌,
+  Option,
+  is_some,
+  true,
+  false,
+  length,
+  take,
+  drop,
+};
 ghost use Rattle.std.specs.List.{concat};
 ghost use Rattle.fwd_msgpack.specs.declared.fault.ScanFault.{ScanFault};
 ghost use Rattle.fwd_msgpack.specs.Scans.{Whole, Short, Bad, first_of};
@@ -13,10 +27,58 @@ ghost use Rattle.fwd_session.specs.declared.fault.SessionFault.{SessionFault};
 ghost use Rattle.fwd_session.specs.declared.fault.SessionFault.TheVariants.{BadReply};
 ghost use Rattle.fwd_session.specs.declared.handshake.Handshake.{Handshake};
 ghost use Rattle.fwd_session.specs.declared.told.Heard.TheVariants.{Fault, NotUp};
-ghost use Rattle.fwd_session.specs.Said.{said_in, word_of, word_then, silence, failing, reply_stream, rest_of};
-ghost use Rattle.fwd_session.specs.History.{Setup, SessionHistory, IsSane, is_done, is_ready, is_late, to_send, acked, piece_told, piece_out, begins, loads, sends, hears, unloads, looks};
-ghost use Rattle.fwd_session.specs.Live.{LiveSession, live_session, live_is_ready, live_is_late, live_acked, live_piece_told, live_piece_out, session_begins, session_loads, session_sends, session_hears, session_hears_all, session_unloads, session_looks};
-ghost use Rattle.fwd_session.specs.Meeting.{Meeting, IsJoined, AreWithin, IsDenied, IsReady, IsRefused, uncut};
+ghost use Rattle.fwd_session.specs.Said.{
+  said_in,
+  word_of,
+  word_then,
+  silence,
+  failing,
+  reply_stream,
+  rest_of,
+};
+ghost use Rattle.fwd_session.specs.History.{
+  Setup,
+  SessionHistory,
+  IsSane,
+  is_done,
+  is_ready,
+  is_late,
+  to_send,
+  acked,
+  piece_told,
+  piece_out,
+  begins,
+  loads,
+  sends,
+  hears,
+  unloads,
+  looks,
+};
+ghost use Rattle.fwd_session.specs.Live.{
+  LiveSession,
+  live_session,
+  live_is_ready,
+  live_is_late,
+  live_acked,
+  live_piece_told,
+  live_piece_out,
+  session_begins,
+  session_loads,
+  session_sends,
+  session_hears,
+  session_hears_all,
+  session_unloads,
+  session_looks,
+};
+ghost use Rattle.fwd_session.specs.Meeting.{
+  Meeting,
+  IsJoined,
+  AreWithin,
+  IsDenied,
+  IsReady,
+  IsRefused,
+  uncut,
+};
 
 /// What bytes say, by what stands at their front: a value, less than one, or no value.
 pub fn said_by_front()

@@ -1,12 +1,44 @@
 //! A session, from its first byte to its end.
 
-ghost use Rattle.std.specs.Prelude.{◌≡◌, ◌≢◌, ◌≤◌, None, Some, Ok, true, false, [], ◌++◌, ◌+◌, ◌||◌, nat_le, if◌then◌else◌, length, is_some, option_copied, unwrap_or, IfOk, IfErr, IfSome, IsOk, IsErr, OnOk, OnErr};
+ghost use Rattle.std.specs.Prelude.{
+  ◌≡◌,
+  ◌≢◌,
+  ◌≤◌,
+  None,
+  Some,
+  Ok,
+  true,
+  false,
+  [],
+  ◌++◌,
+  ◌+◌,
+  ◌||◌,
+  nat_le,
+  if◌then◌else◌,
+  length,
+  is_some,
+  option_copied,
+  unwrap_or,
+  IfOk,
+  IfErr,
+  IfSome,
+  IsOk,
+  IsErr,
+  OnOk,
+  OnErr,
+};
 ghost use Rattle.std.specs.Option.{option_map};
 ghost use Rattle.std.specs.Arc.{arc_value};
 ghost use Rattle.fwd_session.specs.Evidence.{frame_of, reply_in, IsEvidence, IsBacked, IsNamed};
 ghost use Rattle.fwd_session.specs.Hearing.{shown};
 ghost use Rattle.fwd_session.specs.Said.{out_of, reply_stream, rest_of};
-ghost use Rattle.fwd_session.specs.History.{first_handshake, is_done, is_free_for, is_owed, told_of};
+ghost use Rattle.fwd_session.specs.History.{
+  first_handshake,
+  is_done,
+  is_free_for,
+  is_owed,
+  told_of,
+};
 ghost use Rattle.fwd_session.specs.Live.{
   live_is_ready,
   live_awaited,
