@@ -1,4 +1,4 @@
--- Definitions. A reader who asks what a buffer promises must believe these six: the public calls
+-- Definitions. A reader who asks what a buffer promises must believe these seven: the public calls
 -- and laws speak of them.
 pub mod Cells
 pub mod Waits
@@ -6,6 +6,7 @@ pub mod History
 pub mod Events
 pub mod Live
 pub mod Soundness
+pub mod Spans
 -- These eight only describe how the code keeps chunks and fills them. No public clause speaks of
 -- them.
 pub mod Earliest
