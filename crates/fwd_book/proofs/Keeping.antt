@@ -10,9 +10,10 @@ use Rattle.fwd_source.specs.declared.origin.Origin.{Origin}
 use Rattle.fwd_chunks.specs.declared.span.Span.{Span}
 use Rattle.fwd_modes.specs.Requests.{Request}
 use Rattle.fwd_session.specs.Evidence.{Evidence}
+use Rattle.fwd_chunks.specs.Spans.{AreCutBy}
 use Rattle.fwd_book.specs.History.{BookSetting, Entered, is_origin, is_among, request_at, evidence_of, is_settled, has_run, are_fresh}
 use Rattle.fwd_book.specs.Receipts.{part_of, parts_of, once}
-use Rattle.fwd_book.specs.Live.{LiveBook, found_under, found_for, evidence_for, live_left, live_leaves, AreApart, AreCutBy}
+use Rattle.fwd_book.specs.Live.{LiveBook, found_under, found_for, evidence_for, live_left, live_leaves, AreApart}
 use Rattle.fwd_book.specs.Notes.{Note, note_at, uses_in, found_in, found_at, used_more, used_less, put_in, uses_of, AreOf, HasRoom, live_of}
 use Rattle.fwd_book.proofs.Facts.{apart, none_some, some_is, is_not, or-false}
 use Rattle.fwd_book.proofs.Found.{for-alike, for-found, for-none, under-alike, numbered}

@@ -8,3 +8,4 @@ pub mod Stepping
 pub mod Following
 pub mod Right
 pub mod Sound
+pub mod Whose

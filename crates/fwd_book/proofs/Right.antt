@@ -1,5 +1,5 @@
 -- The receipts that a sound book gives are right.
-use Rattle.std.proofs.Common.{◌≡◌, ℕ, Bool, true, false, zero, suc, cond, Option, Some, None, List, [], ◌∷◌, ◌++◌, refl, sym, ap, subst, ◌∙◌, inl, inr}
+use Rattle.std.proofs.Common.{◌≡◌, ◌<◌, ◌≤◌, ◌+◌, ℕ, Bool, true, false, zero, suc, cond, Option, Some, None, List, [], ◌∷◌, ◌++◌, length, take, arith, refl, sym, ap, subst, ◌∙◌, inl, inr}
 use Rattle.std.specs.Prelude.{◌⊎◌, map, find, drop, ◌==◌, is_some, slice_get}
 use Rattle.std.specs.List.{list_any, list_all, flat_map}
 use Rattle.std.proofs.lemmas.Bool.{eqb-true, eq-eqb}
@@ -7,9 +7,10 @@ use Rattle.std.proofs.lemmas.List.{take-append-drop}
 use Rattle.fwd_source.specs.declared.origin.Origin.{Origin}
 use Rattle.fwd_chunks.specs.declared.span.Span.{Span}
 use Rattle.fwd_session.specs.Evidence.{Evidence}
+use Rattle.fwd_chunks.specs.Spans.{AreCutBy, AreRising}
 use Rattle.fwd_book.specs.History.{Entered, is_origin, request_at, evidence_of, is_settled}
-use Rattle.fwd_book.specs.Receipts.{Part, Receipt, span_of, shown_by, part_of, parts_of, receipt_of, receipt_if, once, receipts, IsRightFor, AreRising}
-use Rattle.fwd_book.specs.Live.{LiveBook, HasItsRuns, AreCutBy, IsSound}
+use Rattle.fwd_book.specs.Receipts.{Part, Receipt, span_of, shown_by, part_of, parts_of, receipt_of, receipt_if, once, receipts, IsRightFor}
+use Rattle.fwd_book.specs.Live.{LiveBook, HasItsRuns, IsSound}
 use Rattle.fwd_book.proofs.Facts.{origin-is, apart, some_is, none_some, true-or, or-true, both_left, both_right}
 
 -- what is found stands at a place
@@ -34,13 +35,43 @@ pub record AreParts (settled : List Evidence) (spans : List Span) (own : List (L
   pub numbers_are : map (λ (p : Part). p.evidence.number) parts ≡ map (λ (s : Span). s.number) spans
   pub shown_are : flat_map shown_by parts ≡ own
   pub from : (i : ℕ) (p : Part) → slice_get parts i ≡ Some p → Stands (λ e. list_any (λ s. s.number == e.number) spans) settled p.evidence
+  pub fits : (i : ℕ) (p : Part) → slice_get parts i ≡ Some p → p.from + p.count ≤ length p.evidence.entries
+
+-- so many entries from a place on are there
+taken-within : (n f : ℕ) (xs ys : List (List ℕ)) → 0 < n → n ≤ length ys
+    → take n (drop f xs) ≡ take n ys → f + n ≤ length xs
+taken-within n f xs ys some fits same =
+    let long : length (take n (drop f xs)) ≡ n = ap length same ∙ length-take n ys fits in
+    let short = length-drop n f xs in
+    omega (arith, long, short, some)
+  where
+    length-take : (n : ℕ) (ys : List (List ℕ)) → n ≤ length ys → length (take n ys) ≡ n
+    length-take zero ys h = refl
+    length-take (suc n) [] h = absurd (omega (arith, h))
+    length-take (suc n) (y ∷ ys) h = ap suc (length-take n ys (omega (arith, h)))
+
+    -- nothing is taken behind the end
+    length-drop : (n f : ℕ) (xs : List (List ℕ)) → (length (take n (drop f xs)) ≡ 0) ⊎ (f + length (take n (drop f xs)) ≤ length xs)
+    length-drop zero f xs = inl refl
+    length-drop (suc n) zero [] = inl refl
+    length-drop (suc n) zero (x ∷ xs) = inr (more (length-drop n zero xs))
+      where
+        more : (length (take n xs) ≡ 0) ⊎ (0 + length (take n xs) ≤ length xs) → 0 + suc (length (take n xs)) ≤ suc (length xs)
+        more (inl e) = omega (arith, e)
+        more (inr h) = omega (arith, h)
+    length-drop (suc n) (suc f) [] = inl refl
+    length-drop (suc n) (suc f) (x ∷ xs) = by (length-drop (suc n) f xs)
+      where
+        by : (length (take (suc n) (drop f xs)) ≡ 0) ⊎ (f + length (take (suc n) (drop f xs)) ≤ length xs) → (length (take (suc n) (drop f xs)) ≡ 0) ⊎ (suc f + length (take (suc n) (drop f xs)) ≤ suc (length xs))
+        by (inl e) = inl e
+        by (inr h) = inr (omega (arith, h))
 
 parts_are : (settled : List Evidence) (spans : List Span) (own : List (List ℕ))
     → list_all (λ s. is_some (evidence_of settled s.number)) spans ≡ true
     → AreCutBy spans own
     → ((j : ℕ) (e : Evidence) → slice_get settled j ≡ Some e → HasItsRuns e.number e.entries spans own)
     → AreParts settled spans own (parts_of settled spans)
-parts_are settled [] own all cut runs = record { spans_are = refl; numbers_are = refl; shown_are = sym cut; from = λ i p e. absurd (none_some e) }
+parts_are settled [] own all cut runs = record { spans_are = refl; numbers_are = refl; shown_are = sym cut; from = λ i p e. absurd (none_some e); fits = λ i p e. absurd (none_some e) }
 parts_are settled (s ∷ spans) own all cut runs =
     by (evidence_of settled s.number) refl
     (parts_are settled spans (drop s.count own) (both_right (is_some (evidence_of settled s.number)) (list_all (λ t. is_some (evidence_of settled t.number)) spans) all) cut.2 (λ j e here. (runs j e here).1))
@@ -56,8 +87,15 @@ parts_are settled (s ∷ spans) own all cut runs =
           numbers_are = λ i. number i ∷ more.numbers_are i;
           shown_are = (λ i. shown i ++ more.shown_are i) ∙ take-append-drop s.count own;
           from = λ i p here. among e at.place at.here (true-or (s.number == e.number) (list_any (λ t. t.number == e.number) spans) (eq-eqb s.number e.number (sym number))) more i p here;
+          fits = λ i p here. fit e (taken-within s.count s.from e.entries own cut.0 cut.1 shown) more i p here;
         }
       where
+        fit : (e : Evidence) → s.from + s.count ≤ length e.entries → AreParts settled spans (drop s.count own) (parts_of settled spans)
+            → (i : ℕ) (p : Part) → slice_get (record { evidence = e; from = s.from; count = s.count } ∷ parts_of settled spans) i ≡ Some p
+            → p.from + p.count ≤ length p.evidence.entries
+        fit e own-fits more zero p same = subst (λ (k : Part). k.from + k.count ≤ length k.evidence.entries) (some_is same) own-fits
+        fit e own-fits more (suc i) p same = more.fits i p same
+
         among : (e : Evidence) (place : ℕ) → slice_get settled place ≡ Some e → list_any (λ t. t.number == e.number) (s ∷ spans) ≡ true → AreParts settled spans (drop s.count own) (parts_of settled spans)
             → (i : ℕ) (p : Part) → slice_get (record { evidence = e; from = s.from; count = s.count } ∷ parts_of settled spans) i ≡ Some p
             → Stands (λ x. list_any (λ t. t.number == x.number) (s ∷ spans)) settled p.evidence
@@ -101,6 +139,7 @@ good b q place sound here all =
       chunk = refl;
       spans = parts.spans_are;
       shown = parts.shown_are;
+      within = λ i p e. parts.fits i p e;
       rising = subst AreRising (sym parts.numbers_are) (sound.rising place q here);
       tags = λ i p e. let st = parts.from i p e in (sound.of place st.place q p.evidence here st.here).tag st.passes;
       names = λ i p e. let st = parts.from i p e in sound.names st.place p.evidence st.here;

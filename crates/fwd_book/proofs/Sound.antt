@@ -9,9 +9,9 @@ use Rattle.fwd_modes.specs.Acks.{ack_name}
 use Rattle.fwd_source.specs.declared.origin.Origin.{Origin}
 use Rattle.fwd_chunks.specs.declared.span.Span.{Span}
 use Rattle.fwd_session.specs.Evidence.{Evidence}
+use Rattle.fwd_chunks.specs.Spans.{AreCutBy, AreRising}
 use Rattle.fwd_book.specs.History.{BookSetting, Entered, is_origin, request_at, is_among, evidence_of, has_run, is_fresh, name_at}
-use Rattle.fwd_book.specs.Receipts.{AreRising}
-use Rattle.fwd_book.specs.Live.{LiveBook, evidence_for, live_opening, live_enters, live_settles, live_left, live_leaves, HasItsRuns, AreCutBy, AreApart, IsOf, IsSound}
+use Rattle.fwd_book.specs.Live.{LiveBook, evidence_for, live_opening, live_enters, live_settles, live_drops, live_leaves, HasItsRuns, AreApart, IsOf, IsSound}
 use Rattle.fwd_book.proofs.Found.{comes, found_there}
 use Rattle.fwd_book.proofs.Found.{in_both}
 use Rattle.fwd_book.proofs.Facts.{apart, some_is, none_some, neither_left, neither_right, is_not}
@@ -169,20 +169,23 @@ sound-settles b e sound names of = record {
     by_of i q d here (inl at) = sound.of i at.0 q d here at.1
     by_of i q d here (inr at) = subst (λ x. IsOf q x) (only e d at.0 at.1) (of i q here)
 
-pub sound-leaves : (b : LiveBook) (origins : List Origin) → IsSound b
-    → IsSound (live_leaves b origins)
-sound-leaves b origins sound = record {
-  apart = apart_left (λ q. not (is_among origins q.origin)) b.requests sound.apart;
+pub sound-drops : (b : LiveBook) (gone : Entered → Bool) → IsSound b → IsSound (live_drops gone b)
+sound-drops b gone sound = record {
+  apart = apart_left (λ q. not (gone q)) b.requests sound.apart;
   cut = λ i q here. let at = in_left i q here in sound.cut at.0 q at.1;
   rising = λ i q here. let at = in_left i q here in sound.rising at.0 q at.1;
   names = λ j e there. let on = in_kept j e there in sound.names on.0 e on.1;
   of = λ i j q e here there. let at = in_left i q here in let on = in_kept j e there in sound.of at.0 on.0 q e at.1 on.1;
 }
   where
-    in_left : (i : ℕ) (q : Entered) → slice_get (live_left b origins) i ≡ Some q → (j : ℕ) × (slice_get b.requests j ≡ Some q)
-    in_left i q here = in_filter (λ r. not (is_among origins r.origin)) b.requests i q here
+    in_left : (i : ℕ) (q : Entered) → slice_get (filter (λ r. not (gone r)) b.requests) i ≡ Some q → (j : ℕ) × (slice_get b.requests j ≡ Some q)
+    in_left i q here = in_filter (λ r. not (gone r)) b.requests i q here
 
-    in_kept : (j : ℕ) (e : Evidence) → slice_get (evidence_for (live_left b origins) b.settled) j ≡ Some e → (k : ℕ) × (slice_get b.settled k ≡ Some e)
+    in_kept : (j : ℕ) (e : Evidence) → slice_get (evidence_for (filter (λ r. not (gone r)) b.requests) b.settled) j ≡ Some e → (k : ℕ) × (slice_get b.settled k ≡ Some e)
     in_kept j e there =
-        let from = comes (evidence_of b.settled) (live_left b origins) j e there in
+        let from = comes (evidence_of b.settled) (filter (λ r. not (gone r)) b.requests) j e there in
         found_there b.settled from.number e from.found
+
+pub sound-leaves : (b : LiveBook) (origins : List Origin) → IsSound b
+    → IsSound (live_leaves b origins)
+sound-leaves b origins sound = sound-drops b (λ q. is_among origins q.origin) sound

@@ -6,7 +6,7 @@ use Rattle.std.proofs.lemmas.Bool.{eqb-true}
 use Rattle.std.proofs.lemmas.Option.{slice_get-get_or, slice_get-map}
 use Rattle.std.proofs.Math.Seq.{take-suc}
 use Rattle.fwd_chunks.specs.declared.span.Span.{Span}
-use Rattle.fwd_book.specs.Receipts.{AreRising}
+use Rattle.fwd_chunks.specs.Spans.{AreRising}
 use Rattle.fwd_book.specs.Notes.{Note}
 use Rattle.fwd_book.proofs.Facts.{none_some, or-false, or-true}
 use Rattle.fwd_book.proofs.Following.{any-last}

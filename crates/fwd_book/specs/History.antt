@@ -89,6 +89,10 @@ is_origin a b = (a.conn == b.conn) && (a.request == b.request)
 abbrev pub is_among : List Origin → Origin → Bool
 is_among origins origin = list_any (λ o. is_origin o origin) origins
 
+-- the request came from the connection
+abbrev pub is_of : ℕ → Entered → Bool
+is_of conn q = q.origin.conn == conn
+
 -- nothing became of the request yet
 abbrev pub is_untold : Fate → Bool
 is_untold Untold = true
@@ -166,3 +170,29 @@ CanBeTold b origins = (i : ℕ) (a : Admission) → slice_get b.admissions i ≡
 -- how many of them are owed an answer
 abbrev pub owed : BookHistory → List Origin → ℕ
 owed b origins = length (filter (is_owed origins) b.admissions)
+
+-- ---- what happens to a connection's requests
+
+-- nothing became yet of the request, which is the connection's
+abbrev pub is_owed_to : ℕ → Admission → Bool
+is_owed_to conn a = is_untold a.fate && is_of conn a.request
+
+-- and all its entries are acknowledged
+abbrev pub is_due : ℕ → List Evidence → Admission → Bool
+is_due conn settled a = is_owed_to conn a && is_settled settled a.request
+
+-- the requests that the connection is to be told of, in the order in which they were entered
+abbrev pub due : BookHistory → ℕ → List Entered
+due b conn = map (λ a. a.request) (filter (is_due conn b.settled) b.admissions)
+
+-- the connection is told of them
+abbrev pub tells_due : BookHistory → ℕ → BookHistory
+tells_due b conn = leaves Told (is_due conn b.settled) b
+
+-- nobody is to be told of the connection's requests any more
+abbrev pub forgets_of : BookHistory → ℕ → BookHistory
+forgets_of b conn = leaves Forgotten (is_owed_to conn) b
+
+-- how many requests of the connection are owed an answer
+abbrev pub owed_of : BookHistory → ℕ → ℕ
+owed_of b conn = length (filter (is_owed_to conn) b.admissions)

@@ -9,6 +9,7 @@ use Rattle.std.specs.Prelude.{
   true,
   false,
   not,
+  ◌&&◌,
   List,
   [],
   ◌∷◌,
@@ -29,6 +30,7 @@ use Rattle.fwd_modes.specs.Requests.{Request}
 use Rattle.fwd_modes.specs.Acks.{ack_name}
 use Rattle.fwd_source.specs.declared.origin.Origin.{Origin}
 use Rattle.fwd_chunks.specs.declared.span.Span.{Span}
+use Rattle.fwd_chunks.specs.Spans.{run_in, AreRising, AreCutBy}
 use Rattle.fwd_session.specs.Evidence.{Evidence}
 use Rattle.fwd_book.specs.History.{
   BookSetting,
@@ -37,13 +39,13 @@ use Rattle.fwd_book.specs.History.{
   entered_as,
   name_at,
   is_among,
+  is_of,
   request_at,
   untold,
   evidence_of,
   is_settled,
   has_run,
 }
-use Rattle.fwd_book.specs.Receipts.{run_in, AreRising}
 
 -- the requests that are owed an answer, in the order in which they were entered, and what was
 -- acknowledged under their numbers, one run after the other
@@ -84,16 +86,40 @@ live_enters b q = record b { requests = b.requests ++ q ∷ [] }
 abbrev pub live_settles : LiveBook → Evidence → LiveBook
 live_settles b e = record b { settled = evidence_for b.requests (b.settled ++ e ∷ []) }
 
--- the requests of these origins leave
+-- the requests that pass a test leave, and with them what was acknowledged of their entries alone
+abbrev pub live_drops : (Entered → Bool) → LiveBook → LiveBook
+live_drops gone b = record b {
+  requests = filter (λ q. not (gone q)) b.requests;
+  settled = evidence_for (filter (λ q. not (gone q)) b.requests) b.settled;
+}
+
+-- the requests of other origins
 abbrev pub live_left : LiveBook → List Origin → List Entered
 live_left b origins = filter (λ q. not (is_among origins q.origin)) b.requests
 
--- and with them what was acknowledged of their entries alone
+-- the requests of these origins leave
 abbrev pub live_leaves : LiveBook → List Origin → LiveBook
-live_leaves b origins = record b {
-  requests = live_left b origins;
-  settled = evidence_for (live_left b origins) b.settled;
-}
+live_leaves b origins = live_drops (λ q. is_among origins q.origin) b
+
+-- the requests of the connection whose entries are all acknowledged
+abbrev pub live_is_due : LiveBook → ℕ → Entered → Bool
+live_is_due b conn q = is_of conn q && is_settled b.settled q
+
+-- they are what the connection is told
+abbrev pub live_due : LiveBook → ℕ → List Entered
+live_due b conn = filter (live_is_due b conn) b.requests
+
+-- they leave
+abbrev pub live_tells_due : LiveBook → ℕ → LiveBook
+live_tells_due b conn = live_drops (live_is_due b conn) b
+
+-- the requests of the connection leave
+abbrev pub live_forgets_of : LiveBook → ℕ → LiveBook
+live_forgets_of b conn = live_drops (is_of conn) b
+
+-- how many these are
+abbrev pub live_owed_of : LiveBook → ℕ → ℕ
+live_owed_of b conn = length (filter (is_of conn) b.requests)
 
 -- a request is there, and all its entries are acknowledged
 abbrev pub settled_if : List Evidence → Option Entered → Bool
@@ -117,12 +143,6 @@ HasItsRuns number chunk [] own = Unit {0}
 HasItsRuns number chunk (s ∷ spans) own =
     (s.number ≡ number → run_in chunk s ≡ take s.count own)
     × HasItsRuns number chunk spans (drop s.count own)
-
--- runs cut entries to the last, and each has one
-abbrev pub AreCutBy : List Span → (own : List (List ℕ)) → Type 0
-AreCutBy [] own = own ≡ []
-AreCutBy (s ∷ spans) own =
-    (0 < s.count) × (s.count ≤ length own) × AreCutBy spans (drop s.count own)
 
 -- What was acknowledged is of what a request has: where the request has its number, it is under the
 -- request's tag, and each run of that number is there.

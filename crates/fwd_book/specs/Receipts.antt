@@ -1,7 +1,9 @@
 -- Receipts: what shows a source that all entries of its request were acknowledged.
 use Rattle.std.specs.Prelude.{
   ◌≡◌,
-  ◌<◌,
+  ◌+◌,
+  ◌≤◌,
+  length,
   ℕ,
   not,
   List,
@@ -9,8 +11,6 @@ use Rattle.std.specs.Prelude.{
   ◌∷◌,
   map,
   filter,
-  take,
-  drop,
   Option,
   Some,
   None,
@@ -20,6 +20,7 @@ use Rattle.std.specs.List.{flat_map}
 use Rattle.fwd_modes.specs.Acks.{ack_name}
 use Rattle.fwd_source.specs.declared.origin.Origin.{Origin}
 use Rattle.fwd_chunks.specs.declared.span.Span.{Span}
+use Rattle.fwd_chunks.specs.Spans.{run_in, AreRising}
 use Rattle.fwd_session.specs.Evidence.{Evidence}
 use Rattle.fwd_book.specs.History.{
   BookSetting,
@@ -51,22 +52,13 @@ pub record Receipt : Type 0 where
 abbrev pub span_of : Part → Span
 span_of p = record { number = p.evidence.number; from = p.from; count = p.count }
 
--- the entries of a run in a chunk
-abbrev pub run_in : List (List ℕ) → Span → List (List ℕ)
-run_in entries s = take s.count (drop s.from entries)
-
 -- the entries that a part shows: they were sent, and acknowledged
 abbrev pub shown_by : Part → List (List ℕ)
 shown_by p = run_in p.evidence.entries (span_of p)
 
--- numbers rise strictly
-abbrev pub AreRising : List ℕ → Type 0
-AreRising ns = (i : ℕ) (j : ℕ) (m n : ℕ) → i < j → slice_get ns i ≡ Some m
-    → slice_get ns j ≡ Some n → m < n
-
 -- A receipt is right for a request: it has its origin, its tag, its entries and its `chunk`; its
 -- parts are the request's runs, in order; these runs of the chunks that were acknowledged, joined,
--- are the request's entries; the chunks' numbers rise; each chunk has the request's tag; and each
+-- are the request's entries, and each lies within its chunk; the chunks' numbers rise; each chunk has the request's tag; and each
 -- reply names its chunk at this output.
 pub record IsRightFor (setting : BookSetting) (q : Entered) (r : Receipt) : Type 0 where
   pub origin : r.origin ≡ q.origin
@@ -75,6 +67,8 @@ pub record IsRightFor (setting : BookSetting) (q : Entered) (r : Receipt) : Type
   pub chunk : r.chunk ≡ q.chunk
   pub spans : map span_of r.parts ≡ q.spans
   pub shown : flat_map shown_by r.parts ≡ q.entries
+  pub within : (i : ℕ) (p : Part) → slice_get r.parts i ≡ Some p
+      → p.from + p.count ≤ length p.evidence.entries
   pub rising : AreRising (map (λ p. p.evidence.number) r.parts)
   pub tags : (i : ℕ) (p : Part) → slice_get r.parts i ≡ Some p → p.evidence.tag ≡ q.tag
   pub names : (i : ℕ) (p : Part) → slice_get r.parts i ≡ Some p

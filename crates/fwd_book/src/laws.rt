@@ -1,9 +1,23 @@
 //! Laws, each the contract of a function that does nothing.
 
-ghost use Rattle.std.specs.Prelude.{◌≡◌, ℕ, List, Some, None, false, true, map, slice_get};
+ghost use Rattle.std.specs.Prelude.{
+  ◌≡◌,
+  ℕ,
+  Bool,
+  List,
+  Some,
+  None,
+  false,
+  true,
+  ◌&&◌,
+  map,
+  filter,
+  slice_get,
+};
 ghost use Rattle.fwd_modes.specs.Acks.{ack_name};
 ghost use Rattle.fwd_source.specs.declared.origin.Origin.{Origin};
 ghost use Rattle.fwd_session.specs.Evidence.{Evidence};
+ghost use Rattle.fwd_chunks.specs.Spans.{AreCutBy, AreRising};
 ghost use Rattle.fwd_book.specs.History.{
   BookSetting,
   Entered,
@@ -19,20 +33,14 @@ ghost use Rattle.fwd_book.specs.History.{
   tells,
   forgets,
   owed,
+  is_settled,
+  due,
+  tells_due,
+  forgets_of,
+  owed_of,
 };
-ghost use Rattle.fwd_book.specs.Receipts.{Receipt, IsRightFor, AreRising, receipts};
-ghost use Rattle.fwd_book.specs.Live.{
-  LiveBook,
-  AreCutBy,
-  IsOf,
-  IsSound,
-  live_book,
-  live_opening,
-  live_enters,
-  live_settles,
-  live_leaves,
-  live_owed,
-};
+ghost use Rattle.fwd_book.specs.Receipts.{Receipt, IsRightFor, receipt_of, receipts};
+ghost use Rattle.fwd_book.specs.Live.{LiveBook, IsOf, IsSound, live_book, live_opening, live_enters, live_settles, live_drops, live_leaves, live_owed, live_due, live_tells_due, live_forgets_of, live_owed_of};
 
 /// The live part is enough: what happens to a book's history happens alike to its live part, and
 /// what is asked of it is answered alike. No number of a request that comes was acknowledged, and
@@ -53,6 +61,13 @@ pub fn live_follows()
         ≡ receipts (live_book b).settled (live_book b).requests origins }
     ensures owed { (b : BookHistory) (origins : List Origin) →
         owed b origins ≡ live_owed (live_book b) origins }
+    ensures due { (b : BookHistory) (conn : ℕ) → due b conn ≡ live_due (live_book b) conn }
+    ensures tells_due { (b : BookHistory) (conn : ℕ) →
+        live_book (tells_due b conn) ≡ live_tells_due (live_book b) conn }
+    ensures forgets_of { (b : BookHistory) (conn : ℕ) →
+        live_book (forgets_of b conn) ≡ live_forgets_of (live_book b) conn }
+    ensures owed_of { (b : BookHistory) (conn : ℕ) →
+        owed_of b conn ≡ live_owed_of (live_book b) conn }
 {}
 
 /// A new book is sound, and a sound book stays so: where a request of a new origin comes whose
@@ -71,6 +86,8 @@ pub fn stays_sound()
         IsSound (live_settles b e) }
     ensures leaves { (b : LiveBook) (origins : List Origin) → IsSound b →
         IsSound (live_leaves b origins) }
+    ensures drops { (b : LiveBook) (gone : Entered → Bool) → IsSound b →
+        IsSound (live_drops gone b) }
 {}
 
 /// Each receipt that a sound book gives is right for the request of its origin.
@@ -78,4 +95,14 @@ pub fn receipts_are_right()
     ensures { (b : LiveBook) (origins : List Origin) (i : ℕ) (r : Receipt) → IsSound b →
         slice_get (receipts b.settled b.requests origins) i ≡ Some r →
         (q : Entered) × (request_at b.requests r.origin ≡ Some q) × IsRightFor b.setting q r }
+{}
+
+/// Whoever hands in the origins of the requests that pass a test is given the receipts of those
+/// whose entries are all acknowledged, and has them leave.
+pub fn origins_are_enough()
+    ensures receipts { (b : LiveBook) (test : Entered → Bool) → IsSound b →
+        receipts b.settled b.requests (map (λ q. q.origin) (filter test b.requests))
+        ≡ map (receipt_of b.settled) (filter (λ q. test q && is_settled b.settled q) b.requests) }
+    ensures leaves { (b : LiveBook) (test : Entered → Bool) → IsSound b →
+        live_leaves b (map (λ q. q.origin) (filter test b.requests)) ≡ live_drops test b }
 {}

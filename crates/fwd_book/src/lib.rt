@@ -12,5 +12,5 @@ mod stored;
 mod tests;
 
 pub use book::Book;
-pub use laws::{live_follows, receipts_are_right, stays_sound};
+pub use laws::{live_follows, origins_are_enough, receipts_are_right, stays_sound};
 pub use receipt::{Part, Receipt};

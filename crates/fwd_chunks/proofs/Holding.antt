@@ -14,12 +14,12 @@ use Rattle.fwd_chunks.specs.declared.stage.Stage.{Stage}
 use Rattle.fwd_chunks.specs.declared.stage.Stage.TheVariants.{Closed, Taken}
 use Rattle.fwd_chunks.specs.Cells.{size_of}
 use Rattle.fwd_chunks.specs.History.{Load, before_runs}
-use Rattle.fwd_chunks.specs.Live.{LiveBuffer, is_open, staged, changed, is_at, live_next_number, is_open_of, may_take, first_chunk, live_adds_to, live_adds, live_adds_all, live_looks, live_enters, live_place, live_runs, live_spans, live_closes, live_flushes, live_given, live_carries_more, live_takes, live_load, live_carried, IsCarried, is_taken, tally_more, live_frees, live_settles}
+use Rattle.fwd_chunks.specs.Live.{LiveBuffer, is_open, staged, is_at, live_next_number, is_open_of, may_take, first_chunk, live_adds_to, live_adds, live_adds_all, live_looks, live_enters, live_place, live_runs, live_spans, live_closes, live_flushes, live_given, live_carries_more, live_takes, live_load, live_carried, IsCarried, is_taken, tally_more, live_frees, live_settles}
 use Rattle.fwd_chunks.specs.Soundness.{IsBefore, AreInOrder, IsSound}
 use Rattle.fwd_chunks.specs.Spans.{run_in, AreRising, AreCutBy, IsHeld, AreHeld, IsGone}
 use Rattle.fwd_chunks.proofs.Numbers.{true_false, not_from, eq_from, eq_same}
 use Rattle.fwd_chunks.proofs.Places.{one_chunk, none_some, found-number}
-use Rattle.fwd_chunks.proofs.Sounding.{found-all, found-passes, found-only, IsSorted, with_entry, adds-sorted, sorted}
+use Rattle.fwd_chunks.proofs.Sounding.{found-all, found-passes, IsSorted, with_entry, adds-sorted, sorted}
 
 -- ---- finding a chunk
 
@@ -162,7 +162,7 @@ module _ (b : LiveBuffer) (tag entry : List ℕ) (own : IsSorted b) where
       by None =
           let apart : (live_next_number b == n) ≡ false = not_from (live_next_number b == n) (λ f. absurd (omega (arith, lt, eq_from (live_next_number b) n f))) in (
             find-push n (map (closing tag) b.chunks) (first_chunk b tag entry)
-            ∙ (λ i. option_else ((find-map n (closing tag) (closing-number tag) b.chunks ∙ ap (option_map (closing tag)) e) i) (cond (apart i) (Some (first_chunk b tag entry)) None)),
+                ∙ (λ i. option_else ((find-map n (closing tag) (closing-number tag) b.chunks ∙ ap (option_map (closing tag)) e) i) (cond (apart i) (Some (first_chunk b tag entry)) None)),
             omega (arith, lt),
           )
       by (Some c) = (find-map n (joining c.number entry) (joining-number c.number entry) b.chunks ∙ ap (option_map (joining c.number entry)) e, lt)

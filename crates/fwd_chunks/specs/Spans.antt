@@ -38,12 +38,12 @@ AreCutBy (s ∷ spans) own =
 -- a run of entries, of a tag, stands in the chunk of its number: the entries that are left begin
 -- with it
 pub record IsHeld (chunks : List Chunk) (tag : List ℕ) (s : Span) (own : List (List ℕ)) : Type 0
-    where
-  pub chunk : Chunk
-  pub here : find (is_at s.number) chunks ≡ Some chunk
-  pub tagged : chunk.tag ≡ tag
-  pub within : s.from + s.count ≤ length chunk.entries
-  pub run : run_in chunk.entries s ≡ take s.count own
+  where
+    pub chunk : Chunk
+    pub here : find (is_at s.number) chunks ≡ Some chunk
+    pub tagged : chunk.tag ≡ tag
+    pub within : s.from + s.count ≤ length chunk.entries
+    pub run : run_in chunk.entries s ≡ take s.count own
 
 -- each of the runs does, one behind the other
 abbrev pub AreHeld : List Chunk → (tag : List ℕ) → List Span → (own : List (List ℕ)) → Type 0

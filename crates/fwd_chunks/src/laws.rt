@@ -1,14 +1,34 @@
 //! Laws over the definitions, each the contract of a function that does nothing.
 
-ghost use Rattle.std.specs.Prelude.{◌≡◌, ◌<◌, ◌^◌, ℕ, List, length, drop, Option, Some, None, option_map, if◌then◌else◌};
+ghost use Rattle.std.specs.Prelude.{◌≡◌, ◌≢◌, ◌<◌, ◌^◌, ℕ, List, length, map, take, drop, Option, Some, None, option_map, if◌then◌else◌};
 ghost use Rattle.fwd_modes.specs.Requests.{Request};
 ghost use Rattle.fwd_source.specs.declared.origin.Origin.{Origin};
 ghost use Rattle.fwd_chunks.specs.declared.flush.FlushKind.{FlushKind};
 ghost use Rattle.fwd_chunks.specs.Cells.{is_carried};
-ghost use Rattle.fwd_chunks.specs.History.{BufferSetting, BufferHistory, opening, enters, refusal, spans_of, closing, looks, given, IsGiven, load_of, counts};
+ghost use Rattle.fwd_chunks.specs.declared.span.Span.{Span};
+ghost use Rattle.fwd_chunks.specs.History.{Load, BufferSetting, BufferHistory, opening, enters, refusal, spans_of, closing, looks, given, IsGiven, load_of, counts};
 ghost use Rattle.fwd_chunks.specs.Events.{BufferEvent, history_next, IsReached, NumbersRise, TagNumbersRise, NumbersHaveOneTag};
-ghost use Rattle.fwd_chunks.specs.Live.{live_buffer, live_opening, live_next, live_refusal, live_spans, live_closing, live_given, live_load, live_carried, live_counts};
+ghost use Rattle.fwd_chunks.specs.Live.{
+  LiveBuffer,
+  IsCarried,
+  live_buffer,
+  live_opening,
+  live_next,
+  live_refusal,
+  live_enters,
+  live_spans,
+  live_closing,
+  live_flushes,
+  live_given,
+  live_takes,
+  live_load,
+  live_carried,
+  live_settles,
+  live_frees,
+  live_counts,
+};
 ghost use Rattle.fwd_chunks.specs.Soundness.{IsSound};
+ghost use Rattle.fwd_chunks.specs.Spans.{run_in, AreRising, AreCutBy, IsHeld, AreHeld, IsGone};
 
 /// The live part is enough: from a history that a run reaches, what an event leaves, seen in its
 /// live part, is what it leaves of the history's live part.
@@ -70,4 +90,51 @@ pub fn numbers_rise()
         IsReached setting h → NumbersRise (drop (length h.cells) (enters h origin r now).cells) }
     ensures one_tag { (setting : BufferSetting) (h : BufferHistory) → IsReached setting h
         → NumbersHaveOneTag h.cells }
+{}
+
+/// The runs that a request's entries take cut them to the last, their numbers rise, and once it is
+/// entered the chunks hold them. What a worker has of a chunk has the runs that the chunk holds.
+pub fn spans_are_held()
+    ensures cut { (b : LiveBuffer) (r : Request) (now : ℕ) → IsSound b →
+        AreCutBy (live_spans b r now) r.entries }
+    ensures rising { (b : LiveBuffer) (r : Request) (now : ℕ) → IsSound b →
+        AreRising (map (λ s. s.number) (live_spans b r now)) }
+    ensures held { (b : LiveBuffer) (r : Request) (now : ℕ) → IsSound b →
+        AreHeld (live_enters b r now).chunks r.tag (live_spans b r now) r.entries }
+    ensures carried { (b : LiveBuffer) (load : Load) (tag : List ℕ) (s : Span)
+        (own : List (List ℕ)) → IsSound b → IsCarried b load → s.number ≡ load.number →
+        IsHeld b.chunks tag s own
+        → (load.tag ≡ tag) × (run_in load.entries s ≡ take s.count own) }
+{}
+
+/// A run stays in its chunk until that is settled, and a number whose chunk is settled gets no
+/// other.
+pub fn held_stays()
+    ensures enters { (b : LiveBuffer) (r : Request) (now : ℕ) (tag : List ℕ) (s : Span)
+        (own : List (List ℕ)) → IsSound b → IsHeld b.chunks tag s own →
+        IsHeld (live_enters b r now).chunks tag s own }
+    ensures flushes { (b : LiveBuffer) (now : ℕ) (kind : FlushKind) (tag : List ℕ) (s : Span)
+        (own : List (List ℕ)) → IsHeld b.chunks tag s own →
+        IsHeld (live_flushes b now kind).chunks tag s own }
+    ensures takes { (b : LiveBuffer) (worker now : ℕ) (tag : List ℕ) (s : Span)
+        (own : List (List ℕ)) → IsHeld b.chunks tag s own →
+        IsHeld (live_takes b worker now).chunks tag s own }
+    ensures frees { (b : LiveBuffer) (number : ℕ) (loss : Option ℕ) (tag : List ℕ) (s : Span)
+        (own : List (List ℕ)) → IsHeld b.chunks tag s own →
+        IsHeld (live_frees b number loss).chunks tag s own }
+    ensures settles { (b : LiveBuffer) (number : ℕ) (tag : List ℕ) (s : Span)
+        (own : List (List ℕ)) → s.number ≢ number → IsHeld b.chunks tag s own →
+        IsHeld (live_settles b number).chunks tag s own }
+    ensures gone { (b : LiveBuffer) (load : Load) → IsSound b → IsCarried b load →
+        IsGone (live_settles b load.number) load.number }
+    ensures gone_enters { (b : LiveBuffer) (r : Request) (now n : ℕ) → IsSound b → IsGone b n →
+        IsGone (live_enters b r now) n }
+    ensures gone_flushes { (b : LiveBuffer) (now : ℕ) (kind : FlushKind) (n : ℕ) → IsGone b n →
+        IsGone (live_flushes b now kind) n }
+    ensures gone_takes { (b : LiveBuffer) (worker now n : ℕ) → IsGone b n →
+        IsGone (live_takes b worker now) n }
+    ensures gone_frees { (b : LiveBuffer) (number : ℕ) (loss : Option ℕ) (n : ℕ) → IsGone b n →
+        IsGone (live_frees b number loss) n }
+    ensures gone_settles { (b : LiveBuffer) (number n : ℕ) → IsGone b n →
+        IsGone (live_settles b number) n }
 {}

@@ -32,6 +32,9 @@ pub use carried::Carried;
 pub use counts::Counts;
 pub use fault::AdmitError;
 pub use flush::FlushKind;
-pub use laws::{given_is_least, live_answers, live_follows, numbers_rise, reached_is_sound};
+pub use laws::{
+    given_is_least, held_stays, live_answers, live_follows, numbers_rise, reached_is_sound,
+    spans_are_held,
+};
 pub use limits::BufferLimits;
 pub use span::Span;

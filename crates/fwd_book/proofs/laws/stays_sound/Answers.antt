@@ -1,4 +1,4 @@
-use Rattle.fwd_book.proofs.Sound.{sound-opening, sound-enters, sound-settles, sound-leaves}
+use Rattle.fwd_book.proofs.Sound.{sound-opening, sound-enters, sound-settles, sound-leaves, sound-drops}
 use Rattle.fwd_book.proofs.laws.stays_sound.Goals as goal
 
 pub returns-clause-opening : goal.returns-clause-opening
@@ -12,3 +12,6 @@ returns-clause-settles c = λ b e sound names of. sound-settles b e sound names 
 
 pub returns-clause-leaves : goal.returns-clause-leaves
 returns-clause-leaves c = λ b origins sound. sound-leaves b origins sound
+
+pub returns-clause-drops : goal.returns-clause-drops
+returns-clause-drops c = λ b gone sound. sound-drops b gone sound

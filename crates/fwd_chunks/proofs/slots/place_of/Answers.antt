@@ -1,4 +1,4 @@
-use Rattle.std.proofs.Common.{◌≡◌, sym, ap, ◌∙◌}
+use Rattle.std.proofs.Common.{sym, ap, ◌∙◌}
 use Rattle.fwd_chunks.proofs.Places.{get-read}
 use Rattle.fwd_chunks.proofs.Search.{number-place}
 use Rattle.fwd_chunks.proofs.slots.place_of.Goals as goal

@@ -2,8 +2,9 @@ use Rattle.std.proofs.Common.{arith, ◌≡◌, ◌≤◌, ℕ, Some, None, true
 use Rattle.std.specs.Prelude.{IfSome, ◌==◌}
 use Rattle.std.specs.List.{list_any}
 use Rattle.fwd_chunks.specs.declared.span.Span.{Span}
+use Rattle.fwd_chunks.specs.Spans.{AreCutBy}
 use Rattle.fwd_book.specs.History.{BookSetting, Entered, entered_as, request_at, has_run, are_fresh}
-use Rattle.fwd_book.specs.Live.{BookState, AreCutBy, IsSound, found_for, live_enters, enters_if, ready_enters}
+use Rattle.fwd_book.specs.Live.{BookState, IsSound, found_for, live_enters, enters_if, ready_enters}
 use Rattle.fwd_book.specs.Notes.{Note, note_at, uses_in, found_at, used_more, AreOf, live_of, HasRoom}
 use Rattle.fwd_book.specs.contracts.book.Book as book
 use Rattle.fwd_book.proofs.Keeping.{more-of, more-shown, cut-few, filter-few}

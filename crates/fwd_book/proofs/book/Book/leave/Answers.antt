@@ -3,8 +3,8 @@ use Rattle.std.specs.Prelude.{not, map, ◌==◌}
 use Rattle.std.specs.List.{list_any}
 use Rattle.fwd_source.specs.declared.origin.Origin.{Origin}
 use Rattle.fwd_session.specs.Evidence.{Evidence}
+use Rattle.fwd_chunks.specs.Spans.{AreRising}
 use Rattle.fwd_book.specs.History.{BookSetting, Entered, is_origin, request_at}
-use Rattle.fwd_book.specs.Receipts.{AreRising}
 use Rattle.fwd_book.specs.Live.{BookState, IsSound, found_for, evidence_for, live_leaves}
 use Rattle.fwd_book.specs.Notes.{Note, note_at, found_at, used_less, AreOf, live_of}
 use Rattle.fwd_book.proofs.Keeping.{less-of, less-shown, among-one, none-leaves, room-more}
