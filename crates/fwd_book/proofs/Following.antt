@@ -218,9 +218,9 @@ tells-parted b origins can = each b.admissions can
         ap (filter (λ q. not (is_among origins q.origin && is_settled b.settled q))) (push_map (λ x. x.request) (is_untold a.fate) a (filter (λ x. is_untold x.fate) as'))
         ∙ push_filter (λ q. not (is_among origins q.origin && is_settled b.settled q)) (is_untold a.fate) a.request rest
         ∙ by (is_untold a.fate) (is_among origins a.request.origin) (is_settled b.settled a.request) (all 0 a refl) a.request
-            (filter (λ q. not (is_among origins q.origin && is_settled b.settled q)) rest) (filter (λ q. not (is_among origins q.origin)) rest) (each as' (λ i x at. all (suc i) x at))
+        (filter (λ q. not (is_among origins q.origin && is_settled b.settled q)) rest) (filter (λ q. not (is_among origins q.origin)) rest) (each as' (λ i x at. all (suc i) x at))
         ∙ sym (ap (filter (λ q. not (is_among origins q.origin))) (push_map (λ x. x.request) (is_untold a.fate) a (filter (λ x. is_untold x.fate) as'))
-            ∙ push_filter (λ q. not (is_among origins q.origin)) (is_untold a.fate) a.request rest)
+        ∙ push_filter (λ q. not (is_among origins q.origin)) (is_untold a.fate) a.request rest)
 
 pub follows-tells : (b : BookHistory) (origins : List Origin) → CanBeTold b origins
     → live_book (tells b origins) ≡ live_leaves (live_book b) origins
@@ -323,7 +323,7 @@ follows-due b conn = each b.admissions ∙ filter-alike (λ q. is_of conn q && i
         let rest : List Entered = map (λ x. x.request) (filter (λ x. is_untold x.fate) as') in
         by (is_untold a.fate) (is_of conn a.request) (is_settled b.settled a.request) a (filter (is_due conn b.settled) as') (filter (λ q. is_of conn q && is_settled b.settled q) rest) (each as')
         ∙ sym (ap (filter (λ q. is_of conn q && is_settled b.settled q)) (push_map (λ x. x.request) (is_untold a.fate) a (filter (λ x. is_untold x.fate) as'))
-            ∙ push_filter (λ q. is_of conn q && is_settled b.settled q) (is_untold a.fate) a.request rest)
+        ∙ push_filter (λ q. is_of conn q && is_settled b.settled q) (is_untold a.fate) a.request rest)
 
 pub follows-tells_due : (b : BookHistory) (conn : ℕ)
     → live_book (tells_due b conn) ≡ live_tells_due (live_book b) conn
@@ -364,4 +364,4 @@ follows-owed_of b conn = each b.admissions
         let rest : List Entered = map (λ x. x.request) (filter (λ x. is_untold x.fate) as') in
         by (is_untold a.fate) (is_of conn a.request) a (filter (is_owed_to conn) as') (filter (is_of conn) rest) (each as')
         ∙ sym (ap length (ap (filter (is_of conn)) (push_map (λ x. x.request) (is_untold a.fate) a (filter (λ x. is_untold x.fate) as'))
-            ∙ push_filter (is_of conn) (is_untold a.fate) a.request rest))
+        ∙ push_filter (is_of conn) (is_untold a.fate) a.request rest))

@@ -58,8 +58,8 @@ shown_by p = run_in p.evidence.entries (span_of p)
 
 -- A receipt is right for a request: it has its origin, its tag, its entries and its `chunk`; its
 -- parts are the request's runs, in order; these runs of the chunks that were acknowledged, joined,
--- are the request's entries, and each lies within its chunk; the chunks' numbers rise; each chunk has the request's tag; and each
--- reply names its chunk at this output.
+-- are the request's entries, and each lies within its chunk; the chunks' numbers rise; each chunk
+-- has the request's tag; and each reply names its chunk at this output.
 pub record IsRightFor (setting : BookSetting) (q : Entered) (r : Receipt) : Type 0 where
   pub origin : r.origin ≡ q.origin
   pub tag : r.tag ≡ q.tag

@@ -32,8 +32,24 @@ ghost use Rattle.std.specs.List.{list_any};
 ghost use Rattle.fwd_modes.specs.Acks.{ack_name};
 ghost use Rattle.fwd_chunks.specs.Spans.{AreCutBy, AreRising};
 ghost use Rattle.fwd_book.specs.History.{Entered, entered_as, name_at, request_at, are_fresh};
-ghost use Rattle.fwd_book.specs.Receipts.{Receipt as AbstractReceipt, IsRightFor, once, receipts, receipt_if};
-ghost use Rattle.fwd_book.specs.Live.{IsOf, IsSound, live_opening, ready_enters, live_settles, live_leaves, live_owed, live_is_settled, evidence_for};
+ghost use Rattle.fwd_book.specs.Receipts.{
+  Receipt as AbstractReceipt,
+  IsRightFor,
+  once,
+  receipts,
+  receipt_if,
+};
+ghost use Rattle.fwd_book.specs.Live.{
+  IsOf,
+  IsSound,
+  live_opening,
+  ready_enters,
+  live_settles,
+  live_leaves,
+  live_owed,
+  live_is_settled,
+  evidence_for,
+};
 ghost use Rattle.fwd_book.specs.Notes.{note_at, uses_in, used_more, used_less};
 
 use crate::kept::Kept;

@@ -40,7 +40,22 @@ ghost use Rattle.fwd_book.specs.History.{
   owed_of,
 };
 ghost use Rattle.fwd_book.specs.Receipts.{Receipt, IsRightFor, receipt_of, receipts};
-ghost use Rattle.fwd_book.specs.Live.{LiveBook, IsOf, IsSound, live_book, live_opening, live_enters, live_settles, live_drops, live_leaves, live_owed, live_due, live_tells_due, live_forgets_of, live_owed_of};
+ghost use Rattle.fwd_book.specs.Live.{
+  LiveBook,
+  IsOf,
+  IsSound,
+  live_book,
+  live_opening,
+  live_enters,
+  live_settles,
+  live_drops,
+  live_leaves,
+  live_owed,
+  live_due,
+  live_tells_due,
+  live_forgets_of,
+  live_owed_of,
+};
 
 /// The live part is enough: what happens to a book's history happens alike to its live part, and
 /// what is asked of it is answered alike. No number of a request that comes was acknowledged, and

@@ -1,13 +1,50 @@
 //! Laws over the definitions, each the contract of a function that does nothing.
 
-ghost use Rattle.std.specs.Prelude.{◌≡◌, ◌≢◌, ◌<◌, ◌^◌, ℕ, List, length, map, take, drop, Option, Some, None, option_map, if◌then◌else◌};
+ghost use Rattle.std.specs.Prelude.{
+  ◌≡◌,
+  ◌≢◌,
+  ◌<◌,
+  ◌^◌,
+  ℕ,
+  List,
+  length,
+  map,
+  take,
+  drop,
+  Option,
+  Some,
+  None,
+  option_map,
+  if◌then◌else◌,
+};
 ghost use Rattle.fwd_modes.specs.Requests.{Request};
 ghost use Rattle.fwd_source.specs.declared.origin.Origin.{Origin};
 ghost use Rattle.fwd_chunks.specs.declared.flush.FlushKind.{FlushKind};
 ghost use Rattle.fwd_chunks.specs.Cells.{is_carried};
 ghost use Rattle.fwd_chunks.specs.declared.span.Span.{Span};
-ghost use Rattle.fwd_chunks.specs.History.{Load, BufferSetting, BufferHistory, opening, enters, refusal, spans_of, closing, looks, given, IsGiven, load_of, counts};
-ghost use Rattle.fwd_chunks.specs.Events.{BufferEvent, history_next, IsReached, NumbersRise, TagNumbersRise, NumbersHaveOneTag};
+ghost use Rattle.fwd_chunks.specs.History.{
+  Load,
+  BufferSetting,
+  BufferHistory,
+  opening,
+  enters,
+  refusal,
+  spans_of,
+  closing,
+  looks,
+  given,
+  IsGiven,
+  load_of,
+  counts,
+};
+ghost use Rattle.fwd_chunks.specs.Events.{
+  BufferEvent,
+  history_next,
+  IsReached,
+  NumbersRise,
+  TagNumbersRise,
+  NumbersHaveOneTag,
+};
 ghost use Rattle.fwd_chunks.specs.Live.{
   LiveBuffer,
   IsCarried,
