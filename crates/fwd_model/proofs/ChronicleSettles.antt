@@ -1,6 +1,6 @@
 -- What settling and telling add to the chronicle.
 use Rattle.std.proofs.Common.{◌≡◌, ℕ, Bool, true, false, cond, eqb, List, [], ◌∷◌, ◌++◌, Option, Some, None, refl, sym, ap, subst, ◌∙◌, inl, inr, arith}
-use Rattle.std.specs.Prelude.{◌⊎◌, map, is_some, ◌||◌, slice_get}
+use Rattle.std.specs.Prelude.{◌⊎◌, map, is_some, ◌||◌, slice_get, ◌&&◌}
 use Rattle.std.proofs.lemmas.Bool.Decides.{nat_tests}
 use Rattle.fwd_chunks.specs.Cells.{Cell, has_number}
 use Rattle.fwd_chunks.proofs.Numbers.{has_number-push}
@@ -10,10 +10,11 @@ use Rattle.fwd_modes.specs.Frames.{chunk_name}
 use Rattle.fwd_chunks.specs.History.{BufferHistory, Load}
 use Rattle.fwd_session.specs.Evidence.{frame_of}
 use Rattle.fwd_session.specs.History as session
+use Rattle.fwd_session.specs.Evidence.{evidence_of}
 use Rattle.fwd_session.specs.History.{SessionHistory, acked}
 use Rattle.fwd_model.specs.Delivered.{WasAcknowledged}
 use Rattle.fwd_model.proofs.Settling.{IsHis}
-use Rattle.fwd_model.specs.Books.{Fate, Told, Forgotten, Admission, BookHistory, is_due, is_owed, becomes, tells, forgets}
+use Rattle.fwd_book.specs.History.{Fate, Told, Forgotten, Admission, BookHistory, is_untold, is_due, is_owed_to, becomes, leaves, tells_due, forgets_of}
 use Rattle.fwd_model.specs.Outputs.{output_history_settles}
 use Rattle.fwd_model.specs.History.{Connection, Lane, with_session, with_output, with_book}
 use Rattle.fwd_model.proofs.Chronicle.{Quiet, IsNamed, frame_at, frame_is, LaneStory, NumberStory, RequestStory, AllTold, Extends, extends_same, lane_still, number_still}
@@ -43,11 +44,11 @@ eq_from : (a b : ℕ) → eqb a b ≡ true → a ≡ b
 eq_from a b e = grind (arith, nat_tests, e)
 
 pub lane_settles : (config : Config) (es : List Event) (e : Event) (cs : List Connection)
-    (o w server : ℕ) (l : Lane) (s : SessionHistory) (c : Load)
+    (o w server : ℕ) (reply : Option (List ℕ)) (l : Lane) (s : SessionHistory) (c : Load)
     → slice_get l.sessions w ≡ Some (Some s) → IsHis l.output.buffer w c → acked s ≡ Some c
     → Quiet config es e o → LaneStory config es cs o l
-    → LaneStory config (es ++ e ∷ []) cs o (with_session w (session.unloads s) (with_output l (output_history_settles l.output c.number server)))
-lane_settles config es e cs o w server l s c here his is quiet t =
+    → LaneStory config (es ++ e ∷ []) cs o (with_session w (session.unloads s) (with_output l (output_history_settles l.output (evidence_of c server reply))))
+lane_settles config es e cs o w server reply l s c here his is quiet t =
     let own = t.sessions w s here in
     let cells = l.output.buffer.cells in
     let put = put_session config es e o cs l w (session.unloads s) quiet t (unloads config es o w e s (quiet w) own) in record {
@@ -92,16 +93,16 @@ lane_becomes config es e cs ds o l b ext quiet t same =
 pub lane_tells : (config : Config) (es : List Event) (e : Event) (cs ds : List Connection)
     (o id : ℕ) (l : Lane) → Extends cs ds → Quiet config es e o
     → LaneStory config es cs o l
-    → LaneStory config (es ++ e ∷ []) ds o (with_book l (tells l.output.book id))
-unfolding tells
+    → LaneStory config (es ++ e ∷ []) ds o (with_book l (tells_due l.output.book id))
+unfolding leaves
 lane_tells config es e cs ds o id l ext quiet t =
-    lane_becomes config es e cs ds o l (tells l.output.book id) ext quiet t
-    (λ all. all_become config.routes ds o l.output.buffer.cells Told (is_due id l.output.book.settled) l.output.book.admissions all)
+    lane_becomes config es e cs ds o l (tells_due l.output.book id) ext quiet t
+    (λ all. all_become config.routes ds o l.output.buffer.cells Told (λ a. is_untold a.fate && is_due id l.output.book.settled a) l.output.book.admissions all)
 
 pub lane_forgets : (config : Config) (es : List Event) (e : Event) (cs : List Connection)
     (o id : ℕ) (l : Lane) → Quiet config es e o → LaneStory config es cs o l
-    → LaneStory config (es ++ e ∷ []) cs o (with_book l (forgets l.output.book id))
-unfolding forgets
+    → LaneStory config (es ++ e ∷ []) cs o (with_book l (forgets_of l.output.book id))
+unfolding leaves
 lane_forgets config es e cs o id l quiet t =
-    lane_becomes config es e cs cs o l (forgets l.output.book id) (extends_same cs) quiet t
-    (λ all. all_become config.routes cs o l.output.buffer.cells Forgotten (is_owed id) l.output.book.admissions all)
+    lane_becomes config es e cs cs o l (forgets_of l.output.book id) (extends_same cs) quiet t
+    (λ all. all_become config.routes cs o l.output.buffer.cells Forgotten (λ a. is_untold a.fate && is_owed_to id a) l.output.book.admissions all)

@@ -20,6 +20,7 @@ use Rattle.fwd_session.specs.declared.handshake.Handshake.{Handshake}
 use Rattle.fwd_session.specs.declared.handshake.Handshake.TheVariants.{AwaitsHelo, AwaitsPong, Done}
 use Rattle.fwd_session.specs.Evidence.{frame_of}
 use Rattle.fwd_session.specs.Said.{out_of}
+use Rattle.fwd_session.specs.Evidence.{evidence_of}
 use Rattle.fwd_session.specs.History as session
 use Rattle.fwd_session.specs.History.{SessionHistory, handshake_of, is_done, is_free_for, says, told_of}
 use Rattle.fwd_model.specs.declared.config.Config.{Config}
@@ -30,7 +31,7 @@ use Rattle.fwd_model.specs.declared.answer.Answer.TheVariants as answer
 use Rattle.fwd_model.specs.declared.fault.Refusal.TheVariants.{NoSuch, NotNow, NotUp}
 use Rattle.fwd_model.specs.Outcome.{Outcome, Stays, Goes, answer_of, state_of, of_piece, of_heard, first_of, chunk_answer, is_refusal}
 use Rattle.fwd_model.specs.Layers.{Worker}
-use Rattle.fwd_model.specs.Books as book
+use Rattle.fwd_book.specs.History as book
 use Rattle.fwd_model.specs.Step as steps
 use Rattle.fwd_model.specs.Step.{step}
 use Rattle.fwd_model.specs.declared.event.EndKind.{EndKind}
@@ -188,7 +189,7 @@ module _ (config : Config) (es : List Event) (sane : IsSane (reached config es))
       both_on histories h id o _ (steps.collect histories id) (λ s l here lane. past _ (λ (up : s.shut ≡ false). to (
       let more = appends s (histories.due l id).acks in
       let ext = extends_with id s more h.connections (ever_from id h.connections s here) (grows_more s more refl (omega arith)) in
-      lane_put config es e t (with_source id more h.connections) o (with_book l (book.tells l.output.book id)) (λ j differ. calm j) ext
+      lane_put config es e t (with_source id more h.connections) o (with_book l (book.tells_due l.output.book id)) (λ j differ. calm j) ext
       (lane_tells config es e h.connections (with_source id more h.connections) o id l ext (calm o) (t.lanes o l lane)))))
 
   -- ---- an output and its workers
@@ -229,8 +230,8 @@ module _ (config : Config) (es : List Event) (sane : IsSane (reached config es))
       past_found _ (λ s f.
       past_found _ (λ c acked. to (
       let here = session_here l w x s at f in
-      lane_next e calm o (with_session w (session.unloads s) (with_output l (output_history_settles l.output c.number s.setup.server)))
-      (lane_settles config es e h.connections o w s.setup.server l s c here (acked_is l.output.buffer w s c ((own_lane o l lane).sessions w s here) acked) acked (calm o) (t.lanes o l lane)))))))
+      lane_next e calm o (with_session w (session.unloads s) (with_output l (output_history_settles l.output (evidence_of c s.setup.server s.reply))))
+      (lane_settles config es e h.connections o w s.setup.server s.reply l s c here (acked_is l.output.buffer w s c ((own_lane o l lane).sessions w s here) acked) acked (calm o) (t.lanes o l lane)))))))
 
   -- ---- sessions: what is answered and where it leads count
 

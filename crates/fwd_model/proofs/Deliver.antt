@@ -1,6 +1,6 @@
 -- Whoever is told was delivered.
 use Rattle.std.proofs.Common.{◌≡◌, ℕ, zero, suc, ◌+◌, Bool, true, false, cond, eqb, List, [], ◌∷◌, ◌++◌, length, Option, Some, None, refl, sym, ap, subst, ◌∙◌, arith}
-use Rattle.std.specs.Prelude.{map, filter, not, ◌&&◌, ◌||◌, ◌==◌, slice_get}
+use Rattle.std.specs.Prelude.{map, filter, is_some, not, ◌&&◌, ◌||◌, ◌==◌, slice_get}
 use Rattle.std.specs.List.{list_all}
 use Rattle.std.specs.Str.{bytes_eq}
 use Rattle.std.proofs.lemmas.Slice.Eq.{bytes_eq-Decides}
@@ -10,7 +10,7 @@ use Rattle.fwd_chunks.specs.Cells.{Cell, cells_at, contents, entries_of, first_t
 use Rattle.fwd_chunks.specs.Cells as cells
 use Rattle.fwd_chunks.proofs.CellLemmas.{has_cell, numbers-has}
 use Rattle.fwd_chunks.proofs.News.{AreOf}
-use Rattle.fwd_model.specs.declared.cell.Entered.{Entered}
+use Rattle.fwd_book.specs.History.{Entered}
 use Rattle.fwd_source.specs.declared.origin.Origin.{Origin}
 use Rattle.fwd_model.specs.declared.config.Config.{Config}
 use Rattle.fwd_model.specs.declared.event.Event.{Event}
@@ -21,7 +21,9 @@ use Rattle.fwd_model.specs.declared.fault.Refusal.TheVariants.{Closed, NoSuch}
 use Rattle.fwd_model.specs.Outcome.{answer_of, state_of, within, found as sought, refuse_if, Goes, ◌>>=◌, ◌>>◌}
 use Rattle.fwd_model.specs.Step as steps
 use Rattle.fwd_model.specs.Step.{step}
-use Rattle.fwd_model.specs.Books.{Admission, is_settled, is_of, is_untold, is_owed, is_due, numbers_of}
+use Rattle.fwd_book.specs.History.{Admission, evidence_of, is_settled, is_of, is_untold, is_owed_to, is_due}
+use Rattle.fwd_model.specs.Books.{numbers_of}
+use Rattle.fwd_model.proofs.Settled.{found-numbered}
 use Rattle.fwd_model.specs.Outputs.{OutputHistory}
 use Rattle.fwd_model.specs.History.{Connection, ever_at, source_at, Lane, History, opening, new_lane, new_lanes, with_connection, with_lane, histories}
 use Rattle.fwd_model.specs.Delivered.{reached, cells_from, whole_frame, WasAcknowledged, IsDelivered, IsTold, IsToldAmong}
@@ -90,7 +92,7 @@ found_by : (routes : List (List (List ℕ))) (cs : List Connection) (o id r : �
     → RequestStory routes cs o output.buffer.cells a.request
     → (has_number r (numbers_of rest) ≡ true → IsFound routes cs o id r output) → has_number r (numbers_of (cond b (a.request ∷ rest) rest)) ≡ true → IsFound routes cs o id r output
 found_by routes cs o id r output a rest true true due_is same one later h =
-    let parts = and_parts (is_owed id a) (is_settled output.book.settled a.request) due_is in
+    let parts = and_parts (is_owed_to id a) (is_settled output.book.settled a.request) due_is in
     let its = and_parts (is_untold a.fate) (is_of id a.request) parts.0 in
     record { entered = a.request; story = one; conn = eq_from a.request.origin.conn id its.1; number = eq_from a.request.origin.request r same; settled = parts.1 }
 found_by routes cs o id r output a rest true false due_is same one later h = later (grind (arith, nat_tests, h, same))
@@ -156,7 +158,7 @@ module _ (config : Config) (es : List Event) (id r o : ℕ) (l : Lane) (here : s
 
   acked : (k : ℕ) → has_number k (cells.numbers_of (cells_from id r l.output.buffer.cells)) ≡ true → has_number k l.output.buffer.acknowledged ≡ true
   acked k h =
-      ap (has_number k) (sym sane.marks) ∙ t.runs (λ j. has_number j l.output.book.settled) k f.settled (subst (λ cs. has_cell k cs ≡ true) own (has k h))
+      ap (has_number k) (sym sane.marks) ∙ sym (found-numbered k l.output.book.settled) ∙ t.runs (λ j. is_some (evidence_of l.output.book.settled j)) k f.settled (subst (λ cs. has_cell k cs ≡ true) own (has k h))
 
   tag_of : (k : ℕ) → has_number k (cells.numbers_of (cells_from id r l.output.buffer.cells)) ≡ true → first_tag (cells_at k l.output.buffer.cells) ≡ t.request.tag
   tag_of k h =

@@ -28,7 +28,7 @@ use Rattle.fwd_msgpack.specs.declared.fault.ScanFault.TheVariants.{Reserved}
 use Rattle.fwd_source.specs.declared.fault.SourceFault.TheVariants.{Scan}
 use Rattle.fwd_source.specs.Judged.{judged_of}
 use Rattle.fwd_model.specs.Step.{answers, after}
-use Rattle.fwd_model.specs.Books.{tells, forgets}
+use Rattle.fwd_book.specs.History.{leaves}
 use Rattle.fwd_model.specs.History.{opening, histories}
 
 -- no shared key is set
@@ -185,7 +185,7 @@ brought_back : answers histories (opening settings) whole_way ≡
     answer.SessionFaulted EarlyAck ∷
     answer.Refused NotNow ∷
     answer.Refused NotUp ∷ []
-unfolding opening route pattern_matches matches adds tells chunk_frame chunk_name encode_symbols ack_text ack_name head_bytes reply_stream word_of judged_of request_of parts_of row_of_values split_of first_of fault_at item_begun payload_ended reading_of row_of named_rows
+unfolding opening route pattern_matches matches adds leaves chunk_frame chunk_name encode_symbols ack_text ack_name head_bytes reply_stream word_of judged_of request_of parts_of row_of_values split_of first_of fault_at item_begun payload_ended reading_of row_of named_rows
 brought_back = refl
 
 -- a second acknowledgement is early, and the first one stands
@@ -197,20 +197,20 @@ acknowledged_twice : answers histories (after histories (opening settings) until
     answer.SessionFaulted EarlyAck ∷
     answer.Settled 1 ∷
     answer.Told (1 ∷ []) (0x81 ∷ 0xa3 ∷ 0x61 ∷ 0x63 ∷ 0x6b ∷ 0xa1 ∷ 0x78 ∷ []) ∷ []
-unfolding opening route pattern_matches matches adds tells chunk_frame chunk_name encode_symbols ack_text ack_name head_bytes reply_stream word_of judged_of request_of parts_of row_of_values split_of first_of fault_at item_begun payload_ended reading_of row_of named_rows
+unfolding opening route pattern_matches matches adds leaves chunk_frame chunk_name encode_symbols ack_text ack_name head_bytes reply_stream word_of judged_of request_of parts_of row_of_values split_of first_of fault_at item_begun payload_ended reading_of row_of named_rows
 acknowledged_twice = refl
 
 -- another name, and a value that is no acknowledgement
 wrong_name : answers histories (after histories (opening settings) until_sent)
     (event.Heard 0 0 (0x81 ∷ 0xa3 ∷ 0x61 ∷ 0x63 ∷ 0x6b ∷ 0xa1 ∷ 0x41 ∷ [])
     ∷ event.Settle 0 0 ∷ []) ≡ answer.SessionFaulted WrongAck ∷ answer.Refused NotNow ∷ []
-unfolding opening route pattern_matches matches adds tells chunk_frame chunk_name encode_symbols ack_text ack_name head_bytes reply_stream word_of judged_of request_of parts_of row_of_values split_of first_of fault_at item_begun payload_ended reading_of row_of named_rows
+unfolding opening route pattern_matches matches adds leaves chunk_frame chunk_name encode_symbols ack_text ack_name head_bytes reply_stream word_of judged_of request_of parts_of row_of_values split_of first_of fault_at item_begun payload_ended reading_of row_of named_rows
 wrong_name = refl
 
 no_acknowledgement : answers histories (after histories (opening settings) until_sent)
     (event.Heard 0 0 (0xc0 ∷ []) ∷ event.Heard 0 0 (0xc3 ∷ []) ∷ event.Settle 0 0 ∷ [])
     ≡ answer.Quiet [] ∷ answer.SessionFaulted BadReply ∷ answer.Refused NotNow ∷ []
-unfolding opening route pattern_matches matches adds tells chunk_frame chunk_name encode_symbols ack_text ack_name head_bytes reply_stream word_of judged_of request_of parts_of row_of_values split_of first_of fault_at item_begun payload_ended reading_of row_of named_rows
+unfolding opening route pattern_matches matches adds leaves chunk_frame chunk_name encode_symbols ack_text ack_name head_bytes reply_stream word_of judged_of request_of parts_of row_of_values split_of first_of fault_at item_begun payload_ended reading_of row_of named_rows
 no_acknowledgement = refl
 
 -- ---- which output an event goes to
@@ -313,7 +313,7 @@ split_in_two : answers histories (opening (limited 6 100000)) until_taken ≡
     answer.Closed 1 ∷
     answer.Took 1 2 ∷
     answer.Took 2 1 ∷ []
-unfolding opening route pattern_matches matches adds wait_after tells chunk_frame chunk_name encode_symbols ack_text ack_name head_bytes reply_stream word_of judged_of listed_entries entry_of request_of parts_of row_of_values split_of first_of fault_at item_begun payload_ended reading_of row_of named_rows
+unfolding opening route pattern_matches matches adds wait_after leaves chunk_frame chunk_name encode_symbols ack_text ack_name head_bytes reply_stream word_of judged_of listed_entries entry_of request_of parts_of row_of_values split_of first_of fault_at item_begun payload_ended reading_of row_of named_rows
 split_in_two = refl
 
 -- it is told once both are settled
@@ -343,7 +343,7 @@ told_after_both : answers histories (after histories (opening (limited 6 100000)
     answer.Acked [] ∷
     answer.Settled 2 ∷
     answer.Told (1 ∷ []) ack_x ∷ []
-unfolding opening route pattern_matches matches adds wait_after tells chunk_frame chunk_name encode_symbols ack_text ack_name head_bytes reply_stream word_of judged_of listed_entries entry_of request_of parts_of row_of_values split_of first_of fault_at item_begun payload_ended reading_of row_of named_rows
+unfolding opening route pattern_matches matches adds wait_after leaves chunk_frame chunk_name encode_symbols ack_text ack_name head_bytes reply_stream word_of judged_of listed_entries entry_of request_of parts_of row_of_values split_of first_of fault_at item_begun payload_ended reading_of row_of named_rows
 told_after_both = refl
 
 -- small requests of one tag leave as one chunk, and each source is told
@@ -379,7 +379,7 @@ joined_in_one : answers histories (opening settings) (
     answer.Settled 2 ∷
     answer.Told (1 ∷ []) ack_x ∷
     answer.Told (1 ∷ []) ack_x ∷ []
-unfolding opening route pattern_matches matches adds wait_after tells chunk_frame chunk_name encode_symbols ack_text ack_name head_bytes reply_stream word_of judged_of request_of parts_of row_of_values split_of first_of fault_at item_begun payload_ended reading_of row_of named_rows
+unfolding opening route pattern_matches matches adds wait_after leaves chunk_frame chunk_name encode_symbols ack_text ack_name head_bytes reply_stream word_of judged_of request_of parts_of row_of_values split_of first_of fault_at item_begun payload_ended reading_of row_of named_rows
 joined_in_one = refl
 
 -- a request that would take the output past its total limit closes its connection, and leaves the
@@ -426,7 +426,7 @@ forgotten : answers histories (after histories (opening settings) until_sent) (
     answer.Acked [] ∷
     answer.Settled 1 ∷
     answer.Refused NoSuch ∷ []
-unfolding opening route pattern_matches matches adds wait_after forgets tells chunk_frame chunk_name encode_symbols ack_text ack_name head_bytes reply_stream word_of judged_of request_of parts_of row_of_values split_of first_of fault_at item_begun payload_ended reading_of row_of named_rows
+unfolding opening route pattern_matches matches adds wait_after leaves chunk_frame chunk_name encode_symbols ack_text ack_name head_bytes reply_stream word_of judged_of request_of parts_of row_of_values split_of first_of fault_at item_begun payload_ended reading_of row_of named_rows
 forgotten = refl
 
 -- ---- a server that lies or leaves
@@ -453,7 +453,7 @@ lying_server : answers histories (after histories (opening settings) until_sent)
     answer.TookNothing ∷
     answer.Chose (Some 0) ∷
     answer.Took 1 1 ∷ []
-unfolding opening route pattern_matches matches adds wait_after server_wait tells chunk_frame chunk_name encode_symbols ack_text ack_name head_bytes reply_stream word_of judged_of request_of parts_of row_of_values split_of first_of fault_at item_begun payload_ended reading_of row_of named_rows
+unfolding opening route pattern_matches matches adds wait_after server_wait leaves chunk_frame chunk_name encode_symbols ack_text ack_name head_bytes reply_stream word_of judged_of request_of parts_of row_of_values split_of first_of fault_at item_begun payload_ended reading_of row_of named_rows
 lying_server = refl
 
 -- a session that waited too long is late and down; a chunk that was only taken goes back without a
@@ -474,5 +474,5 @@ late_server : answers histories (after histories (opening settings) until_sent) 
     answer.Took 1 1 ∷
     answer.Ended (Some 1) ∷
     answer.Took 1 1 ∷ []
-unfolding opening route pattern_matches matches adds wait_after server_wait tells chunk_frame chunk_name encode_symbols ack_text ack_name head_bytes reply_stream word_of judged_of request_of parts_of row_of_values split_of first_of fault_at item_begun payload_ended reading_of row_of named_rows
+unfolding opening route pattern_matches matches adds wait_after server_wait leaves chunk_frame chunk_name encode_symbols ack_text ack_name head_bytes reply_stream word_of judged_of request_of parts_of row_of_values split_of first_of fault_at item_begun payload_ended reading_of row_of named_rows
 late_server = refl

@@ -48,7 +48,8 @@ use Rattle.fwd_model.proofs.FollowsEnds.{backs, ends-live, ends-sane}
 use Rattle.fwd_model.proofs.FollowsTakes.{given-same, takes-live, takes-sane}
 use Rattle.fwd_model.proofs.FollowsAdmits.{enters-live, enters-sane}
 use Rattle.fwd_model.proofs.FollowsSettles.{acked_is, count-same, settles-live, settles-sane}
-use Rattle.fwd_model.proofs.FollowsBooks.{telling-same, owed-same}
+use Rattle.fwd_book.proofs.Following.{follows-due, follows-owed_of}
+use Rattle.fwd_model.specs.Books.{telling}
 use Rattle.fwd_model.proofs.FollowsCollects.{tells-live, tells-sane, forgets-live, forgets-sane}
 use Rattle.fwd_model.proofs.Workers.{worker_map, worker_seen, worker_is, session_here, none_carried, carried_is}
 
@@ -226,11 +227,11 @@ admit patterns id o now s l sane own =
 
 due_here : (l : Lane) (id : ℕ) → histories.due l id ≡ lives.due (live_lane l) id
 unfolding live_lane live_output
-due_here l id = telling-same l.output.book id
+due_here l id = ap telling (follows-due l.output.book id)
 
 owed_here : (l : Lane) (id : ℕ) → histories.owed l id ≡ lives.owed (live_lane l) id
 unfolding live_lane live_output
-owed_here l id = owed-same l.output.book id
+owed_here l id = follows-owed_of l.output.book id
 
 collect : (id : ℕ) (s : SourceHistory) (l : Lane) → IsSaneSource s → IsSaneLane l
     → Agrees both SaneBoth (steps.collect histories id s l)
@@ -376,7 +377,7 @@ settle l w own =
     sought {g = λ (c : Load). c} _ _ (sym (acked-live s) ∙ option_id (histories.acked s)) (λ c g.
     let here = session_here l w x s e f in
     let is = acked_is l.output.buffer w s c (own.sessions w s here) g in
-    goes (ap answer.Settled (count-same l w c own is)) (settles-live l w s c s.setup.server here own is, settles-sane l w s c s.setup.server here own is))))
+    goes (ap answer.Settled (count-same l w c own is)) (settles-live l w s c s.setup.server s.reply here own is, settles-sane l w s c s.setup.server s.reply here own is))))
 
 -- what an end asks of a session is asked alike of its live part
 acked_same : (s : Option SessionHistory)

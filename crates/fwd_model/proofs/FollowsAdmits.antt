@@ -10,15 +10,17 @@ use Rattle.fwd_chunks.specs.History.{BufferHistory, load_of, enters, spans_of}
 use Rattle.fwd_chunks.proofs.Follows as buffer
 use Rattle.fwd_chunks.proofs.Sane as sane
 use Rattle.fwd_chunks.proofs.News.{enters-acknowledged, enters-carried, enters-setting, carried-stays, spans-unacked}
-use Rattle.fwd_model.specs.Books.{entered_as, live_book, book_enters}
+use Rattle.fwd_book.specs.History.{entered_as, are_fresh}
+use Rattle.fwd_book.specs.Live as kept
+use Rattle.fwd_book.specs.Live.{live_book}
 use Rattle.fwd_failover.specs.Live.{live_servers}
 use Rattle.fwd_model.specs.Outputs.{carry_of, carried_by, output_history_enters, live_output, output_enters}
 use Rattle.fwd_model.specs.History.{Lane, with_output}
 use Rattle.fwd_model.specs.Live.{live_lane, with_live_output}
 use Rattle.fwd_model.proofs.Places.{live_workers-same}
 use Rattle.fwd_model.proofs.Settling.{AreApart, carry_of-carried}
-use Rattle.fwd_model.proofs.FollowsBooks as book
-use Rattle.fwd_model.proofs.FollowsBooks.{AreUnsettled}
+use Rattle.fwd_book.proofs.Following.{follows-enters}
+use Rattle.fwd_model.proofs.Settled.{unsettled-fresh}
 use Rattle.fwd_model.proofs.Reached.{IsSaneLane}
 
 -- ---- what a worker has stays
@@ -56,13 +58,13 @@ unfolding live_lane live_output
 enters-live l origin r now own =
     let h = l.output.buffer in
     let spans = spans_of h origin r now in
-    let fresh : AreUnsettled l.output.book.settled spans =
-    ap (λ ns. list_all (λ s. not (has_number s.number ns)) spans) own.marks ∙ spans-unacked h origin r now own.buffer in λ i. record {
+    let fresh : are_fresh l.output.book.settled spans ≡ true =
+    unsettled-fresh l.output.book.settled spans (ap (λ ns. list_all (λ s. not (has_number s.number ns)) spans) own.marks ∙ spans-unacked h origin r now own.buffer) in λ i. record {
       config = l.config;
       output = record {
         buffer = buffer.enters-live h origin r now own.buffer i;
-        book = (book.enters-live l.output.book (entered_as r origin spans) fresh
-            ∙ ap (λ ss. book_enters (live_book l.output.book) (entered_as r origin ss)) (buffer.spans-live h origin r now own.buffer)) i;
+        book = (follows-enters l.output.book (entered_as r origin spans) fresh
+            ∙ ap (λ ss. kept.live_enters (live_book l.output.book) (entered_as r origin ss)) (buffer.spans-live h origin r now own.buffer)) i;
         servers = live_servers l.output.setting l.output.servers;
       };
       workers = live_workers-same (output_history_enters l.output origin r now) l.output 0 l.sessions (λ w. worker_stays h origin r now w own.buffer) i;

@@ -10,7 +10,7 @@ use Rattle.fwd_failover.specs.History.{ServersSetting, ServersHistory}
 use Rattle.fwd_failover.specs.Live.{live_servers}
 use Rattle.fwd_failover.proofs.Kept.{live-lost}
 use Rattle.fwd_session.specs.History.{SessionHistory}
-use Rattle.fwd_model.specs.Books.{live_book}
+use Rattle.fwd_book.specs.Live.{live_book}
 use Rattle.fwd_model.specs.Outputs.{carry_of, carried_by, Return, returned, moment_if, gets_back, loses, output_history_ends, live_output, live_gets_back, live_loses}
 use Rattle.fwd_model.specs.History.{Lane, with_output, without_session}
 use Rattle.fwd_model.specs.Live.{live_lane, lane_ends}

@@ -11,7 +11,7 @@ use Rattle.fwd_chunks.proofs.Sane as sane
 use Rattle.fwd_failover.specs.Live.{live_servers}
 use Rattle.fwd_failover.proofs.Kept.{live-looked}
 use Rattle.fwd_failover.proofs.Orders.{choice_kept}
-use Rattle.fwd_model.specs.Books.{live_book}
+use Rattle.fwd_book.specs.Live.{live_book}
 use Rattle.fwd_model.specs.Outputs.{live_output, output_history_choice, output_history_looks, output_choice, output_looks}
 use Rattle.fwd_model.specs.History.{Lane, History, with_lane, with_buffer, with_output}
 use Rattle.fwd_model.specs.Live.{live_worker, live_lane, live, live_connection, known, with_live_lane, with_live_buffer, with_live_output}

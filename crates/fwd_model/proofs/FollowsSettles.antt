@@ -13,7 +13,9 @@ use Rattle.fwd_model.specs.Outputs.{OutputHistory, carried_by, output_history_se
 use Rattle.fwd_model.specs.History.{Lane, with_session, with_output}
 use Rattle.fwd_model.specs.Live.{live_workers, live_lane, lane_settles}
 use Rattle.fwd_model.proofs.Settling.{AreApart, IsHis, his, apart-without, carry_of-without_same, carry_of-without_other}
-use Rattle.fwd_model.proofs.FollowsBooks as book
+use Rattle.fwd_session.specs.Evidence.{evidence_of}
+use Rattle.fwd_book.proofs.Following.{follows-settles}
+use Rattle.fwd_model.proofs.Settled.{numbers_in, numbers_in-push}
 use Rattle.fwd_model.proofs.Reached.{IsSaneLane, IsSaneSession, slice_get-set}
 
 -- ---- the workers: one has nothing any more
@@ -61,27 +63,27 @@ pub count-same : (l : Lane) (w : ℕ) (c : Load) → IsSaneLane l → IsHis l.ou
 unfolding live_lane live_output
 count-same l w c own is = sym (buffer.count-live l.output.buffer c.number own.buffer is.carried)
 
-settles-drops : (o : OutputHistory) (w server : ℕ) (c : Load) → AreApart o.buffer.carried
+settles-drops : (o : OutputHistory) (w server : ℕ) (reply : Option (List ℕ)) (c : Load) → AreApart o.buffer.carried
     → IsHis o.buffer w c
-    → Drops o.buffer (output_history_settles o c.number server).buffer w
-settles-drops o w server c apart is = record {
+    → Drops o.buffer (output_history_settles o (evidence_of c server reply)).buffer w
+settles-drops o w server reply c apart is = record {
   none = ap (option_map (λ d. load_of o.buffer d.number)) (carry_of-without_same w (record { worker = w; number = c.number }) o.buffer.carried apart is.has);
   others = λ v differ. ap (option_map (λ d. load_of o.buffer d.number)) (carry_of-without_other w v (record { worker = w; number = c.number }) o.buffer.carried apart is.has differ);
 }
 
-pub settles-live : (l : Lane) (w : ℕ) (s : SessionHistory) (c : Load) (server : ℕ)
+pub settles-live : (l : Lane) (w : ℕ) (s : SessionHistory) (c : Load) (server : ℕ) (reply : Option (List ℕ))
     → slice_get l.sessions w ≡ Some (Some s) → IsSaneLane l → IsHis l.output.buffer w c
-    → live_lane (with_session w (unloads s) (with_output l (output_history_settles l.output c.number server)))
-    ≡ lane_settles (live_lane l) w (live_session s) c.number server
+    → live_lane (with_session w (unloads s) (with_output l (output_history_settles l.output (evidence_of c server reply))))
+    ≡ lane_settles (live_lane l) w (live_session s) (evidence_of c server reply)
 unfolding live_lane live_output
-settles-live l w s c server here own is = λ i. record {
+settles-live l w s c server reply here own is = λ i. record {
   config = l.config;
   output = record {
     buffer = buffer.settles-live l.output.buffer c.number own.buffer is.carried i;
-    book = book.settles-live l.output.book c.number i;
+    book = follows-settles l.output.book (evidence_of c server reply) i;
     servers = live-settled l.output.setting l.output.servers server i;
   };
-  workers = (one_empties l.output (output_history_settles l.output c.number server) w 0 w l.sessions (Some (unloads s)) (Some s) (settles-drops l.output w server c own.apart is) (sym (zero-add w)) here
+  workers = (one_empties l.output (output_history_settles l.output (evidence_of c server reply)) w 0 w l.sessions (Some (unloads s)) (Some s) (settles-drops l.output w server reply c own.apart is) (sym (zero-add w)) here
       ∙ ap (λ t. set (live_workers l.output 0 l.sessions) w (record { chunk = None; session = Some t })) (unloads-live s)) i;
 }
 
@@ -90,19 +92,19 @@ settles-live l w s c server here own is = λ i. record {
 some_same : {X : Type 0} {x y : X} → Some x ≡ Some y → x ≡ y
 some_same e = cc
 
-pub settles-sane : (l : Lane) (w : ℕ) (s : SessionHistory) (c : Load) (server : ℕ)
+pub settles-sane : (l : Lane) (w : ℕ) (s : SessionHistory) (c : Load) (server : ℕ) (reply : Option (List ℕ))
     → slice_get l.sessions w ≡ Some (Some s) → IsSaneLane l → IsHis l.output.buffer w c
-    → IsSaneLane (with_session w (unloads s) (with_output l (output_history_settles l.output c.number server)))
-settles-sane l w s c server here own is = record {
+    → IsSaneLane (with_session w (unloads s) (with_output l (output_history_settles l.output (evidence_of c server reply))))
+settles-sane l w s c server reply here own is = record {
   buffer = sane.settles-sane l.output.buffer c.number own.buffer is.carried;
   apart = apart-without c.number l.output.buffer.carried own.apart;
-  marks = ap (λ ns. ns ++ c.number ∷ []) own.marks;
+  marks = numbers_in-push l.output.book.settled (evidence_of c server reply) ∙ ap (λ ns. ns ++ c.number ∷ []) own.marks;
   waits = own.waits;
   sessions = λ j t h. still j t (slice_get-set l.sessions w j (Some (unloads s)) (Some t) h);
 }
   where
     after : BufferHistory
-    after = (output_history_settles l.output c.number server).buffer
+    after = (output_history_settles l.output (evidence_of c server reply)).buffer
 
     still : (j : ℕ) (t : SessionHistory) → ((w ≡ j) × (Some (unloads s) ≡ Some t)) ⊎ ((w ≢ j) × (slice_get l.sessions j ≡ Some (Some t))) → IsSaneSession j after t
     still j t (inl e) =
@@ -110,4 +112,4 @@ settles-sane l w s c server here own is = record {
         subst (λ x. IsSaneSession j after x) (some_same e.1) (record { own = unloads-sane s fits.own; carries = λ d f. absurd cc })
     still j t (inr e) =
         let fits = own.sessions j t e.1 in
-        record { own = fits.own; carries = λ d f. (settles-drops l.output w server c own.apart is).others j e.0 ∙ fits.carries d f }
+        record { own = fits.own; carries = λ d f. (settles-drops l.output w server reply c own.apart is).others j e.0 ∙ fits.carries d f }

@@ -12,7 +12,7 @@ use Rattle.fwd_chunks.proofs.Sane as sane
 use Rattle.fwd_model.specs.Layers.{Worker}
 use Rattle.fwd_failover.specs.Live.{live_servers}
 use Rattle.fwd_model.specs.Outputs.{OutputHistory, carry_of, carried_by, live_output}
-use Rattle.fwd_model.specs.Books.{live_book}
+use Rattle.fwd_book.specs.Live.{live_book}
 use Rattle.fwd_session.specs.History.{SessionHistory}
 use Rattle.fwd_session.specs.Live.{LiveSession, live_session}
 use Rattle.fwd_model.specs.History.{Lane, with_buffer, histories}

@@ -2,11 +2,11 @@ pub mod Agree
 pub mod Onward
 pub mod Places
 pub mod Settling
+pub mod Settled
 pub mod Reached
 pub mod FollowsSources
 pub mod FollowsOutputs
 pub mod FollowsSessions
-pub mod FollowsBooks
 pub mod FollowsTakes
 pub mod FollowsAdmits
 pub mod FollowsSettles

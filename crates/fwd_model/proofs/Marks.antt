@@ -24,7 +24,7 @@ use Rattle.fwd_model.specs.Layers.{Worker}
 use Rattle.fwd_model.specs.Step as steps
 use Rattle.fwd_model.specs.Step.{step}
 use Rattle.fwd_model.specs.Setups.{setup_of}
-use Rattle.fwd_model.specs.Books.{Untold, Told, Forgotten, Admission, entered_as, is_untold, is_of, is_owed, is_settled, is_due, becomes, tells, forgets}
+use Rattle.fwd_book.specs.History.{Untold, Told, Forgotten, Admission, entered_as, is_untold, is_of, is_owed_to, is_settled, is_due, becomes, leaves as moves, tells_due, forgets_of}
 use Rattle.fwd_model.specs.Outputs.{output_history_enters}
 use Rattle.fwd_session.specs.History.{SessionHistory}
 use Rattle.fwd_model.specs.declared.event.EndKind.{EndKind}
@@ -172,14 +172,19 @@ module _ (config : Config) (es : List Event) (id o : ℕ) (m : Marked config es 
   abbrev asked : Event
   asked = event.Collect id o
 
-  told_marks : (s : SourceHistory) (l : Lane) → source_at id (reached config es).connections ≡ Some s → s.shut ≡ false → slice_get (reached config es).lanes o ≡ Some l → AllMarked config (es ++ asked ∷ []) o (tells l.output.book id).admissions
-  unfolding tells
-  told_marks s l stands open_still here i b at told = by_source (mapped (λ a. becomes Told (is_due id l.output.book.settled a) a) (slice_get l.output.book.admissions i) b (sym (slice_get-map (λ a. becomes Told (is_due id l.output.book.settled a) a) l.output.book.admissions i) ∙ at))
+  -- the test of those that a collect tells
+  abbrev goes : Lane → Admission → Bool
+  goes l a = is_untold a.fate && is_due id l.output.book.settled a
+
+  told_marks : (s : SourceHistory) (l : Lane) → source_at id (reached config es).connections ≡ Some s → s.shut ≡ false → slice_get (reached config es).lanes o ≡ Some l → AllMarked config (es ++ asked ∷ []) o (tells_due l.output.book id).admissions
+  unfolding moves
+  told_marks s l stands open_still here i b at told = by_source (mapped (λ a. becomes Told (goes l a) a) (slice_get l.output.book.admissions i) b (sym (slice_get-map (λ a. becomes Told (goes l a) a) l.output.book.admissions i) ∙ at))
     where
-      by_due : (a : Admission) → slice_get l.output.book.admissions i ≡ Some a → (t : Bool) → is_due id l.output.book.settled a ≡ t → (becomes Told t a).fate ≡ Told → IsTold config (es ++ asked ∷ []) (becomes Told t a).request.origin.conn (becomes Told t a).request.origin.request o
+      by_due : (a : Admission) → slice_get l.output.book.admissions i ≡ Some a → (t : Bool) → goes l a ≡ t → (becomes Told t a).fate ≡ Told → IsTold config (es ++ asked ∷ []) (becomes Told t a).request.origin.conn (becomes Told t a).request.origin.request o
       by_due a old false e marked = still config es asked m o l l.output.book.admissions here refl i a old marked
       by_due a old true e marked =
-          let parts = and_parts (is_owed id a) (is_settled l.output.book.settled a.request) e in
+          let due_is = (and_parts (is_untold a.fate) (is_due id l.output.book.settled a) e).1 in
+          let parts = and_parts (is_owed_to id a) (is_settled l.output.book.settled a.request) due_is in
           let its = and_parts (is_untold a.fate) (is_of id a.request) parts.0 in
           let conn : id ≡ a.request.origin.conn = grind (arith, nat_tests, its.1) in
           subst (λ n. IsTold config (es ++ asked ∷ []) n a.request.origin.request o) conn (record {
@@ -189,38 +194,38 @@ module _ (config : Config) (es : List Event) (id o : ℕ) (m : Marked config es 
             later = [];
             split = refl;
             told = told_as (reached config es) o id s l stands here open_still;
-            among = listed id l.output.book.settled l.output.book.admissions i a old e;
+            among = listed id l.output.book.settled l.output.book.admissions i a old due_is;
           })
 
-      by_source : (a : Admission) × (slice_get l.output.book.admissions i ≡ Some a) × (becomes Told (is_due id l.output.book.settled a) a ≡ b) → IsTold config (es ++ asked ∷ []) b.request.origin.conn b.request.origin.request o
+      by_source : (a : Admission) × (slice_get l.output.book.admissions i ≡ Some a) × (becomes Told (goes l a) a ≡ b) → IsTold config (es ++ asked ∷ []) b.request.origin.conn b.request.origin.request o
       by_source x =
-          let marked : (becomes Told (is_due id l.output.book.settled x.0) x.0).fate ≡ Told = ap (λ (y : Admission). y.fate) x.2 ∙ told in
+          let marked : (becomes Told (goes l x.0) x.0).fate ≡ Told = ap (λ (y : Admission). y.fate) x.2 ∙ told in
           subst (λ (y : Admission). IsTold config (es ++ asked ∷ []) y.request.origin.conn y.request.origin.request o) x.2
-          (by_due x.0 x.1 (is_due id l.output.book.settled x.0) refl marked)
+          (by_due x.0 x.1 (goes l x.0) refl marked)
 
   collect_on : Onward (λ a k. Marked config (es ++ asked ∷ []) k) (steps.at_both histories (reached config es) id o (steps.collect histories id))
   collect_on =
       both_on histories (reached config es) id o _ (steps.collect histories id) (λ s l stands here. past _ (λ still_open. to (
-      put config es asked m o (with_book l (tells l.output.book id)) (with_connection id (source.appends s (histories.due l id).acks) (reached config es)) refl (told_marks s l stands still_open here))))
+      put config es asked m o (with_book l (tells_due l.output.book id)) (with_connection id (source.appends s (histories.due l id).acks) (reached config es)) refl (told_marks s l stands still_open here))))
 
 -- what is forgotten is not marked as told
 forget_on : (config : Config) (es : List Event) (e : Event) (id o : ℕ)
     → Marked config es (reached config es)
     → Onward (λ a k. Marked config (es ++ e ∷ []) k) (steps.at_lane histories (reached config es) o (λ l. steps.forget histories l id))
-unfolding forgets
-forget_on config es e id o m = lane_on histories (reached config es) o _ (λ l. steps.forget histories l id) (λ l here. to (put config es e m o (with_book l (forgets l.output.book id)) (reached config es) refl (forgotten l here)))
+unfolding moves
+forget_on config es e id o m = lane_on histories (reached config es) o _ (λ l. steps.forget histories l id) (λ l here. to (put config es e m o (with_book l (forgets_of l.output.book id)) (reached config es) refl (forgotten l here)))
   where
-    forgotten : (l : Lane) → slice_get (reached config es).lanes o ≡ Some l → AllMarked config (es ++ e ∷ []) o (forgets l.output.book id).admissions
-    forgotten l here i b at told = by_source (mapped (λ a. becomes Forgotten (is_owed id a) a) (slice_get l.output.book.admissions i) b (sym (slice_get-map (λ a. becomes Forgotten (is_owed id a) a) l.output.book.admissions i) ∙ at))
+    forgotten : (l : Lane) → slice_get (reached config es).lanes o ≡ Some l → AllMarked config (es ++ e ∷ []) o (forgets_of l.output.book id).admissions
+    forgotten l here i b at told = by_source (mapped (λ a. becomes Forgotten (is_untold a.fate && is_owed_to id a) a) (slice_get l.output.book.admissions i) b (sym (slice_get-map (λ a. becomes Forgotten (is_untold a.fate && is_owed_to id a) a) l.output.book.admissions i) ∙ at))
       where
         by_owed : (a : Admission) → slice_get l.output.book.admissions i ≡ Some a → (t : Bool) → (becomes Forgotten t a).fate ≡ Told → IsTold config (es ++ e ∷ []) (becomes Forgotten t a).request.origin.conn (becomes Forgotten t a).request.origin.request o
         by_owed a old false marked = still config es e m o l l.output.book.admissions here refl i a old marked
         by_owed a old true marked = absurd cc
 
-        by_source : (a : Admission) × (slice_get l.output.book.admissions i ≡ Some a) × (becomes Forgotten (is_owed id a) a ≡ b) → IsTold config (es ++ e ∷ []) b.request.origin.conn b.request.origin.request o
+        by_source : (a : Admission) × (slice_get l.output.book.admissions i ≡ Some a) × (becomes Forgotten (is_untold a.fate && is_owed_to id a) a ≡ b) → IsTold config (es ++ e ∷ []) b.request.origin.conn b.request.origin.request o
         by_source x =
             subst (λ (y : Admission). IsTold config (es ++ e ∷ []) y.request.origin.conn y.request.origin.request o) x.2
-            (by_owed x.0 x.1 (is_owed id x.0) (ap (λ (y : Admission). y.fate) x.2 ∙ told))
+            (by_owed x.0 x.1 (is_untold x.0.fate && is_owed_to id x.0) (ap (λ (y : Admission). y.fate) x.2 ∙ told))
 
 event_on : (config : Config) (es : List Event) (e : Event) → Marked config es (reached config es)
     → Onward (λ a k. Marked config (es ++ e ∷ []) k) (step histories (reached config es) e)

@@ -11,6 +11,7 @@ use Rattle.fwd_model.specs.Live.{last_id, is_above}
 use Rattle.fwd_model.proofs.Places.{Once}
 use Rattle.fwd_model.specs.Outputs.{carried_by}
 use Rattle.fwd_model.proofs.Settling.{AreApart}
+use Rattle.fwd_model.proofs.Settled.{numbers_in}
 
 abbrev pub AllSources : List Connection → Type 0
 AllSources [] = Unit {0}
@@ -26,7 +27,7 @@ pub record IsSaneSession (w : ℕ) (b : BufferHistory) (s : SessionHistory) : Ty
 pub record IsSaneLane (l : Lane) : Type 0 where
   pub buffer : IsSaneBuffer l.output.buffer
   pub apart : AreApart l.output.buffer.carried
-  pub marks : l.output.book.settled ≡ l.output.buffer.acknowledged
+  pub marks : numbers_in l.output.book.settled ≡ l.output.buffer.acknowledged
   pub waits : l.output.setting.retry_max < 2 ^ 64
   pub sessions : (w : ℕ) (s : SessionHistory) → slice_get l.sessions w ≡ Some (Some s) → IsSaneSession w l.output.buffer s
 

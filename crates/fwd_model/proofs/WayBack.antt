@@ -8,6 +8,7 @@ use Rattle.fwd_session.specs.declared.fault.SessionFault.{SessionFault}
 use Rattle.fwd_session.specs.declared.told.Heard.{Heard}
 use Rattle.fwd_session.specs.declared.told.Heard.TheVariants as heard_as
 use Rattle.fwd_session.specs.Said.{Said, said_in, out_of}
+use Rattle.fwd_session.specs.Evidence.{Evidence}
 use Rattle.fwd_session.specs.History.{SessionHistory, handshake_of, is_handed_on, is_done, awaited, says, newly_heard, listens, acked, told_by, told_of}
 use Rattle.fwd_session.proofs.Saying.{silent}
 use Rattle.fwd_chunks.specs.declared.span.Span.{Span}
@@ -20,7 +21,8 @@ use Rattle.fwd_model.specs.declared.fault.Refusal.TheVariants.{Closed, NoSuch, N
 use Rattle.fwd_model.specs.Outcome.{answer_of, state_of, within, found as sought, refuse_if, Outcome, Goes, of_heard, ◌>>=◌, ◌>>◌}
 use Rattle.fwd_model.specs.Step as steps
 use Rattle.fwd_model.specs.Step.{step}
-use Rattle.fwd_model.specs.Books.{Untold, Admission, is_untold, is_of, is_settled, is_due, numbers_of}
+use Rattle.fwd_book.specs.History.{Untold, Admission, evidence_of, is_untold, is_of, is_settled, is_due}
+use Rattle.fwd_model.specs.Books.{numbers_of}
 use Rattle.fwd_model.specs.History.{Lane, History, source_at, with_lane, with_session, with_connection, history_worker, histories}
 use Rattle.fwd_model.proofs.Places.{slice_get-set_same}
 
@@ -29,14 +31,14 @@ use Rattle.fwd_model.proofs.Places.{slice_get-set_same}
 -- what settling comes to at a worker whose session is this one
 settled_as : (h : History) (o w : ℕ) (l : Lane) (s : SessionHistory)
     → slice_get h.lanes o ≡ Some l → slice_get l.sessions w ≡ Some (Some s)
-    → answer_of (step histories h (event.Settle o w)) ≡ answer_of (sought (acked s) NotNow >>= (λ c. Goes (answer.Settled (count_at c.number l.output)) (histories.settles l w s c.number s.setup.server)))
+    → answer_of (step histories h (event.Settle o w)) ≡ answer_of (sought (acked s) NotNow >>= (λ c. Goes (answer.Settled (count_at c.number l.output)) (histories.settles l w s (histories.evidence s c))))
 settled_as h o w l s here at =
     ap (λ x. answer_of (sought x NoSuch >>= (λ m. within (λ n. with_lane o n h) (steps.settle histories m w)))) here
-    ∙ ap (λ x. answer_of (within (λ n. with_lane o n h) (sought (option_map (history_worker l w) x) NoSuch >>= (λ y. sought y.session NotNow >>= (λ u. sought (acked u) NotNow >>= (λ c. Goes (answer.Settled (count_at c.number l.output)) (histories.settles l w u c.number u.setup.server))))))) at
+    ∙ ap (λ x. answer_of (within (λ n. with_lane o n h) (sought (option_map (history_worker l w) x) NoSuch >>= (λ y. sought y.session NotNow >>= (λ u. sought (acked u) NotNow >>= (λ c. Goes (answer.Settled (count_at c.number l.output)) (histories.settles l w u (histories.evidence u c)))))))) at
     ∙ outside (acked s)
   where
-    outside : (k : Option Load) → answer_of (within (λ n. with_lane o n h) (sought k NotNow >>= (λ c. Goes (answer.Settled (count_at c.number l.output)) (histories.settles l w s c.number s.setup.server))))
-        ≡ answer_of (sought k NotNow >>= (λ c. Goes (answer.Settled (count_at c.number l.output)) (histories.settles l w s c.number s.setup.server)))
+    outside : (k : Option Load) → answer_of (within (λ n. with_lane o n h) (sought k NotNow >>= (λ c. Goes (answer.Settled (count_at c.number l.output)) (histories.settles l w s (histories.evidence s c)))))
+        ≡ answer_of (sought k NotNow >>= (λ c. Goes (answer.Settled (count_at c.number l.output)) (histories.settles l w s (histories.evidence s c))))
     outside None = refl
     outside (Some k) = refl
 
@@ -56,14 +58,14 @@ placed h o w l s x = within (λ n. with_lane o n h) (within (histories.puts_work
 -- what settling comes to after that
 settled_after : (h : History) (o w : ℕ) (l : Lane) (s u : SessionHistory)
     → slice_get h.lanes o ≡ Some l → slice_get l.sessions w ≡ Some (Some s)
-    → answer_of (step histories (with_lane o (with_session w u l) h) (event.Settle o w)) ≡ answer_of (sought (acked u) NotNow >>= (λ c. Goes (answer.Settled (count_at c.number l.output)) (histories.settles (with_session w u l) w u c.number u.setup.server)))
+    → answer_of (step histories (with_lane o (with_session w u l) h) (event.Settle o w)) ≡ answer_of (sought (acked u) NotNow >>= (λ c. Goes (answer.Settled (count_at c.number l.output)) (histories.settles (with_session w u l) w u (histories.evidence u c))))
 settled_after h o w l s u here at =
     settled_as (with_lane o (with_session w u l) h) o w (with_session w u l) u (slice_get-set_same h.lanes o (with_session w u l) l here) (slice_get-set_same l.sessions w (Some u) (Some s) at)
 
 -- a session without a reply settles nothing
 none_settled : (s : SessionHistory) (l m : Lane) (w : ℕ) → is_some s.reply ≡ false
-    → answer_of (sought (acked s) NotNow >>= (λ c. Goes (answer.Settled (count_at c.number l.output)) (histories.settles m w s c.number s.setup.server))) ≡ answer.Refused NotNow
-none_settled s l m w none = ap (λ b. answer_of (sought (cond b s.loaded None) NotNow >>= (λ c. Goes (answer.Settled (count_at c.number l.output)) (histories.settles m w s c.number s.setup.server)))) none
+    → answer_of (sought (acked s) NotNow >>= (λ c. Goes (answer.Settled (count_at c.number l.output)) (histories.settles m w s (histories.evidence s c)))) ≡ answer.Refused NotNow
+none_settled s l m w none = ap (λ b. answer_of (sought (cond b s.loaded None) NotNow >>= (λ c. Goes (answer.Settled (count_at c.number l.output)) (histories.settles m w s (histories.evidence s c))))) none
 
 pub early-nothing : (h : History) (o w : ℕ) (bytes : List ℕ) (l : Lane) (s : SessionHistory)
     → slice_get h.lanes o ≡ Some l → slice_get l.sessions w ≡ Some (Some s)
@@ -118,7 +120,7 @@ before_fault-stands h o w c bytes l s f here at up loaded accepted fault =
       ap answer_of heard,
       ap (λ x. answer_of (step histories (state_of h x) (event.Settle o w))) heard
           ∙ settled_after h o w l s u here at
-          ∙ (λ i. answer_of (sought (cond (has i) (loaded i) None) NotNow >>= (λ d. Goes (answer.Settled (count_at d.number l.output)) (histories.settles (with_session w u l) w u d.number u.setup.server)))),
+          ∙ (λ i. answer_of (sought (cond (has i) (loaded i) None) NotNow >>= (λ d. Goes (answer.Settled (count_at d.number l.output)) (histories.settles (with_session w u l) w u (histories.evidence u d))))),
     )
   where
     replied : (r before : Option (List ℕ)) → is_some r ≡ true → is_some (cond (is_some r) r before) ≡ true
@@ -127,7 +129,7 @@ before_fault-stands h o w c bytes l s f here at up loaded accepted fault =
 
 -- ---- a request without entries
 
-pub listed : (id : ℕ) (acked : List ℕ) (admissions : List Admission) (i : ℕ) (a : Admission)
+pub listed : (id : ℕ) (acked : List Evidence) (admissions : List Admission) (i : ℕ) (a : Admission)
     → slice_get admissions i ≡ Some a → is_due id acked a ≡ true
     → has_number a.request.origin.request (numbers_of (map (λ x. x.request) (filter (is_due id acked) admissions))) ≡ true
 listed id acked [] i a h d = absurd cc
@@ -165,7 +167,7 @@ without_entries-told h o i s l a stands still here at untold none =
     let id = a.request.origin.conn in
     let is_its : is_of id a.request ≡ true = grind (arith, nat_tests) in
     let settled = l.output.book.settled in
-    let all : is_settled settled a.request ≡ true = ap (list_all (λ (x : Span). has_number x.number settled)) none in
+    let all : is_settled settled a.request ≡ true = ap (list_all (λ (x : Span). is_some (evidence_of settled x.number))) none in
     let d : is_due id settled a ≡ true = λ j. (is_untold (untold j) && is_its j) && all j in (
       (histories.due l id).numbers,
       (histories.due l id).acks,

@@ -35,8 +35,9 @@ use Rattle.fwd_chunks.specs.declared.counts.Counts.{Counts}
 use Rattle.fwd_chunks.specs.History as buffer
 use Rattle.fwd_chunks.specs.History.{BufferHistory, load_of, looks}
 use Rattle.fwd_session.specs.History.{SessionHistory, unloads}
-use Rattle.fwd_model.specs.Books as book
-use Rattle.fwd_model.specs.Books.{BookHistory, telling}
+use Rattle.fwd_book.specs.History as book
+use Rattle.fwd_book.specs.History.{BookHistory}
+use Rattle.fwd_model.specs.Books.{telling}
 use Rattle.fwd_model.specs.Setups.{setting_of, servers_of}
 use Rattle.fwd_model.specs.Outputs.{
   OutputHistory,
@@ -187,9 +188,9 @@ lane_histories = record {
   flushes = λ l now kind. with_buffer l (buffer.flushes l.output.buffer now kind);
   enters = λ l origin q now. with_output l (output_history_enters l.output origin q now);
   due = λ l conn. telling (book.due l.output.book conn);
-  tells = λ l conn. with_book l (book.tells l.output.book conn);
-  owed = λ l conn. book.owed l.output.book conn;
-  forgets = λ l conn. with_book l (book.forgets l.output.book conn);
+  tells = λ l conn. with_book l (book.tells_due l.output.book conn);
+  owed = λ l conn. book.owed_of l.output.book conn;
+  forgets = λ l conn. with_book l (book.forgets_of l.output.book conn);
   worker_at = λ l w. option_map (history_worker l w) (slice_get l.sessions w);
   puts_worker = λ l w x. record l { sessions = slice_set l.sessions w x.session };
   chosen = λ l w now. output_history_choice l.output w now;
@@ -198,8 +199,8 @@ lane_histories = record {
       option_map (load_of l.output.buffer) (buffer.given (looks l.output.buffer now));
   takes = λ l w x now. with_buffer l (buffer.takes l.output.buffer w now);
   entries_at = λ l number. count_at number l.output;
-  settles = λ l w s number server.
-      with_session w (unloads s) (with_output l (output_history_settles l.output number server));
+  settles = λ l w s e.
+      with_session w (unloads s) (with_output l (output_history_settles l.output e));
   ends = λ l w back server now.
       without_session w (with_output l (output_history_ends l.output back server now));
 }

@@ -10,6 +10,7 @@ use Rattle.fwd_chunks.specs.declared.fault.AdmitError.{AdmitError}
 use Rattle.fwd_chunks.specs.declared.flush.FlushKind.{FlushKind}
 use Rattle.fwd_chunks.specs.History.{Load}
 use Rattle.fwd_session.specs.declared.told.Heard.{Heard}
+use Rattle.fwd_session.specs.Evidence.{Evidence}
 use Rattle.fwd_session.specs.History as session
 use Rattle.fwd_model.specs.declared.config.OutputConfig.{OutputConfig}
 use Rattle.fwd_model.specs.Books.{Telling}
@@ -28,6 +29,8 @@ pub record Sessions : Type 1 where
   -- the chunk that it is loaded with, and that chunk once its acknowledgement was accepted
   pub loaded : Session → Option Load
   pub acked : Session → Option Load
+  -- what is kept of that chunk: its entries, the server and the reply
+  pub evidence : Session → Load → Evidence
   -- whether its handshake is done, whether a chunk may be loaded, whether a fault or lateness put
   -- it down, whether it is late at a moment
   pub is_greeted : Session → Bool
@@ -74,9 +77,9 @@ pub record Lanes (Session : Type 0) : Type 1 where
   -- the chunk that has the least free number at a moment, and that the worker has it
   pub given : Lane → ℕ → Option Load
   pub takes : Lane → ℕ → Worker Session → ℕ → Lane
-  -- how many entries a number has, and that they are settled by a server, whose session is left so
+  -- how many entries a number has, and that they are settled, which leaves the worker's session so
   pub entries_at : Lane → ℕ → ℕ
-  pub settles : Lane → ℕ → Session → (number server : ℕ) → Lane
+  pub settles : Lane → ℕ → Session → Evidence → Lane
   -- a worker has no session and no chunk any more: what it gives back, the server that is lost,
   -- and the moment
   pub ends : Lane → ℕ → Option Return → (server : Option ℕ) → (now : ℕ) → Lane

@@ -1,6 +1,6 @@
 -- To be read in this order. Outcome, Layers and Step say what each event does, over any layers;
--- Books to History are the history of all that came, with fwd_chunks' of the entries; Delivered is
--- what is promised of it; Live is what of it still matters, which the code shows.
+-- Books to History are the history of all that came, with the histories of the crates below;
+-- Delivered is what is promised of it; Live is what of it still matters, which the code shows.
 pub mod Outcome
 pub mod Setups
 pub mod Books

@@ -6,12 +6,13 @@ use Rattle.fwd_source.specs.History.{Setup}
 use Rattle.fwd_source.specs.Live.{LiveSource, live_source, opened_source}
 use Rattle.fwd_source.specs.Layer.{live_sources}
 use Rattle.fwd_model.specs.declared.config.OutputConfig.{OutputConfig}
-use Rattle.fwd_model.specs.declared.cell.Entered.{Entered}
 use Rattle.fwd_chunks.specs.declared.counts.Counts.{Counts}
 use Rattle.fwd_chunks.specs.History.{Load}
 use Rattle.fwd_chunks.specs.Live as buffer
 use Rattle.fwd_chunks.specs.Live.{LiveBuffer, live_refusal, live_closing, live_flushes, live_given, live_load, live_looks, live_counts}
-use Rattle.fwd_model.specs.Books.{telling, book_due, book_tells, book_owed, book_forgets}
+use Rattle.fwd_session.specs.Evidence.{Evidence}
+use Rattle.fwd_book.specs.Live.{LiveBook, live_due, live_tells_due, live_owed_of, live_forgets_of}
+use Rattle.fwd_model.specs.Books.{telling}
 use Rattle.fwd_session.specs.History.{SessionHistory}
 use Rattle.fwd_session.specs.Live.{LiveSession, live_session, session_unloads}
 use Rattle.fwd_model.specs.Outputs.{OutputHistory, carried_by, Return, LiveOutput, live_output, output_enters, output_settles, output_choice, output_looks, output_ends, live_count_at}
@@ -135,7 +136,7 @@ abbrev pub with_live_buffer : LiveLane → LiveBuffer → LiveLane
 with_live_buffer l b = with_live_output l (record (l.output) { buffer = b })
 
 -- the output has another book
-abbrev pub with_live_book : LiveLane → List Entered → LiveLane
+abbrev pub with_live_book : LiveLane → LiveBook → LiveLane
 with_live_book l b = with_live_output l (record (l.output) { book = b })
 
 -- another worker stands in this place
@@ -154,10 +155,10 @@ lane_takes l w x now = record l {
   workers = slice_set l.workers w (record { chunk = lane_gives l now; session = x.session });
 }
 
--- the worker's chunk is settled by a server
-abbrev pub lane_settles : LiveLane → ℕ → LiveSession → (number server : ℕ) → LiveLane
-lane_settles l w s number server = record l {
-  output = output_settles l.output number server;
+-- the worker's chunk is settled
+abbrev pub lane_settles : LiveLane → ℕ → LiveSession → Evidence → LiveLane
+lane_settles l w s e = record l {
+  output = output_settles l.output e;
   workers = slice_set l.workers w (record { chunk = None; session = Some (session_unloads s) });
 }
 
@@ -184,10 +185,10 @@ live_lanes = record {
   closing = λ l now kind. length (live_closing l.output.buffer now kind);
   flushes = λ l now kind. with_live_buffer l (live_flushes l.output.buffer now kind);
   enters = λ l origin q now. with_live_output l (output_enters l.output origin q now);
-  due = λ l conn. telling (book_due l.output.book conn);
-  tells = λ l conn. with_live_book l (book_tells l.output.book conn);
-  owed = λ l conn. book_owed l.output.book conn;
-  forgets = λ l conn. with_live_book l (book_forgets l.output.book conn);
+  due = λ l conn. telling (live_due l.output.book conn);
+  tells = λ l conn. with_live_book l (live_tells_due l.output.book conn);
+  owed = λ l conn. live_owed_of l.output.book conn;
+  forgets = λ l conn. with_live_book l (live_forgets_of l.output.book conn);
   worker_at = λ l w. slice_get l.workers w;
   puts_worker = with_live_worker;
   chosen = λ l w now. output_choice l.output w now;

@@ -13,9 +13,11 @@ use Rattle.fwd_failover.specs.History as servers
 use Rattle.fwd_failover.specs.History.{ServersSetting, ServersHistory}
 use Rattle.fwd_failover.specs.Choices.{choice}
 use Rattle.fwd_failover.specs.Live.{LiveServers, live_servers, live_choice, live_looked, live_lost, live_settled}
-use Rattle.fwd_model.specs.declared.cell.Entered.{Entered}
-use Rattle.fwd_model.specs.Books as book
-use Rattle.fwd_model.specs.Books.{BookHistory, entered_as, live_book, no_admissions, book_enters, book_settles}
+use Rattle.fwd_session.specs.Evidence.{Evidence}
+use Rattle.fwd_book.specs.History as book
+use Rattle.fwd_book.specs.History.{BookSetting, BookHistory, entered_as}
+use Rattle.fwd_book.specs.Live as kept
+use Rattle.fwd_book.specs.Live.{LiveBook, live_book}
 
 -- what the worker has, if it has a chunk
 abbrev pub carry_of : ℕ → List Carry → Option Carry
@@ -40,6 +42,10 @@ moment_if lost now = if lost then Some now else None
 
 -- ---- the history
 
+-- the run and the output that a book's chunks name, as its buffer's do
+abbrev pub book_setting : BufferSetting → BookSetting
+book_setting setting = record { run = setting.run; output = setting.output }
+
 -- all that ever came to an output
 pub record OutputHistory : Type 0 where
   pub setting : ServersSetting
@@ -52,7 +58,7 @@ abbrev pub no_history : BufferSetting → ServersSetting → OutputHistory
 no_history setting servers_setting = record {
   setting = servers_setting;
   buffer = buffer.opening setting;
-  book = no_admissions;
+  book = book.opening (book_setting setting);
   servers = servers.opening;
 }
 
@@ -67,12 +73,12 @@ output_history_enters o origin q now = record o {
 abbrev pub count_at : ℕ → OutputHistory → ℕ
 count_at number o = length (contents number o.buffer.cells)
 
--- a chunk is settled, by a server
-abbrev pub output_history_settles : OutputHistory → (number server : ℕ) → OutputHistory
-output_history_settles o number server = record o {
-  buffer = buffer.settles o.buffer number;
-  book = book.settles o.book number;
-  servers = servers.settled o.setting o.servers server;
+-- a server acknowledged a chunk
+abbrev pub output_history_settles : OutputHistory → Evidence → OutputHistory
+output_history_settles o e = record o {
+  buffer = buffer.settles o.buffer e.number;
+  book = book.settles o.book e;
+  servers = servers.settled o.setting o.servers e.server;
 }
 
 -- the server that a worker tries at a moment: one that is usable at the greatest moment of all
@@ -108,11 +114,11 @@ output_history_ends o back server now = record o {
 
 -- ---- what still matters
 
--- the chunks that are not settled, the requests that are owed an answer, and what was lost at the
--- servers
+-- the chunks that are not settled, the requests that are owed an answer with what was acknowledged
+-- of their entries, and what was lost at the servers
 pub record LiveOutput : Type 0 where
   pub buffer : LiveBuffer
-  pub book : List Entered
+  pub book : LiveBook
   pub servers : LiveServers
 
 -- the live part of a history
@@ -127,7 +133,7 @@ live_output o = record {
 abbrev pub no_requests : BufferSetting → ServersSetting → LiveOutput
 no_requests setting servers_setting = record {
   buffer = live_opening setting;
-  book = [];
+  book = kept.live_opening (book_setting setting);
   servers = live_servers servers_setting servers.opening;
 }
 
@@ -135,19 +141,19 @@ no_requests setting servers_setting = record {
 abbrev pub output_enters : LiveOutput → Origin → Request → ℕ → LiveOutput
 output_enters o origin q now = record o {
   buffer = live_enters o.buffer q now;
-  book = book_enters o.book (entered_as q origin (live_spans o.buffer q now));
+  book = kept.live_enters o.book (entered_as q origin (live_spans o.buffer q now));
 }
 
 -- how many entries a number has
 abbrev pub live_count_at : ℕ → LiveOutput → ℕ
 live_count_at number o = held_in (filter (is_at number) o.buffer.chunks)
 
--- a chunk is settled, by a server
-abbrev pub output_settles : LiveOutput → (number server : ℕ) → LiveOutput
-output_settles o number server = record {
-  buffer = live_settles o.buffer number;
-  book = book_settles o.book number;
-  servers = live_settled o.servers server;
+-- a server acknowledged a chunk
+abbrev pub output_settles : LiveOutput → Evidence → LiveOutput
+output_settles o e = record {
+  buffer = live_settles o.buffer e.number;
+  book = kept.live_settles o.book e;
+  servers = live_settled o.servers e.server;
 }
 
 -- the server that a worker tries at a moment

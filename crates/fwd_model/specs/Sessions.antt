@@ -1,4 +1,5 @@
 -- Sessions as layers of a relay: all that they ever heard and sent, and what of it still matters.
+use Rattle.fwd_session.specs.Evidence.{evidence_of}
 use Rattle.fwd_session.specs.History as history
 use Rattle.fwd_session.specs.History.{SessionHistory, handshake_of, is_done}
 use Rattle.fwd_session.specs.Live as live
@@ -12,6 +13,7 @@ session_histories = record {
   server = λ s. s.setup.server;
   loaded = λ s. s.loaded;
   acked = history.acked;
+  evidence = λ s c. evidence_of c s.setup.server s.reply;
   is_greeted = λ s. is_done (handshake_of s);
   is_ready = history.is_ready;
   is_down = λ s. s.down;
@@ -34,6 +36,7 @@ live_sessions = record {
   server = λ s. s.setup.server;
   loaded = λ s. s.loaded;
   acked = live.live_acked;
+  evidence = λ s c. evidence_of c s.setup.server s.reply;
   is_greeted = λ s. is_done s.handshake;
   is_ready = live.live_is_ready;
   is_down = λ s. s.down;

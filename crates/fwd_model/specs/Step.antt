@@ -32,7 +32,7 @@ is_lost Kept = false
 is_lost Lost = true
 
 module _ (L : Layers) where
-  open L use {Relay, Source, Lane, Session, run, routes, security, is_fresh, source_at, lane_at, accepts, leaves, puts_source, puts_lane, is_shut, waiting, admitted, unsent, piece_answer, pong, hears, gives, appends, drains, shuts, config, refusal, closing, given, entries_at, due, owed, worker_at, enters, flushes, chosen, watches, takes, settles, ends, tells, forgets, puts_worker, begins, server, loaded, acked, is_greeted, is_ready, is_down, is_late, to_send, told, ping, loads, sends, listens, looks}
+  open L use {Relay, Source, Lane, Session, run, routes, security, is_fresh, source_at, lane_at, accepts, leaves, puts_source, puts_lane, is_shut, waiting, admitted, unsent, piece_answer, pong, hears, gives, appends, drains, shuts, config, refusal, closing, given, entries_at, due, owed, worker_at, enters, flushes, chosen, watches, takes, settles, ends, tells, forgets, puts_worker, begins, server, loaded, acked, evidence, is_greeted, is_ready, is_down, is_late, to_send, told, ping, loads, sends, listens, looks}
 
   -- at the connection of this id
   abbrev pub at_source : Relay → ℕ → (Source → Outcome Source) → Outcome Relay
@@ -195,7 +195,7 @@ module _ (L : Layers) where
     x ← found (worker_at l w) NoSuch
     s ← found x.session NotNow
     c ← found (acked s) NotNow
-    Goes (answer.Settled (entries_at l c.number)) (settles l w s c.number (server s))
+    Goes (answer.Settled (entries_at l c.number)) (settles l w s (evidence s c))
 
   -- the worker has neither a chunk nor a session
   abbrev pub is_idle : Worker Session → Bool

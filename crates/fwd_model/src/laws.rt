@@ -25,7 +25,7 @@ ghost use Rattle.fwd_model.specs.Outcome.{answer_of, state_of, within, is_refusa
 ghost use Rattle.fwd_model.specs.Step.{step, answers, after};
 ghost use Rattle.fwd_chunks.specs.Cells.{has_number};
 ghost use Rattle.fwd_model.specs.Outputs.{count_at};
-ghost use Rattle.fwd_model.specs.Books.{Untold, Told, Admission};
+ghost use Rattle.fwd_book.specs.History.{Untold, Told, Admission};
 ghost use Rattle.fwd_chunks.specs.History.{Load};
 ghost use Rattle.fwd_session.specs.declared.fault.SessionFault.{SessionFault};
 ghost use Rattle.fwd_session.specs.History.{SessionHistory, is_handed_on, says};

@@ -3,14 +3,12 @@
 #![tactic(auto)]
 
 mod answer;
-mod cell;
 mod config;
 mod event;
 mod fault;
 mod laws;
 
 pub use answer::Answer;
-pub use cell::Entered;
 pub use config::{Config, OutputConfig};
 pub use event::{EndKind, Event};
 pub use fault::Refusal;

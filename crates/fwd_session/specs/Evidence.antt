@@ -1,5 +1,5 @@
 -- What is kept of a chunk that a server acknowledged.
-use Rattle.std.specs.Prelude.{◌≡◌, ℕ, List, Option, Some, None, option_map}
+use Rattle.std.specs.Prelude.{◌≡◌, ℕ, List, [], Option, Some, None, option_map}
 use Rattle.fwd_modes.specs.Acks.{ack_name}
 use Rattle.fwd_modes.specs.Frames.{chunk_frame}
 use Rattle.fwd_chunks.specs.History.{Load}
@@ -11,6 +11,21 @@ pub record Evidence : Type 0 where
   pub entries : List (List ℕ)
   pub server : ℕ
   pub reply : List ℕ
+
+-- the bytes of a reply, if there is one
+abbrev pub bytes_of : Option (List ℕ) → List ℕ
+bytes_of None = []
+bytes_of (Some reply) = reply
+
+-- what is kept of a chunk that a server acknowledged by a reply
+abbrev pub evidence_of : Load → (server : ℕ) → (reply : Option (List ℕ)) → Evidence
+evidence_of c server reply = record {
+  number = c.number;
+  tag = c.tag;
+  entries = c.entries;
+  server = server;
+  reply = bytes_of reply;
+}
 
 -- it is of this chunk, which the reply names
 pub record IsEvidence (e : Evidence) (c : Load) : Type 0 where
