@@ -1,12 +1,16 @@
 -- Requests in slots by their origins.
-use Rattle.std.proofs.Common.{arith, ◌≡◌, ◌≤◌, length, ℕ, Bool, true, false, cond, Option, Some, None, List, [], ◌∷◌, ◌++◌, refl, sym, ap, ◌∙◌}
-use Rattle.std.specs.Prelude.{IfSome, not, filter, find, ◌||◌, ◌&&◌, ◌==◌, is_some, option_to_list}
+use Rattle.std.proofs.Common.{arith, ◌≡◌, ◌≤◌, length, ℕ, zero, suc, take, append_assoc, Bool, true, false, cond, Option, Some, None, List, [], ◌∷◌, ◌++◌, refl, sym, ap, ◌∙◌}
+use Rattle.std.specs.Prelude.{IfSome, not, map, filter, find, option_map, slice_get, ◌||◌, ◌&&◌, ◌==◌, is_some, option_to_list}
 use Rattle.std.specs.List.{list_any, AllByRecursion, IsDistinct}
 use Rattle.std.specs.Map.{keys_of, lookup, set_value, remove_entry}
 use Rattle.std.proofs.lemmas.Bool.{eqb-true}
 use Rattle.std.proofs.lemmas.Grind.{flat_map-append}
+use Rattle.std.specs.Option.{option_or}
+use Rattle.std.proofs.lemmas.List.{map-append}
+use Rattle.std.proofs.lemmas.List.Elements.{filter-append}
+use Rattle.std.proofs.lemmas.List.Folds.{find-append}
 use Rattle.fwd_source.specs.declared.origin.Origin.{Origin}
-use Rattle.fwd_book.specs.History.{Entered, is_origin, request_at}
+use Rattle.fwd_book.specs.History.{Entered, is_of, is_origin, request_at}
 use Rattle.fwd_book.specs.Slots.{Slot, key_of, is_key, present, AreKeyed}
 use Rattle.fwd_book.proofs.Facts.{none_some, neither_left, neither_right, both_left, both_right}
 
@@ -178,3 +182,96 @@ few_present (e ∷ slots) = by e.1 (few_present slots)
     by : (w : Option Entered) → length (present slots) ≤ length slots → length (option_to_list w ++ present slots) ≤ length (e ∷ slots)
     by None more = omega (arith, more)
     by (Some q) more = omega (arith, more)
+
+-- ---- a connection's requests, slot by slot
+
+present-more : (slots : List Slot) (i : ℕ)
+    → present (take (suc i) slots) ≡ present (take i slots) ++ present (option_to_list (slice_get slots i))
+present-more [] zero = refl
+present-more [] (suc i) = refl
+present-more (e ∷ slots) zero = refl
+present-more (e ∷ slots) (suc i) =
+    ap (λ qs. option_to_list e.1 ++ qs) (present-more slots i)
+    ∙ sym (append_assoc (option_to_list e.1) (present (take i slots)) (present (option_to_list (slice_get slots i))))
+
+pub origins-more : (conn : ℕ) (slots : List Slot) (i n : ℕ) → n ≡ suc i
+    → map (λ q. q.origin) (filter (is_of conn) (present (take n slots)))
+    ≡ map (λ q. q.origin) (filter (is_of conn) (present (take i slots))) ++ map (λ q. q.origin) (filter (is_of conn) (present (option_to_list (slice_get slots i))))
+origins-more conn slots i n next =
+    ap (λ k. map (λ q. q.origin) (filter (is_of conn) (present (take k slots)))) next
+    ∙ ap (λ qs. map (λ q. q.origin) (filter (is_of conn) qs)) (present-more slots i)
+    ∙ ap (map (λ q. q.origin)) (filter-append (is_of conn) (present (take i slots)) (present (option_to_list (slice_get slots i))))
+    ∙ map-append (λ (q : Entered). q.origin) (filter (is_of conn) (present (take i slots))) (filter (is_of conn) (present (option_to_list (slice_get slots i))))
+
+-- a first one: there is none before this slot, and this slot has one or none
+pub first-more : (conn : ℕ) (slots : List Slot) (i n : ℕ) (o : Option Origin) → n ≡ suc i
+    → find (is_of conn) (present (take i slots)) ≡ None
+    → option_to_list o ≡ map (λ q. q.origin) (filter (is_of conn) (present (option_to_list (slice_get slots i))))
+    → option_map (λ q. q.origin) (find (is_of conn) (present (take n slots))) ≡ o
+first-more conn slots i n o next none is =
+    ap (λ k. option_map (λ q. q.origin) (find (is_of conn) (present (take k slots)))) next
+    ∙ ap (λ qs. option_map (λ q. q.origin) (find (is_of conn) qs)) (present-more slots i)
+    ∙ ap (option_map (λ q. q.origin)) (find-append (is_of conn) (present (take i slots)) (present (option_to_list (slice_get slots i))) ∙ ap (λ k. option_or k (find (is_of conn) (present (option_to_list (slice_get slots i))))) none)
+    ∙ only (present (option_to_list (slice_get slots i))) o is
+  where
+    only : (qs : List Entered) (k : Option Origin) → option_to_list k ≡ map (λ q. q.origin) (filter (is_of conn) qs) → option_map (λ q. q.origin) (find (is_of conn) qs) ≡ k
+    only [] None e = refl
+    only [] (Some x) e = absurd cc
+    only (q ∷ qs) k e = by (is_of conn q) k e (only qs k)
+      where
+        by : (b : Bool) (k : Option Origin) → option_to_list k ≡ map (λ r. r.origin) (cond b (q ∷ filter (is_of conn) qs) (filter (is_of conn) qs)) → (option_to_list k ≡ map (λ r. r.origin) (filter (is_of conn) qs) → option_map (λ r. r.origin) (find (is_of conn) qs) ≡ k)
+            → option_map (λ r. r.origin) (cond b (Some q) (find (is_of conn) qs)) ≡ k
+        by true None f rest = absurd cc
+        by true (Some x) f rest = cc
+        by false k f rest = rest f
+
+pub first-all : (conn : ℕ) (slots : List Slot) (n : ℕ) → length slots ≤ n
+    → find (is_of conn) (present (take n slots)) ≡ find (is_of conn) (present slots)
+first-all conn slots n all = ap (λ xs. find (is_of conn) (present xs)) (whole slots n all)
+  where
+    whole : (xs : List Slot) (k : ℕ) → length xs ≤ k → take k xs ≡ xs
+    whole [] zero h = refl
+    whole [] (suc k) h = refl
+    whole (x ∷ xs) zero h = absurd (omega (arith, h))
+    whole (x ∷ xs) (suc k) h = ap (λ ys. x ∷ ys) (whole xs k (omega (arith, h)))
+
+-- and a first one stays the first among all
+pub first-stays : (conn : ℕ) (slots : List Slot) (n : ℕ) (q : Entered)
+    → find (is_of conn) (present (take n slots)) ≡ Some q → find (is_of conn) (present slots) ≡ Some q
+first-stays conn [] zero q e = e
+first-stays conn [] (suc n) q e = e
+first-stays conn (x ∷ slots) zero q e = absurd cc
+first-stays conn (x ∷ slots) (suc n) q e =
+    find-append (is_of conn) (option_to_list x.1) (present slots)
+    ∙ by (find (is_of conn) (option_to_list x.1)) (sym (find-append (is_of conn) (option_to_list x.1) (present (take n slots))) ∙ e) (first-stays conn slots n q)
+  where
+    by : (o : Option Entered) → option_or o (find (is_of conn) (present (take n slots))) ≡ Some q → (find (is_of conn) (present (take n slots)) ≡ Some q → find (is_of conn) (present slots) ≡ Some q)
+        → option_or o (find (is_of conn) (present slots)) ≡ Some q
+    by None f rest = rest f
+    by (Some y) f rest = f
+
+-- the first one of all slots is in this slot, where there is none before
+pub first-found : (conn : ℕ) (slots : List Slot) (i : ℕ) (o : Option Origin)
+    → find (is_of conn) (present (take i slots)) ≡ None
+    → option_to_list o ≡ map (λ q. q.origin) (filter (is_of conn) (present (option_to_list (slice_get slots i))))
+    → is_some o ≡ true
+    → o ≡ option_map (λ q. q.origin) (find (is_of conn) (present slots))
+first-found conn slots i o none is some = by (find (is_of conn) (present (take (suc i) slots))) refl (first-more conn slots i (suc i) o refl none is) some
+  where
+    by : (k : Option Entered) → find (is_of conn) (present (take (suc i) slots)) ≡ k → option_map (λ q. q.origin) (find (is_of conn) (present (take (suc i) slots))) ≡ o → is_some o ≡ true → o ≡ option_map (λ q. q.origin) (find (is_of conn) (present slots))
+    by None e f g = absurd (false_true (ap is_some (sym (ap (option_map (λ q. q.origin)) e) ∙ f) ∙ g))
+      where
+        false_true : false ≡ true → ⊥
+        false_true h = absurd cc
+    by (Some q) e f g = sym f ∙ ap (option_map (λ q. q.origin)) (e ∙ sym (first-stays conn slots (suc i) q e))
+
+-- there is none so far, where there is none before this slot and none in it
+pub first-none : (conn : ℕ) (slots : List Slot) (i n : ℕ) (o : Option Origin) → n ≡ suc i
+    → find (is_of conn) (present (take i slots)) ≡ None
+    → option_to_list o ≡ map (λ q. q.origin) (filter (is_of conn) (present (option_to_list (slice_get slots i))))
+    → is_some o ≡ false → find (is_of conn) (present (take n slots)) ≡ None
+first-none conn slots i n o next none is lacks = by (find (is_of conn) (present (take n slots))) (ap is_some (first-more conn slots i n o next none is) ∙ lacks)
+  where
+    by : (k : Option Entered) → is_some (option_map (λ (q : Entered). q.origin) k) ≡ false → k ≡ None
+    by None e = refl
+    by (Some q) e = absurd cc

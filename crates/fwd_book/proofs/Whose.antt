@@ -1,15 +1,17 @@
 -- A connection's requests, handed in by their origins.
-use Rattle.std.proofs.Common.{◌≡◌, ℕ, Bool, true, false, cond, zero, suc, Option, Some, None, List, [], ◌∷◌, ◌++◌, refl, sym, ap, ◌∙◌}
+use Rattle.std.proofs.Common.{◌≡◌, ℕ, length, Bool, true, false, cond, zero, suc, Option, Some, None, List, [], ◌∷◌, ◌++◌, refl, sym, ap, ◌∙◌}
 use Rattle.std.specs.Prelude.{map, filter, find, not, ◌&&◌, ◌||◌, ◌==◌, slice_get}
 use Rattle.std.specs.List.{list_any, flat_map}
 use Rattle.std.proofs.lemmas.Bool.{eq-eqb}
 use Rattle.fwd_source.specs.declared.origin.Origin.{Origin}
 use Rattle.fwd_session.specs.Evidence.{Evidence}
-use Rattle.fwd_book.specs.History.{Entered, is_origin, is_among, is_of, request_at, is_settled}
+use Rattle.fwd_book.specs.History.{Entered, is_origin, is_among, is_of, request_at, evidence_of, is_settled}
 use Rattle.fwd_book.specs.Receipts.{Receipt, receipt_of, receipt_if, once, receipts}
-use Rattle.fwd_book.specs.Live.{LiveBook, live_drops, live_leaves, live_due, evidence_for, AreApart}
-use Rattle.fwd_book.proofs.Facts.{apart, some_is, none_some, origin-is, true-or, or-true, turned, both_left, both_right}
-use Rattle.fwd_book.proofs.Following.{filter-alike, filter-at}
+use Rattle.fwd_book.specs.Live.{LiveBook, live_drops, live_leaves, live_forgets_of, live_owed_of, evidence_for, AreApart}
+use Rattle.fwd_book.proofs.Facts.{apart, some_is, none_some, origin-is, or-false}
+use Rattle.fwd_book.proofs.Found.{numbered}
+use Rattle.fwd_book.proofs.Following.{filter-alike, filter-at, left-found}
+use Rattle.fwd_book.proofs.Right.{found_stands}
 
 abbrev origins_of : List Entered → List Origin
 origins_of qs = map (λ q. q.origin) qs
@@ -139,3 +141,106 @@ receipts-passed b p alone =
     each (q ∷ qs) own =
         by (p q) (is_settled b.settled q) q (filter p qs) (map (receipt_of b.settled) (filter (λ r. p r && is_settled b.settled r) qs)) (each qs (λ i r at. own (suc i) r at)) (own 0 q refl) refl
         ∙ pushed (p q && is_settled b.settled q) q (filter (λ r. p r && is_settled b.settled r) qs)
+
+-- ---- a connection's requests leave one after the other
+
+-- the first of a connection's requests is found by its origin
+pub first-own : (conn : ℕ) (qs : List Entered) (q : Entered) → AreApart qs → find (is_of conn) qs ≡ Some q
+    → (request_at qs q.origin ≡ Some q) × (is_of conn q ≡ true)
+first-own conn qs q alone found =
+    let st = found_stands (is_of conn) qs q found in
+    (found-own qs alone st.place q st.here, st.passes)
+
+one-among : (o : Origin) (r : Entered) → is_among (o ∷ []) r.origin ≡ is_origin o r.origin
+one-among o r = or-false (is_origin o r.origin)
+
+-- the others of the connection are those that are left
+others-left : (conn : ℕ) (q : Entered) (qs : List Entered) → is_of conn q ≡ true
+    → filter (λ r. not (is_of conn r)) (filter (λ r. not (is_among (q.origin ∷ []) r.origin)) qs) ≡ filter (λ r. not (is_of conn r)) qs
+others-left conn q [] its = refl
+others-left conn q (r ∷ qs) its = by (is_origin q.origin r.origin) refl (others-left conn q qs its)
+  where
+    rest : List Entered
+    rest = filter (λ x. not (is_among (q.origin ∷ []) x.origin)) qs
+
+    others : List Entered
+    others = filter (λ x. not (is_of conn x)) qs
+
+    by : (b : Bool) → is_origin q.origin r.origin ≡ b → filter (λ x. not (is_of conn x)) rest ≡ others
+        → filter (λ x. not (is_of conn x)) (cond (not (is_among (q.origin ∷ []) r.origin)) (r ∷ rest) rest) ≡ cond (not (is_of conn r)) (r ∷ others) others
+    by true e more =
+        let its_too : is_of conn r ≡ true = ap (λ (o : Origin). o.conn == conn) (origin-is q.origin r.origin e) ∙ its in
+        ap (λ b. filter (λ x. not (is_of conn x)) (cond (not b) (r ∷ rest) rest)) (one-among q.origin r ∙ e) ∙ more ∙ ap (λ b. cond (not b) (r ∷ others) others) (sym its_too)
+    by false e more =
+        ap (λ b. filter (λ x. not (is_of conn x)) (cond (not b) (r ∷ rest) rest)) (one-among q.origin r ∙ e) ∙ ap (λ xs. cond (not (is_of conn r)) (r ∷ xs) xs) more
+
+-- one leaves
+one-less : (p : Entered → Bool) (qs : List Entered) (o : Origin) (q : Entered) → AreApart qs
+    → request_at qs o ≡ Some q → p q ≡ true
+    → length (filter p qs) ≡ suc (length (filter p (filter (λ r. not (is_among (o ∷ []) r.origin)) qs)))
+one-less p [] o q alone there its = absurd (none_some there)
+one-less p (r ∷ qs) o q alone there its = by (is_origin o r.origin) refl there (one-less p qs o q alone.1)
+  where
+    rest : List Entered
+    rest = filter (λ x. not (is_among (o ∷ []) x.origin)) qs
+
+    by : (b : Bool) → is_origin o r.origin ≡ b → cond b (Some r) (request_at qs o) ≡ Some q
+        → (request_at qs o ≡ Some q → p q ≡ true → length (filter p qs) ≡ suc (length (filter p rest)))
+        → length (cond (p r) (r ∷ filter p qs) (filter p qs)) ≡ suc (length (filter p (cond (not (is_among (o ∷ []) r.origin)) (r ∷ rest) rest)))
+    by true e f more =
+        let same : r ≡ q = some_is f in
+        let origin : r.origin ≡ o = origin-is o r.origin e in
+        let stay : filter (λ x. not (is_among (o ∷ []) x.origin)) qs ≡ filter (λ x. not false) qs =
+        filter-alike (λ x. not (is_among (o ∷ []) x.origin)) (λ x. not false) qs (λ i x at. ap not (one-among o x ∙ (none-there qs o (ap (request_at qs) (sym origin) ∙ alone.0) i x at).0)) in
+        ap (λ b. length (cond b (r ∷ filter p qs) (filter p qs))) (ap p same ∙ its)
+        ∙ ap (λ xs. suc (length (filter p xs))) (sym (stay ∙ all qs))
+        ∙ ap (λ b. suc (length (filter p (cond (not b) (r ∷ rest) rest)))) (sym (one-among o r ∙ e))
+      where
+        all : (xs : List Entered) → filter (λ x. not false) xs ≡ xs
+        all [] = refl
+        all (x ∷ xs) = ap (λ ys. x ∷ ys) (all xs)
+    by false e f more =
+        counted (p r) (more f its) ∙ ap (λ b. suc (length (filter p (cond (not b) (r ∷ rest) rest)))) (sym (one-among o r ∙ e))
+      where
+        counted : (b : Bool) → length (filter p qs) ≡ suc (length (filter p rest)) → length (cond b (r ∷ filter p qs) (filter p qs)) ≡ suc (length (cond b (r ∷ filter p rest) (filter p rest)))
+        counted true g = ap suc g
+        counted false g = g
+
+-- what leaves with the connection leaves alike once one of it left
+pub forgets-then : (b : LiveBook) (conn : ℕ) (q : Entered) → AreApart b.requests
+    → find (is_of conn) b.requests ≡ Some q
+    → live_forgets_of (live_leaves b (q.origin ∷ [])) conn ≡ live_forgets_of b conn
+forgets-then b conn q alone found =
+    let its = (first-own conn b.requests q alone found).1 in
+    let left : List Entered = filter (λ r. not (is_among (q.origin ∷ []) r.origin)) b.requests in
+    let others = others-left conn q b.requests its in
+    let same : evidence_for (filter (λ r. not (is_of conn r)) left) (evidence_for left b.settled) ≡ evidence_for (filter (λ r. not (is_of conn r)) left) b.settled =
+    sym (left-found (evidence_of b.settled) left (λ r. not (is_of conn r)) (numbered b.settled)) in
+    λ i. record { setting = b.setting; requests = others i; settled = (same ∙ ap (λ qs. evidence_for qs b.settled) others) i }
+
+pub owed-less : (b : LiveBook) (conn : ℕ) (q : Entered) → AreApart b.requests
+    → find (is_of conn) b.requests ≡ Some q
+    → live_owed_of b conn ≡ suc (live_owed_of (live_leaves b (q.origin ∷ [])) conn)
+owed-less b conn q alone found =
+    let own = first-own conn b.requests q alone found in
+    one-less (is_of conn) b.requests q.origin q alone own.0 own.1
+
+none-of : (p : Entered → Bool) (qs : List Entered) → find p qs ≡ None
+    → (filter p qs ≡ []) × (filter (λ q. not (p q)) qs ≡ qs)
+none-of p [] none = (refl, refl)
+none-of p (q ∷ qs) none = by (p q) none (none-of p qs)
+  where
+    by : (b : Bool) → cond b (Some q) (find p qs) ≡ None → (find p qs ≡ None → (filter p qs ≡ []) × (filter (λ r. not (p r)) qs ≡ qs))
+        → (cond b (q ∷ filter p qs) (filter p qs) ≡ []) × (cond (not b) (q ∷ filter (λ r. not (p r)) qs) (filter (λ r. not (p r)) qs) ≡ q ∷ qs)
+    by true e more = absurd (none_some (sym e))
+    by false e more = let rest = more e in (rest.0, ap (λ xs. q ∷ xs) rest.1)
+
+-- of a connection without requests nothing leaves
+pub none-forgotten : (b : LiveBook) (conn : ℕ) → evidence_for b.requests b.settled ≡ b.settled
+    → find (is_of conn) b.requests ≡ None
+    → (live_forgets_of b conn ≡ b) × (live_owed_of b conn ≡ 0)
+none-forgotten b conn kept none =
+    let all = none-of (is_of conn) b.requests none in (
+      λ i. record { setting = b.setting; requests = all.1 i; settled = (ap (λ qs. evidence_for qs b.settled) all.1 ∙ kept) i },
+      ap length all.0,
+    )

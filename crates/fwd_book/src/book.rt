@@ -18,6 +18,7 @@ ghost use Rattle.std.specs.Prelude.{
   length,
   map,
   is_some,
+  filter,
   slice_get,
   if◌then◌else◌,
   option_to_list,
@@ -31,7 +32,7 @@ ghost use Rattle.std.specs.Arc.{arc_value};
 ghost use Rattle.std.specs.List.{list_any};
 ghost use Rattle.fwd_modes.specs.Acks.{ack_name};
 ghost use Rattle.fwd_chunks.specs.Spans.{AreCutBy, AreRising};
-ghost use Rattle.fwd_book.specs.History.{Entered, entered_as, name_at, request_at, are_fresh};
+ghost use Rattle.fwd_book.specs.History.{is_of, Entered, entered_as, name_at, request_at, are_fresh};
 ghost use Rattle.fwd_book.specs.Receipts.{
   Receipt as AbstractReceipt,
   IsRightFor,
@@ -47,6 +48,8 @@ ghost use Rattle.fwd_book.specs.Live.{
   live_settles,
   live_leaves,
   live_owed,
+  live_owed_of,
+  live_forgets_of,
   live_is_settled,
   evidence_for,
 };
@@ -247,6 +250,32 @@ impl Book {
                 count += 1;
             }
         }
+        count
+    }
+
+    /// The origins of a connection's requests that are owed an answer, in the order in which they
+    /// were entered. The only error is want of memory.
+    pub fn untold(&self, alloc: Global, conn: u64) -> Result<Vec<Origin>, AllocError>
+        ensures { IfOk result (λ origins. origins.items
+            ≡ map (λ q. q.origin) (filter (is_of conn) self.now.live.requests)) }
+    {
+        self.requests.origins_of(alloc, conn)
+    }
+
+    /// The requests of a connection leave: nobody is to be told any more. Answers how many there
+    /// were.
+    pub fn forget_of(&mut self, conn: u64) -> usize
+        ensures count { result ≡ live_owed_of self.old.live conn }
+        ensures left { self.new ≡ record self.old { live = live_forgets_of self.old.live conn } }
+    {
+        self.requests.are_few();
+        let mut count = 0;
+        while let Some(origin) = self.requests.first_of(conn) {
+            self.is_sound();
+            self.leave(origin);
+            count += 1;
+        }
+        self.is_sound();
         count
     }
 

@@ -12,11 +12,18 @@ ghost use Rattle.std.specs.Prelude.{
   None,
   is_some,
   not,
+  map,
   filter,
+  find,
+  option_map,
+  option_to_list,
+  slice_get,
+  IfOk,
   option_copied,
   OnOk,
 };
-ghost use Rattle.fwd_book.specs.History.{is_origin, request_at};
+ghost use Rattle.fwd_book.specs.Slots.{present};
+ghost use Rattle.fwd_book.specs.History.{is_of, is_origin, request_at};
 
 use crate::kept::Kept;
 use fwd_source::Origin;
@@ -45,6 +52,48 @@ impl Model for Requests {
         × IsDistinct is_key (keys_of r.slots.entries) };
 }
 
+/// The origin of the request in a slot, if there is one and it is the connection's.
+fn origin_at(slots: &IndexMap<(u64, u64), Option<Kept>>, place: usize, conn: u64) -> Option<Origin>
+    ensures { option_to_list result ≡ map (λ q. q.origin)
+        (filter (is_of conn) (present (option_to_list (slice_get slots.now.entries place)))) }
+{
+    match slots.as_slice().get_index(place) {
+        Some((_, Some(kept))) if kept.origin().conn == conn => Some(kept.origin()),
+        _ => None,
+    }
+}
+
+/// The origins of a connection's requests.
+fn origins_in(
+    alloc: Global,
+    slots: &IndexMap<(u64, u64), Option<Kept>>,
+    conn: u64,
+) -> Result<Vec<Origin>, AllocError>
+    ensures { IfOk result (λ origins. origins.items
+        ≡ map (λ q. q.origin) (filter (is_of conn) (present slots.now.entries))) }
+{
+    let mut origins = Vec::new(alloc);
+    for place in 0..slots.len() {
+        if let Some(origin) = origin_at(slots, place, conn) {
+            origins.push(origin)?;
+        }
+    }
+    Ok(origins)
+}
+
+/// The origin of a connection's first request, if it has one.
+fn first_in(slots: &IndexMap<(u64, u64), Option<Kept>>, conn: u64) -> Option<Origin>
+    ensures { result ≡ option_map (λ q. q.origin) (find (is_of conn) (present slots.now.entries)) }
+{
+    for place in 0..slots.len() {
+        let origin = origin_at(slots, place, conn);
+        if origin.is_some() {
+            return origin;
+        }
+    }
+    None
+}
+
 impl Requests {
     /// No requests.
     pub(crate) fn new(alloc: Global) -> Self
@@ -60,6 +109,21 @@ impl Requests {
         ensures { option_copied result ≡ request_at self.now.items origin }
     {
         self.slots.get(&(origin.conn, origin.request))?.as_ref()
+    }
+
+    /// The origins of a connection's requests, in the order in which they were entered.
+    pub(crate) fn origins_of(&self, alloc: Global, conn: u64) -> Result<Vec<Origin>, AllocError>
+        ensures { IfOk result (λ origins. origins.items
+            ≡ map (λ q. q.origin) (filter (is_of conn) self.now.items)) }
+    {
+        origins_in(alloc, &self.slots, conn)
+    }
+
+    /// The origin of a connection's first request, if it has one.
+    pub(crate) fn first_of(&self, conn: u64) -> Option<Origin>
+        ensures { result ≡ option_map (λ q. q.origin) (find (is_of conn) self.now.items) }
+    {
+        first_in(&self.slots, conn)
     }
 
     /// Makes room for one more request. On an error nothing has changed.

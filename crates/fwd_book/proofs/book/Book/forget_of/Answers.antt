@@ -1,0 +1,95 @@
+use Rattle.std.proofs.Common.{arith, ◌≡◌, ◌<◌, ◌≤◌, ◌+◌, ◌^◌, ℕ, suc, zero, Bool, true, false, cond, Option, Some, None, List, [], ◌∷◌, length, refl, sym, ap, subst, ◌∙◌}
+use Rattle.std.specs.Prelude.{filter, find, option_map}
+use Rattle.fwd_source.specs.declared.origin.Origin.{Origin}
+use Rattle.fwd_book.specs.History.{Entered, is_of}
+use Rattle.fwd_book.specs.Live.{LiveBook, BookState, IsSound, live_leaves, live_forgets_of, live_owed_of}
+use Rattle.fwd_book.proofs.Whose.{forgets-then, owed-less, none-forgotten}
+use Rattle.fwd_book.proofs.book.Book.forget_of.Goals as goal
+
+pub loop-origin-init : goal.loop-origin-init
+loop-origin-init c = record { same = refl; left = refl; count = omega arith }
+
+-- the request whose origin is found
+first_is : (p : Entered → Bool) (qs : List Entered) (o : Origin)
+    → Some o ≡ option_map (λ q. q.origin) (find p qs) → (q : Entered) × (find p qs ≡ Some q) × (q.origin ≡ o)
+first_is p qs o e = by (find p qs) refl e
+  where
+    by : (k : Option Entered) → find p qs ≡ k → Some o ≡ option_map (λ (q : Entered). q.origin) k → (q : Entered) × (find p qs ≡ Some q) × (q.origin ≡ o)
+    by None f g = absurd cc
+    by (Some q) f g = (q, f, sym (same g))
+      where
+        same : {x y : Origin} → Some x ≡ Some y → x ≡ y
+        same h = cc
+
+none_is : (p : Entered → Bool) (qs : List Entered)
+    → None ≡ option_map (λ q. q.origin) (find p qs) → find p qs ≡ None
+none_is p qs e = by (find p qs) e
+  where
+    by : (k : Option Entered) → None ≡ option_map (λ (q : Entered). q.origin) k → k ≡ None
+    by None f = refl
+    by (Some q) f = absurd cc
+
+few_of : (p : Entered → Bool) (qs : List Entered) → length (filter p qs) ≤ length qs
+few_of p [] = omega arith
+few_of p (q ∷ qs) = by (p q) (few_of p qs)
+  where
+    by : (b : Bool) → length (filter p qs) ≤ length qs → length (cond b (q ∷ filter p qs) (filter p qs)) ≤ suc (length qs)
+    by true h = omega (arith, h)
+    by false h = omega (arith, h)
+
+-- one less is owed
+step : (b d : LiveBook) (conn : ℕ) (o : Origin) → Some o ≡ option_map (λ q. q.origin) (find (is_of conn) b.requests)
+    → IsSound b → d ≡ live_leaves b (o ∷ [])
+    → (live_forgets_of d conn ≡ live_forgets_of b conn) × (live_owed_of b conn ≡ suc (live_owed_of d conn))
+step b d conn o found sound is =
+    let q = first_is (is_of conn) b.requests o found in
+    let left : live_leaves b (q.0.origin ∷ []) ≡ d = ap (λ x. live_leaves b (x ∷ [])) q.2 ∙ sym is in (
+      ap (λ x. live_forgets_of x conn) (sym left) ∙ forgets-then b conn q.0 sound.apart q.1,
+      owed-less b conn q.0 sound.apart q.1 ∙ ap (λ x. suc (live_owed_of x conn)) left,
+    )
+
+pub overflow_add-count : goal.overflow_add-count
+overflow_add-count c =
+    let b : LiveBook = c.loop-origin.self.live in
+    let shown = ap (λ (s : BookState). s.live.requests) c.self-in-loop-origin.view_is in
+    let found = sym c.in-Some.is ∙ c.first_of.ensures ∙ ap (λ qs. option_map (λ q. q.origin) (find (is_of c.args.conn) qs)) shown in
+    let d = step b (c.leave.new.self).live c.args.conn c.in-Some.origin found c.is_sound.ensures.sound (ap (λ (s : BookState). s.live) c.leave.ensures.left) in
+    let few = few_of (is_of c.args.conn) c.args.self.now.live.requests in
+    let all = c.are_few.ensures in
+    omega (arith, c.loop-origin.invariant.count, d.1, few, all, ap (λ (s : BookState). length s.live.requests) c.self.view_is)
+
+pub loop-origin-smaller : goal.loop-origin-smaller
+loop-origin-smaller c =
+    let b : LiveBook = c.loop-origin.self.live in
+    let shown = ap (λ (s : BookState). s.live.requests) c.self-in-loop-origin.view_is in
+    let found = sym c.in-Some.is ∙ c.first_of.ensures ∙ ap (λ qs. option_map (λ q. q.origin) (find (is_of c.args.conn) qs)) shown in
+    let d = step b (c.leave.new.self).live c.args.conn c.in-Some.origin found c.is_sound.ensures.sound (ap (λ (s : BookState). s.live) c.leave.ensures.left) in
+    omega (arith, d.1)
+
+pub loop-origin-preserved : goal.loop-origin-preserved
+loop-origin-preserved c =
+    let b : LiveBook = c.loop-origin.self.live in
+    let shown = ap (λ (s : BookState). s.live.requests) c.self-in-loop-origin.view_is in
+    let found = sym c.in-Some.is ∙ c.first_of.ensures ∙ ap (λ qs. option_map (λ q. q.origin) (find (is_of c.args.conn) qs)) shown in
+    let d = step b (c.leave.new.self).live c.args.conn c.in-Some.origin found c.is_sound.ensures.sound (ap (λ (s : BookState). s.live) c.leave.ensures.left) in
+    record {
+      same = (λ i. record { live = (c.leave.new.self).live; ready = (ap (λ (s : BookState). s.ready) c.leave.ensures.left ∙ ap (λ (s : BookState). s.ready) c.loop-origin.invariant.same) i });
+      left = d.0 ∙ c.loop-origin.invariant.left;
+      count = omega (arith, c.loop-origin.invariant.count, d.1);
+    }
+
+pub returns-clause-count : goal.returns-clause-count
+returns-clause-count c =
+    let b : LiveBook = c.loop-origin.self.live in
+    let shown = ap (λ (s : BookState). s.live.requests) c.self-in-loop-origin.view_is in
+    let none = none_is (is_of c.args.conn) b.requests (sym c.in_default.is ∙ c.first_of.ensures ∙ ap (λ qs. option_map (λ q. q.origin) (find (is_of c.args.conn) qs)) shown) in
+    let all = (none-forgotten b c.args.conn c.is_sound-2.ensures.kept none).1 in
+    omega (arith, c.loop-origin.invariant.count, all)
+
+pub returns-clause-left : goal.returns-clause-left
+returns-clause-left c =
+    let b : LiveBook = c.loop-origin.self.live in
+    let shown = ap (λ (s : BookState). s.live.requests) c.self-in-loop-origin.view_is in
+    let none = none_is (is_of c.args.conn) b.requests (sym c.in_default.is ∙ c.first_of.ensures ∙ ap (λ qs. option_map (λ q. q.origin) (find (is_of c.args.conn) qs)) shown) in
+    let all = (none-forgotten b c.args.conn c.is_sound-2.ensures.kept none).0 in
+    c.loop-origin.invariant.same ∙ (λ i. record { live = (sym all ∙ c.loop-origin.invariant.left) i; ready = c.args.self.now.ready })
