@@ -637,7 +637,7 @@ found-below : (b : LiveBuffer) (n : ℕ) (c : Chunk) → IsSound b → find (is_
 found-below b n c sound e =
     omega (arith, found-all (λ d. d.number < live_next_number b) (is_at n) b.chunks c e sound.below, found-number n b.chunks c e)
 
-carried-found : (b : LiveBuffer) (n : ℕ) (load : Load) → live_carried b n ≡ Some load
+pub carried-found : (b : LiveBuffer) (n : ℕ) (load : Load) → live_carried b n ≡ Some load
     → AreInOrder b.chunks
     → (c : Chunk) × (find (is_at n) b.chunks ≡ Some c) × (live_load b c ≡ load)
 carried-found b n load e order = by (find (λ c. is_at n c && is_taken c.stage) b.chunks) refl e

@@ -8,11 +8,12 @@ use Rattle.fwd_model.specs.declared.fault.Refusal.TheVariants.{NoSuch, NotNow}
 use Rattle.fwd_model.specs.Outcome.{Outcome, Stays, Goes, found, refuse_if, chunk_answer, ◌>>=◌, ◌>>◌}
 use Rattle.fwd_model.specs.Layers.{Worker}
 use Rattle.fwd_model.specs.Outputs.{live_count_at, returned, output_choice, output_looks}
+use Rattle.fwd_session.specs.Evidence.{Evidence}
 use Rattle.fwd_session.specs.Live.{LiveSession, live_acked}
 use Rattle.fwd_model.specs.declared.event.EndKind.{EndKind}
 use Rattle.fwd_model.specs.Step.{choose, take, settle, end, is_idle, has_acked, has_loaded, lost_server}
 use Rattle.fwd_model.specs.Live.{LiveLane, lives, with_live_output, lane_gives, lane_takes, lane_settles, lane_ends}
-use Rattle.fwd_core.specs.Lanes.{acked_in, server_in}
+use Rattle.fwd_core.specs.Lanes.{acked_in, evidence_in}
 
 pub some_same : {X : Type 0} {x y : X} → Some x ≡ Some y → x ≡ y
 some_same e = cc
@@ -34,11 +35,11 @@ take_is l w now x here none =
 pub settle_is : (l : LiveLane) (w : ℕ) (x : Worker LiveSession) (s : LiveSession) (a : Load)
     → slice_get l.workers w ≡ Some x → x.session ≡ Some s → live_acked s ≡ Some a
     → settle lives l w
-    ≡ Goes (answer.Settled (live_count_at a.number l.output)) (lane_settles l w s a.number s.setup.server)
+    ≡ Goes (answer.Settled (live_count_at a.number l.output)) (lane_settles l w s (lives.evidence s a))
 settle_is l w x s a here session is =
-    ap (λ y. found y NoSuch >>= λ z. found z.session NotNow >>= λ t. found (live_acked t) NotNow >>= λ c. Goes (answer.Settled (live_count_at c.number l.output)) (lane_settles l w t c.number t.setup.server)) here
-    ∙ ap (λ y. found y NotNow >>= λ t. found (live_acked t) NotNow >>= λ c. Goes (answer.Settled (live_count_at c.number l.output)) (lane_settles l w t c.number t.setup.server)) session
-    ∙ ap (λ y. found y NotNow >>= λ c. Goes (answer.Settled (live_count_at c.number l.output)) (lane_settles l w s c.number s.setup.server)) is
+    ap (λ y. found y NoSuch >>= λ z. found z.session NotNow >>= λ t. found (live_acked t) NotNow >>= λ c. Goes (answer.Settled (live_count_at c.number l.output)) (lane_settles l w t (lives.evidence t c))) here
+    ∙ ap (λ y. found y NotNow >>= λ t. found (live_acked t) NotNow >>= λ c. Goes (answer.Settled (live_count_at c.number l.output)) (lane_settles l w t (lives.evidence t c))) session
+    ∙ ap (λ y. found y NotNow >>= λ c. Goes (answer.Settled (live_count_at c.number l.output)) (lane_settles l w s (lives.evidence s c))) is
 
 -- the session whose chunk is acknowledged
 pub record IsAckedBy (o : Option LiveSession) (a : Load) : Type 0 where
@@ -50,10 +51,10 @@ pub acked_by : (o : Option LiveSession) (a : Load) → acked_in o ≡ Some a →
 acked_by None a e = absurd cc
 acked_by (Some s) a e = record { session = s; is = refl; acks = e }
 
--- the server of the session that is there
-pub server_of : (o : Option LiveSession) (s : LiveSession) (k : ℕ) → o ≡ Some s
-    → server_in o ≡ Some k → s.setup.server ≡ k
-server_of o s k e f = some_same (sym (ap server_in e) ∙ f)
+-- what is kept of the chunk of the session that is there
+pub evidence_of_it : (o : Option LiveSession) (s : LiveSession) (c : Load) (k : Evidence) → o ≡ Some s
+    → evidence_in o c ≡ Some k → lives.evidence s c ≡ k
+evidence_of_it o s c k e f = some_same (sym (ap (λ x. evidence_in x c) e) ∙ f)
 
 -- a worker that is not idle, and has nothing to settle, ends
 pub end_is : (l : LiveLane) (w : ℕ) (kind : EndKind) (now : ℕ) (x : Worker LiveSession)
@@ -79,11 +80,11 @@ settle_not l w x here none =
     ap (λ y. found y NoSuch >>= λ z. settled z.session) here ∙ by x.session none
   where
     settled : Option LiveSession → Outcome LiveLane
-    settled o = found o NotNow >>= λ t. found (live_acked t) NotNow >>= λ c. Goes (answer.Settled (live_count_at c.number l.output)) (lane_settles l w t c.number t.setup.server)
+    settled o = found o NotNow >>= λ t. found (live_acked t) NotNow >>= λ c. Goes (answer.Settled (live_count_at c.number l.output)) (lane_settles l w t (lives.evidence t c))
 
     by : (o : Option LiveSession) → acked_in o ≡ None → settled o ≡ Stays (answer.Refused NotNow)
     by None e = refl
-    by (Some s) e = ap (λ y. found y NotNow >>= λ c. Goes (answer.Settled (live_count_at c.number l.output)) (lane_settles l w s c.number s.setup.server)) e
+    by (Some s) e = ap (λ y. found y NotNow >>= λ c. Goes (answer.Settled (live_count_at c.number l.output)) (lane_settles l w s (lives.evidence s c))) e
 
 -- a worker that is there is told a server
 pub choose_is : (l : LiveLane) (w now : ℕ) → w < length l.workers

@@ -2,6 +2,6 @@ pub mod PlaceLemmas
 pub mod RelayLemmas
 pub mod OpeningLemmas
 pub mod RunLemmas
-pub mod DueLemmas
+pub mod CouplingLemmas
 pub mod HeldLemmas
 pub mod LaneLemmas

@@ -7,7 +7,7 @@ use Rattle.fwd_chunks.specs.History.{BufferSetting}
 use Rattle.fwd_chunks.specs.Live.{live_buffer}
 use Rattle.fwd_model.specs.declared.config.Config.{Config}
 use Rattle.fwd_model.specs.declared.config.OutputConfig.{OutputConfig}
-use Rattle.fwd_model.specs.Books.{live_book}
+use Rattle.fwd_book.specs.Live.{live_book}
 use Rattle.fwd_model.specs.Outputs.{no_history, live_output, no_requests}
 use Rattle.fwd_failover.specs.History.{ServersSetting}
 use Rattle.fwd_model.specs.Setups.{setting_of, servers_of}

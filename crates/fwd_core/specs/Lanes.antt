@@ -6,6 +6,7 @@ use Rattle.fwd_chunks.specs.Live.{LiveBuffer, live_carried, IsCarried}
 use Rattle.fwd_model.specs.declared.config.OutputConfig.{OutputConfig}
 use Rattle.fwd_model.specs.Layers.{Worker}
 use Rattle.fwd_model.specs.Outputs.{no_requests}
+use Rattle.fwd_session.specs.Evidence.{Evidence, evidence_of}
 use Rattle.fwd_session.specs.Live.{LiveSession, live_acked, session_unloads}
 use Rattle.fwd_model.specs.Setups.{setting_of, servers_of}
 use Rattle.fwd_model.specs.Live.{LiveLane}
@@ -42,10 +43,10 @@ abbrev pub acked_in : Option LiveSession → Option Load
 acked_in None = None
 acked_in (Some s) = live_acked s
 
--- the server of a session, where there is one
-abbrev pub server_in : Option LiveSession → Option ℕ
-server_in None = None
-server_in (Some s) = Some s.setup.server
+-- what is kept of a session's chunk, where there is a session: the chunk, the server and its reply
+abbrev pub evidence_in : Option LiveSession → Load → Option Evidence
+evidence_in None c = None
+evidence_in (Some s) c = Some (evidence_of c s.setup.server s.reply)
 
 -- the worker once its chunk is settled
 abbrev pub worker_settled : Option LiveSession → Worker LiveSession

@@ -1,4 +1,4 @@
-pub mod Due
+pub mod Coupling
 pub mod Lanes
 pub mod Places
 pub mod Relays

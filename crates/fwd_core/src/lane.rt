@@ -27,8 +27,9 @@ ghost use Rattle.fwd_chunks.specs.History.{Load};
 ghost use Rattle.fwd_chunks.specs.Live.{live_refusal, live_counts};
 ghost use Rattle.fwd_model.specs.Outputs.{output_enters};
 ghost use Rattle.fwd_model.specs.Live.{with_live_output, with_live_book};
-ghost use Rattle.fwd_core.specs.Due.{due_among, is_due_among, origins_of};
-ghost use Rattle.fwd_model.specs.Books.{numbers_of, acks_of, book_forgets};
+ghost use Rattle.fwd_book.specs.History.{is_of, request_at};
+ghost use Rattle.fwd_book.specs.Receipts.{receipts};
+ghost use Rattle.fwd_book.specs.Live.{live_leaves};
 ghost use Rattle.fwd_core.specs.Lanes.{new_live_lane};
 ghost use Rattle.fwd_core.specs.Runs.{is_free};
 ghost use Rattle.fwd_model.specs.Outcome.{answer_of, state_of, chunk_answer};
@@ -49,8 +50,9 @@ ghost use Rattle.fwd_model.specs.Step.{
 ghost use Rattle.fwd_model.specs.Live.{lives};
 
 use crate::lane_config::LaneConfig;
-use crate::output::{Due, OutputState};
+use crate::output::OutputState;
 use crate::worker::{Leaving, Worker};
+use fwd_book::Receipt;
 use fwd_chunks::{AdmitError, Carried, Counts, FlushKind};
 use fwd_model::{Answer, EndKind, Origin, OutputConfig, OwnedSalt, Refusal};
 use fwd_modes::Batch;
@@ -139,6 +141,7 @@ impl Lane {
         batch: &Batch,
         now: u64,
     ) -> Result<(), AdmitError>
+        requires alone { request_at self.old.output.book.requests origin ≡ None }
         ensures refused { IfSome (live_refusal self.old.output.buffer batch.now now) (λ fault.
             result ≡ Err fault) }
         ensures ok { OnOk result (self.new
@@ -300,7 +303,7 @@ impl Lane {
         let Some((acked, carried)) = self.workers[place].acked() else {
             return Answer::Refused(Refusal::NotNow);
         };
-        let entries = self.output.settle(carried, acked.server());
+        let entries = self.output.settle(acked, carried);
         Answer::Settled { entries }
     }
 
@@ -327,30 +330,36 @@ impl Lane {
         Answer::Ended { number }
     }
 
-    /// The origins of a connection's requests that were not told yet, in the order in which they
+    /// Whether the request of an origin is owed an answer.
+    pub fn holds(&self, origin: Origin) -> bool
+        ensures { result ≡ is_some (request_at self.now.output.book.requests origin) }
+    {
+        self.output.holds(origin)
+    }
+
+    /// The origins of a connection's requests that are owed an answer, in the order in which they
     /// were entered.
     pub fn untold(&self, alloc: Global, conn: u64) -> Result<Vec<Origin>, AllocError>
-        ensures { IfOk result (λ origins. origins.items ≡ origins_of conn self.now.output.book) }
+        ensures { IfOk result (λ origins. origins.items
+            ≡ map (λ q. q.origin) (filter (is_of conn) self.now.output.book.requests)) }
     {
         self.output.untold(alloc, conn)
     }
 
-    /// What is to be told of the requests of these origins.
-    pub fn due(&self, alloc: Global, origins: &[Origin]) -> Result<Due, AllocError>
-        ensures numbers { IfOk result (λ due. due.requests ≡
-            numbers_of (due_among origins.now self.now.output.book)) }
-        ensures acks { IfOk result (λ due. due.out ≡
-            acks_of (due_among origins.now self.now.output.book)) }
+    /// The receipts of the requests of these origins whose entries are all acknowledged.
+    pub fn gather(&self, alloc: Global, origins: &[Origin]) -> Result<Vec<Receipt>, AllocError>
+        ensures { IfOk result (λ given. given.items
+            ≡ receipts self.now.output.book.settled self.now.output.book.requests origins.now) }
     {
-        self.output.due(alloc, origins)
+        self.output.gather(alloc, origins)
     }
 
-    /// What was due of these origins was told.
+    /// The requests of these origins were told: they leave.
     pub fn tell(&mut self, origins: &[Origin])
         ensures { self.new ≡ with_live_book self.old
-            (filter (λ q. not (is_due_among origins.now q)) self.old.output.book) }
+            (live_leaves self.old.output.book origins.now) }
     {
-        self.output.tell(origins);
+        self.output.forget(origins);
     }
 
     /// Nobody is to be told of a connection's requests any more.
@@ -358,17 +367,7 @@ impl Lane {
         ensures answer { result ≡ answer_of (forget lives self.old conn) }
         ensures next { self.new ≡ state_of self.old (forget lives self.old conn) }
     {
-        let requests = self.output.owed(conn);
-        forget_all(conn, &mut self.output);
+        let requests = self.output.forget_of(conn);
         Answer::Forgot { requests }
-    }
-}
-
-/// The requests of a connection leave, one after the other, so that no memory is taken.
-fn forget_all(conn: u64, output: &mut OutputState)
-    ensures { output.new ≡ record (output.old) { book = book_forgets output.old.book conn } }
-{
-    while let Some(origin) = output.first_untold(conn) {
-        output.forget(&[origin]);
     }
 }

@@ -1,12 +1,11 @@
 //! The relay that runs: `step` and `run` over packed state, proved to be the abstract relay.
 #![tactic(auto)]
 
-mod book;
 mod connection;
+mod due;
 mod lane;
 mod lane_config;
 mod output;
-mod pending;
 mod relay;
 mod worker;
 
@@ -15,5 +14,5 @@ pub use fwd_model::{
     Answer, Config, EndKind, Event, FlushKind, OutputConfig, OwnedSalt, Refusal, SessionFault,
     SourceFault,
 };
-pub use output::{Due, OutputState};
+pub use output::OutputState;
 pub use relay::Relay;

@@ -3,28 +3,26 @@
 
 ghost use Rattle.std.specs.Prelude.{
   ◌≡◌,
-  ◌∷◌,
-  [],
+  ◌≤◌,
+  ℕ,
   Err,
+  Some,
   None,
   IfErr,
   OnOk,
   OnErr,
   IfOk,
   IfSome,
-  IfNone,
-  IsOk,
   filter,
+  is_some,
   length,
-  not,
+  map,
   option_map,
+  slice_get,
   false,
   Contains,
-  ◌<◌,
-  ◌≤◌,
 };
-ghost use Rattle.fwd_core.specs.Due.{is_one, due_among, is_due_among, origins_of};
-ghost use Rattle.fwd_core.specs.Lanes.{IsHere};
+ghost use Rattle.std.specs.Arc.{arc_value};
 ghost use Rattle.fwd_chunks.specs.Live.{
   IsCarried,
   live_refusal,
@@ -37,7 +35,10 @@ ghost use Rattle.fwd_chunks.specs.Live.{
   live_counts,
 };
 ghost use Rattle.fwd_chunks.specs.Soundness.{IsSound};
-ghost use Rattle.fwd_model.specs.Books.{is_of, numbers_of, acks_of, book_owed, entered_as};
+ghost use Rattle.fwd_session.specs.Evidence.{IsEvidence};
+ghost use Rattle.fwd_book.specs.History.{Entered, is_of, request_at};
+ghost use Rattle.fwd_book.specs.Receipts.{Receipt as AbstractReceipt, IsRightFor, receipts};
+ghost use Rattle.fwd_book.specs.Live.{live_leaves, live_owed, live_owed_of, live_forgets_of};
 ghost use Rattle.fwd_model.specs.Outputs.{
   no_requests,
   output_enters,
@@ -48,26 +49,21 @@ ghost use Rattle.fwd_model.specs.Outputs.{
   returned,
   live_count_at,
 };
+ghost use Rattle.fwd_core.specs.Lanes.{IsHere};
 
-use crate::book::Book;
-use crate::pending::Pending;
+use fwd_book::{Book, Receipt};
 use fwd_chunks::{AdmitError, Buffer, BufferLimits, Carried, Counts, FlushKind};
 use fwd_failover::Servers;
 use fwd_model::Origin;
 use fwd_modes::Batch;
-use fwd_msgpack::{Bytes, Seq};
+use fwd_session::Acked;
 use std::alloc::{AllocError, Global};
 use std::marker::Model;
+use std::sync::Arc;
 
-/// What is to be told: the numbers of requests, and the bytes that are appended for them.
-#[derive(Drop)]
-pub struct Due {
-    pub requests: Seq<u64>,
-    pub out: Bytes,
-}
-
-/// The chunks of one output that are not yet settled, the requests that were not yet told, and what
-/// was lost at its servers.
+/// The chunks of one output that are not yet settled, the requests that are owed an answer with what
+/// was acknowledged of them, and what was lost at its servers. What is not acknowledged of a request
+/// stands in the chunks.
 #[derive(Drop)]
 pub struct OutputState {
     buffer: Buffer,
@@ -78,10 +74,14 @@ pub struct OutputState {
 impl Model for OutputState {
     ghost use Rattle.fwd_model.specs.Outputs.{LiveOutput};
 
+    ghost use Rattle.fwd_core.specs.Coupling.{IsCoupled};
+
     ghost Value = { LiveOutput };
 
     ghost view = { λ o.
-        record { buffer = o.buffer; book = o.book.requests; servers = o.servers } };
+        record { buffer = o.buffer; book = o.book.live; servers = o.servers } };
+
+    ghost invariant = { λ o. IsCoupled o.buffer o.book.live };
 }
 
 impl OutputState {
@@ -107,7 +107,7 @@ impl OutputState {
         let servers = Servers::new(alloc, standby, limits.retry_wait, limits.retry_max)?;
         Ok(OutputState {
             buffer: Buffer::new(alloc, limits, run, output),
-            book: Book::new(alloc),
+            book: Book::new(alloc, run, output),
             servers,
         })
     }
@@ -128,7 +128,8 @@ impl OutputState {
 
     /// Enters a request at a moment (milliseconds): each of its entries joins its tag's open
     /// chunk, or begins a new one. It is refused as `Full` where the bytes held would be more
-    /// than the total limit, and then as `NumbersSpent`. On an error nothing has changed.
+    /// than the total limit, and then as `NumbersSpent`. On an error nothing has changed. Its origin
+    /// is not that of a request that is owed an answer.
     pub fn admit(
         &mut self,
         alloc: Global,
@@ -136,6 +137,7 @@ impl OutputState {
         batch: &Batch,
         now: u64,
     ) -> Result<(), AdmitError>
+        requires alone { request_at self.old.book.requests origin ≡ None }
         ensures refused { IfSome (live_refusal self.old.buffer batch.now now) (λ fault.
             result ≡ Err fault) }
         ensures ok { OnOk result (self.new ≡ output_enters self.old origin batch.now now) }
@@ -143,15 +145,12 @@ impl OutputState {
             → IfErr result (λ error. error ≡ AdmitError.Memory) }
         ensures err { OnErr result (self.new ≡ self.old) }
     {
-        let Ok(mut pending) = Pending::new(alloc, origin, batch) else {
-            return Err(self.buffer.fault(batch).unwrap_or(AdmitError::Memory));
-        };
-        let Ok(()) = self.book.reserve() else {
+        self.buffer.is_sound();
+        let Ok(()) = self.book.prepare(alloc, batch) else {
             return Err(self.buffer.fault(batch).unwrap_or(AdmitError::Memory));
         };
         let spans = self.buffer.admit(alloc, origin, batch, now)?;
-        pending.enter(spans.into_vec());
-        self.book.enter(pending);
+        self.book.enter(origin, spans.into_vec());
         Ok(())
     }
 
@@ -193,20 +192,23 @@ impl OutputState {
         self.servers.choose(worker, moment)
     }
 
-    /// A server acknowledged the chunk: its entries are settled, and so are the runs of requests
-    /// in it, and the server's losses count no more. Answers how many entries those are. A chunk
-    /// that no worker has from this output is only spent.
-    pub fn settle(&mut self, carried: Carried, server: u16) -> usize
+    /// A server acknowledged the chunk: its entries are settled, what was acknowledged is kept for
+    /// the requests that have entries in it, and the server's losses count no more. Answers how many
+    /// entries those are. A chunk that no worker has from this output is only spent.
+    pub fn settle(&mut self, acked: Arc<Acked>, carried: Carried) -> usize
+        requires { IsEvidence (arc_value acked) carried }
         ensures here { IsCarried self.old.buffer carried
-            → self.new ≡ output_settles self.old carried.number server }
+            → self.new ≡ output_settles self.old (arc_value acked) }
         ensures count { IsCarried self.old.buffer carried
             → result ≡ live_count_at carried.number self.old }
         ensures elsewhere { ¬ (IsCarried self.old.buffer carried) → self.new ≡ self.old }
         ensures none { ¬ (IsCarried self.old.buffer carried) → result ≡ 0 }
     {
+        self.buffer.is_sound();
         let before = self.buffer.held().settled;
         if self.buffer.carries(&carried) {
-            self.book.settle(carried.number());
+            let server = acked.server();
+            self.book.settle(acked);
             self.servers.settled(server);
         }
         self.buffer.settle(carried);
@@ -232,59 +234,55 @@ impl OutputState {
         }
     }
 
-    /// The origins of a connection's requests that were not told yet, in the order in which they
-    /// were entered.
+    /// Whether the request of an origin is owed an answer.
+    pub fn holds(&self, origin: Origin) -> bool
+        ensures { result ≡ is_some (request_at self.now.book.requests origin) }
+    {
+        self.book.holds(origin)
+    }
+
+    /// The origins of a connection's requests that are owed an answer, in the order in which they
+    /// were entered. The only error is want of memory.
     pub fn untold(&self, alloc: Global, conn: u64) -> Result<Vec<Origin>, AllocError>
-        ensures { IfOk result (λ origins. origins.items ≡ origins_of conn self.now.book) }
+        ensures { IfOk result (λ origins. origins.items
+            ≡ map (λ q. q.origin) (filter (is_of conn) self.now.book.requests)) }
     {
         self.book.untold(alloc, conn)
     }
 
-    /// How many requests of a connection were not told yet.
-    pub fn owed(&self, conn: u64) -> usize
-        ensures { result ≡ book_owed self.now.book conn }
+    /// The receipts of the requests of these origins whose entries are all acknowledged, in the
+    /// order of the origins, each once; each is right for the request of its origin. The only
+    /// error is want of memory.
+    pub fn gather(&self, alloc: Global, origins: &[Origin]) -> Result<Vec<Receipt>, AllocError>
+        ensures given { IfOk result (λ given. given.items
+            ≡ receipts self.now.book.settled self.now.book.requests origins.now) }
+        ensures right { IfOk result (λ given. (i : ℕ) (r : AbstractReceipt) →
+            slice_get given.items i ≡ Some r →
+            (q : Entered) × (request_at self.now.book.requests r.origin ≡ Some q)
+            × IsRightFor self.now.book.setting q r) }
     {
-        self.book.owed(conn)
+        self.book.gather(alloc, origins)
     }
 
-    /// The origin of a request of a connection that was not told yet, if there is one.
-    pub fn first_untold(&self, conn: u64) -> Option<Origin>
-        ensures some { IfSome result (λ origin. (origin.conn ≡ conn)
-            × (0 < length (filter (is_one (origin ∷ [])) self.now.book))) }
-        ensures none { IfNone result (filter (is_of conn) self.now.book ≡ []) }
-    {
-        self.book.first(conn)
-    }
-
-    /// What is to be told of the requests of these origins: the numbers of those whose entries
-    /// are all settled, and the acknowledgements that they asked for.
-    pub fn due(&self, alloc: Global, origins: &[Origin]) -> Result<Due, AllocError>
-        ensures numbers { IfOk result (λ due. due.requests ≡
-            numbers_of (due_among origins.now self.now.book)) }
-        ensures acks { IfOk result (λ due. due.out ≡
-            acks_of (due_among origins.now self.now.book)) }
-    {
-        Ok(Due {
-            requests: self.book.due_numbers(alloc, origins)?,
-            out: self.book.due_acks(alloc, origins)?,
-        })
-    }
-
-    /// What was due of these origins was told: it leaves.
-    pub fn tell(&mut self, origins: &[Origin])
-        ensures { self.new ≡ record self.old {
-          book = filter (λ q. not (is_due_among origins.now q)) self.old.book;
+    /// The requests of these origins leave: they were told, or nobody is to be told any more.
+    /// Answers how many there were.
+    pub fn forget(&mut self, origins: &[Origin]) -> usize
+        ensures count { result ≡ live_owed self.old.book origins.now }
+        ensures left { self.new ≡ record self.old {
+          book = live_leaves self.old.book origins.now;
         } }
     {
-        self.book.tell(origins);
+        self.book.forget(origins)
     }
 
-    /// Nobody is to be told of the requests of these origins any more: they leave.
-    pub fn forget(&mut self, origins: &[Origin])
-        ensures { self.new ≡ record self.old {
-          book = filter (λ q. not (is_one origins.now q)) self.old.book;
+    /// The requests of a connection leave: nobody is to be told any more. Answers how many there
+    /// were.
+    pub fn forget_of(&mut self, conn: u64) -> usize
+        ensures count { result ≡ live_owed_of self.old.book conn }
+        ensures left { self.new ≡ record self.old {
+          book = live_forgets_of self.old.book conn;
         } }
     {
-        self.book.forget(origins);
+        self.book.forget_of(conn)
     }
 }

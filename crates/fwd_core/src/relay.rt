@@ -33,8 +33,9 @@ ghost use Rattle.fwd_model.specs.Step.{step, admit, collect, answers as answers_
 ghost use Rattle.fwd_model.specs.Live.{lives};
 
 use crate::connection::{Connection, drain, give, hear_piece, leave, place_of};
+use crate::due::Due;
 use crate::lane::Lane;
-use crate::output::Due;
+use fwd_book::origins_are_enough;
 use fwd_chunks::{AdmitError, Counts};
 use fwd_handshake::{Nonces, Security};
 use fwd_match::Routes;
@@ -626,7 +627,11 @@ fn admit_from(
         return Ok(Answer::Refused(Refusal::NotNow));
     }
     let entries = batch.len();
-    match lane.admit(alloc, Origin { conn, request }, batch, now) {
+    let origin = Origin { conn, request };
+    if lane.holds(origin) {
+        return Err(AllocError);
+    }
+    match lane.admit(alloc, origin, batch, now) {
         Ok(()) => {
             give(source);
             Ok(Answer::Admitted { request, entries })
@@ -670,8 +675,15 @@ fn tell_from(
     if source.is_shut() {
         return Ok(Answer::Refused(Refusal::Closed));
     }
-    let origins = lane.untold(alloc, conn)?;
-    let Due { requests, out } = lane.due(alloc, &origins)?;
+    lane.is_sound();
+    origins_are_enough();
+    let untold = lane.untold(alloc, conn)?;
+    let receipts = lane.gather(alloc, &untold)?;
+    let Due {
+        origins,
+        requests,
+        out,
+    } = Due::of(alloc, &receipts)?;
     match source.answer(out.as_slice()) {
         Ok(()) => {
             lane.tell(&origins);

@@ -304,8 +304,8 @@ impl Worker {
         ensures chunk { option_map (λ pair. pair.1) result ≡ acked_in self.old.session }
         ensures held { IfSome result (λ pair. self.old.chunk ≡ Some pair.1) }
         ensures evidence { IfSome result (λ pair. IsEvidence (arc_value pair.0) pair.1) }
-        ensures server { IfSome result (λ pair.
-            server_in self.old.session ≡ Some (arc_value pair.0).server) }
+        ensures kept { IfSome result (λ pair.
+            evidence_in self.old.session pair.1 ≡ Some (arc_value pair.0)) }
         ensures settled { IfSome result (λ pair. self.new ≡ worker_settled self.old.session) }
         ensures none { IfNone result (self.new ≡ self.old) }
     {

@@ -8,8 +8,8 @@ use Rattle.fwd_model.specs.Outcome.{answer_of, state_of}
 use Rattle.fwd_model.specs.Outputs.{output_settles}
 use Rattle.fwd_model.specs.Step as steps
 use Rattle.fwd_model.specs.Live.{LiveLane, lives}
-use Rattle.fwd_core.specs.Lanes.{AreHeld, acked_in, server_in, worker_settled}
-use Rattle.fwd_core.proofs.LaneLemmas.{settle_is, settle_not, acked_by, server_of}
+use Rattle.fwd_core.specs.Lanes.{AreHeld, acked_in, evidence_in, worker_settled}
+use Rattle.fwd_core.proofs.LaneLemmas.{settle_is, settle_not, acked_by, evidence_of_it}
 use Rattle.fwd_core.proofs.HeldLemmas.{held-settles}
 use Rattle.fwd_core.proofs.RelayLemmas.{worker_stays}
 use Rattle.fwd_core.proofs.lane.Lane.settle.Goals as goal
@@ -60,15 +60,15 @@ returns-clause-next c =
     let here : slice_get workers.items place ≡ Some x = slice_get_read workers.items c.len.result place x size c.if-place-len.false c.index_mut.ensures.value in
     let here_w : slice_get workers.items c.args.worker ≡ Some x = subst (λ n. slice_get workers.items n ≡ Some x) c.from-place.ensures here in
     let a = c.in-Some.carried in
-    let k = (arc_value c.in-Some.acked).server in
+    let k = arc_value {X = Acked} {Z = Global} c.in-Some.acked in
     let acks = sym c.acked.ensures.chunk ∙ ap (option_map (λ p. p.1)) c.in-Some.is in
     let s = acked_by x.session a acks in
     let has : x.chunk ≡ Some a = subst (λ o. IfSome o (λ p. x.chunk ≡ Some p.1)) c.in-Some.is c.acked.ensures.held in
-    let from : server_in x.session ≡ Some k = subst (λ o. IfSome o (λ p. server_in x.session ≡ Some (arc_value {X = Acked} {Z = Global} p.0).server)) c.in-Some.is c.acked.ensures.server in
+    let from : evidence_in x.session a ≡ Some k = subst (λ o. IfSome o (λ p. evidence_in x.session p.1 ≡ Some (arc_value {X = Acked} {Z = Global} p.0))) c.in-Some.is c.acked.ensures.kept in
     let rests : c.acked.new.self ≡ worker_settled x.session = subst (λ o. IfSome o (λ p. c.acked.new.self ≡ worker_settled x.session)) c.in-Some.is c.acked.ensures.settled in
     let left = rests ∙ ap worker_settled s.is in
     let carried = c.self.invariant.carried place x a here has in
-    let output = c.settle-entries.ensures.here carried ∙ ap (output_settles c.self.inside.output a.number) (c.server.ensures ∙ ap (λ a. a.server) c.deref.ensures ∙ sym (server_of x.session s.session k s.is from)) in
+    let output = c.settle-entries.ensures.here carried ∙ ap (output_settles c.self.inside.output) (sym (evidence_of_it x.session s.session a k s.is from)) in
     (λ i. record { config = c.self.inside.config; output = output i; workers = slice_set workers.items (c.from-place.ensures i) (left i) })
     ∙ sym (ap (state_of _) (settle_is _ c.args.worker x s.session a here_w s.is s.acks))
     ∙ ap (λ l. state_of l (steps.settle lives l c.args.worker)) c.self.view_is
