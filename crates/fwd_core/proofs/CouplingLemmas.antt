@@ -81,11 +81,10 @@ frees-setting : (b : LiveBuffer) (n : ℕ) (loss : Option ℕ)
 frees-setting b n None = refl
 frees-setting b n (Some now) = refl
 
-pub gets_back-coupled : (b : LiveBuffer) (k : LiveBook) (back : Option Return) (now : ℕ)
-    → IsCoupled b k → IsCoupled (live_gets_back b back now) k
-gets_back-coupled b k None now own = own
-gets_back-coupled b k (Some back) now own =
-    stays-coupled b (live_frees b back.number (moment_if back.lost now)) k (frees-setting b back.number (moment_if back.lost now)) (frees-stays b back.number (moment_if back.lost now)) own
+pub frees-coupled : (b : LiveBuffer) (k : LiveBook) (c : LiveBuffer) (n : ℕ) (loss : Option ℕ)
+    → ((c ≡ live_frees b n loss) ⊎ (c ≡ b)) → IsCoupled b k → IsCoupled c k
+frees-coupled b k c n loss (inl e) own = subst (λ x. IsCoupled x k) (sym e) (stays-coupled b (live_frees b n loss) k (frees-setting b n loss) (frees-stays b n loss) own)
+frees-coupled b k c n loss (inr e) own = subst (λ x. IsCoupled x k) (sym e) own
 
 -- ---- a request is entered
 

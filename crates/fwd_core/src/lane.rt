@@ -20,16 +20,16 @@ ghost use Rattle.std.specs.Prelude.{
   is_some,
   filter,
   length,
-  not,
+  map,
   option_map,
 };
 ghost use Rattle.fwd_chunks.specs.History.{Load};
 ghost use Rattle.fwd_chunks.specs.Live.{live_refusal, live_counts};
 ghost use Rattle.fwd_model.specs.Outputs.{output_enters};
 ghost use Rattle.fwd_model.specs.Live.{with_live_output, with_live_book};
-ghost use Rattle.fwd_book.specs.History.{is_of, request_at};
+ghost use Rattle.fwd_book.specs.History.{is_of};
 ghost use Rattle.fwd_book.specs.Receipts.{receipts};
-ghost use Rattle.fwd_book.specs.Live.{live_leaves};
+ghost use Rattle.fwd_book.specs.Live.{IsSound, live_leaves};
 ghost use Rattle.fwd_core.specs.Lanes.{new_live_lane};
 ghost use Rattle.fwd_core.specs.Runs.{is_free};
 ghost use Rattle.fwd_model.specs.Outcome.{answer_of, state_of, chunk_answer};
@@ -141,7 +141,6 @@ impl Lane {
         batch: &Batch,
         now: u64,
     ) -> Result<(), AdmitError>
-        requires alone { request_at self.old.output.book.requests origin ≡ None }
         ensures refused { IfSome (live_refusal self.old.output.buffer batch.now now) (λ fault.
             result ≡ Err fault) }
         ensures ok { OnOk result (self.new
@@ -330,11 +329,11 @@ impl Lane {
         Answer::Ended { number }
     }
 
-    /// Whether the request of an origin is owed an answer.
-    pub fn holds(&self, origin: Origin) -> bool
-        ensures { result ≡ is_some (request_at self.now.output.book.requests origin) }
+    /// What is true of every output's requests.
+    pub fn is_sound(&self)
+        ensures { IsSound self.now.output.book }
     {
-        self.output.holds(origin)
+        self.output.is_sound();
     }
 
     /// The origins of a connection's requests that are owed an answer, in the order in which they

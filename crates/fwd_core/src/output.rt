@@ -4,6 +4,7 @@
 ghost use Rattle.std.specs.Prelude.{
   ◌≡◌,
   ◌≤◌,
+  ◌⊎◌,
   ℕ,
   Err,
   Some,
@@ -32,13 +33,14 @@ ghost use Rattle.fwd_chunks.specs.Live.{
   live_load,
   live_looks,
   live_takes,
+  live_frees,
   live_counts,
 };
 ghost use Rattle.fwd_chunks.specs.Soundness.{IsSound};
 ghost use Rattle.fwd_session.specs.Evidence.{IsEvidence};
 ghost use Rattle.fwd_book.specs.History.{Entered, is_of, request_at};
 ghost use Rattle.fwd_book.specs.Receipts.{Receipt as AbstractReceipt, IsRightFor, receipts};
-ghost use Rattle.fwd_book.specs.Live.{live_leaves, live_owed, live_owed_of, live_forgets_of};
+ghost use Rattle.fwd_book.specs.Live.{IsSound as IsSoundBook, live_leaves, live_owed, live_owed_of, live_forgets_of};
 ghost use Rattle.fwd_model.specs.Outputs.{
   no_requests,
   output_enters,
@@ -73,7 +75,6 @@ pub struct OutputState {
 
 impl Model for OutputState {
     ghost use Rattle.fwd_model.specs.Outputs.{LiveOutput};
-
     ghost use Rattle.fwd_core.specs.Coupling.{IsCoupled};
 
     ghost Value = { LiveOutput };
@@ -82,6 +83,22 @@ impl Model for OutputState {
         record { buffer = o.buffer; book = o.book.live; servers = o.servers } };
 
     ghost invariant = { λ o. IsCoupled o.buffer o.book.live };
+}
+
+/// A chunk is put back, with a loss where one is handed in. One that no worker has from this buffer
+/// is only spent.
+fn put_back(buffer: &mut Buffer, carried: Carried, loss: Option<u64>)
+    ensures here { IsCarried buffer.old carried
+        → buffer.new ≡ live_frees buffer.old carried.number loss }
+    ensures elsewhere { ¬ (IsCarried buffer.old carried) → buffer.new ≡ buffer.old }
+    ensures either { (buffer.new ≡ live_frees buffer.old carried.number loss)
+        ⊎ (buffer.new ≡ buffer.old) }
+{
+    if buffer.carries(&carried) {
+        buffer.free(carried, loss);
+    } else {
+        carried.spend();
+    }
 }
 
 impl OutputState {
@@ -112,11 +129,13 @@ impl OutputState {
         })
     }
 
-    /// What is true of every output's chunks.
+    /// What is true of every output's chunks, and of its requests.
     pub fn is_sound(&self)
-        ensures { IsSound self.now.buffer }
+        ensures chunks { IsSound self.now.buffer }
+        ensures requests { IsSoundBook self.now.book }
     {
         self.buffer.is_sound();
+        self.book.is_sound();
     }
 
     /// The entries accepted, settled and held, with the bytes held and the chunks that hold them.
@@ -128,8 +147,9 @@ impl OutputState {
 
     /// Enters a request at a moment (milliseconds): each of its entries joins its tag's open
     /// chunk, or begins a new one. It is refused as `Full` where the bytes held would be more
-    /// than the total limit, and then as `NumbersSpent`. On an error nothing has changed. Its origin
-    /// is not that of a request that is owed an answer.
+    /// than the total limit, and then as `NumbersSpent`. On an error nothing has changed. No relay
+    /// hands in an origin whose request is still owed an answer, since a connection's requests are
+    /// numbered upward: there is no room for a second one.
     pub fn admit(
         &mut self,
         alloc: Global,
@@ -137,7 +157,6 @@ impl OutputState {
         batch: &Batch,
         now: u64,
     ) -> Result<(), AdmitError>
-        requires alone { request_at self.old.book.requests origin ≡ None }
         ensures refused { IfSome (live_refusal self.old.buffer batch.now now) (λ fault.
             result ≡ Err fault) }
         ensures ok { OnOk result (self.new ≡ output_enters self.old origin batch.now now) }
@@ -146,6 +165,9 @@ impl OutputState {
         ensures err { OnErr result (self.new ≡ self.old) }
     {
         self.buffer.is_sound();
+        if self.book.holds(origin) {
+            return Err(self.buffer.fault(batch).unwrap_or(AdmitError::Memory));
+        }
         let Ok(()) = self.book.prepare(alloc, batch) else {
             return Err(self.buffer.fault(batch).unwrap_or(AdmitError::Memory));
         };
@@ -226,8 +248,11 @@ impl OutputState {
     {
         let moment = self.buffer.look(now);
         if let Some(carried) = chunk {
-            self.buffer
-                .free(carried, if lost { Some(now) } else { None });
+            put_back(
+                &mut self.buffer,
+                carried,
+                if lost { Some(now) } else { None },
+            );
         }
         if let Some(server) = server {
             self.servers.failed(server, moment);

@@ -627,11 +627,7 @@ fn admit_from(
         return Ok(Answer::Refused(Refusal::NotNow));
     }
     let entries = batch.len();
-    let origin = Origin { conn, request };
-    if lane.holds(origin) {
-        return Err(AllocError);
-    }
-    match lane.admit(alloc, origin, batch, now) {
+    match lane.admit(alloc, Origin { conn, request }, batch, now) {
         Ok(()) => {
             give(source);
             Ok(Answer::Admitted { request, entries })

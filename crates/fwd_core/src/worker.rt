@@ -37,7 +37,7 @@ ghost use Rattle.fwd_model.specs.Step.{
   lost_server,
 };
 ghost use Rattle.fwd_model.specs.Live.{lives};
-ghost use Rattle.fwd_core.specs.Lanes.{no_work, first_there, acked_in, server_in, worker_settled};
+ghost use Rattle.fwd_core.specs.Lanes.{no_work, first_there, acked_in, evidence_in, worker_settled};
 ghost use Rattle.fwd_core.specs.Runs.{is_free};
 
 use crate::lane_config::LaneConfig;

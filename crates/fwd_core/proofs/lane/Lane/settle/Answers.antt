@@ -2,7 +2,9 @@ use Rattle.std.proofs.lemmas.Option.{slice_get_read}
 use Rattle.std.proofs.Common.{Global, ◌≡◌, length, sym, ap, subst, ◌∙◌, Some, None}
 use Rattle.std.specs.Prelude.{slice_get, slice_set, option_map, IfSome, IfNone}
 use Rattle.std.specs.Arc.{arc_value}
+use Rattle.fwd_chunks.specs.Live.{live_settles}
 use Rattle.fwd_session.specs.declared.acked.Acked.{Acked}
+use Rattle.fwd_session.specs.Evidence.{IsEvidence}
 use Rattle.fwd_model.specs.declared.answer.Answer.TheVariants as answer
 use Rattle.fwd_model.specs.Outcome.{answer_of, state_of}
 use Rattle.fwd_model.specs.Outputs.{output_settles}
@@ -29,7 +31,9 @@ invariant_of-self-2 c =
     let rests : c.acked.new.self ≡ worker_settled x.session = subst (λ o. IfSome o (λ p. c.acked.new.self ≡ worker_settled x.session)) c.in-Some.is c.acked.ensures.settled in
     let left = rests ∙ ap worker_settled s.is in
     let carried = c.self.invariant.carried place x a here has in
-    subst (λ d. AreHeld d (slice_set workers.items place c.acked.new.self)) (sym (ap (λ o. o.buffer) (c.settle-entries.ensures.here carried)))
+    let k = arc_value {X = Acked} {Z = Global} c.in-Some.acked in
+    let ev : IsEvidence k a = subst (λ o. IfSome o (λ p. IsEvidence (arc_value {X = Acked} {Z = Global} p.0) p.1)) c.in-Some.is c.acked.ensures.evidence in
+    subst (λ d. AreHeld d (slice_set workers.items place c.acked.new.self)) (sym (ap (λ o. o.buffer) (c.settle-entries.ensures.here carried) ∙ ap (live_settles c.self.inside.output.buffer) ev.number))
     (held-settles c.self.inside.output.buffer workers.items place x c.acked.new.self a c.self.invariant here has (ap (λ z. z.chunk) left))
 
 pub returns-clause-answer : goal.returns-clause-answer

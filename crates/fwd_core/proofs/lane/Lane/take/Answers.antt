@@ -23,7 +23,7 @@ invariant_of-self-2 c =
     let b = c.self.inside.output.buffer in
     let gets = ap (λ z. z.chunk) c.set_chunk.ensures ∙ c.in_ok-found.ensures.given in
     subst (λ d. AreHeld d (slice_set workers.items place c.set_chunk.new.self)) (sym (ap (λ o. o.buffer) c.in_ok-found.ensures.ok))
-    (held-takes b workers.items place c.args.worker c.args.now x c.set_chunk.new.self c.is_sound.ensures c.self.invariant here gets)
+    (held-takes b workers.items place c.args.worker c.args.now x c.set_chunk.new.self c.is_sound.ensures.chunks c.self.invariant here gets)
 
 pub returns-clause-answer : goal.returns-clause-answer
 returns-clause-answer c =
