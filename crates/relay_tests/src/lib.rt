@@ -20,6 +20,4 @@ mod requests;
 #[cfg(test)]
 mod settings;
 #[cfg(test)]
-mod settings_text;
-#[cfg(test)]
 mod values;
