@@ -18,6 +18,4 @@ mod replays;
 #[cfg(test)]
 mod requests;
 #[cfg(test)]
-mod settings;
-#[cfg(test)]
 mod values;
