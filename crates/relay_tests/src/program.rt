@@ -28,9 +28,9 @@ struct Outcome {
 }
 
 impl Outcome {
-    fn is(&self, code: u8, out: &str, errors: &str) -> bool {
+    fn is(&self, code: u8, out: &[u8], errors: &str) -> bool {
         self.code == code
-            && self.out.as_slice() == out.as_bytes()
+            && self.out.as_slice() == out
             && self.errors.as_slice() == errors.as_bytes()
     }
 }
@@ -61,7 +61,7 @@ fn words_are_known_or_a_usage_fault(rt: HostRuntime) {
         &["replay"],
         &["relay", "--help"],
     ] {
-        assert!(rt; outcome_of(&rt, words(rt.alloc(), list), "---\n").is(2, "", USAGE));
+        assert!(rt; outcome_of(&rt, words(rt.alloc(), list), "---\n").is(2, b"", USAGE));
     }
 }
 
@@ -81,12 +81,12 @@ fn each_end_has_its_status_and_text(rt: HostRuntime) {
     ] {
         let list = words(alloc, &["relay", "replay"]);
         assert!(rt;
-            outcome_of(&rt, list, script).is(code, out, errors),
+            outcome_of(&rt, list, script).is(code, out.as_bytes(), errors),
             "{script}"
         );
     }
     let list = words(alloc, &["relay", "check", "no such file"]);
-    assert!(rt; outcome_of(&rt, list, "").is(1, "", "settings: unreadable\n"));
+    assert!(rt; outcome_of(&rt, list, "").is(1, b"", "settings: unreadable\n"));
 }
 
 /// Words that could not be had: one is not UTF-8, or memory ran out.
@@ -97,7 +97,7 @@ fn words_that_are_not_had(rt: HostRuntime) {
         (ErrorKind::OutOfMemory, 4, "memory\n"),
     ] {
         let list = Err(io::Error::from(kind));
-        assert!(rt; outcome_of(&rt, list, "---\n").is(code, "", errors));
+        assert!(rt; outcome_of(&rt, list, "---\n").is(code, b"", errors));
     }
 }
 
@@ -190,92 +190,101 @@ fn reader_of(text: &str, fails: bool) -> Shaky<'_> {
     }
 }
 
+/// What a replay of a script told, which is read in pieces and written to such a writer.
+fn replayed(rt: &HostRuntime, script: &str, mut slow: Slow) -> Outcome {
+    let alloc = rt.alloc();
+    let mut reader = reader_of(script, false);
+    let mut errors = Vec::new(alloc);
+    let list = words(alloc, &["relay", "replay"]);
+    let code = run_program(alloc, rt, list, &mut reader, &mut slow, &mut errors);
+    let Slow { given: out, .. } = slow;
+    Outcome { code, out, errors }
+}
+
+/// The same of a check of the good settings.
+fn checked(alloc: Global, mut slow: Slow) -> Outcome {
+    let code = check(alloc, &mut reader_of(GOOD, false), &mut slow).exit_code();
+    let Slow { given: out, .. } = slow;
+    let errors = Vec::new(alloc);
+    Outcome { code, out, errors }
+}
+
+const BOTH_CLOSED: &[u8] = b"closed 0\nclosed 0\n";
+
 #[test]
 fn interrupted_reads_and_writes_are_tried_again(rt: HostRuntime) {
-    let alloc = rt.alloc();
-    let mut slow = Slow::new(alloc, 1000, false);
-    let status = check(alloc, &mut reader_of(GOOD, false), &mut slow);
-    assert_eq!(rt; status.exit_code(), 0);
-    assert_eq!(rt; slow.given.as_slice(), GOOD_LINE.as_bytes());
-
-    let mut slow = Slow::new(alloc, 1000, false);
-    let list = words(alloc, &["relay", "replay"]);
-    let end = perform(
-        alloc,
-        &rt,
-        list,
-        &mut reader_of(TWO_LINES, false),
-        &mut slow,
-    );
-    assert_eq!(rt; end.exit_code(), 0);
-    assert_eq!(rt; slow.given.as_slice(), b"closed 0\nclosed 0\n".as_slice());
-}
-
-/// Whether nothing was written, and a program ends so.
-fn ends_with(alloc: Global, out: &[u8], end: &End, code: u8, text: &str) -> bool {
-    let mut errors = Vec::new(alloc);
-    let is_told = tell(&mut errors, end).is_ok();
-    is_told && out.is_empty() && end.exit_code() == code && errors.as_slice() == text.as_bytes()
-}
-
-#[test]
-fn a_failed_read_is_input_or_unreadable(rt: HostRuntime) {
-    let alloc = rt.alloc();
-    let mut out = Vec::new(alloc);
-    let end = End::Ran(check(alloc, &mut reader_of(GOOD, true), &mut out));
-    assert!(rt; ends_with(alloc, &out, &end, 1, "settings: unreadable\n"));
-    let list = words(alloc, &["relay", "replay"]);
-    let end = perform(alloc, &rt, list, &mut reader_of(GOOD, true), &mut out);
-    assert!(rt; ends_with(alloc, &out, &end, 5, "input\n"));
-    let end = End::Ran(replay(alloc, &mut reader_of(TWO_LINES, true), &mut out));
-    assert!(rt; ends_with(alloc, &out, &end, 5, "input\n"));
+    let slow = Slow::new(rt.alloc(), 1000, false);
+    assert!(rt; checked(rt.alloc(), slow).is(0, GOOD_LINE.as_bytes(), ""));
+    let slow = Slow::new(rt.alloc(), 1000, false);
+    assert!(rt; replayed(&rt, TWO_LINES, slow).is(0, BOTH_CLOSED, ""));
 }
 
 /// What was written before a write failed is a front of all that would have been.
 #[test]
 fn a_failed_write_is_output_behind_a_front(rt: HostRuntime) {
-    let alloc = rt.alloc();
     for room in 0..18 {
-        let mut slow = Slow::new(alloc, room, false);
-        let mut errors = Vec::new(alloc);
-        let list = words(alloc, &["relay", "replay"]);
-        let mut script = TWO_LINES.as_bytes();
-        let code = run_program(alloc, &rt, list, &mut script, &mut slow, &mut errors);
-        assert_eq!(rt; code, 5);
-        assert_eq!(rt; errors.as_slice(), b"output\n".as_slice());
-        assert_eq!(rt; slow.given.as_slice(), &b"closed 0\nclosed 0\n"[..room]);
+        let slow = Slow::new(rt.alloc(), room, false);
+        assert!(rt; replayed(&rt, TWO_LINES, slow).is(5, &BOTH_CLOSED[..room], "output\n"));
     }
-    let mut slow = Slow::new(alloc, 7, false);
-    let status = check(alloc, &mut GOOD.as_bytes(), &mut slow);
-    assert!(rt; matches!(status, Status::Output));
-    assert_eq!(rt; slow.given.as_slice(), b"setting".as_slice());
+    let slow = Slow::new(rt.alloc(), 7, false);
+    assert!(rt; checked(rt.alloc(), slow).is(5, b"setting", ""));
 }
 
 /// A bad line is told where the answers before it fit, and else the failed write.
 #[test]
 fn a_failed_write_comes_before_a_bad_line(rt: HostRuntime) {
-    let alloc = rt.alloc();
-    for (room, code) in [(18, 3), (9, 5)] {
-        let mut slow = Slow::new(alloc, room, false);
-        let mut script = b"---\nflush 0 0 all\nflush 0 0 all\nx\n".as_slice();
-        let status = replay(alloc, &mut script, &mut slow);
-        assert_eq!(rt; status.exit_code(), code);
-    }
+    let script = "---\nflush 0 0 all\nflush 0 0 all\nx\n";
+    let slow = Slow::new(rt.alloc(), 18, false);
+    assert!(rt; replayed(&rt, script, slow).is(3, BOTH_CLOSED, "line 4: bad event\n"));
+    let slow = Slow::new(rt.alloc(), 9, false);
+    assert!(rt; replayed(&rt, script, slow).is(5, &BOTH_CLOSED[..9], "output\n"));
 }
 
 #[test]
 fn a_failed_flush_is_output(rt: HostRuntime) {
-    let alloc = rt.alloc();
     for script in ["---\nflush 0 0 all\n", "---\nflush 0 0 all\nx\n", "---\n"] {
-        let mut slow = Slow::new(alloc, 1000, true);
-        let list = words(alloc, &["relay", "replay"]);
-        let end = perform(alloc, &rt, list, &mut script.as_bytes(), &mut slow);
-        assert!(rt; matches!(end, End::Ran(Status::Output)));
-        assert!(rt; slow.given.is_empty());
+        let slow = Slow::new(rt.alloc(), 1000, true);
+        assert!(rt; replayed(&rt, script, slow).is(5, b"", "output\n"));
     }
-    let mut slow = Slow::new(alloc, 1000, true);
-    let status = check(alloc, &mut GOOD.as_bytes(), &mut slow);
-    assert!(rt; matches!(status, Status::Output));
+    let slow = Slow::new(rt.alloc(), 1000, true);
+    assert!(rt; checked(rt.alloc(), slow).is(5, b"", ""));
+}
+
+/// What a read that fails in mid-stream comes to, where a program ends so.
+fn unread(alloc: Global, out: Vec<u8>, end: &End) -> Outcome {
+    let mut errors = Vec::new(alloc);
+    let code = match tell(&mut errors, end) {
+        Ok(()) => end.exit_code(),
+        Err(_) => 0,
+    };
+    Outcome { code, out, errors }
+}
+
+fn unread_settings(alloc: Global) -> Outcome {
+    let mut out = Vec::new(alloc);
+    let end = End::Ran(check(alloc, &mut reader_of(GOOD, true), &mut out));
+    unread(alloc, out, &end)
+}
+
+fn unread_words(rt: &HostRuntime) -> Outcome {
+    let alloc = rt.alloc();
+    let mut out = Vec::new(alloc);
+    let list = words(alloc, &["relay", "replay"]);
+    let end = perform(alloc, rt, list, &mut reader_of(GOOD, true), &mut out);
+    unread(alloc, out, &end)
+}
+
+fn unread_script(alloc: Global) -> Outcome {
+    let mut out = Vec::new(alloc);
+    let end = End::Ran(replay(alloc, &mut reader_of(TWO_LINES, true), &mut out));
+    unread(alloc, out, &end)
+}
+
+#[test]
+fn a_failed_read_is_input_or_unreadable(rt: HostRuntime) {
+    assert!(rt; unread_settings(rt.alloc()).is(1, b"", "settings: unreadable\n"));
+    assert!(rt; unread_words(&rt).is(5, b"", "input\n"));
+    assert!(rt; unread_script(rt.alloc()).is(5, b"", "input\n"));
 }
 
 /// A stand-in for the relay that counts, and has no memory from the third event on.

@@ -23,11 +23,11 @@ const THERE: &str = "piece 1 94a161018081a56368756e6ba178\nadmit 1 0 5\nflush 0 
 /// The frame of the worked script, under the name of run ff ff ff ff ff ff, output 0 and number 1.
 const ANSWERS_THERE: &str = "requests 1 out -\nadmitted 1 entries 1\nclosed 1\ndone\n\
     took 1 entries 1\nframe 93a161c40392018082a473697a6501a56368756e6b\
-    b82f2f2f2f2f2f2f2f4141414141414141414141414141513d3d\n";
+    b82f2f2f2f2f2f2f2f41414141414141414141414141513d3d\n";
 
 /// From a frame of 46 bytes to the acknowledgement of its source.
 const BACK: &str = "wrote 0 1 46\n\
-    heard 0 1 81a361636bb82f2f2f2f2f2f2f2f4141414141414141414141414141513d3d\nsettle 0 1\n\
+    heard 0 1 81a361636bb82f2f2f2f2f2f2f2f41414141414141414141414141513d3d\nsettle 0 1\n\
     collect 1 0\n";
 
 const ANSWERS_BACK: &str = "done\nacked out -\nsettled 1\ntold 1 out 81a361636ba178\n";
