@@ -1,4 +1,5 @@
-use fwd_model::{Answer, BufferLimits, Config};
+use fwd_handshake::Login;
+use fwd_model::{Answer, BufferLimits, Config, OutputConfig};
 use fwd_msgpack::{Bytes, Seq};
 use fwd_script::{print_answer, read_config};
 use std::alloc::Global;
@@ -39,19 +40,27 @@ const LIMITS: BufferLimits = BufferLimits {
     first: 1,
 };
 
+fn is_keyless(login: &Login) -> bool {
+    login.hostname.as_slice() == b"relay".as_slice()
+        && login.shared_key.is_none()
+        && login.username.is_empty()
+        && login.password.is_empty()
+}
+
+fn has_row_output(rt: &impl Abort, output: &OutputConfig) {
+    assert_eq!(rt; output.workers, 2);
+    assert_eq!(rt; output.standby.as_slice(), [false, true].as_slice());
+    assert_eq!(rt; output.limits, LIMITS);
+    assert_eq!(rt; output.ack_wait, 10_000);
+    assert!(rt; is_keyless(&output.login));
+}
+
 fn has_row_settings(rt: &impl Abort, row: &Config) {
     assert_eq!(rt; row.run, [0; 6]);
     assert_eq!(rt; row.routes.first(b"a.b"), Some(0));
     assert_eq!(rt; row.outputs.as_slice().len(), 1);
     for output in row.outputs.as_slice() {
-        assert_eq!(rt; output.workers, 2);
-        assert_eq!(rt; output.standby.as_slice(), [false, true].as_slice());
-        assert_eq!(rt; output.limits, LIMITS);
-        assert_eq!(rt; output.ack_wait, 10_000);
-        assert_eq!(rt; output.login.hostname.as_slice(), b"relay".as_slice());
-        assert!(rt; output.login.shared_key.is_none());
-        assert!(rt; output.login.username.is_empty());
-        assert!(rt; output.login.password.is_empty());
+        has_row_output(rt, output);
     }
 }
 
