@@ -275,10 +275,16 @@ def pongs():
 
 
 def worked():
-    """The worked handshake, whose digested text is the sentence of the fox, by its bytes: nothing here is computed."""
+    """The worked handshake, whose digested text is the sentence of the fox, and digests of the text `abc`, by their
+    bytes: nothing here is computed."""
     found = (
         "07e547d9586f6a73f73fbac0435ed76951218fb7d0c8d788a309d785436bbb64"
         "2e93a252a954f23912547d1e8a3b5ed6e1bfd7097821233fa0538f3db854fee6"
+    ).encode()
+    # the SHA-512 of `abc`, from FIPS 180-4's examples
+    abc = (
+        "ddaf35a193617abacc417349ae20413112e6fa4e89a97ea20a9eeee64b55d39a"
+        "2192992a274fc1a836ba3c23a3feebbd454d4423643ce80e2a9ac94fa54ca49f"
     ).encode()
     hello = "92a448454c4f83a56e6f6e6365c410" + NONCE.hex() + "a461757468a0a96b656570616c697665"
     ping_of = lambda text, end: "96a450494e47a562726f776eaa" + SALT.hex() + "d980" + text.hex() + end
@@ -301,6 +307,11 @@ def worked():
         (f"pong {key} {salt} {nonce} {denial}", "denied"),
         (f"pong {key} {salt} {nonce} {hello}c3", "not_pong"),
         (f"pong none {salt} {nonce} {pong_of}", "bad_digest"),
+        (f"pong 63 61 - 95a4504f4e47c3a0a162d980{abc.hex()}", "pass"),
+        (
+            f"answer {brown} {key} 62 63 {salt} {hello.replace('a0a96b', 'a161a96b')}c3",
+            f"keep {nonce} {ping_of(found, 'a162d980' + abc.hex())}",
+        ),
     ):
         CALLS.append(call)
         ANSWERS.append(told)

@@ -30,8 +30,16 @@ FRAMES = {
 cases = []
 
 
-def text(whole, told):
-    cases.append((whole, told))
+def text(whole, told, end="---"):
+    cases.append((whole, told, end))
+
+
+def sets(whole, relay, *outputs):
+    """Good settings, and what each key is set to."""
+    told = [f"relay.{key} {what}" for key, what in relay.items()]
+    for place, output in enumerate(outputs):
+        told += [f"output[{place}].{key} {what}" for key, what in output.items()]
+    text(whole, "\n".join(told), "===")
 
 
 def lines(frame, some, told):
@@ -268,7 +276,57 @@ for whole, told in [
 ]:
     text(whole, told)
 
+# ---- what each key is set to: its default, or what is written
+RELAY = {
+    "listen": "127.0.0.1:24224", "monitor": "none", "hostname": "relay", "shared_key": "none",
+    "run_id": "none", "seed": "none", "connections": "256",
+}
+OUTPUT = {
+    "match a.b": "true", "match c": "true", "workers": "1", "chunk_limit": "8000000",
+    "total_limit": "512000000", "flush_interval": "5000", "retry_wait": "1000",
+    "retry_max": "60000", "ack_wait": "190000", "hostname": "relay", "shared_key": "none",
+    "username": "", "password": "",
+}
+FIRST = {"server[0].address": "127.0.0.1:1", "server[0].standby": "false"}
+SET_RELAY = {
+    "listen": "0.0.0.0:1", "monitor": "[::1]:65535", "hostname": "h", "shared_key": "k",
+    "run_id": "0123456789ab", "seed": "0" * 62 + "ff", "connections": "2",
+    "user[0].name": "n", "user[0].password": "p", "user[1].name": "m", "user[1].password": "q",
+}
+SET_OUTPUT = {
+    "match a.b": "true", "match c": "false", "workers": "3", "chunk_limit": "4",
+    "total_limit": "5", "flush_interval": "6", "retry_wait": "7", "retry_max": "8",
+    "ack_wait": "9", "hostname": "o", "shared_key": "s", "username": "u", "password": "p",
+    "server[0].address": "10.0.0.1:2", "server[0].standby": "true",
+    "server[1].address": "10.0.0.2:3", "server[1].standby": "false",
+}
+C = '[[output]]\nmatch = "c"\n[[output.server]]\naddress = "10.0.0.3:4"\n'
+OUTPUT_C = OUTPUT | {"match a.b": "false", "server[0].address": "10.0.0.3:4",
+                     "server[0].standby": "false"}
+sets(MATCH + SERVER, RELAY, OUTPUT | FIRST)
+sets('[relay]\nlisten = "0.0.0.0:1"\nmonitor = "[::1]:65535"\nhostname = "h"\n'
+     'shared_key = "k"\nrun_id = "0123456789aB"\n' + f'seed = "{"0" * 62}Ff"\n'
+     'connections = 2\n[[relay.user]]\nname = "n"\npassword = "p"\n'
+     '[[relay.user]]\nname = "m"\npassword = "q"\n' + C, SET_RELAY, OUTPUT_C)
+sets('[[output]]\nmatch = "a.b"\nworkers = 3\nchunk_limit = 4\ntotal_limit = 5\n'
+     'flush_interval = 6\nretry_wait = 7\nretry_max = 8\nack_wait = 9\nhostname = "o"\n'
+     'username = "u"\npassword = "p"\nshared_key = "s"\n'
+     '[[output.server]]\naddress = "10.0.0.1:2"\nstandby = true\n'
+     '[[output.server]]\naddress = "10.0.0.2:3"\nstandby = false\n' + C,
+     RELAY, SET_OUTPUT, OUTPUT_C)
+# a long wait lengthens the longest
+for wait, longest in [(59_999, 60_000), (60_001, 60_001)]:
+    sets(MATCH + f"retry_wait = {wait}\n" + SERVER, RELAY,
+         OUTPUT | FIRST | {"retry_wait": str(wait), "retry_max": str(longest)})
+# a text of 65,536 bytes with a key of 1,024, 64 outputs, and 16 servers at the first of them
+LARGEST = '[relay]\nshared_key = "' + "k" * 1024 + '"\n' + MATCH + SERVER * 16
+LARGEST += (MATCH + SERVER) * 63
+sets(LARGEST + "#" * (65_536 - 1 - len(LARGEST)), RELAY | {"shared_key": "k" * 1024},
+     OUTPUT | {f"server[{n}].{key}": what for n in range(16)
+               for key, what in [("address", "127.0.0.1:1"), ("standby", "false")]},
+     *[OUTPUT | FIRST] * 63)
+
 there = pathlib.Path(__file__).resolve().parent.parent / "crates" / "relay_settings"
-there.joinpath("stdin").write_text("".join(f"{w.rstrip(chr(10))}\n---\n" for w, _ in cases))
-there.joinpath("stdout").write_text("".join(f"{told}\n" for _, told in cases))
+there.joinpath("stdin").write_text("".join(f"{w.rstrip(chr(10))}\n{e}\n" for w, _, e in cases))
+there.joinpath("stdout").write_text("".join(f"{told}\n" for _, told, _ in cases))
 print(len(cases), "cases")

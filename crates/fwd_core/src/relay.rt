@@ -50,7 +50,6 @@ use std::marker::Model;
 use std::sync::Arc;
 
 /// A relay that one thread owns.
-#[derive(Drop)]
 pub struct Relay {
     run: [u8; 6],
     routes: Routes,
@@ -58,6 +57,20 @@ pub struct Relay {
     last: Option<u64>,
     connections: Vec<Connection>,
     lanes: Vec<Lane>,
+}
+
+// A drop of its own is proved once, and not at each place where a relay goes.
+impl Drop for Relay {
+    fn drop(self) {
+        let Relay {
+            run: _,
+            routes: _,
+            security: _,
+            last: _,
+            connections: _,
+            lanes: _,
+        } = self;
+    }
 }
 
 impl Model for Relay {

@@ -30,7 +30,6 @@ pub enum AnswerError {
 
 /// A connection: its unfinished bytes, its requests that wait
 /// to be admitted, and the bytes that wait to be sent to it.
-#[derive(Drop)]
 pub struct Source {
     conn: u64,
     security: Arc<Security>,
@@ -43,6 +42,25 @@ pub struct Source {
     unsent: Vec<u8>,
     shut: bool,
     closed: bool,
+}
+
+// A drop of its own is proved once, and not at each place where a connection goes.
+impl Drop for Source {
+    fn drop(self) {
+        let Source {
+            conn: _,
+            security: _,
+            nonces: _,
+            limits: _,
+            awaits: _,
+            rest: _,
+            waiting: _,
+            admitted: _,
+            unsent: _,
+            shut: _,
+            closed: _,
+        } = self;
+    }
 }
 
 impl Model for Source {

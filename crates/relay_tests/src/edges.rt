@@ -1,21 +1,14 @@
 //! The relay where many requests wait.
 
-use crate::settings::config_of;
+use crate::relay::relay_of;
 use fwd_core::Relay;
 use fwd_model::{Answer, Event};
 use fwd_msgpack::Bytes;
 use std::alloc::{AllocError, Global};
-use std::process::Abort;
 use std::test::Fail;
 
 /// A request for the one entry `[1, {}]` under the tag `a`.
 const REQUEST: &[u8] = b"\x93\xa1a\x01\x80";
-
-/// A relay of one output that takes each tag.
-fn one_output(alloc: Global) -> Result<Relay, Fail> {
-    let config = config_of(alloc, [0; 6], &["**"], &[1])?;
-    Ok(Relay::new(alloc, config)?)
-}
 
 /// So many requests, one after the other, in one piece.
 fn requests(alloc: Global, count: usize) -> Result<Event, AllocError> {
@@ -29,56 +22,64 @@ fn requests(alloc: Global, count: usize) -> Result<Event, AllocError> {
     })
 }
 
-/// How many requests wait once one piece of each of these counts
-/// was heard, and the first of them is admitted.
-fn waiting_after(rt: &(impl Abort + AllocGlobal), counts: &[usize]) -> Result<usize, Fail> {
-    let alloc = rt.alloc();
-    let mut relay = one_output(alloc)?;
+/// How many requests wait once a piece of so many was heard.
+fn waiting_after(alloc: Global, relay: &mut Relay, count: usize) -> Option<usize> {
+    let piece = requests(alloc, count).ok()?;
+    match relay.step(alloc, &piece) {
+        Answer::Requests { waiting, .. } => Some(waiting),
+        _ => None,
+    }
+}
+
+/// How many wait once a piece of each of these counts was heard.
+fn waiting_after_all(alloc: Global, relay: &mut Relay, counts: &[usize]) -> Option<usize> {
     let accept = Event::Accept {
         conn: 1,
         nonce: [0; 16],
         auth: [0; 16],
     };
-    assert!(rt; matches!(relay.step(alloc, &accept), Answer::Accepted { .. }));
-    let mut last = 0;
+    let mut last = match relay.step(alloc, &accept) {
+        Answer::Accepted { .. } => Some(0),
+        _ => None,
+    };
     for count in counts {
-        let Answer::Requests { waiting, .. } = relay.step(alloc, &requests(alloc, *count)?) else {
-            return Err(Fail::from("no requests"));
-        };
-        last = waiting;
+        last = waiting_after(alloc, relay, *count);
     }
+    last
+}
+
+/// Whether the first request is admitted.
+fn admits_first(alloc: Global, relay: &mut Relay) -> bool {
     let admit = Event::Admit {
         conn: 1,
         output: 0,
         now: 0,
     };
-    let first = relay.step(alloc, &admit);
-    assert!(rt;
-        matches!(
-            first,
-            Answer::Admitted {
-                request: 1,
-                entries: 1
-            }
-        )
-    );
-    let nothing = Event::Piece {
-        conn: 1,
-        bytes: Bytes::new(alloc),
-    };
-    let Answer::Requests { waiting, .. } = relay.step(alloc, &nothing) else {
-        return Err(Fail::from("no requests"));
-    };
-    assert_eq!(rt; Some(waiting), last.checked_sub(1));
-    Ok(last)
+    matches!(
+        relay.step(alloc, &admit),
+        Answer::Admitted {
+            request: 1,
+            entries: 1
+        }
+    )
 }
 
 #[test]
 fn many_requests_wait(rt: HostRuntime) -> Result<(), Fail> {
-    assert_eq!(rt; waiting_after(&rt, &[1])?, 1);
-    assert_eq!(rt; waiting_after(&rt, &[8])?, 8);
-    assert_eq!(rt; waiting_after(&rt, &[9])?, 9);
-    assert_eq!(rt; waiting_after(&rt, &[5, 4, 8])?, 17);
-    assert_eq!(rt; waiting_after(&rt, &[100_000, 1])?, 100_001);
+    let alloc = rt.alloc();
+    for (counts, waiting) in [
+        ([1].as_slice(), 1),
+        ([8].as_slice(), 8),
+        ([9].as_slice(), 9),
+        ([5, 4, 8].as_slice(), 17),
+        ([100_000, 1].as_slice(), 100_001),
+    ] {
+        let Some(mut relay) = relay_of(alloc, "") else {
+            return Err(Fail::from("no relay"));
+        };
+        assert_eq!(rt; waiting_after_all(alloc, &mut relay, counts), Some(waiting));
+        assert!(rt; admits_first(alloc, &mut relay));
+        assert_eq!(rt; waiting_after(alloc, &mut relay, 0), Some(waiting - 1));
+    }
     Ok(())
 }

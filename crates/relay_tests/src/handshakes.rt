@@ -2,23 +2,6 @@ use fwd_handshake::*;
 use rand_chacha::ChaCha20Rng;
 use rand_core::SeedableRng;
 
-/// The SHA-512 of `abc`, from FIPS 180-4's examples.
-const ABC: &str =
-    "ddaf35a193617abacc417349ae20413112e6fa4e89a97ea20a9eeee64b55d39a2192992a274fc1a836ba3c23a3feeb\
-    bd454d4423643ce80e2a9ac94fa54ca49f";
-
-#[test]
-fn digests_are_sha_512(rt: HostRuntime) {
-    assert_eq!(rt;
-        key_digest(b"a", b"b", b"", b"c").as_slice(),
-        ABC.as_bytes()
-    );
-    assert_eq!(rt;
-        password_digest(b"a", b"b", b"c").as_slice(),
-        ABC.as_bytes()
-    );
-}
-
 /// The key stream of the zero key, from RFC 8439's test vectors.
 #[test]
 fn draws_are_the_key_stream(rt: HostRuntime) {

@@ -10,8 +10,6 @@ mod edges;
 #[cfg(test)]
 mod handshakes;
 #[cfg(test)]
-mod patterns;
-#[cfg(test)]
 mod program;
 #[cfg(test)]
 mod relay;
@@ -19,11 +17,5 @@ mod relay;
 mod replays;
 #[cfg(test)]
 mod requests;
-#[cfg(test)]
-mod servers;
-#[cfg(test)]
-mod settings;
-#[cfg(test)]
-mod settings_text;
 #[cfg(test)]
 mod values;

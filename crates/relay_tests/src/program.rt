@@ -4,15 +4,14 @@ ghost use Rattle.fwd_model.specs.declared.answer.Answer.TheVariants.{Closed};
 
 use fwd_model::{Answer, Event};
 use fwd_script::{
-    End, Status, Step, answer_script, check, perform, run_program, split_script, tell,
+    End, Status, Step, answer_script, check, perform, replay, run_program, split_script, tell,
 };
 use std::alloc::Global;
 use std::io;
 use std::io::{ErrorKind, Read, Write};
-use std::test::Fail;
 
 /// Words as the system gives them.
-fn words(alloc: Global, texts: &[&str]) -> Result<Vec<String>, Fail> {
+fn words(alloc: Global, texts: &[&str]) -> io::Result<Vec<String>> {
     let mut words = Vec::new(alloc);
     for text in texts {
         words.push(String::from_str(alloc, text)?)?;
@@ -20,24 +19,37 @@ fn words(alloc: Global, texts: &[&str]) -> Result<Vec<String>, Fail> {
     Ok(words)
 }
 
-/// What a run of the program told: its exit status, standard output and standard error.
-fn told(rt: &HostRuntime, texts: &[&str], input: &[u8]) -> Result<String, Fail> {
+/// What a run of the program told.
+#[derive(Drop)]
+struct Outcome {
+    code: u8,
+    out: Vec<u8>,
+    errors: Vec<u8>,
+}
+
+impl Outcome {
+    fn is(&self, code: u8, out: &[u8], errors: &str) -> bool {
+        self.code == code
+            && self.out.as_slice() == out
+            && self.errors.as_slice() == errors.as_bytes()
+    }
+}
+
+/// What a run of the program with these words and this input told.
+fn outcome_of(rt: &HostRuntime, list: io::Result<Vec<String>>, input: &str) -> Outcome {
     let alloc = rt.alloc();
     let mut out = Vec::new(alloc);
     let mut errors = Vec::new(alloc);
-    let list = Ok(words(alloc, texts)?);
-    let mut reader = input;
+    let mut reader = input.as_bytes();
     let code = run_program(alloc, rt, list, &mut reader, &mut out, &mut errors);
-    let out = String::from_utf8(out)?;
-    let errors = String::from_utf8(errors)?;
-    Ok(format!(in alloc; "{code}|{out}|{errors}")?)
+    Outcome { code, out, errors }
 }
 
-const USAGE: &str = "2||usage: forward_relay run CONFIG [TURNS] | check CONFIG | replay\n";
+const USAGE: &str = "usage: forward_relay run CONFIG [TURNS] | check CONFIG | replay\n";
 
 #[test]
-fn words_are_known_or_a_usage_fault(rt: HostRuntime) -> Result<(), Fail> {
-    let lists = [
+fn words_are_known_or_a_usage_fault(rt: HostRuntime) {
+    for list in [
         [].as_slice(),
         &["relay"],
         &["relay", ""],
@@ -48,54 +60,45 @@ fn words_are_known_or_a_usage_fault(rt: HostRuntime) -> Result<(), Fail> {
         &["relay", "run"],
         &["replay"],
         &["relay", "--help"],
-    ];
-    for list in lists {
-        let text = told(&rt, list, b"---\n")?;
-        assert_eq!(rt; text.as_str(), USAGE);
+    ] {
+        assert!(rt; outcome_of(&rt, words(rt.alloc(), list), "---\n").is(2, b"", USAGE));
     }
-    Ok(())
 }
 
 #[test]
-fn each_end_has_its_status_and_text(rt: HostRuntime) -> Result<(), Fail> {
-    let replays = [
-        ("---\nflush 0 0 all\n", "0|closed 0\n|"),
-        ("---\nhello\n", "3||line 2: bad event\n"),
-        ("---\nflush 0 0 all\n\n", "3|closed 0\n|line 3: bad event\n"),
-        ("x\n---\nflush 0 0 all\n", "1||settings: not toml\n"),
-    ];
-    for (script, want) in replays {
-        let text = told(&rt, &["relay", "replay"], script.as_bytes())?;
-        assert_eq!(rt; text.as_str(), want);
+fn each_end_has_its_status_and_text(rt: HostRuntime) {
+    let alloc = rt.alloc();
+    for (script, code, out, errors) in [
+        ("---\nflush 0 0 all\n", 0, "closed 0\n", ""),
+        ("---\nhello\n", 3, "", "line 2: bad event\n"),
+        (
+            "---\nflush 0 0 all\n\n",
+            3,
+            "closed 0\n",
+            "line 3: bad event\n",
+        ),
+        ("x\n---\nflush 0 0 all\n", 1, "", "settings: not toml\n"),
+    ] {
+        let list = words(alloc, &["relay", "replay"]);
+        assert!(rt;
+            outcome_of(&rt, list, script).is(code, out.as_bytes(), errors),
+            "{script}"
+        );
     }
-    let missing = told(&rt, &["relay", "check", "no such file"], b"")?;
-    assert_eq!(rt; missing.as_str(), "1||settings: unreadable\n");
-    Ok(())
+    let list = words(alloc, &["relay", "check", "no such file"]);
+    assert!(rt; outcome_of(&rt, list, "").is(1, b"", "settings: unreadable\n"));
 }
 
 /// Words that could not be had: one is not UTF-8, or memory ran out.
 #[test]
-fn words_that_are_not_had(rt: HostRuntime) -> Result<(), Fail> {
-    let alloc = rt.alloc();
-    let table = [
-        (
-            ErrorKind::InvalidData,
-            2,
-            "usage: forward_relay run CONFIG [TURNS] | check CONFIG | replay\n",
-        ),
+fn words_that_are_not_had(rt: HostRuntime) {
+    for (kind, code, errors) in [
+        (ErrorKind::InvalidData, 2, USAGE),
         (ErrorKind::OutOfMemory, 4, "memory\n"),
-    ];
-    for (kind, want, text) in table {
-        let mut out = Vec::new(alloc);
-        let mut errors = Vec::new(alloc);
+    ] {
         let list = Err(io::Error::from(kind));
-        let mut input = b"---\n".as_slice();
-        let code = run_program(alloc, &rt, list, &mut input, &mut out, &mut errors);
-        assert_eq!(rt; code, want);
-        assert!(rt; out.is_empty());
-        assert_eq!(rt; errors.as_slice(), text.as_bytes());
+        assert!(rt; outcome_of(&rt, list, "---\n").is(code, b"", errors));
     }
-    Ok(())
 }
 
 /// A reader that is interrupted before each byte, and then fails or ends.
@@ -177,95 +180,111 @@ const GOOD: &str = "[[output]]\nmatch = \"a\"\n[[output.server]]\naddress = \"1.
 
 const GOOD_LINE: &str = "settings are good, outputs: 1\n";
 
-#[test]
-fn interrupted_reads_and_writes_are_tried_again(rt: HostRuntime) -> Result<(), Fail> {
-    let alloc = rt.alloc();
-    let mut reader = Shaky {
-        left: GOOD.as_bytes(),
-        is_interrupted: false,
-        fails: false,
-    };
-    let mut slow = Slow::new(alloc, 1000, false);
-    let status = check(alloc, &mut reader, &mut slow);
-    assert_eq!(rt; status.exit_code(), 0);
-    assert_eq!(rt; slow.given.as_slice(), GOOD_LINE.as_bytes());
+const TWO_LINES: &str = "---\nflush 0 0 all\nflush 0 0 due\n";
 
-    let mut script = Shaky {
-        left: b"---\nflush 0 0 all\nflush 0 0 due\n",
+fn reader_of(text: &str, fails: bool) -> Shaky<'_> {
+    Shaky {
+        left: text.as_bytes(),
         is_interrupted: false,
-        fails: false,
-    };
-    let mut slow = Slow::new(alloc, 1000, false);
-    let list = Ok(words(alloc, &["relay", "replay"])?);
-    let end = perform(alloc, &rt, list, &mut script, &mut slow);
-    assert_eq!(rt; end.exit_code(), 0);
-    assert_eq!(rt; slow.given.as_slice(), b"closed 0\nclosed 0\n".as_slice());
-    Ok(())
+        fails,
+    }
 }
 
-#[test]
-fn a_failed_read_is_input_or_unreadable(rt: HostRuntime) -> Result<(), Fail> {
+/// What a replay of a script told, which is read in pieces and written to such a writer.
+fn replayed(rt: &HostRuntime, script: &str, mut slow: Slow) -> Outcome {
     let alloc = rt.alloc();
-    for (word, code, text) in [
-        ("replay", 5, "input\n"),
-        ("check", 1, "settings: unreadable\n"),
-    ] {
-        let mut reader = Shaky {
-            left: GOOD.as_bytes(),
-            is_interrupted: false,
-            fails: true,
-        };
-        let mut out = Vec::new(alloc);
-        let mut errors = Vec::new(alloc);
-        let end = if word == "check" {
-            End::Ran(check(alloc, &mut reader, &mut out))
-        } else {
-            let list = Ok(words(alloc, &["relay", word])?);
-            perform(alloc, &rt, list, &mut reader, &mut out)
-        };
-        tell(&mut errors, &end)?;
-        assert_eq!(rt; end.exit_code(), code);
-        assert_eq!(rt; errors.as_slice(), text.as_bytes());
-        assert!(rt; out.is_empty());
-    }
-    Ok(())
+    let mut reader = reader_of(script, false);
+    let mut errors = Vec::new(alloc);
+    let list = words(alloc, &["relay", "replay"]);
+    let code = run_program(alloc, rt, list, &mut reader, &mut slow, &mut errors);
+    let Slow { given: out, .. } = slow;
+    Outcome { code, out, errors }
+}
+
+/// The same of a check of the good settings.
+fn checked(alloc: Global, mut slow: Slow) -> Outcome {
+    let code = check(alloc, &mut reader_of(GOOD, false), &mut slow).exit_code();
+    let Slow { given: out, .. } = slow;
+    let errors = Vec::new(alloc);
+    Outcome { code, out, errors }
+}
+
+const BOTH_CLOSED: &[u8] = b"closed 0\nclosed 0\n";
+
+#[test]
+fn interrupted_reads_and_writes_are_tried_again(rt: HostRuntime) {
+    let slow = Slow::new(rt.alloc(), 1000, false);
+    assert!(rt; checked(rt.alloc(), slow).is(0, GOOD_LINE.as_bytes(), ""));
+    let slow = Slow::new(rt.alloc(), 1000, false);
+    assert!(rt; replayed(&rt, TWO_LINES, slow).is(0, BOTH_CLOSED, ""));
 }
 
 /// What was written before a write failed is a front of all that would have been.
 #[test]
-fn a_failed_write_is_output_behind_a_front(rt: HostRuntime) -> Result<(), Fail> {
-    let alloc = rt.alloc();
+fn a_failed_write_is_output_behind_a_front(rt: HostRuntime) {
     for room in 0..18 {
-        let mut slow = Slow::new(alloc, room, false);
-        let mut script = b"---\nflush 0 0 all\nflush 0 0 due\n".as_slice();
-        let mut errors = Vec::new(alloc);
-        let list = Ok(words(alloc, &["relay", "replay"])?);
-        let code = run_program(alloc, &rt, list, &mut script, &mut slow, &mut errors);
-        assert_eq!(rt; code, 5);
-        assert_eq!(rt; errors.as_slice(), b"output\n".as_slice());
-        assert_eq!(rt; slow.given.as_slice(), &b"closed 0\nclosed 0\n"[..room]);
+        let slow = Slow::new(rt.alloc(), room, false);
+        assert!(rt; replayed(&rt, TWO_LINES, slow).is(5, &BOTH_CLOSED[..room], "output\n"));
     }
-    let mut slow = Slow::new(alloc, 7, false);
-    let status = check(alloc, &mut GOOD.as_bytes(), &mut slow);
-    assert!(rt; matches!(status, Status::Output));
-    assert_eq!(rt; slow.given.as_slice(), b"setting".as_slice());
-    Ok(())
+    let slow = Slow::new(rt.alloc(), 7, false);
+    assert!(rt; checked(rt.alloc(), slow).is(5, b"setting", ""));
+}
+
+/// A bad line is told where the answers before it fit, and else the failed write.
+#[test]
+fn a_failed_write_comes_before_a_bad_line(rt: HostRuntime) {
+    let script = "---\nflush 0 0 all\nflush 0 0 all\nx\n";
+    let slow = Slow::new(rt.alloc(), 18, false);
+    assert!(rt; replayed(&rt, script, slow).is(3, BOTH_CLOSED, "line 4: bad event\n"));
+    let slow = Slow::new(rt.alloc(), 9, false);
+    assert!(rt; replayed(&rt, script, slow).is(5, &BOTH_CLOSED[..9], "output\n"));
 }
 
 #[test]
-fn a_failed_flush_is_output(rt: HostRuntime) -> Result<(), Fail> {
-    let alloc = rt.alloc();
+fn a_failed_flush_is_output(rt: HostRuntime) {
     for script in ["---\nflush 0 0 all\n", "---\nflush 0 0 all\nx\n", "---\n"] {
-        let mut slow = Slow::new(alloc, 1000, true);
-        let list = Ok(words(alloc, &["relay", "replay"])?);
-        let end = perform(alloc, &rt, list, &mut script.as_bytes(), &mut slow);
-        assert!(rt; matches!(end, End::Ran(Status::Output)));
-        assert!(rt; slow.given.is_empty());
+        let slow = Slow::new(rt.alloc(), 1000, true);
+        assert!(rt; replayed(&rt, script, slow).is(5, b"", "output\n"));
     }
-    let mut slow = Slow::new(alloc, 1000, true);
-    let status = check(alloc, &mut GOOD.as_bytes(), &mut slow);
-    assert!(rt; matches!(status, Status::Output));
-    Ok(())
+    let slow = Slow::new(rt.alloc(), 1000, true);
+    assert!(rt; checked(rt.alloc(), slow).is(5, b"", ""));
+}
+
+/// What a read that fails in mid-stream comes to, where a program ends so.
+fn unread(alloc: Global, out: Vec<u8>, end: &End) -> Outcome {
+    let mut errors = Vec::new(alloc);
+    let code = match tell(&mut errors, end) {
+        Ok(()) => end.exit_code(),
+        Err(_) => 0,
+    };
+    Outcome { code, out, errors }
+}
+
+fn unread_settings(alloc: Global) -> Outcome {
+    let mut out = Vec::new(alloc);
+    let end = End::Ran(check(alloc, &mut reader_of(GOOD, true), &mut out));
+    unread(alloc, out, &end)
+}
+
+fn unread_words(rt: &HostRuntime) -> Outcome {
+    let alloc = rt.alloc();
+    let mut out = Vec::new(alloc);
+    let list = words(alloc, &["relay", "replay"]);
+    let end = perform(alloc, rt, list, &mut reader_of(GOOD, true), &mut out);
+    unread(alloc, out, &end)
+}
+
+fn unread_script(alloc: Global) -> Outcome {
+    let mut out = Vec::new(alloc);
+    let end = End::Ran(replay(alloc, &mut reader_of(TWO_LINES, true), &mut out));
+    unread(alloc, out, &end)
+}
+
+#[test]
+fn a_failed_read_is_input_or_unreadable(rt: HostRuntime) {
+    assert!(rt; unread_settings(rt.alloc()).is(1, b"", "settings: unreadable\n"));
+    assert!(rt; unread_words(&rt).is(5, b"", "input\n"));
+    assert!(rt; unread_script(rt.alloc()).is(5, b"", "input\n"));
 }
 
 /// A stand-in for the relay that counts, and has no memory from the third event on.
@@ -297,7 +316,7 @@ impl Step for Spent {
 
 /// Want of memory of the relay ends a run, behind the answers to the lines before.
 #[test]
-fn want_of_memory_ends_a_run(rt: HostRuntime) -> Result<(), Fail> {
+fn want_of_memory_ends_a_run(rt: HostRuntime) {
     let alloc = rt.alloc();
     let script = b"---\nflush 0 0 all\nflush 0 0 all\nflush 0 0 all\nx\n".as_slice();
     let mut relay = Spent { count: 0 };
@@ -306,5 +325,4 @@ fn want_of_memory_ends_a_run(rt: HostRuntime) -> Result<(), Fail> {
     assert!(rt; matches!(status, Status::Memory));
     assert_eq!(rt; out.as_slice(), b"closed 0\nclosed 1\n".as_slice());
     assert_eq!(rt; relay.count, 2);
-    Ok(())
 }

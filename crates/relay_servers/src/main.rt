@@ -1,0 +1,58 @@
+//! Calls of fwd_failover on standard input, a line each, and on standard output the answers to
+//! those that have one. tools/servers.py has the cases and writes both files.
+//!
+//!     servers KINDS WAIT MAX    from here on these servers, `p` a primary and `s` a standby
+//!     failed SERVER MOMENT      a loss
+//!     settled SERVER            a chunk that was settled
+//!     choose WORKER MOMENT      answer: the server, or none
+//!     wait LOSSES               answer: the milliseconds after so many losses
+#![tactic(auto)]
+
+ghost use Rattle.std.specs.Prelude.{◌≤◌, length, false, Contains};
+
+use anyhow::{Result, bail};
+use fwd_failover::Servers;
+use std::alloc::Global;
+
+/// The servers of a line.
+fn servers(alloc: Global, kinds: &str, wait: &str, max: &str) -> Result<Servers> {
+    let standby: Vec<bool> = kinds.bytes().map(|kind| kind == b's').collect(alloc)?;
+    if standby.len() > 16 || !standby.contains(&false) {
+        bail!("no servers: {kinds}");
+    }
+    Ok(Servers::new(alloc, &standby, wait.parse()?, max.parse()?)?)
+}
+
+/// Makes the call of a line, and answers what it answers.
+fn answer(alloc: Global, servers: &mut Servers, words: &[&str]) -> Result<Option<String>> {
+    match *words {
+        ["failed", server, moment] => servers.failed(server.parse()?, moment.parse()?),
+        ["settled", server] => servers.settled(server.parse()?),
+        ["choose", worker, moment] => {
+            return match servers.choose(worker.parse()?, moment.parse()?) {
+                Some(server) => Ok(Some(format!(in alloc; "{server}")?)),
+                None => Ok(Some(String::from_str(alloc, "none")?)),
+            };
+        }
+        ["wait", losses] => {
+            let wait = servers.wait_after(losses.parse()?);
+            return Ok(Some(format!(in alloc; "{wait}")?));
+        }
+        _ => bail!("no call"),
+    }
+    Ok(None)
+}
+
+fn main(rt: HostRuntime) -> Result<()> {
+    let mut all = servers(rt.alloc(), "p", "1", "1")?;
+    for line in rt.lines(rt.alloc()) {
+        let line = line?;
+        let words: Vec<&str> = line.split(' ').collect(rt.alloc())?;
+        if let ["servers", kinds, wait, max] = *words {
+            all = servers(rt.alloc(), kinds, wait, max)?;
+        } else if let Some(answer) = answer(rt.alloc(), &mut all, &words)? {
+            println!(rt; "{answer} {line}")?;
+        }
+    }
+    Ok(())
+}
