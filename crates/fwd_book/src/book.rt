@@ -13,7 +13,6 @@ ghost use Rattle.std.specs.Prelude.{
   Some,
   [],
   ◌∷◌,
-  ◌++◌,
   ◌==◌,
   length,
   map,

@@ -7,7 +7,6 @@ ghost use Rattle.std.specs.Prelude.{
   List,
   Some,
   None,
-  false,
   true,
   ◌&&◌,
   map,

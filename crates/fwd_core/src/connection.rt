@@ -1,6 +1,6 @@
 //! The connections that stand, by their ids, and what becomes of one.
 
-ghost use Rattle.std.specs.Prelude.{◌≡◌, ◌<◌, IfNone, IfOk, IsOk, OnOk, OnErr, MatchOption, None, true, length, slice_get};
+ghost use Rattle.std.specs.Prelude.{◌≡◌, ◌<◌, IfOk, IsOk, OnOk, OnErr, MatchOption, None, true};
 ghost use Rattle.std.specs.Arc.{arc_value};
 ghost use Rattle.fwd_source.specs.Live.{live_next};
 ghost use Rattle.fwd_model.specs.Setups.{setup_of};

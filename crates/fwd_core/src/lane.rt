@@ -2,11 +2,8 @@
 
 ghost use Rattle.std.specs.Prelude.{
   ◌≡◌,
-  ℕ,
   Some,
-  ◌∷◌,
   ◌<◌,
-  [],
   Err,
   IfOk,
   IfErr,
@@ -14,16 +11,12 @@ ghost use Rattle.std.specs.Prelude.{
   OnOk,
   OnErr,
   IfSome,
-  IfNone,
   None,
   true,
-  is_some,
   filter,
-  length,
   map,
   option_map,
 };
-ghost use Rattle.fwd_chunks.specs.History.{Load};
 ghost use Rattle.fwd_chunks.specs.Live.{live_refusal, live_counts};
 ghost use Rattle.fwd_model.specs.Outputs.{output_enters};
 ghost use Rattle.fwd_model.specs.Live.{with_live_output, with_live_book};

@@ -2,15 +2,12 @@
 
 ghost use Rattle.std.specs.Prelude.{
   ◌≡◌,
-  ℕ,
   None,
   Some,
   false,
   true,
   is_some,
   not,
-  nat_lt,
-  length,
   option_map,
   IfOk,
   IsOk,

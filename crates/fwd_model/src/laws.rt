@@ -1,20 +1,6 @@
 //! Laws over the definitions, each the contract of a function that does nothing.
 
-ghost use Rattle.std.specs.Prelude.{
-  ◌≡◌,
-  ◌≤◌,
-  ◌++◌,
-  ℕ,
-  List,
-  [],
-  length,
-  Option,
-  Some,
-  true,
-  false,
-  is_some,
-  slice_get,
-};
+ghost use Rattle.std.specs.Prelude.{◌≡◌, ◌++◌, ℕ, List, [], Some, true, false, is_some, slice_get};
 ghost use Rattle.fwd_source.specs.History.{SourceHistory};
 ghost use Rattle.fwd_model.specs.declared.answer.Answer.TheVariants as answer;
 ghost use Rattle.fwd_model.specs.declared.config.Config.{Config};
