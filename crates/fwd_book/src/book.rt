@@ -31,7 +31,14 @@ ghost use Rattle.std.specs.Arc.{arc_value};
 ghost use Rattle.std.specs.List.{list_any};
 ghost use Rattle.fwd_modes.specs.Acks.{ack_name};
 ghost use Rattle.fwd_chunks.specs.Spans.{AreCutBy, AreRising};
-ghost use Rattle.fwd_book.specs.History.{is_of, Entered, entered_as, name_at, request_at, are_fresh};
+ghost use Rattle.fwd_book.specs.History.{
+  is_of,
+  Entered,
+  entered_as,
+  name_at,
+  request_at,
+  are_fresh,
+};
 ghost use Rattle.fwd_book.specs.Receipts.{
   Receipt as AbstractReceipt,
   IsRightFor,

@@ -40,7 +40,13 @@ ghost use Rattle.fwd_chunks.specs.Soundness.{IsSound};
 ghost use Rattle.fwd_session.specs.Evidence.{IsEvidence};
 ghost use Rattle.fwd_book.specs.History.{Entered, is_of, request_at};
 ghost use Rattle.fwd_book.specs.Receipts.{Receipt as AbstractReceipt, IsRightFor, receipts};
-ghost use Rattle.fwd_book.specs.Live.{IsSound as IsSoundBook, live_leaves, live_owed, live_owed_of, live_forgets_of};
+ghost use Rattle.fwd_book.specs.Live.{
+  IsSound as IsSoundBook,
+  live_leaves,
+  live_owed,
+  live_owed_of,
+  live_forgets_of,
+};
 ghost use Rattle.fwd_model.specs.Outputs.{
   no_requests,
   output_enters,
