@@ -140,7 +140,9 @@ untold-leaves fate b test gone left same = each b.admissions
     two true false a is_u qs rs more = ap (λ k. cond k (a.request ∷ qs) qs) is_u ∙ ap (λ xs. a.request ∷ xs) more
     two false m a is_u qs rs more = ap (λ k. cond k (a.request ∷ qs) qs) is_u ∙ more
 
-    each : (xs : List Admission) → map (λ a. a.request) (filter (λ a. is_untold a.fate) (map new xs)) ≡ filter stays (map (λ a. a.request) (filter (λ a. is_untold a.fate) xs))
+    each : (xs : List Admission)
+        → map (λ a. a.request) (filter (λ a. is_untold a.fate) (map new xs))
+        ≡ filter stays (map (λ a. a.request) (filter (λ a. is_untold a.fate) xs))
     each [] = refl
     each (a ∷ xs) =
         let rest : List Entered = map (λ x. x.request) (filter (λ x. is_untold x.fate) (map new xs)) in
@@ -155,7 +157,8 @@ pub left-found : (f : ℕ → Option Evidence) (qs : List Entered) (stays : Ente
 left-found f qs stays numbers =
     for-alike f (evidence_of (found_for f qs)) (filter stays qs) (λ n used. sym (for-found f qs n numbers (any-filter stays (has_run n) qs used)))
 
-pub follows-leaves : (fate : Fate) (b : BookHistory) (test : Entered → Bool) (gone : Admission → Bool)
+pub follows-leaves : (fate : Fate) (b : BookHistory) (test : Entered → Bool)
+    (gone : Admission → Bool)
     → is_untold fate ≡ false
     → ((a : Admission) → (is_untold a.fate && gone a) ≡ (is_untold a.fate && test a.request))
     → live_book (leaves fate gone b) ≡ live_drops test (live_book b)
@@ -193,7 +196,8 @@ filter-at {X = X} p (y ∷ xs) i x at = by (p y) i at (λ j there. filter-at p x
     Later : Type 0
     Later = (j : ℕ) → slice_get (filter p xs) j ≡ Some x → (k : ℕ) × (slice_get xs k ≡ Some x)
 
-    by : (t : Bool) (j : ℕ) → slice_get (cond t (y ∷ filter p xs) (filter p xs)) j ≡ Some x → Later → (k : ℕ) × (slice_get (y ∷ xs) k ≡ Some x)
+    by : (t : Bool) (j : ℕ) → slice_get (cond t (y ∷ filter p xs) (filter p xs)) j ≡ Some x → Later
+        → (k : ℕ) × (slice_get (y ∷ xs) k ≡ Some x)
     by true zero there more = (0, there)
     by true (suc j) there more = let at = more j there in (suc at.0, at.1)
     by false j there more = let at = more j there in (suc at.0, at.1)
@@ -203,14 +207,18 @@ tells-parted : (b : BookHistory) (origins : List Origin) → CanBeTold b origins
     ≡ filter (λ q. not (is_among origins q.origin)) (untold b)
 tells-parted b origins can = each b.admissions can
   where
-    by : (u m s : Bool) → ((u && m) ≡ true → s ≡ true) → (x : Entered) (xs ys : List Entered) → xs ≡ ys
+    by : (u m s : Bool) → ((u && m) ≡ true → s ≡ true) → (x : Entered) (xs ys : List Entered)
+        → xs ≡ ys
         → cond (u && not (m && s)) (x ∷ xs) xs ≡ cond (u && not m) (x ∷ ys) ys
     by false m s all x xs ys e = e
     by true false s all x xs ys e = ap (λ zs. x ∷ zs) e
     by true true s all x xs ys e = ap (λ k. cond (not k) (x ∷ xs) xs) (all refl) ∙ e
 
-    each : (as' : List Admission) → ((i : ℕ) (a : Admission) → slice_get as' i ≡ Some a → is_owed origins a ≡ true → is_settled b.settled a.request ≡ true)
-        → filter (λ q. not (is_among origins q.origin && is_settled b.settled q)) (map (λ a. a.request) (filter (λ a. is_untold a.fate) as'))
+    each : (as' : List Admission)
+        → ((i : ℕ) (a : Admission) → slice_get as' i ≡ Some a → is_owed origins a ≡ true
+        → is_settled b.settled a.request ≡ true)
+        → filter (λ q. not (is_among origins q.origin && is_settled b.settled q))
+        (map (λ a. a.request) (filter (λ a. is_untold a.fate) as'))
         ≡ filter (λ q. not (is_among origins q.origin)) (map (λ a. a.request) (filter (λ a. is_untold a.fate) as'))
     each [] all = refl
     each (a ∷ as') all =
@@ -310,14 +318,19 @@ pub follows-due : (b : BookHistory) (conn : ℕ) → due b conn ≡ live_due (li
 unfolding live_book
 follows-due b conn = each b.admissions ∙ filter-alike (λ q. is_of conn q && is_settled b.settled q) (live_is_due (live_book b) conn) (untold b) (λ i q at. due-alike b conn i q at)
   where
-    by : (u m s : Bool) (a : Admission) (xs : List Admission) (ys : List Entered) → map (λ x. x.request) xs ≡ ys
-        → map (λ (x : Admission). x.request) (cond ((u && m) && s) (a ∷ xs) xs) ≡ cond (u && (m && s)) (a.request ∷ ys) ys
+    by : (u m s : Bool) (a : Admission) (xs : List Admission) (ys : List Entered)
+        → map (λ x. x.request) xs ≡ ys
+        → map (λ (x : Admission). x.request) (cond ((u && m) && s) (a ∷ xs) xs)
+        ≡ cond (u && (m && s)) (a.request ∷ ys) ys
     by false m s a xs ys e = e
     by true false s a xs ys e = e
     by true true false a xs ys e = e
     by true true true a xs ys e = ap (λ zs. a.request ∷ zs) e
 
-    each : (as' : List Admission) → map (λ a. a.request) (filter (is_due conn b.settled) as') ≡ filter (λ q. is_of conn q && is_settled b.settled q) (map (λ a. a.request) (filter (λ a. is_untold a.fate) as'))
+    each : (as' : List Admission)
+        → map (λ a. a.request) (filter (is_due conn b.settled) as')
+        ≡ filter (λ q. is_of conn q && is_settled b.settled q)
+        (map (λ a. a.request) (filter (λ a. is_untold a.fate) as'))
     each [] = refl
     each (a ∷ as') =
         let rest : List Entered = map (λ x. x.request) (filter (λ x. is_untold x.fate) as') in
@@ -336,7 +349,8 @@ follows-tells_due b conn =
     by false m s = refl
     by true m s = refl
 
-    left : filter (λ q. not (is_of conn q && is_settled b.settled q)) (untold b) ≡ filter (λ q. not (live_is_due (live_book b) conn q)) (untold b)
+    left : filter (λ q. not (is_of conn q && is_settled b.settled q)) (untold b)
+        ≡ filter (λ q. not (live_is_due (live_book b) conn q)) (untold b)
     left = filter-alike (λ q. not (is_of conn q && is_settled b.settled q)) (λ q. not (live_is_due (live_book b) conn q)) (untold b) (λ i q at. ap not (due-alike b conn i q at))
 
 pub follows-forgets_of : (b : BookHistory) (conn : ℕ)
@@ -352,13 +366,16 @@ pub follows-owed_of : (b : BookHistory) (conn : ℕ)
 unfolding live_book
 follows-owed_of b conn = each b.admissions
   where
-    by : (u m : Bool) (a : Admission) (xs : List Admission) (ys : List Entered) → length xs ≡ length ys
+    by : (u m : Bool) (a : Admission) (xs : List Admission) (ys : List Entered)
+        → length xs ≡ length ys
         → length (cond (u && m) (a ∷ xs) xs) ≡ length (cond (u && m) (a.request ∷ ys) ys)
     by false m a xs ys e = e
     by true false a xs ys e = e
     by true true a xs ys e = ap suc e
 
-    each : (as' : List Admission) → length (filter (is_owed_to conn) as') ≡ length (filter (is_of conn) (map (λ a. a.request) (filter (λ a. is_untold a.fate) as')))
+    each : (as' : List Admission)
+        → length (filter (is_owed_to conn) as')
+        ≡ length (filter (is_of conn) (map (λ a. a.request) (filter (λ a. is_untold a.fate) as')))
     each [] = refl
     each (a ∷ as') =
         let rest : List Entered = map (λ x. x.request) (filter (λ x. is_untold x.fate) as') in

@@ -35,7 +35,8 @@ pub record AreParts (settled : List Evidence) (spans : List Span) (own : List (L
   pub numbers_are : map (λ (p : Part). p.evidence.number) parts ≡ map (λ (s : Span). s.number) spans
   pub shown_are : flat_map shown_by parts ≡ own
   pub from : (i : ℕ) (p : Part) → slice_get parts i ≡ Some p → Stands (λ e. list_any (λ s. s.number == e.number) spans) settled p.evidence
-  pub fits : (i : ℕ) (p : Part) → slice_get parts i ≡ Some p → p.from + p.count ≤ length p.evidence.entries
+  pub fits : (i : ℕ) (p : Part) → slice_get parts i ≡ Some p
+      → p.from + p.count ≤ length p.evidence.entries
 
 -- so many entries from a place on are there
 taken-within : (n f : ℕ) (xs ys : List (List ℕ)) → 0 < n → n ≤ length ys
@@ -51,18 +52,23 @@ taken-within n f xs ys some fits same =
     length-take (suc n) (y ∷ ys) h = ap suc (length-take n ys (omega (arith, h)))
 
     -- nothing is taken behind the end
-    length-drop : (n f : ℕ) (xs : List (List ℕ)) → (length (take n (drop f xs)) ≡ 0) ⊎ (f + length (take n (drop f xs)) ≤ length xs)
+    length-drop : (n f : ℕ) (xs : List (List ℕ))
+        → (length (take n (drop f xs)) ≡ 0) ⊎ (f + length (take n (drop f xs)) ≤ length xs)
     length-drop zero f xs = inl refl
     length-drop (suc n) zero [] = inl refl
     length-drop (suc n) zero (x ∷ xs) = inr (more (length-drop n zero xs))
       where
-        more : (length (take n xs) ≡ 0) ⊎ (0 + length (take n xs) ≤ length xs) → 0 + suc (length (take n xs)) ≤ suc (length xs)
+        more : (length (take n xs) ≡ 0) ⊎ (0 + length (take n xs) ≤ length xs)
+            → 0 + suc (length (take n xs)) ≤ suc (length xs)
         more (inl e) = omega (arith, e)
         more (inr h) = omega (arith, h)
     length-drop (suc n) (suc f) [] = inl refl
     length-drop (suc n) (suc f) (x ∷ xs) = by (length-drop (suc n) f xs)
       where
-        by : (length (take (suc n) (drop f xs)) ≡ 0) ⊎ (f + length (take (suc n) (drop f xs)) ≤ length xs) → (length (take (suc n) (drop f xs)) ≡ 0) ⊎ (suc f + length (take (suc n) (drop f xs)) ≤ suc (length xs))
+        by : (length (take (suc n) (drop f xs)) ≡ 0)
+            ⊎ (f + length (take (suc n) (drop f xs)) ≤ length xs)
+            → (length (take (suc n) (drop f xs)) ≡ 0)
+            ⊎ (suc f + length (take (suc n) (drop f xs)) ≤ suc (length xs))
         by (inl e) = inl e
         by (inr h) = inr (omega (arith, h))
 
@@ -90,7 +96,8 @@ parts_are settled (s ∷ spans) own all cut runs =
           fits = λ i p here. fit e (taken-within s.count s.from e.entries own cut.0 cut.1 shown) more i p here;
         }
       where
-        fit : (e : Evidence) → s.from + s.count ≤ length e.entries → AreParts settled spans (drop s.count own) (parts_of settled spans)
+        fit : (e : Evidence) → s.from + s.count ≤ length e.entries
+            → AreParts settled spans (drop s.count own) (parts_of settled spans)
             → (i : ℕ) (p : Part) → slice_get (record { evidence = e; from = s.from; count = s.count } ∷ parts_of settled spans) i ≡ Some p
             → p.from + p.count ≤ length p.evidence.entries
         fit e own-fits more zero p same = subst (λ (k : Part). k.from + k.count ≤ length k.evidence.entries) (some_is same) own-fits

@@ -186,7 +186,8 @@ few_present (e ∷ slots) = by e.1 (few_present slots)
 -- ---- a connection's requests, slot by slot
 
 present-more : (slots : List Slot) (i : ℕ)
-    → present (take (suc i) slots) ≡ present (take i slots) ++ present (option_to_list (slice_get slots i))
+    → present (take (suc i) slots)
+    ≡ present (take i slots) ++ present (option_to_list (slice_get slots i))
 present-more [] zero = refl
 present-more [] (suc i) = refl
 present-more (e ∷ slots) zero = refl
@@ -206,7 +207,8 @@ origins-more conn slots i n next =
 -- a first one: there is none before this slot, and this slot has one or none
 pub first-more : (conn : ℕ) (slots : List Slot) (i n : ℕ) (o : Option Origin) → n ≡ suc i
     → find (is_of conn) (present (take i slots)) ≡ None
-    → option_to_list o ≡ map (λ q. q.origin) (filter (is_of conn) (present (option_to_list (slice_get slots i))))
+    → option_to_list o
+    ≡ map (λ q. q.origin) (filter (is_of conn) (present (option_to_list (slice_get slots i))))
     → option_map (λ q. q.origin) (find (is_of conn) (present (take n slots))) ≡ o
 first-more conn slots i n o next none is =
     ap (λ k. option_map (λ q. q.origin) (find (is_of conn) (present (take k slots)))) next
@@ -214,12 +216,18 @@ first-more conn slots i n o next none is =
     ∙ ap (option_map (λ q. q.origin)) (find-append (is_of conn) (present (take i slots)) (present (option_to_list (slice_get slots i))) ∙ ap (λ k. option_or k (find (is_of conn) (present (option_to_list (slice_get slots i))))) none)
     ∙ only (present (option_to_list (slice_get slots i))) o is
   where
-    only : (qs : List Entered) (k : Option Origin) → option_to_list k ≡ map (λ q. q.origin) (filter (is_of conn) qs) → option_map (λ q. q.origin) (find (is_of conn) qs) ≡ k
+    only : (qs : List Entered) (k : Option Origin)
+        → option_to_list k ≡ map (λ q. q.origin) (filter (is_of conn) qs)
+        → option_map (λ q. q.origin) (find (is_of conn) qs) ≡ k
     only [] None e = refl
     only [] (Some x) e = absurd cc
     only (q ∷ qs) k e = by (is_of conn q) k e (only qs k)
       where
-        by : (b : Bool) (k : Option Origin) → option_to_list k ≡ map (λ r. r.origin) (cond b (q ∷ filter (is_of conn) qs) (filter (is_of conn) qs)) → (option_to_list k ≡ map (λ r. r.origin) (filter (is_of conn) qs) → option_map (λ r. r.origin) (find (is_of conn) qs) ≡ k)
+        by : (b : Bool) (k : Option Origin)
+            → option_to_list k
+            ≡ map (λ r. r.origin) (cond b (q ∷ filter (is_of conn) qs) (filter (is_of conn) qs))
+            → (option_to_list k ≡ map (λ r. r.origin) (filter (is_of conn) qs) → option_map
+            (λ r. r.origin) (find (is_of conn) qs) ≡ k)
             → option_map (λ r. r.origin) (cond b (Some q) (find (is_of conn) qs)) ≡ k
         by true None f rest = absurd cc
         by true (Some x) f rest = cc
@@ -237,7 +245,8 @@ first-all conn slots n all = ap (λ xs. find (is_of conn) (present xs)) (whole s
 
 -- and a first one stays the first among all
 pub first-stays : (conn : ℕ) (slots : List Slot) (n : ℕ) (q : Entered)
-    → find (is_of conn) (present (take n slots)) ≡ Some q → find (is_of conn) (present slots) ≡ Some q
+    → find (is_of conn) (present (take n slots)) ≡ Some q
+    → find (is_of conn) (present slots) ≡ Some q
 first-stays conn [] zero q e = e
 first-stays conn [] (suc n) q e = e
 first-stays conn (x ∷ slots) zero q e = absurd cc
@@ -245,7 +254,9 @@ first-stays conn (x ∷ slots) (suc n) q e =
     find-append (is_of conn) (option_to_list x.1) (present slots)
     ∙ by (find (is_of conn) (option_to_list x.1)) (sym (find-append (is_of conn) (option_to_list x.1) (present (take n slots))) ∙ e) (first-stays conn slots n q)
   where
-    by : (o : Option Entered) → option_or o (find (is_of conn) (present (take n slots))) ≡ Some q → (find (is_of conn) (present (take n slots)) ≡ Some q → find (is_of conn) (present slots) ≡ Some q)
+    by : (o : Option Entered) → option_or o (find (is_of conn) (present (take n slots))) ≡ Some q
+        → (find (is_of conn) (present (take n slots)) ≡ Some q → find (is_of conn) (present slots)
+        ≡ Some q)
         → option_or o (find (is_of conn) (present slots)) ≡ Some q
     by None f rest = rest f
     by (Some y) f rest = f
@@ -253,12 +264,15 @@ first-stays conn (x ∷ slots) (suc n) q e =
 -- the first one of all slots is in this slot, where there is none before
 pub first-found : (conn : ℕ) (slots : List Slot) (i : ℕ) (o : Option Origin)
     → find (is_of conn) (present (take i slots)) ≡ None
-    → option_to_list o ≡ map (λ q. q.origin) (filter (is_of conn) (present (option_to_list (slice_get slots i))))
+    → option_to_list o
+    ≡ map (λ q. q.origin) (filter (is_of conn) (present (option_to_list (slice_get slots i))))
     → is_some o ≡ true
     → o ≡ option_map (λ q. q.origin) (find (is_of conn) (present slots))
 first-found conn slots i o none is some = by (find (is_of conn) (present (take (suc i) slots))) refl (first-more conn slots i (suc i) o refl none is) some
   where
-    by : (k : Option Entered) → find (is_of conn) (present (take (suc i) slots)) ≡ k → option_map (λ q. q.origin) (find (is_of conn) (present (take (suc i) slots))) ≡ o → is_some o ≡ true → o ≡ option_map (λ q. q.origin) (find (is_of conn) (present slots))
+    by : (k : Option Entered) → find (is_of conn) (present (take (suc i) slots)) ≡ k
+        → option_map (λ q. q.origin) (find (is_of conn) (present (take (suc i) slots))) ≡ o
+        → is_some o ≡ true → o ≡ option_map (λ q. q.origin) (find (is_of conn) (present slots))
     by None e f g = absurd (false_true (ap is_some (sym (ap (option_map (λ q. q.origin)) e) ∙ f) ∙ g))
       where
         false_true : false ≡ true → ⊥
@@ -268,10 +282,12 @@ first-found conn slots i o none is some = by (find (is_of conn) (present (take (
 -- there is none so far, where there is none before this slot and none in it
 pub first-none : (conn : ℕ) (slots : List Slot) (i n : ℕ) (o : Option Origin) → n ≡ suc i
     → find (is_of conn) (present (take i slots)) ≡ None
-    → option_to_list o ≡ map (λ q. q.origin) (filter (is_of conn) (present (option_to_list (slice_get slots i))))
+    → option_to_list o
+    ≡ map (λ q. q.origin) (filter (is_of conn) (present (option_to_list (slice_get slots i))))
     → is_some o ≡ false → find (is_of conn) (present (take n slots)) ≡ None
 first-none conn slots i n o next none is lacks = by (find (is_of conn) (present (take n slots))) (ap is_some (first-more conn slots i n o next none is) ∙ lacks)
   where
-    by : (k : Option Entered) → is_some (option_map (λ (q : Entered). q.origin) k) ≡ false → k ≡ None
+    by : (k : Option Entered) → is_some (option_map (λ (q : Entered). q.origin) k) ≡ false
+        → k ≡ None
     by None e = refl
     by (Some q) e = absurd cc

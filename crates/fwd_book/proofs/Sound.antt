@@ -178,10 +178,13 @@ sound-drops b gone sound = record {
   of = λ i j q e here there. let at = in_left i q here in let on = in_kept j e there in sound.of at.0 on.0 q e at.1 on.1;
 }
   where
-    in_left : (i : ℕ) (q : Entered) → slice_get (filter (λ r. not (gone r)) b.requests) i ≡ Some q → (j : ℕ) × (slice_get b.requests j ≡ Some q)
+    in_left : (i : ℕ) (q : Entered) → slice_get (filter (λ r. not (gone r)) b.requests) i ≡ Some q
+        → (j : ℕ) × (slice_get b.requests j ≡ Some q)
     in_left i q here = in_filter (λ r. not (gone r)) b.requests i q here
 
-    in_kept : (j : ℕ) (e : Evidence) → slice_get (evidence_for (filter (λ r. not (gone r)) b.requests) b.settled) j ≡ Some e → (k : ℕ) × (slice_get b.settled k ≡ Some e)
+    in_kept : (j : ℕ) (e : Evidence)
+        → slice_get (evidence_for (filter (λ r. not (gone r)) b.requests) b.settled) j ≡ Some e
+        → (k : ℕ) × (slice_get b.settled k ≡ Some e)
     in_kept j e there =
         let from = comes (evidence_of b.settled) (filter (λ r. not (gone r)) b.requests) j e there in
         found_there b.settled from.number e from.found

@@ -32,12 +32,17 @@ none-there (r ∷ qs) o none i q at = by (is_origin o r.origin) refl none i at (
         is false f = f
         is true f = absurd (apart (sym e ∙ ap (λ x. is_origin x b) (origin-is b a f) ∙ same-origin b))
 
-    by : (t : Bool) → is_origin o r.origin ≡ t → cond t (Some r) (request_at qs o) ≡ None → (j : ℕ) → slice_get (r ∷ qs) j ≡ Some q → (request_at qs o ≡ None → (k : ℕ) → slice_get qs k ≡ Some q → (is_origin o q.origin ≡ false) × (is_origin q.origin o ≡ false)) → (is_origin o q.origin ≡ false) × (is_origin q.origin o ≡ false)
+    by : (t : Bool) → is_origin o r.origin ≡ t → cond t (Some r) (request_at qs o) ≡ None → (j : ℕ)
+        → slice_get (r ∷ qs) j ≡ Some q
+        → (request_at qs o ≡ None → (k : ℕ) → slice_get qs k ≡ Some q →
+        (is_origin o q.origin ≡ false) × (is_origin q.origin o ≡ false)) → (is_origin o q.origin
+        ≡ false) × (is_origin q.origin o ≡ false)
     by true f g j there more = absurd (none_some (sym g))
     by false f g zero there more = let same : r.origin ≡ q.origin = ap (λ (x : Entered). x.origin) (some_is there) in let e = ap (is_origin o) (sym same) ∙ f in (e, turned-origin o q.origin e)
     by false f g (suc j) there more = more g j there
 
-none-among : (qs : List Entered) (o : Origin) → ((i : ℕ) (q : Entered) → slice_get qs i ≡ Some q → is_origin q.origin o ≡ false)
+none-among : (qs : List Entered) (o : Origin)
+    → ((i : ℕ) (q : Entered) → slice_get qs i ≡ Some q → is_origin q.origin o ≡ false)
     → is_among (origins_of qs) o ≡ false
 none-among [] o none = refl
 none-among (q ∷ qs) o none = ap (λ t. t || is_among (origins_of qs) o) (none 0 q refl) ∙ none-among qs o (λ i r at. none (suc i) r at)
@@ -55,7 +60,8 @@ among-passed p (r ∷ qs) alone zero q at = by (p q) refl
     others = none-among (filter p qs) q.origin (λ i x there. let f = filter-at p qs i x there in
         (none-there qs q.origin (ap (λ (x : Entered). request_at qs x.origin) (sym same) ∙ alone.0) f.0 x f.1).1)
 
-    by : (t : Bool) → p q ≡ t → is_among (origins_of (cond (p r) (r ∷ filter p qs) (filter p qs))) q.origin ≡ p q
+    by : (t : Bool) → p q ≡ t
+        → is_among (origins_of (cond (p r) (r ∷ filter p qs) (filter p qs))) q.origin ≡ p q
     by true e =
         ap (λ k. is_among (origins_of (cond k (r ∷ filter p qs) (filter p qs))) q.origin) (ap p same ∙ e)
         ∙ ap (λ (x : Entered). is_origin x.origin q.origin || is_among (origins_of (filter p qs)) q.origin) same
@@ -67,7 +73,8 @@ among-passed p (r ∷ qs) alone (suc i) q at = by (p r) (among-passed p qs alone
     differ : is_origin r.origin q.origin ≡ false
     differ = (none-there qs r.origin alone.0 i q at).0
 
-    by : (t : Bool) → is_among (origins_of (filter p qs)) q.origin ≡ p q → is_among (origins_of (cond t (r ∷ filter p qs) (filter p qs))) q.origin ≡ p q
+    by : (t : Bool) → is_among (origins_of (filter p qs)) q.origin ≡ p q
+        → is_among (origins_of (cond t (r ∷ filter p qs) (filter p qs))) q.origin ≡ p q
     by true more = ap (λ k. k || is_among (origins_of (filter p qs)) q.origin) differ ∙ more
     by false more = more
 
@@ -76,7 +83,8 @@ pub leaves-passed : (b : LiveBook) (p : Entered → Bool) → AreApart b.request
     → live_leaves b (map (λ q. q.origin) (filter p b.requests)) ≡ live_drops p b
 leaves-passed b p alone = λ i. record b { requests = left i; settled = evidence_for (left i) b.settled }
   where
-    left : filter (λ q. not (is_among (origins_of (filter p b.requests)) q.origin)) b.requests ≡ filter (λ q. not (p q)) b.requests
+    left : filter (λ q. not (is_among (origins_of (filter p b.requests)) q.origin)) b.requests
+        ≡ filter (λ q. not (p q)) b.requests
     left = filter-alike (λ q. not (is_among (origins_of (filter p b.requests)) q.origin)) (λ q. not (p q)) b.requests
         (λ i q at. ap not (among-passed p b.requests alone i q at))
 
@@ -96,14 +104,17 @@ once-passed : (p : Entered → Bool) (qs : List Entered) → AreApart qs
 once-passed p [] alone = refl
 once-passed p (q ∷ qs) alone = by (p q) (once-passed p qs alone.1)
   where
-    stay : (rs : List Entered) → ((i : ℕ) (r : Entered) → slice_get rs i ≡ Some r → is_origin q.origin r.origin ≡ false)
+    stay : (rs : List Entered)
+        → ((i : ℕ) (r : Entered) → slice_get rs i ≡ Some r → is_origin q.origin r.origin ≡ false)
         → filter (λ o. not (is_origin q.origin o)) (origins_of rs) ≡ origins_of rs
     stay [] none = refl
     stay (r ∷ rs) none =
         ap (λ k. cond (not k) (r.origin ∷ filter (λ o. not (is_origin q.origin o)) (origins_of rs)) (filter (λ o. not (is_origin q.origin o)) (origins_of rs))) (none 0 r refl)
         ∙ ap (λ os. r.origin ∷ os) (stay rs (λ i x at. none (suc i) x at))
 
-    by : (t : Bool) → once (origins_of (filter p qs)) ≡ origins_of (filter p qs) → once (origins_of (cond t (q ∷ filter p qs) (filter p qs))) ≡ origins_of (cond t (q ∷ filter p qs) (filter p qs))
+    by : (t : Bool) → once (origins_of (filter p qs)) ≡ origins_of (filter p qs)
+        → once (origins_of (cond t (q ∷ filter p qs) (filter p qs)))
+        ≡ origins_of (cond t (q ∷ filter p qs) (filter p qs))
     by true more =
         ap (λ os. q.origin ∷ filter (λ o. not (is_origin q.origin o)) os) more
         ∙ ap (λ os. q.origin ∷ os) (stay (filter p qs) (λ i r at. let f = filter-at p qs i r at in (none-there qs q.origin alone.0 f.0 r f.1).0))
@@ -118,25 +129,36 @@ receipts-passed b p alone =
     ∙ each b.requests (λ i q at. found-own b.requests alone i q at)
   where
     by : (m s : Bool) (q : Entered) (rest : List Entered) (rs : List Receipt)
-        → (flat_map (λ origin. receipt_if b.settled (request_at b.requests origin)) (origins_of rest)) ≡ rs
+        → (flat_map (λ origin. receipt_if b.settled (request_at b.requests origin))
+        (origins_of rest)) ≡ rs
         → request_at b.requests q.origin ≡ Some q → is_settled b.settled q ≡ s
-        → flat_map (λ origin. receipt_if b.settled (request_at b.requests origin)) (origins_of (cond m (q ∷ rest) rest)) ≡ cond (m && s) (receipt_of b.settled q ∷ rs) rs
+        → flat_map (λ origin. receipt_if b.settled (request_at b.requests origin))
+        (origins_of (cond m (q ∷ rest) rest)) ≡ cond (m && s) (receipt_of b.settled q ∷ rs) rs
     by false s q rest rs more own is = more
     by true s q rest rs more own is =
         ap (λ o. receipt_if b.settled o ++ flat_map (λ origin. receipt_if b.settled (request_at b.requests origin)) (origins_of rest)) own
         ∙ ap (λ k. cond k (receipt_of b.settled q ∷ []) [] ++ flat_map (λ origin. receipt_if b.settled (request_at b.requests origin)) (origins_of rest)) is
         ∙ at s
       where
-        at : (k : Bool) → cond k (receipt_of b.settled q ∷ []) [] ++ flat_map (λ origin. receipt_if b.settled (request_at b.requests origin)) (origins_of rest) ≡ cond k (receipt_of b.settled q ∷ rs) rs
+        at : (k : Bool)
+            → cond k (receipt_of b.settled q ∷ []) []
+            ++ flat_map (λ origin. receipt_if b.settled (request_at b.requests origin))
+            (origins_of rest) ≡ cond k (receipt_of b.settled q ∷ rs) rs
         at true = ap (λ xs. receipt_of b.settled q ∷ xs) more
         at false = more
 
-    pushed : (k : Bool) (q : Entered) (qs : List Entered) → cond k (receipt_of b.settled q ∷ map (receipt_of b.settled) qs) (map (receipt_of b.settled) qs) ≡ map (receipt_of b.settled) (cond k (q ∷ qs) qs)
+    pushed : (k : Bool) (q : Entered) (qs : List Entered)
+        → cond k (receipt_of b.settled q ∷ map (receipt_of b.settled) qs)
+        (map (receipt_of b.settled) qs) ≡ map (receipt_of b.settled) (cond k (q ∷ qs) qs)
     pushed true q qs = refl
     pushed false q qs = refl
 
-    each : (qs : List Entered) → ((i : ℕ) (q : Entered) → slice_get qs i ≡ Some q → request_at b.requests q.origin ≡ Some q)
-        → flat_map (λ origin. receipt_if b.settled (request_at b.requests origin)) (origins_of (filter p qs)) ≡ map (receipt_of b.settled) (filter (λ q. p q && is_settled b.settled q) qs)
+    each : (qs : List Entered)
+        → ((i : ℕ) (q : Entered) → slice_get qs i ≡ Some q → request_at b.requests q.origin
+        ≡ Some q)
+        → flat_map (λ origin. receipt_if b.settled (request_at b.requests origin))
+        (origins_of (filter p qs))
+        ≡ map (receipt_of b.settled) (filter (λ q. p q && is_settled b.settled q) qs)
     each [] own = refl
     each (q ∷ qs) own =
         by (p q) (is_settled b.settled q) q (filter p qs) (map (receipt_of b.settled) (filter (λ r. p r && is_settled b.settled r) qs)) (each qs (λ i r at. own (suc i) r at)) (own 0 q refl) refl
@@ -145,7 +167,8 @@ receipts-passed b p alone =
 -- ---- a connection's requests leave one after the other
 
 -- the first of a connection's requests is found by its origin
-pub first-own : (conn : ℕ) (qs : List Entered) (q : Entered) → AreApart qs → find (is_of conn) qs ≡ Some q
+pub first-own : (conn : ℕ) (qs : List Entered) (q : Entered) → AreApart qs
+    → find (is_of conn) qs ≡ Some q
     → (request_at qs q.origin ≡ Some q) × (is_of conn q ≡ true)
 first-own conn qs q alone found =
     let st = found_stands (is_of conn) qs q found in
@@ -156,7 +179,8 @@ one-among o r = or-false (is_origin o r.origin)
 
 -- the others of the connection are those that are left
 others-left : (conn : ℕ) (q : Entered) (qs : List Entered) → is_of conn q ≡ true
-    → filter (λ r. not (is_of conn r)) (filter (λ r. not (is_among (q.origin ∷ []) r.origin)) qs) ≡ filter (λ r. not (is_of conn r)) qs
+    → filter (λ r. not (is_of conn r)) (filter (λ r. not (is_among (q.origin ∷ []) r.origin)) qs)
+    ≡ filter (λ r. not (is_of conn r)) qs
 others-left conn q [] its = refl
 others-left conn q (r ∷ qs) its = by (is_origin q.origin r.origin) refl (others-left conn q qs its)
   where
@@ -166,8 +190,10 @@ others-left conn q (r ∷ qs) its = by (is_origin q.origin r.origin) refl (other
     others : List Entered
     others = filter (λ x. not (is_of conn x)) qs
 
-    by : (b : Bool) → is_origin q.origin r.origin ≡ b → filter (λ x. not (is_of conn x)) rest ≡ others
-        → filter (λ x. not (is_of conn x)) (cond (not (is_among (q.origin ∷ []) r.origin)) (r ∷ rest) rest) ≡ cond (not (is_of conn r)) (r ∷ others) others
+    by : (b : Bool) → is_origin q.origin r.origin ≡ b
+        → filter (λ x. not (is_of conn x)) rest ≡ others
+        → filter (λ x. not (is_of conn x)) (cond (not (is_among (q.origin ∷ []) r.origin))
+        (r ∷ rest) rest) ≡ cond (not (is_of conn r)) (r ∷ others) others
     by true e more =
         let its_too : is_of conn r ≡ true = ap (λ (o : Origin). o.conn == conn) (origin-is q.origin r.origin e) ∙ its in
         ap (λ b. filter (λ x. not (is_of conn x)) (cond (not b) (r ∷ rest) rest)) (one-among q.origin r ∙ e) ∙ more ∙ ap (λ b. cond (not b) (r ∷ others) others) (sym its_too)
@@ -177,7 +203,8 @@ others-left conn q (r ∷ qs) its = by (is_origin q.origin r.origin) refl (other
 -- one leaves
 one-less : (p : Entered → Bool) (qs : List Entered) (o : Origin) (q : Entered) → AreApart qs
     → request_at qs o ≡ Some q → p q ≡ true
-    → length (filter p qs) ≡ suc (length (filter p (filter (λ r. not (is_among (o ∷ []) r.origin)) qs)))
+    → length (filter p qs)
+    ≡ suc (length (filter p (filter (λ r. not (is_among (o ∷ []) r.origin)) qs)))
 one-less p [] o q alone there its = absurd (none_some there)
 one-less p (r ∷ qs) o q alone there its = by (is_origin o r.origin) refl there (one-less p qs o q alone.1)
   where
@@ -185,8 +212,10 @@ one-less p (r ∷ qs) o q alone there its = by (is_origin o r.origin) refl there
     rest = filter (λ x. not (is_among (o ∷ []) x.origin)) qs
 
     by : (b : Bool) → is_origin o r.origin ≡ b → cond b (Some r) (request_at qs o) ≡ Some q
-        → (request_at qs o ≡ Some q → p q ≡ true → length (filter p qs) ≡ suc (length (filter p rest)))
-        → length (cond (p r) (r ∷ filter p qs) (filter p qs)) ≡ suc (length (filter p (cond (not (is_among (o ∷ []) r.origin)) (r ∷ rest) rest)))
+        → (request_at qs o ≡ Some q → p q ≡ true → length (filter p qs) ≡ suc
+        (length (filter p rest)))
+        → length (cond (p r) (r ∷ filter p qs) (filter p qs))
+        ≡ suc (length (filter p (cond (not (is_among (o ∷ []) r.origin)) (r ∷ rest) rest)))
     by true e f more =
         let same : r ≡ q = some_is f in
         let origin : r.origin ≡ o = origin-is o r.origin e in
@@ -202,7 +231,9 @@ one-less p (r ∷ qs) o q alone there its = by (is_origin o r.origin) refl there
     by false e f more =
         counted (p r) (more f its) ∙ ap (λ b. suc (length (filter p (cond (not b) (r ∷ rest) rest)))) (sym (one-among o r ∙ e))
       where
-        counted : (b : Bool) → length (filter p qs) ≡ suc (length (filter p rest)) → length (cond b (r ∷ filter p qs) (filter p qs)) ≡ suc (length (cond b (r ∷ filter p rest) (filter p rest)))
+        counted : (b : Bool) → length (filter p qs) ≡ suc (length (filter p rest))
+            → length (cond b (r ∷ filter p qs) (filter p qs))
+            ≡ suc (length (cond b (r ∷ filter p rest) (filter p rest)))
         counted true g = ap suc g
         counted false g = g
 
@@ -230,8 +261,10 @@ none-of : (p : Entered → Bool) (qs : List Entered) → find p qs ≡ None
 none-of p [] none = (refl, refl)
 none-of p (q ∷ qs) none = by (p q) none (none-of p qs)
   where
-    by : (b : Bool) → cond b (Some q) (find p qs) ≡ None → (find p qs ≡ None → (filter p qs ≡ []) × (filter (λ r. not (p r)) qs ≡ qs))
-        → (cond b (q ∷ filter p qs) (filter p qs) ≡ []) × (cond (not b) (q ∷ filter (λ r. not (p r)) qs) (filter (λ r. not (p r)) qs) ≡ q ∷ qs)
+    by : (b : Bool) → cond b (Some q) (find p qs) ≡ None
+        → (find p qs ≡ None → (filter p qs ≡ []) × (filter (λ r. not (p r)) qs ≡ qs))
+        → (cond b (q ∷ filter p qs) (filter p qs) ≡ [])
+        × (cond (not b) (q ∷ filter (λ r. not (p r)) qs) (filter (λ r. not (p r)) qs) ≡ q ∷ qs)
     by true e more = absurd (none_some (sym e))
     by false e more = let rest = more e in (rest.0, ap (λ xs. q ∷ xs) rest.1)
 

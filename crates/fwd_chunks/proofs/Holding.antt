@@ -32,7 +32,9 @@ find-map n f number (c ∷ chunks) =
     ap (λ m. cond (m == n) (Some (f c)) (find (is_at n) (map f chunks))) (number c)
     ∙ by (c.number == n) (find-map n f number chunks)
   where
-    by : (b : Bool) → find (is_at n) (map f chunks) ≡ option_map f (find (is_at n) chunks) → cond b (Some (f c)) (find (is_at n) (map f chunks)) ≡ option_map f (cond b (Some c) (find (is_at n) chunks))
+    by : (b : Bool) → find (is_at n) (map f chunks) ≡ option_map f (find (is_at n) chunks)
+        → cond b (Some (f c)) (find (is_at n) (map f chunks))
+        ≡ option_map f (cond b (Some c) (find (is_at n) chunks))
     by true rest = refl
     by false rest = rest
 
@@ -48,8 +50,11 @@ pub find-push : (n : ℕ) (chunks : List Chunk) (d : Chunk)
 find-push n [] d = refl
 find-push n (c ∷ chunks) d = by (is_at n c) (find-push n chunks d)
   where
-    by : (b : Bool) → find (is_at n) (chunks ++ d ∷ []) ≡ option_else (find (is_at n) chunks) (cond (is_at n d) (Some d) None)
-        → cond b (Some c) (find (is_at n) (chunks ++ d ∷ [])) ≡ option_else (cond b (Some c) (find (is_at n) chunks)) (cond (is_at n d) (Some d) None)
+    by : (b : Bool)
+        → find (is_at n) (chunks ++ d ∷ [])
+        ≡ option_else (find (is_at n) chunks) (cond (is_at n d) (Some d) None)
+        → cond b (Some c) (find (is_at n) (chunks ++ d ∷ []))
+        ≡ option_else (cond b (Some c) (find (is_at n) chunks)) (cond (is_at n d) (Some d) None)
     by true rest = refl
     by false rest = rest
 
@@ -67,7 +72,8 @@ pub found-at : (p : Chunk → Bool) (chunks : List Chunk) (c : Chunk) → AreInO
 found-at p [] c h e = absurd (none_some e)
 found-at p (x ∷ chunks) c h e = by (p x) (found-at p chunks c h.1) e
   where
-    by : (b : Bool) → (find p chunks ≡ Some c → find (is_at c.number) chunks ≡ Some c) → cond b (Some x) (find p chunks) ≡ Some c → find (is_at c.number) (x ∷ chunks) ≡ Some c
+    by : (b : Bool) → (find p chunks ≡ Some c → find (is_at c.number) chunks ≡ Some c)
+        → cond b (Some x) (find p chunks) ≡ Some c → find (is_at c.number) (x ∷ chunks) ≡ Some c
     by true rest f =
         let same : x ≡ c = one_chunk f in
         ap (λ b. cond b (Some x) (find (is_at c.number) chunks)) (ap (λ y. y.number == c.number) same ∙ eq_same c.number) ∙ ap (λ y. Some y) same
@@ -125,7 +131,8 @@ length-more [] ys = omega arith
 length-more (x ∷ xs) ys = omega (arith, length-more xs ys)
 
 module _ (b : LiveBuffer) (tag entry : List ℕ) (own : IsSorted b) where
-  pub adds-grows : (n : ℕ) (d : Chunk) → find (is_at n) b.chunks ≡ Some d → Grown (live_adds b tag entry).chunks n d
+  pub adds-grows : (n : ℕ) (d : Chunk) → find (is_at n) b.chunks ≡ Some d
+      → Grown (live_adds b tag entry).chunks n d
   unfolding live_adds
   adds-grows n d e = by (find (may_take b tag entry) b.chunks)
     where
@@ -148,17 +155,23 @@ module _ (b : LiveBuffer) (tag entry : List ℕ) (own : IsSorted b) where
           same false = refl
       by (Some c) = at (is_at c.number d) (find-map n (joining c.number entry) (joining-number c.number entry) b.chunks ∙ ap (option_map (joining c.number entry)) e)
         where
-          at : (t : Bool) → find (is_at n) (live_adds_to b tag entry (Some c)).chunks ≡ Some (cond t (with_entry entry d) d) → Grown (live_adds_to b tag entry (Some c)).chunks n d
+          at : (t : Bool)
+              → find (is_at n) (live_adds_to b tag entry (Some c)).chunks
+              ≡ Some (cond t (with_entry entry d) d)
+              → Grown (live_adds_to b tag entry (Some c)).chunks n d
           at true f = record { chunk = with_entry entry d; more = entry ∷ []; here = f; tagged = refl; entries = refl }
           at false f = record { chunk = d; more = []; here = f; tagged = refl; entries = sym (append-nil d.entries) }
 
   -- where a number was not there, and is not the next, it is not there
   pub adds-gone : (n : ℕ) → find (is_at n) b.chunks ≡ None → n < live_next_number b
-      → (find (is_at n) (live_adds b tag entry).chunks ≡ None) × (n < live_next_number (live_adds b tag entry))
+      → (find (is_at n) (live_adds b tag entry).chunks ≡ None)
+      × (n < live_next_number (live_adds b tag entry))
   unfolding live_adds
   adds-gone n e lt = by (find (may_take b tag entry) b.chunks)
     where
-      by : (o : Option Chunk) → (find (is_at n) (live_adds_to b tag entry o).chunks ≡ None) × (n < live_next_number (live_adds_to b tag entry o))
+      by : (o : Option Chunk)
+          → (find (is_at n) (live_adds_to b tag entry o).chunks ≡ None)
+          × (n < live_next_number (live_adds_to b tag entry o))
       by None =
           let apart : (live_next_number b == n) ≡ false = not_from (live_next_number b == n) (λ f. absurd (omega (arith, lt, eq_from (live_next_number b) n f))) in (
             find-push n (map (closing tag) b.chunks) (first_chunk b tag entry)
@@ -175,7 +188,8 @@ module _ (b : LiveBuffer) (tag entry : List ℕ) (own : IsSorted b) where
   unfolding live_adds
   adds-stands = by (find (may_take b tag entry) b.chunks) refl
     where
-      by : (o : Option Chunk) → find (may_take b tag entry) b.chunks ≡ o → Stands (live_adds_to b tag entry o) tag entry (live_place b o)
+      by : (o : Option Chunk) → find (may_take b tag entry) b.chunks ≡ o
+          → Stands (live_adds_to b tag entry o) tag entry (live_place b o)
       by None e = record {
         chunk = first_chunk b tag entry;
         front = [];
@@ -201,7 +215,8 @@ module _ (b : LiveBuffer) (tag entry : List ℕ) (own : IsSorted b) where
   unfolding live_adds
   place-below = by (find (may_take b tag entry) b.chunks) refl
     where
-      by : (o : Option Chunk) → find (may_take b tag entry) b.chunks ≡ o → (live_place b o).number < live_next_number (live_adds_to b tag entry o)
+      by : (o : Option Chunk) → find (may_take b tag entry) b.chunks ≡ o
+          → (live_place b o).number < live_next_number (live_adds_to b tag entry o)
       by None e = omega arith
       by (Some c) e = found-all (λ d. d.number < live_next_number b) (may_take b tag entry) b.chunks c e own.below
 
@@ -220,7 +235,10 @@ open-one tag p r (x ∷ chunks) c d h e opened f also = by (p x) (r x) e f (open
         let second = and_parts (is_open z.stage) (bytes_eq z.tag tag) two in
         true_false (is_open y.stage) first.0 (before.shut ((bytes_eq-Decides y.tag z.tag).1 ((bytes_eq-Decides y.tag tag).0 first.1 ∙ sym ((bytes_eq-Decides z.tag tag).0 second.1))))
 
-    by : (s t : Bool) → cond s (Some x) (find p chunks) ≡ Some c → cond t (Some x) (find r chunks) ≡ Some d → (find p chunks ≡ Some c → is_open_of tag c ≡ true → find r chunks ≡ Some d → is_open_of tag d ≡ true → c ≡ d) → c ≡ d
+    by : (s t : Bool) → cond s (Some x) (find p chunks) ≡ Some c
+        → cond t (Some x) (find r chunks) ≡ Some d
+        → (find p chunks ≡ Some c → is_open_of tag c ≡ true → find r chunks ≡ Some d
+        → is_open_of tag d ≡ true → c ≡ d) → c ≡ d
     by true true g k rest = sym (one_chunk g) ∙ one_chunk k
     by true false g k rest = absurd (opposed c d (subst (λ y. IsBefore y d) (one_chunk g) (found-all (IsBefore x) r chunks d k h.0)) opened also)
     by false true g k rest = absurd (opposed d c (subst (λ y. IsBefore y c) (one_chunk k) (found-all (IsBefore x) p chunks c g h.0)) also opened)
@@ -231,7 +249,8 @@ abbrev Follows : (number from : ℕ) → Span → Type 0
 Follows number from s = ((s.number ≡ number) × (s.from ≡ from + 1)) ⊎ (number < s.number)
 
 next-place : (b : LiveBuffer) (tag entry then' : List ℕ) (own : IsSorted b)
-    → Follows (place b tag entry own).number (place b tag entry own).from (place (live_adds b tag entry) tag then' (adds-sorted b tag entry own))
+    → Follows (place b tag entry own).number (place b tag entry own).from
+    (place (live_adds b tag entry) tag then' (adds-sorted b tag entry own))
 next-place b tag entry then' own = by (find (may_take c tag then') c.chunks) refl
   where
     c : LiveBuffer
@@ -240,7 +259,8 @@ next-place b tag entry then' own = by (find (may_take c tag then') c.chunks) ref
     is : Stands c tag entry (place b tag entry own)
     is = adds-stands b tag entry own
 
-    by : (o : Option Chunk) → find (may_take c tag then') c.chunks ≡ o → Follows (place b tag entry own).number (place b tag entry own).from (live_place c o)
+    by : (o : Option Chunk) → find (may_take c tag then') c.chunks ≡ o
+        → Follows (place b tag entry own).number (place b tag entry own).from (live_place c o)
     by None e = inr (place-below b tag entry own)
     by (Some d) e =
         let one = (and_parts (is_open_of tag d) (nat_le (size_of d.entries + length then') c.setting.limits.chunk) (found-passes (may_take c tag then') c.chunks d e)).0 in
@@ -308,7 +328,8 @@ module _ (chunks : List Chunk) (tag entry : List ℕ) (es : List (List ℕ)) (n 
   one-held : IsHeld chunks tag (record { number = n; from = f; count = 1 }) (entry ∷ es)
   one-held = run-held 0 1 refl (omega (arith, whole-length)) refl
 
-  joined : (h : Span) (runs : List Span) → Ran chunks tag (h ∷ runs) es → h.number ≡ n → h.from ≡ f + 1
+  joined : (h : Span) (runs : List Span) → Ran chunks tag (h ∷ runs) es → h.number ≡ n
+      → h.from ≡ f + 1
       → Ran chunks tag (record { number = n; from = f; count = 1 + h.count } ∷ runs) (entry ∷ es)
   joined h runs ran number at =
       let held = ran.held.0 in
@@ -328,7 +349,8 @@ module _ (chunks : List Chunk) (tag entry : List ℕ) (es : List (List ℕ)) (n 
         rising = (subst (λ k. AllByRecursion (λ t. k < t.number) runs) number ran.rising.0, ran.rising.1);
       }
 
-  all-above : (h : ℕ) (runs : List Span) → n < h → AllByRecursion (λ t. h < t.number) runs → AllByRecursion (λ t. n < t.number) runs
+  all-above : (h : ℕ) (runs : List Span) → n < h → AllByRecursion (λ t. h < t.number) runs
+      → AllByRecursion (λ t. n < t.number) runs
   all-above h [] lt all = tt
   all-above h (t ∷ runs) lt all = (omega (arith, lt, all.0), all-above h runs lt all.1)
 
@@ -387,7 +409,8 @@ adds_all-gone (entry ∷ es) b tag own n e lt =
 
 -- runs begin with the place of the first entry
 runs-begin : (b : LiveBuffer) (tag entry : List ℕ) (es : List (List ℕ)) (own : IsSorted b)
-    → Begins (place b tag entry own).number (place b tag entry own).from (live_runs (live_adds b tag entry) tag es)
+    → Begins (place b tag entry own).number (place b tag entry own).from
+    (live_runs (live_adds b tag entry) tag es)
 runs-begin b tag entry [] own = tt
 runs-begin b tag entry (e ∷ es) own =
     headed (place c tag e more) (live_runs (live_adds c tag e) tag es) (next-place b tag entry e own)
@@ -398,7 +421,9 @@ runs-begin b tag entry (e ∷ es) own =
     more : IsSorted c
     more = adds-sorted b tag entry own
 
-    headed : (p : Span) (runs : List Span) → Follows (place b tag entry own).number (place b tag entry own).from p → Begins (place b tag entry own).number (place b tag entry own).from (before_runs p runs)
+    headed : (p : Span) (runs : List Span)
+        → Follows (place b tag entry own).number (place b tag entry own).from p
+        → Begins (place b tag entry own).number (place b tag entry own).from (before_runs p runs)
     headed p [] h = h
     headed p (s ∷ runs) h = by (p.number == s.number)
       where
@@ -587,7 +612,9 @@ find-other k n differ (c ∷ chunks) = by (c.number == k) refl (find-other k n d
     rest : List Chunk
     rest = filter (λ d. not (is_at k d)) chunks
 
-    by : (t : Bool) → (c.number == k) ≡ t → find (is_at n) rest ≡ find (is_at n) chunks → find (is_at n) (cond (not t) (c ∷ rest) rest) ≡ cond (is_at n c) (Some c) (find (is_at n) chunks)
+    by : (t : Bool) → (c.number == k) ≡ t → find (is_at n) rest ≡ find (is_at n) chunks
+        → find (is_at n) (cond (not t) (c ∷ rest) rest)
+        ≡ cond (is_at n c) (Some c) (find (is_at n) chunks)
     by true e same =
         let apart : (c.number == n) ≡ false = not_from (c.number == n) (λ f. absurd (differ (sym (eq_from c.number n f) ∙ eq_from c.number k e))) in
         same ∙ ap (λ t. cond t (Some c) (find (is_at n) chunks)) (sym apart)
@@ -601,7 +628,9 @@ find-left k n (c ∷ chunks) e = by (is_at n c) refl (not (is_at k c)) (find-lef
     rest : List Chunk
     rest = filter (λ d. not (is_at k d)) chunks
 
-    by : (t : Bool) → is_at n c ≡ t → (u : Bool) → (find (is_at n) chunks ≡ None → find (is_at n) rest ≡ None) → find (is_at n) (cond u (c ∷ rest) rest) ≡ None
+    by : (t : Bool) → is_at n c ≡ t → (u : Bool)
+        → (find (is_at n) chunks ≡ None → find (is_at n) rest ≡ None)
+        → find (is_at n) (cond u (c ∷ rest) rest) ≡ None
     by true f u more = absurd (none_some (sym (ap (λ t. cond t (Some c) (find (is_at n) chunks)) (sym f) ∙ e)))
     by false f true more = ap (λ t. cond t (Some c) (find (is_at n) rest)) f ∙ more (ap (λ t. cond t (Some c) (find (is_at n) chunks)) (sym f) ∙ e)
     by false f false more = more (ap (λ t. cond t (Some c) (find (is_at n) chunks)) (sym f) ∙ e)
@@ -614,7 +643,8 @@ find-without k (c ∷ chunks) = by (is_at k c) refl (find-without k chunks)
     rest : List Chunk
     rest = filter (λ d. not (is_at k d)) chunks
 
-    by : (t : Bool) → is_at k c ≡ t → find (is_at k) rest ≡ None → find (is_at k) (cond (not t) (c ∷ rest) rest) ≡ None
+    by : (t : Bool) → is_at k c ≡ t → find (is_at k) rest ≡ None
+        → find (is_at k) (cond (not t) (c ∷ rest) rest) ≡ None
     by true e none = none
     by false e none = ap (λ t. cond t (Some c) (find (is_at k) rest)) e ∙ none
 
@@ -642,7 +672,9 @@ pub carried-found : (b : LiveBuffer) (n : ℕ) (load : Load) → live_carried b 
     → (c : Chunk) × (find (is_at n) b.chunks ≡ Some c) × (live_load b c ≡ load)
 carried-found b n load e order = by (find (λ c. is_at n c && is_taken c.stage) b.chunks) refl e
   where
-    by : (o : Option Chunk) → find (λ c. is_at n c && is_taken c.stage) b.chunks ≡ o → option_map (live_load b) o ≡ Some load → (c : Chunk) × (find (is_at n) b.chunks ≡ Some c) × (live_load b c ≡ load)
+    by : (o : Option Chunk) → find (λ c. is_at n c && is_taken c.stage) b.chunks ≡ o
+        → option_map (live_load b) o ≡ Some load
+        → (c : Chunk) × (find (is_at n) b.chunks ≡ Some c) × (live_load b c ≡ load)
     by None f g = absurd cc
     by (Some c) f g =
         let at : c.number ≡ n = eq_from c.number n (and_parts (is_at n c) (is_taken c.stage) (found-passes (λ d. is_at n d && is_taken d.stage) b.chunks c f)).0 in

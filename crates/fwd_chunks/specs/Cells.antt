@@ -1,5 +1,23 @@
 -- The entries that an output admitted, and what a list of them says.
-use Rattle.std.specs.Prelude.{ℕ, ◌+◌, ◌&&◌, ◌==◌, max, Bool, not, List, [], ◌∷◌, length, map, filter, Option, Some, None, if◌then◌else◌}
+use Rattle.std.specs.Prelude.{
+  ℕ,
+  ◌+◌,
+  ◌&&◌,
+  ◌==◌,
+  max,
+  Bool,
+  not,
+  List,
+  [],
+  ◌∷◌,
+  length,
+  map,
+  filter,
+  Option,
+  Some,
+  None,
+  if◌then◌else◌,
+}
 use Rattle.std.specs.List.{list_any}
 use Rattle.std.specs.Option.{option_or}
 use Rattle.std.specs.Str.{bytes_eq}

@@ -1,11 +1,34 @@
 -- What happens to a buffer, and what a run of such events reaches.
-use Rattle.std.specs.Prelude.{◌≡◌, ◌<◌, ◌≤◌, ℕ, List, [], ◌∷◌, Option, Some, None, slice_get, if◌then◌else◌}
+use Rattle.std.specs.Prelude.{
+  ◌≡◌,
+  ◌<◌,
+  ◌≤◌,
+  ℕ,
+  List,
+  [],
+  ◌∷◌,
+  Option,
+  Some,
+  None,
+  slice_get,
+  if◌then◌else◌,
+}
 use Rattle.fwd_modes.specs.Requests.{Request}
 use Rattle.fwd_source.specs.declared.origin.Origin.{Origin}
 use Rattle.fwd_chunks.specs.declared.flush.FlushKind.{FlushKind}
 use Rattle.fwd_chunks.specs.declared.fault.AdmitError.{AdmitError}
 use Rattle.fwd_chunks.specs.Cells.{Cell, is_carried}
-use Rattle.fwd_chunks.specs.History.{BufferSetting, BufferHistory, opening, refusal, enters, flushes, takes, settles, frees}
+use Rattle.fwd_chunks.specs.History.{
+  BufferSetting,
+  BufferHistory,
+  opening,
+  refusal,
+  enters,
+  flushes,
+  takes,
+  settles,
+  frees,
+}
 
 -- a request is handed in; open numbers are closed; a worker asks for a chunk; a number was
 -- acknowledged; it is given back

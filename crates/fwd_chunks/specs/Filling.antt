@@ -1,6 +1,25 @@
 -- How the code cuts a request's entries into chunks, which the proofs tie to joining entry by
 -- entry.
-use Rattle.std.specs.Prelude.{ℕ, suc, ◌+◌, nat_le, List, [], ◌∷◌, ◌++◌, length, map, find, Option, Some, None, Bool, true, false, if◌then◌else◌}
+use Rattle.std.specs.Prelude.{
+  ℕ,
+  suc,
+  ◌+◌,
+  nat_le,
+  List,
+  [],
+  ◌∷◌,
+  ◌++◌,
+  length,
+  map,
+  find,
+  Option,
+  Some,
+  None,
+  Bool,
+  true,
+  false,
+  if◌then◌else◌,
+}
 use Rattle.fwd_chunks.specs.declared.chunk.Chunk.{Chunk}
 use Rattle.fwd_chunks.specs.declared.span.Span.{Span}
 use Rattle.fwd_chunks.specs.declared.stage.Stage.{Stage}

@@ -1,6 +1,35 @@
 -- The history of one output's buffer, with nothing removed: what each event asks of it, and what
 -- it changes.
-use Rattle.std.specs.Prelude.{◌≡◌, ◌≤◌, ℕ, ◌+◌, ◌^◌, ◌&&◌, ◌||◌, ◌==◌, max, min, nat_le, nat_lt, Bool, true, false, not, List, [], ◌∷◌, ◌++◌, length, drop, filter, find, Option, Some, None, if◌then◌else◌}
+use Rattle.std.specs.Prelude.{
+  ◌≡◌,
+  ◌≤◌,
+  ℕ,
+  ◌+◌,
+  ◌^◌,
+  ◌&&◌,
+  ◌||◌,
+  ◌==◌,
+  max,
+  min,
+  nat_le,
+  nat_lt,
+  Bool,
+  true,
+  false,
+  not,
+  List,
+  [],
+  ◌∷◌,
+  ◌++◌,
+  length,
+  drop,
+  filter,
+  find,
+  Option,
+  Some,
+  None,
+  if◌then◌else◌,
+}
 use Rattle.fwd_modes.specs.Requests.{Request}
 use Rattle.fwd_modes.specs.Frames.{chunk_name}
 use Rattle.fwd_source.specs.declared.origin.Origin.{Origin}
@@ -12,7 +41,25 @@ use Rattle.fwd_chunks.specs.declared.span.Span.{Span}
 use Rattle.fwd_chunks.specs.declared.fault.AdmitError.{AdmitError}
 use Rattle.fwd_chunks.specs.declared.fault.AdmitError.TheVariants.{Full, NumbersSpent}
 use Rattle.fwd_chunks.specs.Waits.{wait_after}
-use Rattle.fwd_chunks.specs.Cells.{Cell, Loss, Carry, size_of, entries_of, cells_at, contents, first_tag, has_number, numbers_of, has_entry, last_number, greatest, number_after, is_carried, without, losses_of}
+use Rattle.fwd_chunks.specs.Cells.{
+  Cell,
+  Loss,
+  Carry,
+  size_of,
+  entries_of,
+  cells_at,
+  contents,
+  first_tag,
+  has_number,
+  numbers_of,
+  has_entry,
+  last_number,
+  greatest,
+  number_after,
+  is_carried,
+  without,
+  losses_of,
+}
 
 -- what a buffer is set to: its limits, and the run and the output that its chunks' names tell
 pub record BufferSetting : Type 0 where

@@ -1,5 +1,24 @@
 -- How the levels of keys stand over each other.
-use Rattle.std.specs.Prelude.{◌≡◌, ℕ, ◌+◌, ◌-◌, ◌*◌, ◌/◌, ◌<◌, ◌≤◌, min, List, [], map, length, slice_index_or, Option, Some, None, Vec}
+use Rattle.std.specs.Prelude.{
+  ◌≡◌,
+  ℕ,
+  ◌+◌,
+  ◌-◌,
+  ◌*◌,
+  ◌/◌,
+  ◌<◌,
+  ◌≤◌,
+  min,
+  List,
+  [],
+  map,
+  length,
+  slice_index_or,
+  Option,
+  Some,
+  None,
+  Vec,
+}
 use Rattle.std.specs.declared.alloc.Global.{Global}
 
 -- the levels as the code keeps them

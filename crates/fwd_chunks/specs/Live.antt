@@ -1,6 +1,36 @@
 -- What of a history still matters: the chunks that are not settled, and the counts. The same
 -- events, taken on that.
-use Rattle.std.specs.Prelude.{◌≡◌, ℕ, ◌+◌, ◌^◌, ◌&&◌, ◌||◌, ◌==◌, min, max, nat_le, nat_lt, Bool, true, false, not, List, [], ◌∷◌, ◌++◌, length, map, filter, find, Option, Some, None, is_some, option_map, if◌then◌else◌}
+use Rattle.std.specs.Prelude.{
+  ◌≡◌,
+  ℕ,
+  ◌+◌,
+  ◌^◌,
+  ◌&&◌,
+  ◌||◌,
+  ◌==◌,
+  min,
+  max,
+  nat_le,
+  nat_lt,
+  Bool,
+  true,
+  false,
+  not,
+  List,
+  [],
+  ◌∷◌,
+  ◌++◌,
+  length,
+  map,
+  filter,
+  find,
+  Option,
+  Some,
+  None,
+  is_some,
+  option_map,
+  if◌then◌else◌,
+}
 use Rattle.std.specs.Str.{bytes_eq}
 use Rattle.fwd_modes.specs.Requests.{Request}
 use Rattle.fwd_modes.specs.Frames.{chunk_name}
@@ -15,7 +45,19 @@ use Rattle.fwd_chunks.specs.declared.losses.Losses.{Losses}
 use Rattle.fwd_chunks.specs.declared.stage.Stage.{Stage}
 use Rattle.fwd_chunks.specs.declared.stage.Stage.TheVariants.{Open, Closed, Taken}
 use Rattle.fwd_chunks.specs.Waits.{wait_after}
-use Rattle.fwd_chunks.specs.Cells.{Carry, size_of, cells_at, contents, first_tag, first_moment, has_number, numbers_of, greatest, number_after, losses_of}
+use Rattle.fwd_chunks.specs.Cells.{
+  Carry,
+  size_of,
+  cells_at,
+  contents,
+  first_tag,
+  first_moment,
+  has_number,
+  numbers_of,
+  greatest,
+  number_after,
+  losses_of,
+}
 use Rattle.fwd_chunks.specs.History.{BufferSetting, BufferHistory, Load, unsettled, before_runs}
 use Rattle.fwd_chunks.specs.Events.{BufferEvent, Enter, Flush, Take, Settle, Free, unless_refused}
 

@@ -1,5 +1,21 @@
 -- What is true of every live buffer.
-use Rattle.std.specs.Prelude.{◌≡◌, ◌≤◌, ◌<◌, ℕ, ◌+◌, ◌^◌, ◌||◌, ◌==◌, nat_le, true, false, List, [], ◌∷◌, length}
+use Rattle.std.specs.Prelude.{
+  ◌≡◌,
+  ◌≤◌,
+  ◌<◌,
+  ℕ,
+  ◌+◌,
+  ◌^◌,
+  ◌||◌,
+  ◌==◌,
+  nat_le,
+  true,
+  false,
+  List,
+  [],
+  ◌∷◌,
+  length,
+}
 use Rattle.std.specs.List.{AllByRecursion}
 use Rattle.std.specs.Str.{bytes_eq}
 use Rattle.fwd_chunks.specs.declared.chunk.Chunk.{Chunk}

@@ -1,10 +1,37 @@
 //! How a request's entries enter chunks.
 
-ghost use Rattle.std.specs.Prelude.{◌≡◌, ◌+◌, ◌-◌, ◌<◌, ◌≤◌, ◌^◌, ◌==◌, ◌++◌, ℕ, length, map, find, None, Some, IfOk, OnOk, OnErr, option_to_list, option_copied};
+ghost use Rattle.std.specs.Prelude.{
+  ◌≡◌,
+  ◌+◌,
+  ◌-◌,
+  ◌<◌,
+  ◌≤◌,
+  ◌^◌,
+  ◌==◌,
+  ◌++◌,
+  ℕ,
+  length,
+  map,
+  find,
+  None,
+  Some,
+  IfOk,
+  OnOk,
+  OnErr,
+  option_to_list,
+  option_copied,
+};
 ghost use Rattle.fwd_chunks.specs.declared.chunk.Chunk.{Chunk};
 ghost use Rattle.fwd_chunks.specs.Cells.{size_of};
 ghost use Rattle.fwd_chunks.specs.Live.{is_at};
-ghost use Rattle.fwd_chunks.specs.Filling.{fresh_of, needed, span_of, joined_span, stage_last, filled_in};
+ghost use Rattle.fwd_chunks.specs.Filling.{
+  fresh_of,
+  needed,
+  span_of,
+  joined_span,
+  stage_last,
+  filled_in,
+};
 ghost use Rattle.fwd_chunks.specs.Slots.{AreAbove, appended};
 ghost use Rattle.fwd_chunks.specs.Parts.{entries_in};
 

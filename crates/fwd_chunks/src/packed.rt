@@ -1,6 +1,24 @@
 //! Entries as they are kept, packed.
 
-ghost use Rattle.std.specs.Prelude.{◌≡◌, ◌+◌, ◌-◌, ◌<◌, ◌≤◌, ◌^◌, [], ◌++◌, ◌↔◌, IsTrue, length, map, vec_len, vec_capacity, IfOk, OnOk, OnErr};
+ghost use Rattle.std.specs.Prelude.{
+  ◌≡◌,
+  ◌+◌,
+  ◌-◌,
+  ◌<◌,
+  ◌≤◌,
+  ◌^◌,
+  [],
+  ◌++◌,
+  ◌↔◌,
+  IsTrue,
+  length,
+  map,
+  vec_len,
+  vec_capacity,
+  IfOk,
+  OnOk,
+  OnErr,
+};
 ghost use Rattle.std.specs.List.{concat, AllByRecursion};
 ghost use Rattle.fwd_modes.specs.Entries.{ends_of};
 ghost use Rattle.fwd_chunks.specs.Cells.{size_of};

@@ -1,14 +1,55 @@
 //! Chunks by rising number, each found by its number, and the first that is free or due, in the
 //! logarithm of their count.
 
-ghost use Rattle.std.specs.Prelude.{◌≡◌, ◌<◌, ◌≤◌, ◌+◌, ◌-◌, ◌^◌, ◌&&◌, ℕ, not, None, Some, [], ◌∷◌, ◌++◌, length, map, filter, find, position, option_map, option_copied, nat_le, OnOk, OnErr};
+ghost use Rattle.std.specs.Prelude.{
+  ◌≡◌,
+  ◌<◌,
+  ◌≤◌,
+  ◌+◌,
+  ◌-◌,
+  ◌^◌,
+  ◌&&◌,
+  ℕ,
+  not,
+  None,
+  Some,
+  [],
+  ◌∷◌,
+  ◌++◌,
+  length,
+  map,
+  filter,
+  find,
+  position,
+  option_map,
+  option_copied,
+  nat_le,
+  OnOk,
+  OnErr,
+};
 ghost use Rattle.std.specs.List.{AllByRecursion};
 ghost use Rattle.fwd_chunks.specs.declared.chunk.Chunk.{Chunk};
 ghost use Rattle.fwd_chunks.specs.Cells.{size_of, number_after};
 ghost use Rattle.fwd_chunks.specs.Filling.{joined_by, stage_last};
-ghost use Rattle.fwd_chunks.specs.Live.{is_at, is_open, is_closed, is_due, changed, staged, live_is_over};
+ghost use Rattle.fwd_chunks.specs.Live.{
+  is_at,
+  is_open,
+  is_closed,
+  is_due,
+  changed,
+  staged,
+  live_is_over,
+};
 ghost use Rattle.fwd_chunks.specs.Parts.{entries_in};
-ghost use Rattle.fwd_chunks.specs.Slots.{NumbersRise, ChunksRise, AreAbove, is_slot, is_full, began_by, appended};
+ghost use Rattle.fwd_chunks.specs.Slots.{
+  NumbersRise,
+  ChunksRise,
+  AreAbove,
+  is_slot,
+  is_full,
+  began_by,
+  appended,
+};
 ghost use Rattle.fwd_chunks.specs.Stored.{put_back};
 
 use crate::chunk::Chunk;

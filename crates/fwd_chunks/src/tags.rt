@@ -1,6 +1,20 @@
 //! A number for each tag.
 
-ghost use Rattle.std.specs.Prelude.{◌≡◌, ◌≢◌, ℕ, List, [], Some, None, IsSome, IfSome, IfNone, OnOk, OnErr, if◌then◌else◌};
+ghost use Rattle.std.specs.Prelude.{
+  ◌≡◌,
+  ◌≢◌,
+  ℕ,
+  List,
+  [],
+  Some,
+  None,
+  IsSome,
+  IfSome,
+  IfNone,
+  OnOk,
+  OnErr,
+  if◌then◌else◌,
+};
 ghost use Rattle.std.specs.Str.{bytes_eq};
 ghost use Rattle.fwd_chunks.specs.Newest.{tag_number};
 

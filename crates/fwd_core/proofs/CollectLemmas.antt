@@ -37,31 +37,39 @@ mapped-twice f g (x ∷ xs) = ap (λ zs. f (g x) ∷ zs) (mapped-twice f g xs)
 
 -- what a collect comes to where the source was not shut
 collected : (conn : ℕ) (s : LiveSource) (l : LiveLane) → s.shut ≡ false
-    → collect lives conn s l ≡ Goes (answer.Told (lives.due l conn).numbers (lives.due l conn).acks) (source_appends s (lives.due l conn).acks, lives.tells l conn)
+    → collect lives conn s l
+    ≡ Goes (answer.Told (lives.due l conn).numbers (lives.due l conn).acks)
+    (source_appends s (lives.due l conn).acks, lives.tells l conn)
 collected conn s l up =
     ap (λ b. refuse_if b Closed >> Goes (answer.Told (lives.due l conn).numbers (lives.due l conn).acks) (source_appends s (lives.due l conn).acks, lives.tells l conn)) up
 
 module _ (conn : ℕ) (s : LiveSource) (l : LiveLane) (up : s.shut ≡ false) (rs : List Receipt)
     (all : rs ≡ map (receipt_of l.output.book.settled) (live_due l.output.book conn)) where
-  numbers : (requests : List ℕ) → requests ≡ map (λ r. r.origin.request) rs → requests ≡ numbers_of (live_due l.output.book conn)
+  numbers : (requests : List ℕ) → requests ≡ map (λ r. r.origin.request) rs
+      → requests ≡ numbers_of (live_due l.output.book conn)
   numbers requests e =
       e ∙ ap (map (λ (r : Receipt). r.origin.request)) all
       ∙ mapped-twice (λ (r : Receipt). r.origin.request) (receipt_of l.output.book.settled) (live_due l.output.book conn)
 
-  acks : (out : List ℕ) → out ≡ concat (map (λ r. ack_asked r.chunk) rs) → out ≡ acks_of (live_due l.output.book conn)
+  acks : (out : List ℕ) → out ≡ concat (map (λ r. ack_asked r.chunk) rs)
+      → out ≡ acks_of (live_due l.output.book conn)
   acks out e =
       e ∙ ap (λ xs. concat (map (λ (r : Receipt). ack_asked r.chunk) xs)) all
       ∙ ap concat (mapped-twice (λ (r : Receipt). ack_asked r.chunk) (receipt_of l.output.book.settled) (live_due l.output.book conn))
 
-  pub told_is : (requests out : List ℕ) → requests ≡ map (λ r. r.origin.request) rs → out ≡ concat (map (λ r. ack_asked r.chunk) rs)
+  pub told_is : (requests out : List ℕ) → requests ≡ map (λ r. r.origin.request) rs
+      → out ≡ concat (map (λ r. ack_asked r.chunk) rs)
       → answer.Told requests out ≡ answer_of (collect lives conn s l)
   told_is requests out e f = (λ i. answer.Told (numbers requests e i) (acks out f i)) ∙ sym (ap answer_of (collected conn s l up))
 
-  pub source_is : (t : LiveSource) (out : List ℕ) → out ≡ concat (map (λ r. ack_asked r.chunk) rs) → t ≡ source_appends s out → t ≡ (state_of {S = LiveSource × LiveLane} (s, l) (collect lives conn s l)).0
+  pub source_is : (t : LiveSource) (out : List ℕ) → out ≡ concat (map (λ r. ack_asked r.chunk) rs)
+      → t ≡ source_appends s out
+      → t ≡ (state_of {S = LiveSource × LiveLane} (s, l) (collect lives conn s l)).0
   source_is t out f e = e ∙ ap (source_appends s) (acks out f) ∙ sym (ap (λ x. (state_of {S = LiveSource × LiveLane} (s, l) x).0) (collected conn s l up))
 
   pub lane_is : (m : LiveLane) (origins : List Origin) → origins ≡ map (λ r. r.origin) rs
-      → live_leaves l.output.book (map (λ q. q.origin) (live_due l.output.book conn)) ≡ live_tells_due l.output.book conn
+      → live_leaves l.output.book (map (λ q. q.origin) (live_due l.output.book conn))
+      ≡ live_tells_due l.output.book conn
       → m ≡ with_live_book l (live_leaves l.output.book origins)
       → m ≡ (state_of {S = LiveSource × LiveLane} (s, l) (collect lives conn s l)).1
   lane_is m origins e law f =

@@ -72,7 +72,8 @@ pub takes-coupled : (b : LiveBuffer) (k : LiveBook) (worker now : ℕ) → IsCou
     → IsCoupled (live_takes b worker now) k
 takes-coupled b k worker now own = stays-coupled b (live_takes b worker now) k (setting (find (live_is_free (live_looks b now)) b.chunks)) (takes-stays b worker now) own
   where
-    setting : (o : Option Chunk) → (live_carries_more worker o (live_looks b now)).setting ≡ b.setting
+    setting : (o : Option Chunk)
+        → (live_carries_more worker o (live_looks b now)).setting ≡ b.setting
     setting None = refl
     setting (Some c) = refl
 
@@ -103,7 +104,8 @@ held-apart : (c : LiveBuffer) (tag : List ℕ) (n : ℕ) (spans : List Span) (ow
 held-apart c tag n [] own gone h = refl
 held-apart c tag n (s ∷ spans) own gone h = by (s.number == n) refl (held-apart c tag n spans (drop s.count own) gone h.1)
   where
-    by : (t : Bool) → (s.number == n) ≡ t → list_any (λ x. x.number == n) spans ≡ false → (t || list_any (λ x. x.number == n) spans) ≡ false
+    by : (t : Bool) → (s.number == n) ≡ t → list_any (λ x. x.number == n) spans ≡ false
+        → (t || list_any (λ x. x.number == n) spans) ≡ false
     by false e rest = rest
     by true e rest = absurd (none_some (sym gone.none ∙ (λ i. find (is_at (sym (eqb-true s.number n e) i)) c.chunks) ∙ h.0.here))
 
@@ -112,7 +114,8 @@ pub comes-fresh : (b : LiveBuffer) (k : LiveBook) (r : Request) (now : ℕ) → 
     → IsCoupled b k → are_fresh k.settled (live_spans b r now) ≡ true
 comes-fresh b k r now sound own = ap not (none k.settled (λ j e at. own.gone j e at))
   where
-    none : (es : List Evidence) → ((j : ℕ) (e : Evidence) → slice_get es j ≡ Some e → IsGone b e.number)
+    none : (es : List Evidence)
+        → ((j : ℕ) (e : Evidence) → slice_get es j ≡ Some e → IsGone b e.number)
         → list_any (λ e. list_any (λ s. s.number == e.number) (live_spans b r now)) es ≡ false
     none [] gone = refl
     none (e ∷ es) gone =
@@ -121,7 +124,8 @@ comes-fresh b k r now sound own = ap not (none k.settled (λ j e at. own.gone j 
 
 pub enters-coupled : (b : LiveBuffer) (k : LiveBook) (r : Request) (origin : Origin) (now : ℕ)
     → IsSound b → IsCoupled b k
-    → IsCoupled (live_enters b r now) (kept.live_enters k (entered_as r origin (live_spans b r now)))
+    → IsCoupled (live_enters b r now) (kept.live_enters k
+    (entered_as r origin (live_spans b r now)))
 enters-coupled b k r origin now sound own = record {
   setting = own.setting ∙ ap book_setting (sym (enters-setting b r now sound));
   waiting = λ i q at. by i q (in_both k.requests (new ∷ []) i q at);
@@ -135,7 +139,9 @@ enters-coupled b k r origin now sound own = record {
     only zero q e = some_is e
     only (suc j) q e = absurd (none_some e)
 
-    by : (i : ℕ) (q : Entered) → ((j : ℕ) × (slice_get k.requests j ≡ Some q)) ⊎ ((j : ℕ) × (slice_get (new ∷ []) j ≡ Some q))
+    by : (i : ℕ) (q : Entered)
+        → ((j : ℕ) × (slice_get k.requests j ≡ Some q))
+        ⊎ ((j : ℕ) × (slice_get (new ∷ []) j ≡ Some q))
         → AreWaiting (live_enters b r now).chunks k.settled q.tag q.spans q.entries
     by i q (inl at) = waiting-held (live_enters b r now).chunks b.chunks k.settled q.tag q.spans q.entries (λ s rest h. enters-held b r now q.tag s rest sound h) (own.waiting at.0 q at.1)
     by i q (inr at) =
@@ -151,16 +157,20 @@ has-run [] i q s at has = absurd (none_some at)
 has-run (r ∷ qs) zero q s at has = ap (λ t. t || list_any (has_run s.number) qs) (ap (has_run s.number) (some_is at) ∙ has)
 has-run (r ∷ qs) (suc i) q s at has = by (has_run s.number r) (has-run qs i q s at has)
   where
-    by : (t : Bool) → list_any (has_run s.number) qs ≡ true → (t || list_any (has_run s.number) qs) ≡ true
+    by : (t : Bool) → list_any (has_run s.number) qs ≡ true
+        → (t || list_any (has_run s.number) qs) ≡ true
     by true rest = refl
     by false rest = rest
 
 -- what waits of a request, seen by what is acknowledged afterwards
 waiting-then : (more less : List Chunk) (old new : List Evidence) (tag : List ℕ) (all : List Span)
     (spans : List Span) (own : List (List ℕ))
-    → ((s : Span) → list_any (λ x. x.number == s.number) all ≡ true → evidence_of new s.number ≡ None
-    → (evidence_of old s.number ≡ None) × ((rest : List (List ℕ)) → IsHeld less tag s rest → IsHeld more tag s rest))
-    → ((s : Span) → list_any (λ x. x.number == s.number) spans ≡ true → list_any (λ x. x.number == s.number) all ≡ true)
+    → ((s : Span) → list_any (λ x. x.number == s.number) all ≡ true → evidence_of new s.number
+    ≡ None
+    → (evidence_of old s.number ≡ None)
+    × ((rest : List (List ℕ)) → IsHeld less tag s rest → IsHeld more tag s rest))
+    → ((s : Span) → list_any (λ x. x.number == s.number) spans ≡ true → list_any
+    (λ x. x.number == s.number) all ≡ true)
     → AreWaiting less old tag spans own → AreWaiting more new tag spans own
 waiting-then more less old new tag all [] own stays within w = tt
 waiting-then more less old new tag all (s ∷ spans) own stays within w = (
@@ -192,7 +202,8 @@ settles-coupled b k e load sound is same own = record {
     now = (kept.live_settles k e).settled
 
     -- nothing is found, neither before nor now
-    found : (s : Span) → list_any (has_run s.number) k.requests ≡ true → evidence_of now s.number ≡ None
+    found : (s : Span) → list_any (has_run s.number) k.requests ≡ true
+        → evidence_of now s.number ≡ None
         → option_or (evidence_of k.settled s.number) (evidence_of (e ∷ []) s.number) ≡ None
     found s used none =
         sym (find-append (λ d. d.number == s.number) k.settled (e ∷ []))
@@ -202,10 +213,12 @@ settles-coupled b k e load sound is same own = record {
     neither None p f = (refl, f)
     neither (Some x) p f = absurd cc
 
-    before : (s : Span) → list_any (has_run s.number) k.requests ≡ true → evidence_of now s.number ≡ None → evidence_of k.settled s.number ≡ None
+    before : (s : Span) → list_any (has_run s.number) k.requests ≡ true
+        → evidence_of now s.number ≡ None → evidence_of k.settled s.number ≡ None
     before s used none = (neither (evidence_of k.settled s.number) (evidence_of (e ∷ []) s.number) (found s used none)).0
 
-    apart : (s : Span) → list_any (has_run s.number) k.requests ≡ true → evidence_of now s.number ≡ None → s.number ≢ load.number
+    apart : (s : Span) → list_any (has_run s.number) k.requests ≡ true
+        → evidence_of now s.number ≡ None → s.number ≢ load.number
     apart s used none f =
         let here : (e.number == s.number) ≡ true = eq-eqb e.number s.number (same ∙ sym f) in
         none_some (sym (neither (evidence_of k.settled s.number) (evidence_of (e ∷ []) s.number) (found s used none)).1 ∙ ap (λ t. cond t (Some e) None) here)
@@ -214,7 +227,9 @@ settles-coupled b k e load sound is same own = record {
     only zero d f = some_is f
     only (suc j) d f = absurd (none_some f)
 
-    by : (d : Evidence) → ((j : ℕ) × (slice_get k.settled j ≡ Some d)) ⊎ ((j : ℕ) × (slice_get (e ∷ []) j ≡ Some d)) → IsGone (live_settles b load.number) d.number
+    by : (d : Evidence)
+        → ((j : ℕ) × (slice_get k.settled j ≡ Some d)) ⊎ ((j : ℕ) × (slice_get (e ∷ []) j ≡ Some d))
+        → IsGone (live_settles b load.number) d.number
     by d (inl at) = settles-gone b load.number d.number (own.gone at.0 d at.1)
     by d (inr at) = subst (λ n. IsGone (live_settles b load.number) n) (sym same ∙ ap (λ (x : Evidence). x.number) (only at.0 d at.1)) (settled-gone b load sound is)
 
@@ -259,7 +274,8 @@ carried-fresh b k load n sound is same own = by (evidence_of k.settled n) refl
 runs-are : (b : LiveBuffer) (k : LiveBook) (load : Load) (e : Evidence) (tag : List ℕ)
     (spans : List Span) (own : List (List ℕ)) → IsSound b → IsCarried b load → IsEvidence e load
     → IsCoupled b k → AreWaiting b.chunks k.settled tag spans own
-    → HasItsRuns e.number e.entries spans own × (list_any (λ s. s.number == e.number) spans ≡ true → e.tag ≡ tag)
+    → HasItsRuns e.number e.entries spans own
+    × (list_any (λ s. s.number == e.number) spans ≡ true → e.tag ≡ tag)
 runs-are b k load e tag [] own sound is ev c w = (tt, λ has. absurd (false_true has))
 runs-are b k load e tag (s ∷ spans) own sound is ev c w =
     let rest = runs-are b k load e tag spans (drop s.count own) sound is ev c w.1 in (
@@ -272,7 +288,8 @@ runs-are b k load e tag (s ∷ spans) own sound is ev c w =
         let at = same ∙ ev.number in
         carried-run b load tag s own sound is at (w.0 (carried-fresh b k load s.number sound is at c))
 
-    by : (t : Bool) → (s.number == e.number) ≡ t → (t || list_any (λ x. x.number == e.number) spans) ≡ true
+    by : (t : Bool) → (s.number == e.number) ≡ t
+        → (t || list_any (λ x. x.number == e.number) spans) ≡ true
         → (list_any (λ x. x.number == e.number) spans ≡ true → e.tag ≡ tag) → e.tag ≡ tag
     by true f has rest = ev.tag ∙ (here (eqb-true s.number e.number f)).0
     by false f has rest = rest has

@@ -52,7 +52,8 @@ acked_by None a e = absurd cc
 acked_by (Some s) a e = record { session = s; is = refl; acks = e }
 
 -- what is kept of the chunk of the session that is there
-pub evidence_of_it : (o : Option LiveSession) (s : LiveSession) (c : Load) (k : Evidence) → o ≡ Some s
+pub evidence_of_it : (o : Option LiveSession) (s : LiveSession) (c : Load) (k : Evidence)
+    → o ≡ Some s
     → evidence_in o c ≡ Some k → lives.evidence s c ≡ k
 evidence_of_it o s c k e f = some_same (sym (ap (λ x. evidence_in x c) e) ∙ f)
 

@@ -1,9 +1,25 @@
 -- Which events of a run counted: those not answered by want of memory.
 use Rattle.std.specs.Prelude.{Bool, true, false, not, List, [], ◌∷◌, filter, if◌then◌else◌}
 use Rattle.fwd_model.specs.declared.event.Event.{Event}
-use Rattle.fwd_model.specs.declared.event.Event.TheVariants.{Flush, Choose, Wrote, Late, Settle, End, Forget, Drained, Shut}
+use Rattle.fwd_model.specs.declared.event.Event.TheVariants.{
+  Flush,
+  Choose,
+  Wrote,
+  Late,
+  Settle,
+  End,
+  Forget,
+  Drained,
+  Shut,
+}
 use Rattle.fwd_model.specs.declared.answer.Answer.{Answer}
-use Rattle.fwd_model.specs.declared.answer.Answer.TheVariants.{Memory, Refused, NoRoute, Full, NumbersSpent}
+use Rattle.fwd_model.specs.declared.answer.Answer.TheVariants.{
+  Memory,
+  Refused,
+  NoRoute,
+  Full,
+  NumbersSpent,
+}
 
 -- want of memory
 abbrev pub is_memory : Answer → Bool

@@ -69,9 +69,9 @@ use std::alloc::{AllocError, Global};
 use std::marker::Model;
 use std::sync::Arc;
 
-/// The chunks of one output that are not yet settled, the requests that are owed an answer with what
-/// was acknowledged of them, and what was lost at its servers. What is not acknowledged of a request
-/// stands in the chunks.
+/// The chunks of one output that are not yet settled, the requests that are owed an answer with
+/// what was acknowledged of them, and what was lost at its servers. What is not acknowledged of a
+/// request stands in the chunks.
 #[derive(Drop)]
 pub struct OutputState {
     buffer: Buffer,
@@ -221,8 +221,8 @@ impl OutputState {
     }
 
     /// A server acknowledged the chunk: its entries are settled, what was acknowledged is kept for
-    /// the requests that have entries in it, and the server's losses count no more. Answers how many
-    /// entries those are. A chunk that no worker has from this output is only spent.
+    /// the requests that have entries in it, and the server's losses count no more. Answers how
+    /// many entries those are. A chunk that no worker has from this output is only spent.
     pub fn settle(&mut self, acked: Arc<Acked>, carried: Carried) -> usize
         requires { IsEvidence (arc_value acked) carried }
         ensures here { IsCarried self.old.buffer carried

@@ -47,7 +47,8 @@ pub lane_settles : (config : Config) (es : List Event) (e : Event) (cs : List Co
     (o w server : ℕ) (reply : Option (List ℕ)) (l : Lane) (s : SessionHistory) (c : Load)
     → slice_get l.sessions w ≡ Some (Some s) → IsHis l.output.buffer w c → acked s ≡ Some c
     → Quiet config es e o → LaneStory config es cs o l
-    → LaneStory config (es ++ e ∷ []) cs o (with_session w (session.unloads s) (with_output l (output_history_settles l.output (evidence_of c server reply))))
+    → LaneStory config (es ++ e ∷ []) cs o (with_session w (session.unloads s)
+    (with_output l (output_history_settles l.output (evidence_of c server reply))))
 lane_settles config es e cs o w server reply l s c here his is quiet t =
     let own = t.sessions w s here in
     let cells = l.output.buffer.cells in

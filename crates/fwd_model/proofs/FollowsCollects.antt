@@ -22,7 +22,8 @@ with_book-live l b = λ i. record {
   workers = live_workers-same (record (l.output) { book = b }) l.output 0 l.sessions (λ k. refl) i;
 }
 
-with_book-sane : (l : Lane) (b : BookHistory) → numbers_in b.settled ≡ numbers_in l.output.book.settled
+with_book-sane : (l : Lane) (b : BookHistory)
+    → numbers_in b.settled ≡ numbers_in l.output.book.settled
     → IsSaneLane l → IsSaneLane (with_book l b)
 with_book-sane l b same own = record {
   buffer = own.buffer;

@@ -63,7 +63,8 @@ pub count-same : (l : Lane) (w : ℕ) (c : Load) → IsSaneLane l → IsHis l.ou
 unfolding live_lane live_output
 count-same l w c own is = sym (buffer.count-live l.output.buffer c.number own.buffer is.carried)
 
-settles-drops : (o : OutputHistory) (w server : ℕ) (reply : Option (List ℕ)) (c : Load) → AreApart o.buffer.carried
+settles-drops : (o : OutputHistory) (w server : ℕ) (reply : Option (List ℕ)) (c : Load)
+    → AreApart o.buffer.carried
     → IsHis o.buffer w c
     → Drops o.buffer (output_history_settles o (evidence_of c server reply)).buffer w
 settles-drops o w server reply c apart is = record {
@@ -71,9 +72,11 @@ settles-drops o w server reply c apart is = record {
   others = λ v differ. ap (option_map (λ d. load_of o.buffer d.number)) (carry_of-without_other w v (record { worker = w; number = c.number }) o.buffer.carried apart is.has differ);
 }
 
-pub settles-live : (l : Lane) (w : ℕ) (s : SessionHistory) (c : Load) (server : ℕ) (reply : Option (List ℕ))
+pub settles-live : (l : Lane) (w : ℕ) (s : SessionHistory) (c : Load) (server : ℕ)
+    (reply : Option (List ℕ))
     → slice_get l.sessions w ≡ Some (Some s) → IsSaneLane l → IsHis l.output.buffer w c
-    → live_lane (with_session w (unloads s) (with_output l (output_history_settles l.output (evidence_of c server reply))))
+    → live_lane (with_session w (unloads s) (with_output l
+    (output_history_settles l.output (evidence_of c server reply))))
     ≡ lane_settles (live_lane l) w (live_session s) (evidence_of c server reply)
 unfolding live_lane live_output
 settles-live l w s c server reply here own is = λ i. record {
@@ -92,9 +95,11 @@ settles-live l w s c server reply here own is = λ i. record {
 some_same : {X : Type 0} {x y : X} → Some x ≡ Some y → x ≡ y
 some_same e = cc
 
-pub settles-sane : (l : Lane) (w : ℕ) (s : SessionHistory) (c : Load) (server : ℕ) (reply : Option (List ℕ))
+pub settles-sane : (l : Lane) (w : ℕ) (s : SessionHistory) (c : Load) (server : ℕ)
+    (reply : Option (List ℕ))
     → slice_get l.sessions w ≡ Some (Some s) → IsSaneLane l → IsHis l.output.buffer w c
-    → IsSaneLane (with_session w (unloads s) (with_output l (output_history_settles l.output (evidence_of c server reply))))
+    → IsSaneLane (with_session w (unloads s) (with_output l
+    (output_history_settles l.output (evidence_of c server reply))))
 settles-sane l w s c server reply here own is = record {
   buffer = sane.settles-sane l.output.buffer c.number own.buffer is.carried;
   apart = apart-without c.number l.output.buffer.carried own.apart;

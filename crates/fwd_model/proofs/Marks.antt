@@ -176,11 +176,17 @@ module _ (config : Config) (es : List Event) (id o : ℕ) (m : Marked config es 
   abbrev goes : Lane → Admission → Bool
   goes l a = is_untold a.fate && is_due id l.output.book.settled a
 
-  told_marks : (s : SourceHistory) (l : Lane) → source_at id (reached config es).connections ≡ Some s → s.shut ≡ false → slice_get (reached config es).lanes o ≡ Some l → AllMarked config (es ++ asked ∷ []) o (tells_due l.output.book id).admissions
+  told_marks : (s : SourceHistory) (l : Lane)
+      → source_at id (reached config es).connections ≡ Some s → s.shut ≡ false
+      → slice_get (reached config es).lanes o ≡ Some l
+      → AllMarked config (es ++ asked ∷ []) o (tells_due l.output.book id).admissions
   unfolding moves
   told_marks s l stands open_still here i b at told = by_source (mapped (λ a. becomes Told (goes l a) a) (slice_get l.output.book.admissions i) b (sym (slice_get-map (λ a. becomes Told (goes l a) a) l.output.book.admissions i) ∙ at))
     where
-      by_due : (a : Admission) → slice_get l.output.book.admissions i ≡ Some a → (t : Bool) → goes l a ≡ t → (becomes Told t a).fate ≡ Told → IsTold config (es ++ asked ∷ []) (becomes Told t a).request.origin.conn (becomes Told t a).request.origin.request o
+      by_due : (a : Admission) → slice_get l.output.book.admissions i ≡ Some a → (t : Bool)
+          → goes l a ≡ t → (becomes Told t a).fate ≡ Told
+          → IsTold config (es ++ asked ∷ []) (becomes Told t a).request.origin.conn
+          (becomes Told t a).request.origin.request o
       by_due a old false e marked = still config es asked m o l l.output.book.admissions here refl i a old marked
       by_due a old true e marked =
           let due_is = (and_parts (is_untold a.fate) (is_due id l.output.book.settled a) e).1 in
@@ -197,7 +203,9 @@ module _ (config : Config) (es : List Event) (id o : ℕ) (m : Marked config es 
             among = listed id l.output.book.settled l.output.book.admissions i a old due_is;
           })
 
-      by_source : (a : Admission) × (slice_get l.output.book.admissions i ≡ Some a) × (becomes Told (goes l a) a ≡ b) → IsTold config (es ++ asked ∷ []) b.request.origin.conn b.request.origin.request o
+      by_source : (a : Admission) × (slice_get l.output.book.admissions i ≡ Some a)
+          × (becomes Told (goes l a) a ≡ b)
+          → IsTold config (es ++ asked ∷ []) b.request.origin.conn b.request.origin.request o
       by_source x =
           let marked : (becomes Told (goes l x.0) x.0).fate ≡ Told = ap (λ (y : Admission). y.fate) x.2 ∙ told in
           subst (λ (y : Admission). IsTold config (es ++ asked ∷ []) y.request.origin.conn y.request.origin.request o) x.2
@@ -215,14 +223,17 @@ forget_on : (config : Config) (es : List Event) (e : Event) (id o : ℕ)
 unfolding moves
 forget_on config es e id o m = lane_on histories (reached config es) o _ (λ l. steps.forget histories l id) (λ l here. to (put config es e m o (with_book l (forgets_of l.output.book id)) (reached config es) refl (forgotten l here)))
   where
-    forgotten : (l : Lane) → slice_get (reached config es).lanes o ≡ Some l → AllMarked config (es ++ e ∷ []) o (forgets_of l.output.book id).admissions
+    forgotten : (l : Lane) → slice_get (reached config es).lanes o ≡ Some l
+        → AllMarked config (es ++ e ∷ []) o (forgets_of l.output.book id).admissions
     forgotten l here i b at told = by_source (mapped (λ a. becomes Forgotten (is_untold a.fate && is_owed_to id a) a) (slice_get l.output.book.admissions i) b (sym (slice_get-map (λ a. becomes Forgotten (is_untold a.fate && is_owed_to id a) a) l.output.book.admissions i) ∙ at))
       where
         by_owed : (a : Admission) → slice_get l.output.book.admissions i ≡ Some a → (t : Bool) → (becomes Forgotten t a).fate ≡ Told → IsTold config (es ++ e ∷ []) (becomes Forgotten t a).request.origin.conn (becomes Forgotten t a).request.origin.request o
         by_owed a old false marked = still config es e m o l l.output.book.admissions here refl i a old marked
         by_owed a old true marked = absurd cc
 
-        by_source : (a : Admission) × (slice_get l.output.book.admissions i ≡ Some a) × (becomes Forgotten (is_untold a.fate && is_owed_to id a) a ≡ b) → IsTold config (es ++ e ∷ []) b.request.origin.conn b.request.origin.request o
+        by_source : (a : Admission) × (slice_get l.output.book.admissions i ≡ Some a)
+            × (becomes Forgotten (is_untold a.fate && is_owed_to id a) a ≡ b)
+            → IsTold config (es ++ e ∷ []) b.request.origin.conn b.request.origin.request o
         by_source x =
             subst (λ (y : Admission). IsTold config (es ++ e ∷ []) y.request.origin.conn y.request.origin.request o) x.2
             (by_owed x.0 x.1 (is_untold x.0.fate && is_owed_to id x.0) (ap (λ (y : Admission). y.fate) x.2 ∙ told))

@@ -23,14 +23,16 @@ pub found-numbered : (k : ℕ) (es : List Evidence)
 found-numbered k [] = refl
 found-numbered k (e ∷ es) = by (e.number == k) (found-numbered k es)
   where
-    by : (b : Bool) → is_some (evidence_of es k) ≡ has_number k (numbers_in es) → is_some (cond b (Some e) (evidence_of es k)) ≡ (b || has_number k (numbers_in es))
+    by : (b : Bool) → is_some (evidence_of es k) ≡ has_number k (numbers_in es)
+        → is_some (cond b (Some e) (evidence_of es k)) ≡ (b || has_number k (numbers_in es))
     by true rest = refl
     by false rest = rest
 
 -- none of the runs has the number, and none one of the others
 unsettled-one : (e : Evidence) (ns : List ℕ) (spans : List Span)
     → list_all (λ s. not (has_number s.number (e.number ∷ ns))) spans ≡ true
-    → (list_any (λ s. s.number == e.number) spans ≡ false) × (list_all (λ s. not (has_number s.number ns)) spans ≡ true)
+    → (list_any (λ s. s.number == e.number) spans ≡ false)
+    × (list_all (λ s. not (has_number s.number ns)) spans ≡ true)
 unsettled-one e ns [] h = (refl, refl)
 unsettled-one e ns (s ∷ spans) h =
     let parts = and_parts (not (has_number s.number (e.number ∷ ns))) (list_all (λ t. not (has_number t.number (e.number ∷ ns))) spans) h in
@@ -53,6 +55,8 @@ pub unsettled-fresh : (es : List Evidence) (spans : List Span)
     → are_fresh es spans ≡ true
 unsettled-fresh es spans h = ap not (none es h)
   where
-    none : (ds : List Evidence) → list_all (λ s. not (has_number s.number (numbers_in ds))) spans ≡ true → list_any (λ e. list_any (λ s. s.number == e.number) spans) ds ≡ false
+    none : (ds : List Evidence)
+        → list_all (λ s. not (has_number s.number (numbers_in ds))) spans ≡ true
+        → list_any (λ e. list_any (λ s. s.number == e.number) spans) ds ≡ false
     none [] f = refl
     none (d ∷ ds) f = let parts = unsettled-one d (numbers_in ds) spans f in λ i. parts.0 i || none ds parts.1 i

@@ -31,13 +31,18 @@ use Rattle.fwd_model.proofs.Places.{slice_get-set_same}
 -- what settling comes to at a worker whose session is this one
 settled_as : (h : History) (o w : ℕ) (l : Lane) (s : SessionHistory)
     → slice_get h.lanes o ≡ Some l → slice_get l.sessions w ≡ Some (Some s)
-    → answer_of (step histories h (event.Settle o w)) ≡ answer_of (sought (acked s) NotNow >>= (λ c. Goes (answer.Settled (count_at c.number l.output)) (histories.settles l w s (histories.evidence s c))))
+    → answer_of (step histories h (event.Settle o w))
+    ≡ answer_of (sought (acked s) NotNow >>= (λ c. Goes (answer.Settled
+    (count_at c.number l.output)) (histories.settles l w s (histories.evidence s c))))
 settled_as h o w l s here at =
     ap (λ x. answer_of (sought x NoSuch >>= (λ m. within (λ n. with_lane o n h) (steps.settle histories m w)))) here
     ∙ ap (λ x. answer_of (within (λ n. with_lane o n h) (sought (option_map (history_worker l w) x) NoSuch >>= (λ y. sought y.session NotNow >>= (λ u. sought (acked u) NotNow >>= (λ c. Goes (answer.Settled (count_at c.number l.output)) (histories.settles l w u (histories.evidence u c)))))))) at
     ∙ outside (acked s)
   where
-    outside : (k : Option Load) → answer_of (within (λ n. with_lane o n h) (sought k NotNow >>= (λ c. Goes (answer.Settled (count_at c.number l.output)) (histories.settles l w s (histories.evidence s c)))))
+    outside : (k : Option Load)
+        → answer_of (within (λ n. with_lane o n h) (sought k NotNow >>=
+        (λ c. Goes (answer.Settled (count_at c.number l.output))
+        (histories.settles l w s (histories.evidence s c)))))
         ≡ answer_of (sought k NotNow >>= (λ c. Goes (answer.Settled (count_at c.number l.output)) (histories.settles l w s (histories.evidence s c))))
     outside None = refl
     outside (Some k) = refl
@@ -58,13 +63,18 @@ placed h o w l s x = within (λ n. with_lane o n h) (within (histories.puts_work
 -- what settling comes to after that
 settled_after : (h : History) (o w : ℕ) (l : Lane) (s u : SessionHistory)
     → slice_get h.lanes o ≡ Some l → slice_get l.sessions w ≡ Some (Some s)
-    → answer_of (step histories (with_lane o (with_session w u l) h) (event.Settle o w)) ≡ answer_of (sought (acked u) NotNow >>= (λ c. Goes (answer.Settled (count_at c.number l.output)) (histories.settles (with_session w u l) w u (histories.evidence u c))))
+    → answer_of (step histories (with_lane o (with_session w u l) h) (event.Settle o w))
+    ≡ answer_of (sought (acked u) NotNow >>= (λ c. Goes (answer.Settled
+    (count_at c.number l.output)) (histories.settles (with_session w u l) w u
+    (histories.evidence u c))))
 settled_after h o w l s u here at =
     settled_as (with_lane o (with_session w u l) h) o w (with_session w u l) u (slice_get-set_same h.lanes o (with_session w u l) l here) (slice_get-set_same l.sessions w (Some u) (Some s) at)
 
 -- a session without a reply settles nothing
 none_settled : (s : SessionHistory) (l m : Lane) (w : ℕ) → is_some s.reply ≡ false
-    → answer_of (sought (acked s) NotNow >>= (λ c. Goes (answer.Settled (count_at c.number l.output)) (histories.settles m w s (histories.evidence s c)))) ≡ answer.Refused NotNow
+    → answer_of (sought (acked s) NotNow >>= (λ c. Goes (answer.Settled
+    (count_at c.number l.output)) (histories.settles m w s
+    (histories.evidence s c)))) ≡ answer.Refused NotNow
 none_settled s l m w none = ap (λ b. answer_of (sought (cond b s.loaded None) NotNow >>= (λ c. Goes (answer.Settled (count_at c.number l.output)) (histories.settles m w s (histories.evidence s c))))) none
 
 pub early-nothing : (h : History) (o w : ℕ) (bytes : List ℕ) (l : Lane) (s : SessionHistory)

@@ -1,6 +1,28 @@
 -- What of a history still matters: the bytes of unfinished values, the requests that wait, the
 -- counts, and what is not yet settled. It is the other reading of the layers of a step.
-use Rattle.std.specs.Prelude.{ℕ, suc, Bool, true, not, List, [], ◌∷◌, ◌++◌, length, map, filter, Option, Some, None, option_map, nat_lt, ◌==◌, if◌then◌else◌, slice_get, slice_set}
+use Rattle.std.specs.Prelude.{
+  ℕ,
+  suc,
+  Bool,
+  true,
+  not,
+  List,
+  [],
+  ◌∷◌,
+  ◌++◌,
+  length,
+  map,
+  filter,
+  Option,
+  Some,
+  None,
+  option_map,
+  nat_lt,
+  ◌==◌,
+  if◌then◌else◌,
+  slice_get,
+  slice_set,
+}
 use Rattle.fwd_handshake.specs.declared.credentials.Security.{Security}
 use Rattle.fwd_source.specs.History.{Setup}
 use Rattle.fwd_source.specs.Live.{LiveSource, live_source, opened_source}
@@ -9,13 +31,34 @@ use Rattle.fwd_model.specs.declared.config.OutputConfig.{OutputConfig}
 use Rattle.fwd_chunks.specs.declared.counts.Counts.{Counts}
 use Rattle.fwd_chunks.specs.History.{Load}
 use Rattle.fwd_chunks.specs.Live as buffer
-use Rattle.fwd_chunks.specs.Live.{LiveBuffer, live_refusal, live_closing, live_flushes, live_given, live_load, live_looks, live_counts}
+use Rattle.fwd_chunks.specs.Live.{
+  LiveBuffer,
+  live_refusal,
+  live_closing,
+  live_flushes,
+  live_given,
+  live_load,
+  live_looks,
+  live_counts,
+}
 use Rattle.fwd_session.specs.Evidence.{Evidence}
 use Rattle.fwd_book.specs.Live.{LiveBook, live_due, live_tells_due, live_owed_of, live_forgets_of}
 use Rattle.fwd_model.specs.Books.{telling}
 use Rattle.fwd_session.specs.History.{SessionHistory}
 use Rattle.fwd_session.specs.Live.{LiveSession, live_session, session_unloads}
-use Rattle.fwd_model.specs.Outputs.{OutputHistory, carried_by, Return, LiveOutput, live_output, output_enters, output_settles, output_choice, output_looks, output_ends, live_count_at}
+use Rattle.fwd_model.specs.Outputs.{
+  OutputHistory,
+  carried_by,
+  Return,
+  LiveOutput,
+  live_output,
+  output_enters,
+  output_settles,
+  output_choice,
+  output_looks,
+  output_ends,
+  live_count_at,
+}
 use Rattle.fwd_model.specs.Sessions.{live_sessions}
 use Rattle.fwd_model.specs.Layers.{Worker, Lanes, Layers}
 use Rattle.fwd_model.specs.History.{Connection, Lane, History}

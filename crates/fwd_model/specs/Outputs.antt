@@ -2,17 +2,50 @@
 -- that they came with, and its servers, with what was lost at each. Each part has its own history
 -- and its own live part, and none looks into another: what ties them is that they are told of the
 -- same events.
-use Rattle.std.specs.Prelude.{ℕ, ◌==◌, Bool, List, [], length, max, filter, find, Option, Some, None, option_map, if◌then◌else◌}
+use Rattle.std.specs.Prelude.{
+  ℕ,
+  ◌==◌,
+  Bool,
+  List,
+  [],
+  length,
+  max,
+  filter,
+  find,
+  Option,
+  Some,
+  None,
+  option_map,
+  if◌then◌else◌,
+}
 use Rattle.fwd_modes.specs.Requests.{Request}
 use Rattle.fwd_source.specs.declared.origin.Origin.{Origin}
 use Rattle.fwd_chunks.specs.Cells.{Carry, contents}
 use Rattle.fwd_chunks.specs.History as buffer
 use Rattle.fwd_chunks.specs.History.{BufferSetting, BufferHistory, Load, load_of, spans_of}
-use Rattle.fwd_chunks.specs.Live.{LiveBuffer, live_buffer, live_opening, live_looks, live_enters, live_settles, live_frees, live_spans, held_in, is_at}
+use Rattle.fwd_chunks.specs.Live.{
+  LiveBuffer,
+  live_buffer,
+  live_opening,
+  live_looks,
+  live_enters,
+  live_settles,
+  live_frees,
+  live_spans,
+  held_in,
+  is_at,
+}
 use Rattle.fwd_failover.specs.History as servers
 use Rattle.fwd_failover.specs.History.{ServersSetting, ServersHistory}
 use Rattle.fwd_failover.specs.Choices.{choice}
-use Rattle.fwd_failover.specs.Live.{LiveServers, live_servers, live_choice, live_looked, live_lost, live_settled}
+use Rattle.fwd_failover.specs.Live.{
+  LiveServers,
+  live_servers,
+  live_choice,
+  live_looked,
+  live_lost,
+  live_settled,
+}
 use Rattle.fwd_session.specs.Evidence.{Evidence}
 use Rattle.fwd_book.specs.History as book
 use Rattle.fwd_book.specs.History.{BookSetting, BookHistory, entered_as}

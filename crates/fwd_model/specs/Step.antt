@@ -1,7 +1,28 @@
 -- What one event does to a relay. It is said once, over any layers: the history of all that came,
 -- or what of it still matters. Each event reads from the top: its checks in their order, and then
 -- its answer and what it changes.
-use Rattle.std.specs.Prelude.{ℕ, ◌+◌, Bool, true, false, not, ◌&&◌, ◌||◌, List, [], ◌∷◌, length, Option, Some, None, is_some, option_map, nat_lt, ◌==◌, if◌then◌else◌}
+use Rattle.std.specs.Prelude.{
+  ℕ,
+  ◌+◌,
+  Bool,
+  true,
+  false,
+  not,
+  ◌&&◌,
+  ◌||◌,
+  List,
+  [],
+  ◌∷◌,
+  length,
+  Option,
+  Some,
+  None,
+  is_some,
+  option_map,
+  nat_lt,
+  ◌==◌,
+  if◌then◌else◌,
+}
 use Rattle.fwd_modes.specs.Requests.{Request}
 use Rattle.fwd_match.specs.Patterns.{route}
 use Rattle.fwd_source.specs.declared.origin.Origin.{Origin}
@@ -17,7 +38,22 @@ use Rattle.fwd_model.specs.declared.event.EndKind.TheVariants.{Kept, Lost}
 use Rattle.fwd_model.specs.declared.answer.Answer.{Answer}
 use Rattle.fwd_model.specs.declared.answer.Answer.TheVariants as answer
 use Rattle.fwd_model.specs.declared.fault.Refusal.TheVariants.{Closed, NoSuch, NotNow, NotUp}
-use Rattle.fwd_model.specs.Outcome.{Outcome, Goes, answer_of, state_of, within, ◌>>=◌, ◌>>◌, found, refuse_if, of_piece, of_heard, of_fault, first_of, chunk_answer}
+use Rattle.fwd_model.specs.Outcome.{
+  Outcome,
+  Goes,
+  answer_of,
+  state_of,
+  within,
+  ◌>>=◌,
+  ◌>>◌,
+  found,
+  refuse_if,
+  of_piece,
+  of_heard,
+  of_fault,
+  first_of,
+  chunk_answer,
+}
 use Rattle.fwd_model.specs.Layers.{Worker, Layers}
 use Rattle.fwd_model.specs.Setups.{setup_of, session_setup}
 use Rattle.fwd_model.specs.Outputs.{returned}
@@ -32,7 +68,67 @@ is_lost Kept = false
 is_lost Lost = true
 
 module _ (L : Layers) where
-  open L use {Relay, Source, Lane, Session, run, routes, security, is_fresh, source_at, lane_at, accepts, leaves, puts_source, puts_lane, is_shut, waiting, admitted, unsent, piece_answer, pong, hears, gives, appends, drains, shuts, config, refusal, closing, given, entries_at, due, owed, worker_at, enters, flushes, chosen, watches, takes, settles, ends, tells, forgets, puts_worker, begins, server, loaded, acked, evidence, is_greeted, is_ready, is_down, is_late, to_send, told, ping, loads, sends, listens, looks}
+  open L use {
+    Relay,
+    Source,
+    Lane,
+    Session,
+    run,
+    routes,
+    security,
+    is_fresh,
+    source_at,
+    lane_at,
+    accepts,
+    leaves,
+    puts_source,
+    puts_lane,
+    is_shut,
+    waiting,
+    admitted,
+    unsent,
+    piece_answer,
+    pong,
+    hears,
+    gives,
+    appends,
+    drains,
+    shuts,
+    config,
+    refusal,
+    closing,
+    given,
+    entries_at,
+    due,
+    owed,
+    worker_at,
+    enters,
+    flushes,
+    chosen,
+    watches,
+    takes,
+    settles,
+    ends,
+    tells,
+    forgets,
+    puts_worker,
+    begins,
+    server,
+    loaded,
+    acked,
+    evidence,
+    is_greeted,
+    is_ready,
+    is_down,
+    is_late,
+    to_send,
+    told,
+    ping,
+    loads,
+    sends,
+    listens,
+    looks,
+  }
 
   -- at the connection of this id
   abbrev pub at_source : Relay → ℕ → (Source → Outcome Source) → Outcome Relay

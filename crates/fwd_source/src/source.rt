@@ -1,10 +1,35 @@
 //! A connection, from its first byte to its last answer.
 
-ghost use Rattle.std.specs.Prelude.{◌≡◌, ◌+◌, ◌≤◌, ◌<◌, ◌^◌, true, length, IfOk, IfErr, OnOk, OnErr, IsOk};
+ghost use Rattle.std.specs.Prelude.{
+  ◌≡◌,
+  ◌+◌,
+  ◌≤◌,
+  ◌<◌,
+  ◌^◌,
+  true,
+  length,
+  IfOk,
+  IfErr,
+  OnOk,
+  OnErr,
+  IsOk,
+};
 ghost use Rattle.std.specs.Option.{option_map};
 ghost use Rattle.std.specs.Arc.{arc_value};
 ghost use Rattle.fwd_source.specs.History.{Setup, opening_text};
-ghost use Rattle.fwd_source.specs.Live.{opened_source, judged_behind, judged_piece, live_piece_next, live_piece_answer, live_piece_out, first_waiting, live_next, source_appends, source_drains, source_shuts};
+ghost use Rattle.fwd_source.specs.Live.{
+  opened_source,
+  judged_behind,
+  judged_piece,
+  live_piece_next,
+  live_piece_answer,
+  live_piece_out,
+  first_waiting,
+  live_next,
+  source_appends,
+  source_drains,
+  source_shuts,
+};
 ghost use Rattle.fwd_source.specs.Hearing.{shown};
 
 use crate::greeting::hear_greeting;

@@ -11,10 +11,12 @@ loop-origin-init c = record { same = refl; left = refl; count = omega arith }
 
 -- the request whose origin is found
 first_is : (p : Entered → Bool) (qs : List Entered) (o : Origin)
-    → Some o ≡ option_map (λ q. q.origin) (find p qs) → (q : Entered) × (find p qs ≡ Some q) × (q.origin ≡ o)
+    → Some o ≡ option_map (λ q. q.origin) (find p qs)
+    → (q : Entered) × (find p qs ≡ Some q) × (q.origin ≡ o)
 first_is p qs o e = by (find p qs) refl e
   where
-    by : (k : Option Entered) → find p qs ≡ k → Some o ≡ option_map (λ (q : Entered). q.origin) k → (q : Entered) × (find p qs ≡ Some q) × (q.origin ≡ o)
+    by : (k : Option Entered) → find p qs ≡ k → Some o ≡ option_map (λ (q : Entered). q.origin) k
+        → (q : Entered) × (find p qs ≡ Some q) × (q.origin ≡ o)
     by None f g = absurd cc
     by (Some q) f g = (q, f, sym (same g))
       where
@@ -33,14 +35,17 @@ few_of : (p : Entered → Bool) (qs : List Entered) → length (filter p qs) ≤
 few_of p [] = omega arith
 few_of p (q ∷ qs) = by (p q) (few_of p qs)
   where
-    by : (b : Bool) → length (filter p qs) ≤ length qs → length (cond b (q ∷ filter p qs) (filter p qs)) ≤ suc (length qs)
+    by : (b : Bool) → length (filter p qs) ≤ length qs
+        → length (cond b (q ∷ filter p qs) (filter p qs)) ≤ suc (length qs)
     by true h = omega (arith, h)
     by false h = omega (arith, h)
 
 -- one less is owed
-step : (b d : LiveBook) (conn : ℕ) (o : Origin) → Some o ≡ option_map (λ q. q.origin) (find (is_of conn) b.requests)
+step : (b d : LiveBook) (conn : ℕ) (o : Origin)
+    → Some o ≡ option_map (λ q. q.origin) (find (is_of conn) b.requests)
     → IsSound b → d ≡ live_leaves b (o ∷ [])
-    → (live_forgets_of d conn ≡ live_forgets_of b conn) × (live_owed_of b conn ≡ suc (live_owed_of d conn))
+    → (live_forgets_of d conn ≡ live_forgets_of b conn)
+    × (live_owed_of b conn ≡ suc (live_owed_of d conn))
 step b d conn o found sound is =
     let q = first_is (is_of conn) b.requests o found in
     let left : live_leaves b (q.0.origin ∷ []) ≡ d = ap (λ x. live_leaves b (x ∷ [])) q.2 ∙ sym is in (
