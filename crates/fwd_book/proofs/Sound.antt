@@ -12,8 +12,8 @@ use Rattle.fwd_session.specs.Evidence.{Evidence}
 use Rattle.fwd_chunks.specs.Spans.{AreCutBy, AreRising}
 use Rattle.fwd_book.specs.History.{BookSetting, Entered, is_origin, request_at, is_among, evidence_of, has_run, is_fresh, name_at}
 use Rattle.fwd_book.specs.Live.{LiveBook, evidence_for, live_opening, live_enters, live_settles, live_drops, live_leaves, HasItsRuns, AreApart, IsOf, IsSound}
-use Rattle.fwd_book.proofs.Found.{comes, found_there}
-use Rattle.fwd_book.proofs.Found.{in_both}
+use Rattle.fwd_book.proofs.Following.{filter-at}
+use Rattle.fwd_book.proofs.Found.{comes, found_there, in_both}
 use Rattle.fwd_book.proofs.Facts.{apart, some_is, none_some, neither_left, neither_right, is_not}
 
 -- one origin is the other, either way
@@ -44,18 +44,6 @@ find_left p q (x ∷ xs) none = by (p x) (q x) refl none (find_left p q xs)
 only : {X : Type 0} (x y : X) (i : ℕ) → slice_get (x ∷ []) i ≡ Some y → x ≡ y
 only x y zero e = some_is e
 only x y (suc i) e = absurd (none_some e)
-
--- what stands in a filter stands in the list
-in_filter : {X : Type 0} (p : X → Bool) (xs : List X) (i : ℕ) (x : X)
-    → slice_get (filter p xs) i ≡ Some x → (j : ℕ) × (slice_get xs j ≡ Some x)
-in_filter p [] i x e = absurd (none_some e)
-in_filter p (y ∷ xs) i x e = by (p y) i e (λ k f. in_filter p xs k x f)
-  where
-    by : (a : Bool) (k : ℕ) → slice_get (cond a (y ∷ filter p xs) (filter p xs)) k ≡ Some x
-        → ((k : ℕ) → slice_get (filter p xs) k ≡ Some x → (j : ℕ) × (slice_get xs j ≡ Some x)) → (j : ℕ) × (slice_get (y ∷ xs) j ≡ Some x)
-    by true zero f more = (0, f)
-    by true (suc k) f more = let at = more k f in (suc at.0, at.1)
-    by false k f more = let at = more k f in (suc at.0, at.1)
 
 -- where none pass, one that stands there does not
 none_passes : {X : Type 0} (p : X → Bool) (xs : List X) (i : ℕ) (x : X) → list_any p xs ≡ false
@@ -180,7 +168,7 @@ sound-drops b gone sound = record {
   where
     in_left : (i : ℕ) (q : Entered) → slice_get (filter (λ r. not (gone r)) b.requests) i ≡ Some q
         → (j : ℕ) × (slice_get b.requests j ≡ Some q)
-    in_left i q here = in_filter (λ r. not (gone r)) b.requests i q here
+    in_left i q here = filter-at (λ r. not (gone r)) b.requests i q here
 
     in_kept : (j : ℕ) (e : Evidence)
         → slice_get (evidence_for (filter (λ r. not (gone r)) b.requests) b.settled) j ≡ Some e

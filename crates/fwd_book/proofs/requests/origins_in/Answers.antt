@@ -1,7 +1,6 @@
-use Rattle.std.proofs.Common.{◌≡◌, ℕ, ◌+◌, suc, ◌++◌, ◌∷◌, [], List, ap, sym, ◌∙◌, arith}
+use Rattle.std.proofs.Common.{◌≡◌, ◌+◌, suc, ◌++◌, ap, sym, ◌∙◌, arith}
 use Rattle.std.specs.Prelude.{option_to_list}
 use Rattle.std.proofs.lemmas.List.{append-nil}
-use Rattle.fwd_source.specs.declared.origin.Origin.{Origin}
 use Rattle.fwd_book.proofs.Slotting.{origins-more}
 use Rattle.fwd_book.proofs.requests.origins_in.Goals.{in-Some+in_ok-push, in_default}
 use Rattle.fwd_book.proofs.requests.origins_in.Goals as goal

@@ -1,4 +1,4 @@
-use Rattle.std.proofs.Common.{◌≡◌, ◌+◌, length}
+use Rattle.std.proofs.Common.{◌≡◌, ◌+◌}
 use Rattle.fwd_book.specs.Live.{live_forgets_of, live_owed_of}
 use Rattle.fwd_book.proofs.book.Book.forget_of.Given as goal
 
