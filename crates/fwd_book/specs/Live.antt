@@ -1,6 +1,28 @@
 -- What of a book's history still matters: the requests that are owed an answer, and what was
 -- acknowledged of their entries.
-use Rattle.std.specs.Prelude.{◌≡◌, ℕ, Bool, true, false, not, ◌&&◌, List, [], ◌∷◌, ◌++◌, length, map, filter, Option, Some, None, option_to_list, take, drop, slice_get}
+use Rattle.std.specs.Prelude.{
+  ◌≡◌,
+  ℕ,
+  Bool,
+  true,
+  false,
+  not,
+  ◌&&◌,
+  List,
+  [],
+  ◌∷◌,
+  ◌++◌,
+  length,
+  map,
+  filter,
+  Option,
+  Some,
+  None,
+  option_to_list,
+  take,
+  drop,
+  slice_get,
+}
 use Rattle.std.specs.List.{flat_map}
 use Rattle.fwd_modes.specs.Requests.{Request}
 use Rattle.fwd_modes.specs.Acks.{ack_name}
