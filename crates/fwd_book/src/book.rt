@@ -164,6 +164,20 @@ impl Book {
         }
     }
 
+    /// The run that the names of the output's chunks tell.
+    pub fn run(&self) -> [u8; 6]
+        ensures { result ≡ self.now.live.setting.run }
+    {
+        self.run
+    }
+
+    /// The output's number.
+    pub fn output(&self) -> u16
+        ensures { result ≡ self.now.live.setting.output }
+    {
+        self.output
+    }
+
     /// Makes room for a request. On an error nothing has changed.
     pub fn prepare(&mut self, alloc: Global, batch: &Batch) -> Result<(), AllocError>
         ensures ok { OnOk result (self.new ≡ record self.old { ready = Some batch.now }) }
@@ -331,8 +345,9 @@ impl Book {
         Ok(given)
     }
 
-    /// The receipt of an origin's request, if it is here and its entries are all acknowledged.
-    fn receipt(&self, alloc: Global, origin: Origin) -> Result<Option<Receipt>, AllocError>
+    /// The receipt of an origin's request, if it is here and its entries are all acknowledged. The
+    /// only error is want of memory.
+    pub fn receipt(&self, alloc: Global, origin: Origin) -> Result<Option<Receipt>, AllocError>
         ensures { IfOk result (λ given. option_to_list given
             ≡ receipt_if self.now.live.settled (request_at self.now.live.requests origin)) }
     {

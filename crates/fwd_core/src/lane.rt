@@ -44,7 +44,8 @@ ghost use Rattle.fwd_model.specs.Live.{lives};
 
 use crate::lane_config::LaneConfig;
 use crate::output::OutputState;
-use crate::worker::{Leaving, Worker};
+use crate::leaving::Leaving;
+use crate::worker::Worker;
 use fwd_book::Receipt;
 use fwd_chunks::{AdmitError, Carried, Counts, FlushKind};
 use fwd_model::{Answer, EndKind, Origin, OutputConfig, OwnedSalt, Refusal};
@@ -143,7 +144,8 @@ impl Lane {
         ensures err { OnErr result (self.new ≡ self.old) }
     {
         self.output.is_sound();
-        self.output.admit(alloc, origin, batch, now)
+        self.output.admit(alloc, origin, batch, now)?;
+        Ok(())
     }
 
     /// Closes the open chunks that a flush closes, and answers how many.

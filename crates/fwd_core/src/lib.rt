@@ -5,14 +5,17 @@ mod connection;
 mod due;
 mod lane;
 mod lane_config;
+mod leaving;
 mod output;
 mod relay;
 mod worker;
 
 pub use fwd_chunks::{AdmitError, BufferLimits, Carried, Counts};
 pub use fwd_model::{
+    Origin,
     Answer, Config, EndKind, Event, FlushKind, OutputConfig, OwnedSalt, Refusal, SessionFault,
     SourceFault,
 };
+pub use leaving::{Leaving, leave};
 pub use output::OutputState;
 pub use relay::Relay;

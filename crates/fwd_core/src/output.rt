@@ -19,9 +19,16 @@ ghost use Rattle.std.specs.Prelude.{
   length,
   map,
   option_map,
+  option_to_list,
   slice_get,
+  true,
   false,
+  [],
+  ◌≢◌,
+  ◌↔◌,
+  IsTrue,
   Contains,
+  vec_capacity,
 };
 ghost use Rattle.std.specs.Arc.{arc_value};
 ghost use Rattle.fwd_chunks.specs.Live.{
@@ -32,14 +39,20 @@ ghost use Rattle.fwd_chunks.specs.Live.{
   live_given,
   live_load,
   live_looks,
+  live_spans,
   live_takes,
   live_frees,
   live_counts,
 };
 ghost use Rattle.fwd_chunks.specs.Soundness.{IsSound};
 ghost use Rattle.fwd_session.specs.Evidence.{IsEvidence};
-ghost use Rattle.fwd_book.specs.History.{Entered, is_of, request_at};
-ghost use Rattle.fwd_book.specs.Receipts.{Receipt as AbstractReceipt, IsRightFor, receipts};
+ghost use Rattle.fwd_book.specs.History.{Entered, entered_as, is_of, request_at};
+ghost use Rattle.fwd_book.specs.Receipts.{
+  Receipt as AbstractReceipt,
+  IsRightFor,
+  receipt_if,
+  receipts,
+};
 ghost use Rattle.fwd_book.specs.Live.{
   IsSound as IsSoundBook,
   live_leaves,
@@ -60,10 +73,11 @@ ghost use Rattle.fwd_model.specs.Outputs.{
 ghost use Rattle.fwd_core.specs.Lanes.{IsHere};
 
 use fwd_book::{Book, Receipt};
-use fwd_chunks::{AdmitError, Buffer, BufferLimits, Carried, Counts, FlushKind};
+use fwd_chunks::{AdmitError, Buffer, BufferLimits, Carried, Counts, FlushKind, Span};
 use fwd_failover::Servers;
 use fwd_model::Origin;
 use fwd_modes::Batch;
+use fwd_msgpack::Seq;
 use fwd_session::Acked;
 use std::alloc::{AllocError, Global};
 use std::marker::Model;
@@ -105,6 +119,20 @@ fn put_back(buffer: &mut Buffer, carried: Carried, loss: Option<u64>)
     } else {
         carried.spend();
     }
+}
+
+/// Runs, in room that was made for them. Room that is left over is given back.
+fn copied_into(room: Vec<Span>, spans: &[Span]) -> Vec<Span>
+    requires empty { room.items ≡ [] }
+    requires fits { length spans.now ≤ vec_capacity room }
+    ensures { result.items ≡ spans.now }
+{
+    let mut copy = room;
+    for span in spans {
+        copy.push_reserved(*span);
+    }
+    copy.shrink_to_fit();
+    copy
 }
 
 impl OutputState {
@@ -153,19 +181,21 @@ impl OutputState {
 
     /// Enters a request at a moment (milliseconds): each of its entries joins its tag's open
     /// chunk, or begins a new one. It is refused as `Full` where the bytes held would be more
-    /// than the total limit, and then as `NumbersSpent`. On an error nothing has changed. No relay
-    /// hands in an origin whose request is still owed an answer, since a connection's requests are
-    /// numbered upward: there is no room for a second one.
+    /// than the total limit, and then as `NumbersSpent`. On an error nothing has changed. Answers
+    /// the runs of the entries in their chunks. No relay hands in an origin whose request is still
+    /// owed an answer, since a connection's requests are numbered upward: there is no room for a
+    /// second one.
     pub fn admit(
         &mut self,
         alloc: Global,
         origin: Origin,
         batch: &Batch,
         now: u64,
-    ) -> Result<(), AdmitError>
+    ) -> Result<Seq<Span>, AdmitError>
         ensures refused { IfSome (live_refusal self.old.buffer batch.now now) (λ fault.
             result ≡ Err fault) }
         ensures ok { OnOk result (self.new ≡ output_enters self.old origin batch.now now) }
+        ensures spans { IfOk result (λ spans. spans ≡ live_spans self.old.buffer batch.now now) }
         ensures memory { live_refusal self.old.buffer batch.now now ≡ None
             → IfErr result (λ error. error ≡ AdmitError.Memory) }
         ensures err { OnErr result (self.new ≡ self.old) }
@@ -177,9 +207,13 @@ impl OutputState {
         let Ok(()) = self.book.prepare(alloc, batch) else {
             return Err(self.buffer.fault(batch).unwrap_or(AdmitError::Memory));
         };
+        let Ok(room) = Vec::with_capacity(alloc, batch.len()) else {
+            return Err(self.buffer.fault(batch).unwrap_or(AdmitError::Memory));
+        };
         let spans = self.buffer.admit(alloc, origin, batch, now)?;
+        let copy = copied_into(room, spans.as_slice());
         self.book.enter(origin, spans.into_vec());
-        Ok(())
+        Ok(Seq::from_vec(copy))
     }
 
     /// Closes the open chunks that a flush closes at a moment (milliseconds), and answers how many.
@@ -263,6 +297,46 @@ impl OutputState {
         if let Some(server) = server {
             self.servers.failed(server, moment);
         }
+    }
+
+    /// The run that the names of the chunks tell.
+    pub fn run(&self) -> [u8; 6]
+        ensures { result ≡ self.now.book.setting.run }
+    {
+        self.book.run()
+    }
+
+    /// The output's number.
+    pub fn output(&self) -> u16
+        ensures { result ≡ self.now.book.setting.output }
+    {
+        self.book.output()
+    }
+
+    /// Whether a worker has the chunk from this output, with its tag, its entries and its name.
+    pub fn carries(&self, carried: &Carried) -> bool
+        ensures { IsTrue result ↔ IsCarried self.now.buffer carried.now }
+    {
+        self.buffer.carries(carried)
+    }
+
+    /// Whether this request is owed an answer under this origin, with these runs of its entries.
+    pub fn shows(&self, origin: Origin, batch: &Batch, spans: &[Span]) -> bool
+        ensures shown { result ≡ true → request_at self.now.book.requests origin
+            ≡ Some (entered_as batch.now origin spans.now) }
+        ensures other { result ≡ false → request_at self.now.book.requests origin
+            ≢ Some (entered_as batch.now origin spans.now) }
+    {
+        self.book.shows(origin, batch, spans)
+    }
+
+    /// The receipt of an origin's request, if it is owed an answer and its entries are all
+    /// acknowledged. The only error is want of memory.
+    pub fn receipt(&self, alloc: Global, origin: Origin) -> Result<Option<Receipt>, AllocError>
+        ensures { IfOk result (λ given. option_to_list given
+            ≡ receipt_if self.now.book.settled (request_at self.now.book.requests origin)) }
+    {
+        self.book.receipt(alloc, origin)
     }
 
     /// Whether the request of an origin is owed an answer.

@@ -38,6 +38,7 @@ ghost use Rattle.fwd_core.specs.Lanes.{no_work, first_there, acked_in, evidence_
 ghost use Rattle.fwd_core.specs.Runs.{is_free};
 
 use crate::lane_config::LaneConfig;
+use crate::leaving::{Leaving, leave};
 use fwd_chunks::Carried;
 use fwd_model::{Answer, EndKind, OwnedSalt, Refusal};
 use fwd_msgpack::Bytes;
@@ -82,14 +83,6 @@ impl Drop for Worker {
     }
 }
 
-/// What a worker leaves at its end: its chunk, whether that was loaded, and the server that is
-/// lost.
-pub(crate) struct Leaving {
-    pub chunk: Option<Carried>,
-    pub lost: bool,
-    pub server: Option<u16>,
-}
-
 /// What a piece did, as an answer.
 fn answer_for(told: Told) -> Answer
     ensures { (s : LiveSession) → result ≡ answer_of (of_heard told.heard told.out s) }
@@ -111,20 +104,6 @@ fn put(place: &mut Option<Carried>, chunk: Carried)
 {
     match place.replace(chunk) {
         None => {}
-        Some(_) => unreachable!(),
-    }
-}
-
-/// The chunk that a worker took, or the one that its session has: it has not both.
-fn only_one(taken: Option<Carried>, loaded: Option<Carried>) -> Option<Carried>
-    requires { (c : Load) → taken ≡ Some c → loaded ≡ None }
-    ensures { result ≡ first_there taken loaded }
-{
-    let Some(chunk) = taken else {
-        return loaded;
-    };
-    match loaded {
-        None => Some(chunk),
         Some(_) => unreachable!(),
     }
 }
@@ -331,21 +310,6 @@ impl Worker {
         if session.is_acked() {
             unreachable!();
         }
-        let lost = session.has_chunk();
-        let at_fault = matches!(kind, EndKind::Lost)
-            || session.is_down()
-            || !session.is_greeted()
-            || lost;
-        let server = if at_fault {
-            Some(session.server())
-        } else {
-            None
-        };
-        let loaded = session.end();
-        Leaving {
-            chunk: only_one(chunk, loaded),
-            lost,
-            server,
-        }
+        leave(session, chunk, kind)
     }
 }

@@ -1,0 +1,83 @@
+-- What stands under an output's lock, and what a turn there does.
+use Rattle.std.specs.Prelude.{
+  ◌≡◌,
+  ℕ,
+  ◌⊎◌,
+  Option,
+  Some,
+  None,
+  ◌+◌,
+  true,
+  false,
+  List,
+  [],
+  ◌∷◌,
+  ◌++◌,
+  length,
+  map,
+}
+use Rattle.fwd_modes.specs.Requests.{Request}
+use Rattle.fwd_source.specs.declared.origin.Origin.{Origin}
+use Rattle.fwd_book.specs.History.{is_among}
+use Rattle.fwd_book.specs.Live.{LiveBook, live_leaves}
+use Rattle.fwd_book.specs.Receipts.{Receipt}
+use Rattle.fwd_model.specs.Outputs.{LiveOutput, output_enters}
+use Rattle.fwd_workers.specs.Tickets.{Ticket, IsDue, receipt_for}
+
+-- an output, and the totals of its two counters
+pub record Turn : Type 0 where
+  pub output : LiveOutput
+  pub accepted : ℕ
+  pub settled : ℕ
+
+-- a request is admitted: its entries are accepted
+abbrev pub turn_admits : Turn → Origin → Request → ℕ → Turn
+turn_admits s origin r now = record s {
+  output = output_enters s.output origin r now;
+  accepted = s.accepted + length r.entries;
+}
+
+-- the output is another, and nothing was accepted or settled
+abbrev pub turn_goes : Turn → LiveOutput → Turn
+turn_goes s o = record s { output = o }
+
+-- the output is another, and so many entries were settled
+abbrev pub turn_settles : Turn → LiveOutput → ℕ → Turn
+turn_settles s o count = record s { output = o; settled = s.settled + count }
+
+-- requests of these origins leave the output's book
+abbrev pub turn_tells : Turn → List Origin → Turn
+turn_tells s origins =
+    turn_goes s (record (s.output) { book = live_leaves s.output.book origins })
+
+-- What comes of tickets, of which these origins' were given their receipts before: each that is
+-- due, and whose origin's was not given one before, is given its receipt; each other comes back.
+abbrev pub AreCollected : LiveBook → (before : List Origin) → List Ticket → (given : List Ticket)
+    → (back : List Ticket) → Type 0
+AreCollected b before [] given back = (given ≡ []) × (back ≡ [])
+AreCollected b before (t ∷ ts) given back =
+    (IsDue b t × (is_among before t.origin ≡ false)
+        × ((rest : List Ticket) × (given ≡ t ∷ rest)
+        × AreCollected b (before ++ t.origin ∷ []) ts rest back))
+    ⊎ ((IsDue b t → is_among before t.origin ≡ true)
+        × ((rest : List Ticket) × (back ≡ t ∷ rest) × AreCollected b before ts given rest))
+
+-- the origins of tickets
+abbrev pub origins_of : List Ticket → List Origin
+origins_of ts = map (λ t. t.origin) ts
+
+-- the receipts of tickets that are due
+abbrev pub receipts_for : LiveBook → List Ticket → List Receipt
+receipts_for b ts = map (receipt_for b) ts
+
+-- what is found for a ticket: its receipt, where it is due, and nothing where it is not
+abbrev pub IsAnswered : LiveBook → Ticket → Option Receipt → Type 0
+IsAnswered b t (Some r) = IsDue b t × (r ≡ receipt_for b t)
+IsAnswered b t None = ¬ (IsDue b t)
+
+-- what is found for each of some tickets
+abbrev pub AreAnswered : LiveBook → List Ticket → List (Option Receipt) → Type 0
+AreAnswered b [] [] = Unit {0}
+AreAnswered b (t ∷ ts) (o ∷ os) = IsAnswered b t o × AreAnswered b ts os
+AreAnswered b [] (o ∷ os) = ⊥
+AreAnswered b (t ∷ ts) [] = ⊥

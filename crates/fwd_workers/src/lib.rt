@@ -1,0 +1,21 @@
+//! Outputs that threads share, and the workers that send their chunks to servers.
+#![tactic(auto)]
+
+mod collecting;
+mod link;
+mod locked;
+mod refusal;
+mod serve;
+mod shared;
+mod tally;
+mod ticket;
+mod worker;
+
+pub use link::{Clock, Gate, Hub, Link, LinkFault, Pass, Place, Read};
+pub use locked::{Closing, Locked};
+pub use refusal::AdmitRefusal;
+pub use serve::{Served, serve_turn};
+pub use shared::SharedOutput;
+pub use tally::{Ledgered, Plain, Seat, Tally, open};
+pub use ticket::Ticket;
+pub use worker::{Ended, Worker};

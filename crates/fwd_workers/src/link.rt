@@ -1,0 +1,96 @@
+//! What a worker asks of the world: links to servers, moments, and leave to go on.
+
+ghost use Rattle.std.specs.Prelude.{◌≡◌, ◌+◌, ℕ, List, IfErr};
+ghost use Rattle.fwd_workers.specs.Links.{HasRead, HasWritten, failed_reads, failed_writes};
+
+use std::sync::Wait;
+
+/// What a read of a link gave.
+#[derive(Clone, Copy, Debug, PartialEq, Eq)]
+pub enum Read {
+    /// So many bytes, at the front of the room.
+    Bytes(usize),
+    /// No byte yet.
+    Nothing,
+    /// No byte any more: the server closed its side.
+    Closed,
+}
+
+/// Why a link cannot go on.
+#[derive(Clone, Copy, Debug, PartialEq, Eq)]
+pub enum LinkFault {
+    /// It could not be had.
+    Connect = 1,
+    /// It could not be read.
+    Read = 2,
+    /// It could not be written.
+    Write = 3,
+}
+
+/// A link to a server, which tells its bytes and counts its failures.
+pub trait Link: Drop {
+    /// All bytes that it took.
+    ghost taken: { Self → List ℕ };
+
+    /// All bytes that it gave.
+    ghost given: { Self → List ℕ };
+
+    /// How many of its calls failed.
+    ghost failures: { Self → ℕ };
+
+    /// Reads once, into this room. It may wait.
+    fn read<R: Wait>(&mut self, rt: &R, room: &mut [u8]) -> Result<Read, LinkFault>
+        ensures given { HasRead result (given self.old) room.new (given self.new) }
+        ensures taken { taken self.new ≡ taken self.old }
+        ensures failures { failures self.new ≡ failures self.old + failed_reads result }
+        ensures fault { IfErr result (λ fault. fault ≡ LinkFault.Read) };
+
+    /// Writes once: how many of these bytes it took, which may be none. It may wait.
+    fn write<R: Wait>(&mut self, rt: &R, bytes: &[u8]) -> Result<usize, LinkFault>
+        ensures taken { HasWritten result (taken self.old) bytes.now (taken self.new) }
+        ensures given { given self.new ≡ given self.old }
+        ensures failures { failures self.new ≡ failures self.old + failed_writes result }
+        ensures fault { IfErr result (λ fault. fault ≡ LinkFault.Write) };
+}
+
+/// Makes links.
+pub trait Hub {
+    /// A link that it makes.
+    type Line: Link;
+
+    /// A link to the server of this place in the output's list. It may wait.
+    fn connect<R: Wait>(&mut self, rt: &R, server: u16) -> Result<Self::Line, LinkFault>;
+}
+
+/// Tells moments.
+pub trait Clock {
+    /// The moment, in milliseconds.
+    fn now(&mut self) -> u64;
+}
+
+/// Where a worker stands.
+#[derive(Clone, Copy, Debug, PartialEq, Eq)]
+pub enum Place {
+    BeforeTake,
+    BeforeLoad,
+    BeforeSettle,
+    AfterSettle,
+}
+
+/// What a gate answers.
+#[derive(Clone, Copy, Debug, PartialEq, Eq)]
+pub enum Pass {
+    /// The worker goes on.
+    Go,
+    /// The worker does nothing in this turn.
+    Hold,
+    /// The worker ends.
+    Stop,
+}
+
+/// Lets workers go on, holds them up, or ends them.
+pub trait Gate {
+    /// Whether the worker of this number goes on from where it stands, in its turn of this number,
+    /// counted from 0. It may wait.
+    fn pass<R: Wait>(&mut self, rt: &R, worker: u16, place: Place, turn: u64) -> Pass;
+}

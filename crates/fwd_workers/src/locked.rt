@@ -1,0 +1,344 @@
+//! What stands under an output's lock: the output, and how many entries it accepted and settled.
+
+ghost use Rattle.std.specs.Prelude.{
+  ◌≡◌,
+  ◌+◌,
+  ◌++◌,
+  ℕ,
+  List,
+  Err,
+  None,
+  [],
+  ◌∷◌,
+  length,
+  map,
+  All,
+  option_map,
+  IfOk,
+  IfErr,
+  IfSome,
+  OnOk,
+  OnErr,
+};
+ghost use Rattle.std.specs.Arc.{arc_value};
+ghost use Rattle.std.specs.List.Sorted.{IsPermutation};
+ghost use Rattle.fwd_chunks.specs.Live.{
+  IsCarried,
+  live_closing,
+  live_counts,
+  live_flushes,
+  live_given,
+  live_load,
+  live_looks,
+  live_takes,
+};
+ghost use Rattle.fwd_chunks.specs.Soundness.{IsSound};
+ghost use Rattle.fwd_session.specs.Evidence.{IsEvidence};
+ghost use Rattle.fwd_book.specs.Live.{IsSound as IsSoundBook, live_leaves};
+ghost use Rattle.fwd_model.specs.Outputs.{
+  live_count_at,
+  output_choice,
+  output_ends,
+  output_looks,
+  output_settles,
+  returned,
+};
+ghost use Rattle.fwd_core.specs.Lanes.{IsHere};
+ghost use Rattle.fwd_workers.specs.Seats.{parts_of, counts_of};
+ghost use Rattle.fwd_workers.specs.Tickets.{
+  Ticket as AbstractTicket,
+  IsShown,
+  IsRight,
+  refusal_at,
+  ticket_for,
+  ticket_of,
+};
+ghost use Rattle.fwd_workers.specs.Turns.{
+  AreCollected,
+  origins_of,
+  receipts_for,
+  turn_admits,
+  turn_goes,
+  turn_settles,
+  turn_tells,
+};
+
+use crate::collecting::{hand_out, receipts_for, shows};
+use crate::refusal::AdmitRefusal;
+use crate::tally::{Ledgered, Seat, Tally};
+use crate::ticket::Ticket;
+use fwd_book::Receipt;
+use fwd_chunks::{Carried, Counts, FlushKind};
+use fwd_core::OutputState;
+use fwd_modes::Batch;
+use fwd_session::Acked;
+use fwd_source::Origin;
+use std::alloc::{AllocError, Global};
+use std::marker::Model;
+use std::sync::Arc;
+use std::sync::ledger::Ledger;
+
+/// An output with the counters of the entries that it accepted and settled, which are always what
+/// the output says.
+#[derive(Drop)]
+pub struct Locked<A: Tally, S: Tally> {
+    state: OutputState,
+    accepted: A,
+    settled: S,
+}
+
+impl<A: Tally, S: Tally> Model for Locked<A, S> {
+    ghost use Rattle.std.specs.Prelude.{◌≡◌};
+    ghost use Rattle.fwd_workers.specs.Turns.{Turn};
+
+    ghost Value = { Turn };
+
+    ghost view = { λ s. record {
+      output = s.state;
+      accepted = A.total s.accepted;
+      settled = S.total s.settled;
+    } };
+
+    ghost invariant = { λ s. (A.total s.accepted ≡ s.state.buffer.accepted)
+        × (S.total s.settled ≡ s.state.buffer.settled) };
+}
+
+impl<A: Tally, S: Tally> Locked<A, S> {
+    /// An output and its counters.
+    pub fn new(state: OutputState, accepted: A, settled: S) -> Self
+        requires accepted { A.total accepted ≡ state.buffer.accepted }
+        requires settled { S.total settled ≡ state.buffer.settled }
+        ensures { result ≡ record {
+          output = state;
+          accepted = A.total accepted;
+          settled = S.total settled;
+        } }
+    {
+        Locked {
+            state,
+            accepted,
+            settled,
+        }
+    }
+
+    /// What is true of every output, and that its counters' totals are what it accepted and
+    /// settled.
+    pub fn is_sound(&self)
+        ensures chunks { IsSound self.now.output.buffer }
+        ensures requests { IsSoundBook self.now.output.book }
+        ensures accepted { self.now.accepted ≡ self.now.output.buffer.accepted }
+        ensures settled { self.now.settled ≡ self.now.output.buffer.settled }
+    {
+        self.state.is_sound();
+    }
+
+    /// The entries accepted, settled and held, with the bytes held and the chunks that hold them.
+    pub fn counts(&self) -> Counts
+        ensures { result ≡ live_counts self.now.output.buffer }
+    {
+        self.state.counts()
+    }
+
+    /// Admits a connection's request at a moment (milliseconds), and gives a ticket for it. It is
+    /// refused as `NotNow` where the output owes an answer to a request of this connection and
+    /// number, then as `Full` where the bytes held would be more than the total limit, then as
+    /// `NumbersSpent`. On an error nothing has changed, and the request comes back.
+    pub fn admit(
+        &mut self,
+        alloc: Global,
+        seat: &mut A::Seat,
+        origin: Origin,
+        batch: Batch,
+        now: u64,
+    ) -> Result<Ticket, (AdmitRefusal, Batch)>
+        ensures refused { IfSome (refusal_at self.old.output origin batch now) (λ why.
+            result ≡ Err (why, batch)) }
+        ensures ticket { IfOk result (λ t. t ≡ ticket_for self.old.output origin batch now) }
+        ensures ok { OnOk result (self.new ≡ turn_admits self.old origin batch now) }
+        ensures memory { refusal_at self.old.output origin batch now ≡ None
+            → IfErr result (λ e. e.0 ≡ AdmitRefusal.Memory) }
+        ensures back { IfErr result (λ e. e.1 ≡ batch) }
+        ensures err { OnErr result (self.new ≡ self.old) }
+        ensures counted { OnOk result (A.count seat.new
+            ≡ A.count seat.old + A.kept (length batch.entries)) }
+        ensures same { OnErr result (A.count seat.new ≡ A.count seat.old) }
+        ensures parts { A.parts seat.new ≡ A.parts seat.old }
+    {
+        if self.state.holds(origin) {
+            return Err((AdmitRefusal::NotNow, batch));
+        }
+        let spans = match self.state.admit(alloc, origin, &batch, now) {
+            Ok(spans) => spans,
+            Err(error) => return Err((AdmitRefusal::from(error), batch)),
+        };
+        self.state.is_sound();
+        self.accepted.add(seat, batch.len() as u64);
+        let (run, output) = (self.state.run(), self.state.output());
+        Ok(Ticket::new(run, output, origin, batch, spans))
+    }
+
+    /// Receipts for the tickets whose entries are all acknowledged, and the other tickets, in their
+    /// order. Of two tickets of one request the second comes back, and so does the ticket of
+    /// another output. It costs what is handed in, and no more: who holds many tickets learns from
+    /// `counts` whether anything was settled since, and need not hand them in where nothing was.
+    /// The only error is want of memory; then nothing has changed, and all tickets come back.
+    pub fn collect(
+        &mut self,
+        alloc: Global,
+        tickets: Vec<Ticket>,
+    ) -> Result<(Vec<Receipt>, Vec<Ticket>), (AllocError, Vec<Ticket>)>
+        ensures collected { IfOk result (λ p. (told : List AbstractTicket)
+            × AreCollected self.old.output.book [] tickets.items told p.1.items
+            × (p.0.items ≡ receipts_for self.old.output.book told)
+            × (self.new ≡ turn_tells self.old (origins_of told))) }
+        ensures each { IfOk result (λ p. IsPermutation tickets.items
+            (map (ticket_of self.old.output.book.setting) p.0.items ++ p.1.items)) }
+        ensures right { IfOk result (λ p. All (λ r.
+            IsRight r (ticket_of self.old.output.book.setting r)) p.0.items) }
+        ensures back { IfErr result (λ e. e.1.items ≡ tickets.items) }
+        ensures err { OnErr result (self.new ≡ self.old) }
+    {
+        self.state.is_sound();
+        let Ok(given) = receipts_for(&self.state, alloc, &tickets) else {
+            return Err((AllocError, tickets));
+        };
+        let Ok(receipts) = Vec::with_capacity(alloc, tickets.len()) else {
+            return Err((AllocError, tickets));
+        };
+        let Ok(back) = Vec::with_capacity(alloc, tickets.len()) else {
+            return Err((AllocError, tickets));
+        };
+        Ok(hand_out(&mut self.state, tickets, given, receipts, back))
+    }
+
+    /// Nobody is to be told of the ticket's request any more: it leaves, and its entries stay. The
+    /// ticket of a request that the output does not owe an answer to is only spent.
+    pub fn abandon(&mut self, ticket: Ticket)
+        ensures shown { IsShown self.old.output.book ticket
+            → self.new ≡ turn_tells self.old (ticket.origin ∷ []) }
+        ensures other { ¬ (IsShown self.old.output.book ticket) → self.new ≡ self.old }
+    {
+        if shows(&self.state, &ticket) {
+            self.state.forget(&[ticket.origin()]);
+        }
+        ticket.spend();
+    }
+
+    /// Closes the open chunks that a flush closes at a moment (milliseconds), and answers how many.
+    pub fn flush(&mut self, now: u64, kind: FlushKind) -> usize
+        ensures count { result ≡ length (live_closing self.old.output.buffer now kind) }
+        ensures flushed { self.new ≡ turn_goes self.old (record (self.old.output) {
+          buffer = live_flushes self.old.output.buffer now kind;
+        }) }
+    {
+        self.state.flush(now, kind)
+    }
+
+    /// The server that a worker tries at a moment (milliseconds), if one is usable.
+    pub fn choose(&mut self, worker: u16, now: u64) -> Option<u16>
+        ensures choice { result ≡ output_choice self.old.output worker now }
+        ensures looked { self.new ≡ turn_goes self.old (output_looks self.old.output now) }
+    {
+        self.state.choose(worker, now)
+    }
+
+    /// Gives a worker the free chunk of the least number at a moment (milliseconds), if there is
+    /// one. On an error, want of memory, nothing has changed.
+    pub fn take(
+        &mut self,
+        alloc: Global,
+        seat: &mut S::Seat,
+        worker: u16,
+        now: u64,
+    ) -> Result<Option<Carried>, AllocError>
+        ensures given { IfOk result (λ carried. carried ≡ option_map
+            (live_load self.old.output.buffer)
+            (live_given (live_looks self.old.output.buffer now))) }
+        ensures ok { OnOk result (self.new ≡ turn_goes self.old (record (self.old.output) {
+          buffer = live_takes self.old.output.buffer worker now;
+        })) }
+        ensures err { OnErr result (self.new ≡ self.old) }
+        ensures same { seat.new ≡ seat.old }
+    {
+        let _ = seat;
+        self.state.take(alloc, worker, now)
+    }
+
+    /// A server acknowledged the chunk: its entries are settled, and answered is how many they are.
+    /// A chunk that no worker has from this output changes nothing, and counts 0.
+    pub fn settle(&mut self, seat: &mut S::Seat, acked: Arc<Acked>, carried: Carried) -> u64
+        requires { IsEvidence (arc_value acked) carried }
+        ensures here { IsCarried self.old.output.buffer carried → self.new
+            ≡ turn_settles self.old (output_settles self.old.output (arc_value acked)) result }
+        ensures count { IsCarried self.old.output.buffer carried
+            → result ≡ live_count_at carried.number self.old.output }
+        ensures elsewhere { ¬ (IsCarried self.old.output.buffer carried)
+            → (self.new ≡ self.old) × (result ≡ 0) }
+        ensures counted { S.count seat.new ≡ S.count seat.old + S.kept result }
+        ensures parts { S.parts seat.new ≡ S.parts seat.old }
+    {
+        let count = self.state.settle(acked, carried) as u64;
+        self.state.is_sound();
+        self.settled.add(seat, count);
+        count
+    }
+
+    /// A worker's end at a moment (milliseconds): a chunk that it had is given back, with a loss
+    /// where it is said to be lost, and a server may be lost. A chunk that no worker has from this
+    /// output is only spent.
+    pub fn end(
+        &mut self,
+        seat: &mut S::Seat,
+        chunk: Option<Carried>,
+        server: Option<u16>,
+        lost: bool,
+        now: u64,
+    )
+        ensures here { IsHere self.old.output.buffer chunk → self.new
+            ≡ turn_goes self.old (output_ends self.old.output (returned chunk lost) server now) }
+        ensures elsewhere { ¬ (IsHere self.old.output.buffer chunk) → self.new
+            ≡ turn_goes self.old (output_ends self.old.output None server now) }
+        ensures same { seat.new ≡ seat.old }
+    {
+        let _ = seat;
+        self.state.end(chunk, lost, server, now);
+    }
+}
+
+/// What an output came to, in entries.
+#[derive(Clone, Copy, Debug, PartialEq, Eq)]
+pub struct Closing {
+    pub accepted: u64,
+    pub settled: u64,
+    /// Accepted, and not settled.
+    pub left: u64,
+}
+
+impl<L: Ledger, M: Ledger> Locked<Ledgered<L>, Ledgered<M>> {
+    /// With all seats handed in, what they added is what the output accepted and settled.
+    pub fn close(self, admit_seats: Vec<Seat<L>>, work_seats: Vec<Seat<M>>) -> Closing
+        requires admitting { parts_of admit_seats.items ≡ L.parts }
+        requires working { parts_of work_seats.items ≡ M.parts }
+        ensures accepted { result.accepted ≡ counts_of admit_seats.items }
+        ensures settled { result.settled ≡ counts_of work_seats.items }
+        ensures left { result.accepted ≡ result.settled + result.left }
+        ensures counts { let counts = live_counts self.output.buffer in
+            (result.accepted ≡ counts.accepted) × (result.settled ≡ counts.settled)
+            × (result.left ≡ counts.held) }
+    {
+        let Locked {
+            state,
+            accepted,
+            settled,
+        } = self;
+        state.is_sound();
+        accepted.audit(admit_seats);
+        settled.audit(work_seats);
+        let counts = state.counts();
+        Closing {
+            accepted: counts.accepted,
+            settled: counts.settled,
+            left: counts.held,
+        }
+    }
+}

@@ -1,0 +1,102 @@
+//! One turn of a session over its link.
+
+ghost use Rattle.std.specs.Prelude.{◌≡◌, ◌≤◌, ◌+◌, ◌++◌, ℕ, List, false, IfOk, IfErr, OnErr, length};
+ghost use Rattle.fwd_session.specs.Live.{LiveSession};
+ghost use Rattle.fwd_workers.specs.Served.{Seen, Sends, Fails, HasHeard, Hears, IsServed};
+
+use crate::link::{Link, LinkFault, Read};
+use fwd_session::{Heard, Session, SessionFault};
+use std::alloc::Global;
+use std::sync::Wait;
+
+/// The most bytes that one turn reads. A server's replies are short.
+const ROOM: usize = 4_096;
+
+/// What a turn of a session came to.
+#[derive(Clone, Copy, Debug, PartialEq, Eq)]
+pub enum Served {
+    /// Nothing that asks for anything.
+    Quiet,
+    /// The handshake is done: chunks may be loaded.
+    Ready,
+    /// The session's chunk is acknowledged, and can be taken out.
+    Acked,
+    /// A fault put the session down. An acknowledgement that was accepted before it stands.
+    Down(SessionFault),
+    /// The server closed its side.
+    Closed,
+    /// The link failed.
+    Failed(LinkFault),
+    /// Memory was refused. What was read is lost, so the link must be ended.
+    Memory,
+}
+
+/// The link takes of the bytes that wait, if any do, and the session is told how many.
+fn send<L: Link, R: Wait>(rt: &R, link: &mut L, session: &mut Session) -> Result<(), LinkFault>
+    ensures sent { IfOk result (λ none. Sends session.old session.new
+        (record { taken = L.taken link.old; given = L.given link.old;
+          failures = L.failures link.old })
+        (record { taken = L.taken link.new; given = L.given link.new;
+          failures = L.failures link.new })) }
+    ensures failed { IfErr result (λ fault. Fails session.old session.new
+        (record { taken = L.taken link.old; given = L.given link.old;
+          failures = L.failures link.old })
+        (record { taken = L.taken link.new; given = L.given link.new;
+          failures = L.failures link.new })) }
+    ensures chunk { session.new.loaded ≡ session.old.loaded }
+    ensures up { session.new.down ≡ session.old.down }
+{
+    if !session.out().is_empty() {
+        let count = link.write(rt, session.out())?;
+        session.wrote(count);
+    }
+    Ok(())
+}
+
+/// The session hears bytes.
+fn hear(alloc: Global, session: &mut Session, bytes: &[u8]) -> Served
+    requires { session.old.down ≡ false }
+    ensures heard { (before : Seen) → HasHeard result session.old session.new before
+        (record before { given = before.given ++ bytes.now }) }
+    ensures chunk { session.new.loaded ≡ session.old.loaded }
+{
+    match session.heard(alloc, bytes) {
+        Err(_) => Served::Memory,
+        Ok(told) => match told.heard {
+            Heard::Quiet => Served::Quiet,
+            Heard::Ready => Served::Ready,
+            Heard::Acked => Served::Acked,
+            Heard::Fault(fault) => Served::Down(fault),
+            Heard::NotUp => unreachable!(),
+        },
+    }
+}
+
+/// Writes at most once, of the bytes that wait to be sent, and then reads at most once. What the
+/// link took the session is told, and what the link gave it hears. After `Memory` what was written
+/// is told and nothing that was read is heard, so the link must be ended.
+pub fn serve_turn<L: Link, R: Wait>(
+    rt: &R,
+    alloc: Global,
+    link: &mut L,
+    session: &mut Session,
+) -> Served
+    requires { session.old.down ≡ false }
+    ensures served { IsServed result session.old session.new
+        (record { taken = L.taken link.old; given = L.given link.old;
+          failures = L.failures link.old })
+        (record { taken = L.taken link.new; given = L.given link.new;
+          failures = L.failures link.new }) }
+    ensures chunk { session.new.loaded ≡ session.old.loaded }
+{
+    if let Err(fault) = send(rt, link, session) {
+        return Served::Failed(fault);
+    }
+    let mut room = [0; ROOM];
+    match link.read(rt, &mut room) {
+        Ok(Read::Bytes(count)) => hear(alloc, session, &room[..count]),
+        Ok(Read::Nothing) => Served::Quiet,
+        Ok(Read::Closed) => Served::Closed,
+        Err(fault) => Served::Failed(fault),
+    }
+}
