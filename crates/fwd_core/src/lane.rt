@@ -43,8 +43,8 @@ ghost use Rattle.fwd_model.specs.Step.{
 ghost use Rattle.fwd_model.specs.Live.{lives};
 
 use crate::lane_config::LaneConfig;
-use crate::output::OutputState;
 use crate::leaving::Leaving;
+use crate::output::OutputState;
 use crate::worker::Worker;
 use fwd_book::Receipt;
 use fwd_chunks::{AdmitError, Carried, Counts, FlushKind};

@@ -12,9 +12,8 @@ mod worker;
 
 pub use fwd_chunks::{AdmitError, BufferLimits, Carried, Counts};
 pub use fwd_model::{
-    Origin,
-    Answer, Config, EndKind, Event, FlushKind, OutputConfig, OwnedSalt, Refusal, SessionFault,
-    SourceFault,
+    Answer, Config, EndKind, Event, FlushKind, Origin, OutputConfig, OwnedSalt, Refusal,
+    SessionFault, SourceFault,
 };
 pub use leaving::{Leaving, leave};
 pub use output::OutputState;

@@ -57,10 +57,10 @@ abbrev pub AreCollected : LiveBook → (before : List Origin) → List Ticket �
 AreCollected b before [] given back = (given ≡ []) × (back ≡ [])
 AreCollected b before (t ∷ ts) given back =
     (IsDue b t × (is_among before t.origin ≡ false)
-        × ((rest : List Ticket) × (given ≡ t ∷ rest)
-        × AreCollected b (before ++ t.origin ∷ []) ts rest back))
+    × ((rest : List Ticket) × (given ≡ t ∷ rest)
+    × AreCollected b (before ++ t.origin ∷ []) ts rest back))
     ⊎ ((IsDue b t → is_among before t.origin ≡ true)
-        × ((rest : List Ticket) × (back ≡ t ∷ rest) × AreCollected b before ts given rest))
+    × ((rest : List Ticket) × (back ≡ t ∷ rest) × AreCollected b before ts given rest))
 
 -- the origins of tickets
 abbrev pub origins_of : List Ticket → List Origin

@@ -11,7 +11,7 @@ mod tally;
 mod ticket;
 mod worker;
 
-pub use link::{Clock, Gate, Hub, Link, LinkFault, Pass, Place, Read};
+pub use link::{Clock, Gate, Hub, Link, LinkFault, Loss, News, Pass, Place, Read};
 pub use locked::{Closing, Locked};
 pub use refusal::AdmitRefusal;
 pub use serve::{Served, serve_turn};

@@ -3,6 +3,7 @@
 ghost use Rattle.std.specs.Prelude.{◌≡◌, ◌+◌, ℕ, List, IfErr};
 ghost use Rattle.fwd_workers.specs.Links.{HasRead, HasWritten, failed_reads, failed_writes};
 
+use fwd_session::SessionFault;
 use std::sync::Wait;
 
 /// What a read of a link gave.
@@ -88,9 +89,36 @@ pub enum Pass {
     Stop,
 }
 
-/// Lets workers go on, holds them up, or ends them.
+/// Why a session with a server ended, and the server counts as lost.
+#[derive(Clone, Copy, Debug, PartialEq, Eq)]
+pub enum Loss {
+    /// Its link could not be had, or failed.
+    Link(LinkFault),
+    /// The server closed its side.
+    Closed,
+    /// What the server sent put the session down.
+    Fault(SessionFault),
+    /// The server owed the rest of the handshake or an acknowledgement for too long.
+    Late,
+    /// Memory was refused.
+    Memory,
+}
+
+/// What a worker tells as it goes on.
+#[derive(Clone, Copy, Debug, PartialEq, Eq)]
+pub enum News {
+    /// The entries of the chunk of this number are settled, by this server.
+    Settled { number: u64, server: u16 },
+    /// A server is lost.
+    Lost { server: u16, why: Loss },
+}
+
+/// Lets workers go on, holds them up, or ends them; and is told what they came to.
 pub trait Gate {
     /// Whether the worker of this number goes on from where it stands, in its turn of this number,
     /// counted from 0. It may wait.
     fn pass<R: Wait>(&mut self, rt: &R, worker: u16, place: Place, turn: u64) -> Pass;
+
+    /// The worker of this number tells what its turn came to.
+    fn hear<R: Wait>(&mut self, _rt: &R, _worker: u16, _news: News) {}
 }

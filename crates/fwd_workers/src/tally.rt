@@ -1,6 +1,6 @@
 //! Counters that threads raise, each thread from a seat of its own.
 
-ghost use Rattle.std.specs.Prelude.{◌≡◌, ℕ, ◌+◌, ◌<◌, ◌≤◌, ◌^◌, refl};
+ghost use Rattle.std.specs.Prelude.{◌≡◌, ℕ, ◌+◌, ◌<◌, ◌≤◌, ◌^◌, ◌%◌, refl};
 ghost use Rattle.fwd_workers.specs.Seats.{parts_of, counts_of};
 
 use std::marker::Model;
@@ -58,17 +58,19 @@ pub trait Tally {
 #[derive(Drop)]
 pub struct Seat<L: Ledger> {
     share: Share<L>,
+    count: u64,
 }
 
 impl<L: Ledger> Model for Seat<L> {
-    ghost use Rattle.std.specs.Prelude.{◌<◌};
+    ghost use Rattle.std.specs.Prelude.{◌≡◌, ◌<◌, ◌%◌, ◌^◌};
     ghost use Rattle.fwd_workers.specs.Seats.{Seat};
 
     ghost Value = { Seat };
 
     ghost view = { λ s. record { parts = s.share.parts; count = s.share.amount } };
 
-    ghost invariant = { λ s. 0 < s.share.parts };
+    ghost invariant = { λ s.
+        (0 < s.share.parts) × (s.count ≡ s.share.amount % 2 ^ 64) };
 }
 
 impl<L: Ledger> Seat<L> {
@@ -77,6 +79,14 @@ impl<L: Ledger> Seat<L> {
         ensures { 0 < self.now.parts }
     {
         let _share = &self.share;
+    }
+
+    /// What was added from this seat, in its low 64 bits. No more can have been added than the
+    /// counter's total, which is below 2^64; but a seat by itself does not know that.
+    pub fn count(&self) -> u64
+        ensures { result ≡ self.now.count % 2 ^ 64 }
+    {
+        self.count
     }
 }
 
@@ -108,7 +118,7 @@ pub fn open<L: Ledger>(blank: Blank) -> (Ledgered<L>, Seat<L>)
 {
     let (book, mut share) = blank.open::<L>();
     let none = share.empty();
-    (Ledgered { book, none }, Seat { share })
+    (Ledgered { book, none }, Seat { share, count: 0 })
 }
 
 impl<L: Ledger> Ledgered<L> {
@@ -120,7 +130,7 @@ impl<L: Ledger> Ledgered<L> {
         let Ledgered { mut book, none } = self;
         let mut all = none;
         for seat in seats {
-            let Seat { share } = seat;
+            let Seat { share, count: _ } = seat;
             all.merge(share);
         }
         book.audit(&mut all);
@@ -146,18 +156,26 @@ impl<L: Ledger> Tally for Ledgered<L> {
 
     fn add(&mut self, seat: &mut Seat<L>, number: u64) {
         self.book.add(&mut seat.share, number);
+        seat.count = seat.count.wrapping_add(number);
     }
 
     fn split(seat: &mut Seat<L>, split_parts: u64) -> Seat<L> {
         let share = seat.share.split_off(split_parts, 0);
-        Seat { share }
+        Seat { share, count: 0 }
     }
 
     fn join(one: Seat<L>, other: Seat<L>) -> Seat<L> {
-        let mut one = one;
-        let Seat { share } = other;
-        one.share.merge(share);
-        one
+        let Seat {
+            mut share,
+            mut count,
+        } = one;
+        let Seat {
+            share: more,
+            count: added,
+        } = other;
+        share.merge(more);
+        count = count.wrapping_add(added);
+        Seat { share, count }
     }
 }
 

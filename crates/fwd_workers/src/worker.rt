@@ -3,7 +3,7 @@
 
 ghost use Rattle.std.specs.Prelude.{◌≡◌, ◌≤◌, None};
 
-use crate::link::{Clock, Gate, Hub, Link, Pass, Place};
+use crate::link::{Clock, Gate, Hub, Link, Loss, News, Pass, Place};
 use crate::serve::{Served, serve_turn};
 use crate::shared::SharedOutput;
 use crate::tally::Tally;
@@ -29,8 +29,35 @@ pub enum Ended {
 struct Line<L: Link> {
     link: L,
     session: Session,
-    /// How the session is to end, once it is to.
-    ending: Option<EndKind>,
+    /// Why the session is to end, once it is to.
+    ending: Option<Ending>,
+}
+
+/// Why a session is to end.
+#[derive(Clone, Copy, Debug, PartialEq, Eq)]
+enum Ending {
+    /// Its link carries no further chunk.
+    Spent,
+    /// Its server is lost.
+    Lost(Loss),
+}
+
+impl Ending {
+    /// Whether the link is said to be lost.
+    fn kind(self) -> EndKind {
+        match self {
+            Ending::Lost(Loss::Closed | Loss::Link(_) | Loss::Memory) => EndKind::Lost,
+            Ending::Spent | Ending::Lost(Loss::Fault(_) | Loss::Late) => EndKind::Kept,
+        }
+    }
+
+    /// What is told of it.
+    fn news(self, server: u16) -> Option<News> {
+        match self {
+            Ending::Spent => None,
+            Ending::Lost(why) => Some(News::Lost { server, why }),
+        }
+    }
 }
 
 /// A line whose session has no chunk.
@@ -74,6 +101,8 @@ pub struct Worker {
     login: Arc<Login>,
     ack_wait: u64,
     rng: ChaCha20Rng,
+    /// What the turn came to, until it is told.
+    news: Option<News>,
 }
 
 /// A turn of a line: it may be late at a moment (milliseconds), and else its session is served.
@@ -81,15 +110,23 @@ fn serve<L: Link, R: Wait>(rt: &R, alloc: Global, line: Line<L>, now: u64) -> Li
     ensures { result.session.loaded ≡ line.session.loaded }
 {
     let mut line = line;
-    line.ending = match line.session.late(now) {
-        Err(_) | Ok(true) => Some(EndKind::Kept),
-        Ok(false) => match serve_turn(rt, alloc, &mut line.link, &mut line.session) {
-            Served::Quiet | Served::Ready | Served::Acked => None,
-            Served::Down(_) => Some(EndKind::Kept),
-            Served::Closed | Served::Failed(_) | Served::Memory => Some(EndKind::Lost),
-        },
+    let loss = match line.session.late(now) {
+        Err(_) | Ok(true) => Some(Loss::Late),
+        Ok(false) => loss_in(serve_turn(rt, alloc, &mut line.link, &mut line.session)),
     };
+    line.ending = loss.map(Ending::Lost);
     line
+}
+
+/// Why the server is lost after a turn, if it is.
+fn loss_in(served: Served) -> Option<Loss> {
+    match served {
+        Served::Quiet | Served::Ready | Served::Acked => None,
+        Served::Down(fault) => Some(Loss::Fault(fault)),
+        Served::Closed => Some(Loss::Closed),
+        Served::Failed(fault) => Some(Loss::Link(fault)),
+        Served::Memory => Some(Loss::Memory),
+    }
 }
 
 /// The same of a line whose session has no chunk.
@@ -158,26 +195,6 @@ fn end_free<A: Tally, S: Tally, L: Link, R: Wait>(
     out.end(rt, seat, chunk, server, lost, now);
 }
 
-/// A line without a chunk stands, unless it is to end.
-fn stand<A: Tally, S: Tally, L: Link, R: Wait>(
-    rt: &R,
-    out: &SharedOutput<A, S>,
-    seat: &mut S::Seat,
-    free: FreeLine<L>,
-    now: u64,
-) -> Stage<L>
-    ensures count { S.count seat.old ≤ S.count seat.new }
-    ensures parts { S.parts seat.new ≡ S.parts seat.old }
-{
-    match free.line.ending {
-        None => Stage::Standing(free),
-        Some(kind) => {
-            end_free(rt, out, seat, free, None, kind, now);
-            Stage::Idle
-        }
-    }
-}
-
 /// A worker ends at a moment (milliseconds): an accepted chunk is settled, and a taken or loaded
 /// one goes back.
 fn finish<A: Tally, S: Tally, L: Link, R: Wait>(
@@ -218,6 +235,7 @@ impl Worker {
             login,
             ack_wait,
             rng,
+            news: None,
         }
     }
 
@@ -247,7 +265,12 @@ impl Worker {
             };
             let now = clock.now();
             match pass {
-                Pass::Go => stage = self.step(rt, out, &mut seat, hub, stage, now),
+                Pass::Go => {
+                    stage = self.step(rt, out, &mut seat, hub, stage, now);
+                    if let Some(news) = self.news.take() {
+                        gate.hear(rt, self.number, news);
+                    }
+                }
                 Pass::Hold => {}
                 Pass::Stop => {
                     finish(rt, out, &mut seat, stage, now);
@@ -299,9 +322,13 @@ impl Worker {
         let Ok(Some(chunk)) = out.take(rt, self.alloc, seat, self.number, now) else {
             return Stage::Idle;
         };
-        let Ok(link) = hub.connect(rt, server) else {
-            out.end(rt, seat, Some(chunk), Some(server), false, now);
-            return Stage::Idle;
+        let link = match hub.connect(rt, server) {
+            Ok(link) => link,
+            Err(fault) => {
+                self.news = Ending::Lost(Loss::Link(fault)).news(server);
+                out.end(rt, seat, Some(chunk), Some(server), false, now);
+                return Stage::Idle;
+            }
         };
         match self.up(server, now) {
             Ok(session) => Stage::Took(free_line(link, session), chunk),
@@ -318,14 +345,7 @@ impl Worker {
     {
         let login = Arc::try_clone(&self.login)?;
         let salt = self.draw_salt()?;
-        Ok(Session::up(
-            self.alloc,
-            server,
-            login,
-            salt,
-            self.ack_wait,
-            now,
-        ))
+        Ok(Session::up(self.alloc, server, login, salt, self.ack_wait, now))
     }
 
     /// The salt of the next login: 32 hexadecimal digits.
@@ -335,6 +355,28 @@ impl Worker {
         match OwnedSalt::new(bytes) {
             Some(salt) => Ok(salt),
             None => unreachable!(),
+        }
+    }
+
+    /// A line without a chunk stands, unless it is to end.
+    fn stand<A: Tally, S: Tally, L: Link, R: Wait>(
+        &mut self,
+        rt: &R,
+        out: &SharedOutput<A, S>,
+        seat: &mut S::Seat,
+        free: FreeLine<L>,
+        now: u64,
+    ) -> Stage<L>
+        ensures count { S.count seat.old ≤ S.count seat.new }
+        ensures parts { S.parts seat.new ≡ S.parts seat.old }
+    {
+        match free.line.ending {
+            None => Stage::Standing(free),
+            Some(ending) => {
+                self.news = ending.news(free.line.session.server());
+                end_free(rt, out, seat, free, None, ending.kind(), now);
+                Stage::Idle
+            }
         }
     }
 
@@ -354,7 +396,7 @@ impl Worker {
             Ok(Some(chunk)) => Stage::Took(free, chunk),
             _ => {
                 let free = serve_free(rt, self.alloc, free, now);
-                stand(rt, out, seat, free, now)
+                self.stand(rt, out, seat, free, now)
             }
         }
     }
@@ -376,8 +418,9 @@ impl Worker {
             let free = serve_free(rt, self.alloc, free, now);
             return match free.line.ending {
                 None => Stage::Took(free, chunk),
-                Some(kind) => {
-                    end_free(rt, out, seat, free, Some(chunk), kind, now);
+                Some(ending) => {
+                    self.news = ending.news(free.line.session.server());
+                    end_free(rt, out, seat, free, Some(chunk), ending.kind(), now);
                     Stage::Idle
                 }
             };
@@ -386,8 +429,10 @@ impl Worker {
         match line.session.load(self.alloc, chunk, now) {
             Ok(()) => Stage::Loaded(line),
             Err(LoadFailed { chunk, error: _ }) => {
+                let ending = Ending::Lost(Loss::Memory);
+                self.news = ending.news(line.session.server());
                 let free = FreeLine { line };
-                end_free(rt, out, seat, free, Some(chunk), EndKind::Lost, now);
+                end_free(rt, out, seat, free, Some(chunk), ending.kind(), now);
                 Stage::Idle
             }
         }
@@ -407,13 +452,18 @@ impl Worker {
     {
         let mut line = line;
         if let Some((acked, chunk)) = line.session.acked() {
+            self.news = Some(News::Settled {
+                number: chunk.number(),
+                server: acked.server(),
+            });
             out.settle(rt, seat, acked, chunk);
             return Stage::Settled(FreeLine { line });
         }
         let line = serve(rt, self.alloc, line, now);
         match line.ending {
-            Some(kind) if !line.session.is_acked() => {
-                end_line(rt, out, seat, line, kind, now);
+            Some(ending) if !line.session.is_acked() => {
+                self.news = ending.news(line.session.server());
+                end_line(rt, out, seat, line, ending.kind(), now);
                 Stage::Idle
             }
             _ => Stage::Loaded(line),
@@ -434,9 +484,9 @@ impl Worker {
     {
         let mut free = free;
         if free.line.ending.is_none() && !free.line.session.is_ready() {
-            free.line.ending = Some(EndKind::Kept);
+            free.line.ending = Some(Ending::Spent);
         }
-        stand(rt, out, seat, free, now)
+        self.stand(rt, out, seat, free, now)
     }
 }
 

@@ -1,5 +1,7 @@
 //! The requests that are admitted, and the outputs that they are admitted to.
 
+ghost use Rattle.std.specs.Prelude.{◌≡◌, IfOk};
+
 use anyhow::{Result, bail};
 use fwd_core::{BufferLimits, OutputState};
 use fwd_handshake::Login;
@@ -48,7 +50,9 @@ pub fn batch(alloc: Global, bytes: &[u8]) -> Result<Batch> {
 }
 
 /// An output with two servers, the second of them a standby.
-pub fn output(alloc: Global, chunk: u32, total: u64) -> Result<OutputState> {
+pub fn output(alloc: Global, chunk: u32, total: u64) -> Result<OutputState>
+    ensures { IfOk result (λ o. (o.buffer.accepted ≡ 0) × (o.buffer.settled ≡ 0)) }
+{
     let state = OutputState::new(alloc, limits(chunk, total), [0; 6], 0, &[false, true])?;
     Ok(state)
 }

@@ -15,6 +15,7 @@ use std::thread;
 use std::thread::Threads;
 
 /// What came of a day.
+#[derive(Drop)]
 pub struct Day {
     pub closing: Closing,
     /// How many tickets the first and the second thread got, and how many of them all were told.
@@ -55,4 +56,55 @@ fn work_both<L: Ledger + Send + Sync, M: Ledger + Send + Sync, R: Threads + Wait
         move || works(rt, alloc, out, one, 0, &mut Open),
         move || works(rt, alloc, out, other, 1, &mut Open),
     )
+}
+
+/// A day by these two ledgers, whose parts are two each.
+fn day_by<L: Ledger + Send + Sync, M: Ledger + Send + Sync, R: Threads + Wait + Sync>(
+    rt: &R,
+    alloc: Global,
+    admitting: Blank,
+    working: Blank,
+) -> Result<Day>
+    requires admitting { (admitting.name ≡ L.name) × (admitting.parts ≡ L.parts) × (L.parts ≡ 2) }
+    requires working { (working.name ≡ M.name) × (working.parts ≡ M.parts) × (M.parts ≡ 2) }
+    ensures { IfOk result (λ day. day.closing.accepted ≡ day.closing.settled + day.closing.left) }
+{
+    let (accepted, mut first) = open::<L>(admitting);
+    let (settled, mut third) = open::<M>(working);
+    let second = Ledgered::<L>::split(&mut first, 1);
+    let fourth = Ledgered::<M>::split(&mut third, 1);
+    let state = output(alloc, 10, 100_000)?;
+    let shared = SharedOutput::new(Locked::new(state, accepted, settled));
+    let out = &shared;
+    let (admitted, worked) = thread::join(
+        rt,
+        move || -> ((Seat<L>, Vec<Ticket>), (Seat<L>, Vec<Ticket>))
+            requires { (first.parts ≡ 1) × (second.parts ≡ 1) }
+            ensures { (result.0.0.parts ≡ 1) × (result.1.0.parts ≡ 1) }
+        { admit_both(rt, alloc, out, first, second) },
+        move || -> ((Seat<M>, bool), (Seat<M>, bool))
+            requires { (third.parts ≡ 1) × (fourth.parts ≡ 1) }
+            ensures { (result.0.0.parts ≡ 1) × (result.1.0.parts ≡ 1) }
+        { work_both(rt, alloc, out, third, fourth) },
+    );
+    let ((one, tickets), (other, others)) = admitted;
+    let ((ours, _), (theirs, _)) = worked;
+    let (first, second) = (tickets.len(), others.len());
+    let (told, _) = collected(rt, alloc, out, tickets);
+    let (also_told, _) = collected(rt, alloc, out, others);
+    let admit_seats = vec![in alloc; one, other]?;
+    let work_seats = vec![in alloc; ours, theirs]?;
+    Ok(Day {
+        closing: shared.close(admit_seats, work_seats),
+        first,
+        second,
+        told: told.saturating_add(also_told),
+    })
+}
+
+/// A day.
+pub fn whole_day<R: Threads + Wait + Sync>(rt: &R, alloc: Global) -> Result<Day>
+    ensures { IfOk result (λ day. day.closing.accepted ≡ day.closing.settled + day.closing.left) }
+{
+    day_by::<Brand, Brand, R>(rt, alloc, Blank::new(2), Blank::new(2))
 }

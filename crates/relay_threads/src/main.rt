@@ -3,28 +3,95 @@
 #![tactic(auto)]
 
 mod batches;
+mod calls;
 mod day;
+mod gates;
 mod memory;
+mod mirror;
+mod serving;
 mod turns;
 
+use crate::batches::output;
 use crate::memory::Open;
+use crate::mirror::{Story, mirrored, told};
 use anyhow::Result;
 use fwd_core::FlushKind;
 use fwd_workers::{Locked, Plain, SharedOutput};
+use std::alloc::Global;
+use std::rt::Clock;
+use std::sync::Wait;
+use std::thread::Threads;
+
+/// The stories that are told with and without a lock.
+const STORIES: [Story; 6] = [
+    Story::WayBack,
+    Story::LaterFirst,
+    Story::InOrder,
+    Story::Lost,
+    Story::Full,
+    Story::Abandoned,
+];
+
+/// An output of these limits behind its lock, with plain counters.
+fn shared(alloc: Global, chunk: u32) -> Result<SharedOutput<Plain, Plain>> {
+    let state = output(alloc, chunk, 100_000)?;
+    Ok(SharedOutput::new(Locked::new(state, Plain::new(0), Plain::new(0))))
+}
+
+/// Two threads admit and two workers send, and what the ledgers say at the close.
+fn tell_day<R: Threads + Wait + Sync + Print>(rt: &R, alloc: Global) -> Result<()> {
+    let day = day::whole_day(rt, alloc)?;
+    let closing = day.closing;
+    let tickets = (day.first, day.second);
+    println!(rt;
+        "two and two: accepted {}, tickets {tickets:?}",
+        closing.accepted
+    )?;
+    let is_sum = closing.settled.saturating_add(closing.left) == closing.accepted;
+    println!(rt; "accepted = settled + left: {is_sum}")?;
+    Ok(())
+}
+
+/// Two workers that settle only together.
+fn tell_gates<R: Threads + Wait + Clock + Sync + Print>(rt: &R, alloc: Global) -> Result<()> {
+    let out = shared(alloc, 2)?;
+    let ((), tickets) = turns::admits(rt, alloc, &out, (), 1, 2);
+    out.flush(rt, 0, FlushKind::All);
+    let stopped = gates::both_work(rt, alloc, &out);
+    let (receipts, left) = turns::collected(rt, alloc, &out, tickets);
+    println!(rt; "at once: stopped {stopped:?}, receipts {receipts}, left {left}")?;
+    Ok(())
+}
+
+/// One worker sends, and tickets are collected before and after it.
+fn tell_worker<R: Wait + Print>(rt: &R, alloc: Global) -> Result<()> {
+    let out = shared(alloc, 1000)?;
+    let ((), tickets) = turns::admits(rt, alloc, &out, (), 1, 3);
+    out.flush(rt, 0, FlushKind::All);
+    let ((), stopped) = turns::works(rt, alloc, &out, (), 0, &mut Open);
+    let (receipts, left) = turns::collected(rt, alloc, &out, tickets);
+    println!(rt; "one worker: stopped {stopped}, receipts {receipts}, left {left}")?;
+    Ok(())
+}
+
+/// The stories, with and without a lock.
+fn tell_stories<R: Wait + Print>(rt: &R, alloc: Global) -> Result<()> {
+    for story in &STORIES {
+        let (calls, alike) = mirrored(rt, alloc, *story)?;
+        let answers = told(rt, alloc, *story)?;
+        println!(rt; "{story:?}: {calls} calls, alike: {alike}:{answers}")?;
+    }
+    Ok(())
+}
 
 fn main(rt: HostRuntime) -> Result<()> {
     let alloc = rt.alloc();
-    let out = SharedOutput::new(Locked::new(
-        batches::output(alloc, 1000, 100_000)?,
-        Plain::new(0),
-        Plain::new(0),
-    ));
-    let ((), tickets) = turns::admits(&rt, alloc, &out, (), 1, 3);
-    out.flush(&rt, 0, FlushKind::All);
-    let ((), _) = turns::works(&rt, alloc, &out, (), 0, &mut Open);
-    let (told, left) = turns::collected(&rt, alloc, &out, tickets);
-    println!(rt; "told {told} left {left}")?;
-    let counts = out.counts(&rt);
-    println!(rt; "accepted {}", counts.accepted)?;
-    Ok(())
+    tell_worker(&rt, alloc)?;
+    tell_stories(&rt, alloc)?;
+    let served = serving::served(&rt, alloc, 45)?;
+    println!(rt; "a link that takes 45 bytes: {served:?}")?;
+    let served = serving::served(&rt, alloc, 46)?;
+    println!(rt; "a link that takes 46 bytes: {served:?}")?;
+    tell_day(&rt, alloc)?;
+    tell_gates(&rt, alloc)
 }

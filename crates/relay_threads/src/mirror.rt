@@ -1,0 +1,321 @@
+//! The same calls on an output and on the same output behind its lock: equal answers, and equal
+//! counts after each.
+
+ghost use Rattle.std.specs.Prelude.{◌≡◌, IfSome, IfOk, None};
+ghost use Rattle.std.specs.Arc.{arc_value};
+ghost use Rattle.fwd_session.specs.Evidence.{IsEvidence};
+
+use crate::batches::{LONGER, MESSAGE, THREE, batch, login, output};
+use crate::calls::{Behind, Output};
+use anyhow::Result;
+use fwd_chunks::Carried;
+use fwd_core::{Counts, FlushKind, Origin, OwnedSalt};
+use fwd_msgpack::Bytes;
+use fwd_session::{Acked, LoadFailed, Session};
+use fwd_workers::{AdmitRefusal, Locked, Plain, SharedOutput, Ticket};
+use std::alloc::Global;
+use std::mem;
+use std::sync::{Arc, Wait};
+
+/// What a call answered.
+#[derive(Clone, Copy, Debug, PartialEq, Eq)]
+enum Answer {
+    /// How many runs the entries took.
+    Admitted(usize),
+    Refused(AdmitRefusal),
+    Closed(usize),
+    /// The chunk's number and how many entries it has.
+    Took(u64, usize),
+    TookNothing,
+    Settled(u64),
+    /// How many receipts there were, and how many tickets came back.
+    Collected(usize, usize),
+    Chose(Option<u16>),
+    Done,
+}
+
+/// An answer, and the counts after it.
+#[derive(Clone, Copy, Debug, PartialEq, Eq)]
+struct Note {
+    answer: Answer,
+    counts: Counts,
+}
+
+/// An output, what it answered so far, and the tickets that it gave.
+struct Play<'a, O: Output> {
+    alloc: Global,
+    out: &'a mut O,
+    notes: Vec<Note>,
+    tickets: Vec<Ticket>,
+}
+
+/// The reply to a chunk, and the chunk.
+fn acknowledged(alloc: Global, chunk: Carried) -> Option<(Arc<Acked>, Carried)>
+    ensures { IfSome result (λ pair. IsEvidence (arc_value pair.0) pair.1) }
+{
+    let Ok(login) = login(alloc) else {
+        chunk.spend();
+        return None;
+    };
+    let Some(salt) = OwnedSalt::new(Bytes::new(alloc)) else {
+        chunk.spend();
+        return None;
+    };
+    let mut reply = [0; 30];
+    reply[..6].copy_from_slice(b"\x81\xa3ack\xb8");
+    reply[6..].copy_from_slice(chunk.name());
+    let mut session = Session::up(alloc, 0, login, salt, 10_000, 0);
+    if let Err(LoadFailed { chunk, error: _ }) = session.load(alloc, chunk, 0) {
+        chunk.spend();
+    }
+    let waiting = session.out().len();
+    session.wrote(waiting);
+    let _told = session.heard(alloc, &reply);
+    let acked = session.acked();
+    session.spend();
+    acked
+}
+
+impl<'a, O: Output> Play<'a, O> {
+    /// Notes an answer, with the counts after it.
+    fn note(&mut self, answer: Answer) {
+        let counts = self.out.counts();
+        let _ = self.notes.push(Note { answer, counts });
+    }
+
+    /// Admits a request of a connection.
+    fn admit(&mut self, conn: u64, bytes: &[u8]) {
+        let Ok(batch) = batch(self.alloc, bytes) else {
+            return;
+        };
+        if self.tickets.reserve(1).is_err() {
+            return;
+        }
+        let origin = Origin { conn, request: 1 };
+        match self.out.admit(self.alloc, origin, batch) {
+            Ok(ticket) => {
+                let runs = ticket.spans().len();
+                self.tickets.push_reserved(ticket);
+                self.note(Answer::Admitted(runs));
+            }
+            Err((refusal, _)) => self.note(Answer::Refused(refusal)),
+        }
+    }
+
+    /// Closes all chunks.
+    fn flush(&mut self) {
+        let count = self.out.flush(0, FlushKind::All);
+        self.note(Answer::Closed(count));
+    }
+
+    /// A worker takes a chunk at a moment (milliseconds).
+    fn take(&mut self, worker: u16, now: u64) -> Option<Carried> {
+        let chunk = self.out.take(self.alloc, worker, now);
+        match &chunk {
+            None => self.note(Answer::TookNothing),
+            Some(carried) => {
+                let (number, count) = (carried.number(), carried.count());
+                self.note(Answer::Took(number, count));
+            }
+        }
+        chunk
+    }
+
+    /// A chunk is acknowledged and settled, if there is one.
+    fn settle(&mut self, chunk: Option<Carried>) {
+        let Some(chunk) = chunk else {
+            return;
+        };
+        if let Some((acked, chunk)) = acknowledged(self.alloc, chunk) {
+            let count = self.out.settle(acked, chunk);
+            self.note(Answer::Settled(count));
+        }
+    }
+
+    /// A worker's end at a moment (milliseconds), with a loss of its chunk and of server 0.
+    fn end(&mut self, chunk: Option<Carried>, now: u64) {
+        self.out.end(chunk, Some(0), true, now);
+        self.note(Answer::Done);
+    }
+
+    /// The server that a worker tries at a moment (milliseconds).
+    fn choose(&mut self, worker: u16, now: u64) {
+        let server = self.out.choose(worker, now);
+        self.note(Answer::Chose(server));
+    }
+
+    /// Hands in all tickets.
+    fn collect(&mut self) {
+        let all = mem::replace(&mut self.tickets, Vec::new(self.alloc));
+        let (receipts, back) = match self.out.collect(self.alloc, all) {
+            Ok((receipts, back)) => (receipts.len(), back),
+            Err((_, back)) => (0, back),
+        };
+        let left = back.len();
+        let none = mem::replace(&mut self.tickets, back);
+        none.destroy_empty();
+        self.note(Answer::Collected(receipts, left));
+    }
+
+    /// The oldest ticket is abandoned.
+    fn abandon(&mut self) {
+        if !self.tickets.is_empty() {
+            let ticket = self.tickets.remove(0);
+            self.out.abandon(ticket);
+            self.note(Answer::Done);
+        }
+    }
+
+    /// What was noted. The tickets that are left are abandoned.
+    fn end_play(self) -> Vec<Note> {
+        let Play {
+            alloc: _,
+            out,
+            notes,
+            tickets,
+        } = self;
+        let mut rest = tickets.into_iter();
+        while let Some(ticket) = rest.next() {
+            out.abandon(ticket);
+        }
+        rest.destroy_empty();
+        notes
+    }
+}
+
+/// The calls of one way there and back, with a collect before the settle, after it, and once more.
+fn way_back<O: Output>(play: &mut Play<'_, O>) {
+    play.admit(1, MESSAGE);
+    play.flush();
+    let chunk = play.take(0, 0);
+    play.collect();
+    play.settle(chunk);
+    play.collect();
+    play.collect();
+}
+
+/// A request in two chunks, settled in this order: the later one first, or not.
+fn in_two<O: Output>(play: &mut Play<'_, O>, later_first: bool) {
+    play.admit(1, THREE);
+    play.flush();
+    let first = play.take(0, 0);
+    let second = play.take(1, 0);
+    if later_first {
+        play.settle(second);
+        play.collect();
+        play.settle(first);
+    } else {
+        play.settle(first);
+        play.collect();
+        play.settle(second);
+    }
+    play.collect();
+}
+
+/// A chunk that is lost with its server, and waits for its next try.
+fn lost<O: Output>(play: &mut Play<'_, O>) {
+    play.admit(1, MESSAGE);
+    play.flush();
+    let chunk = play.take(0, 0);
+    play.end(chunk, 2000);
+    play.choose(0, 2499);
+    let early = play.take(0, 2499);
+    play.settle(early);
+    let again = play.take(0, 2500);
+    play.settle(again);
+    play.collect();
+}
+
+/// An output that is full for the second of three requests, and the same request twice.
+fn full<O: Output>(play: &mut Play<'_, O>) {
+    play.admit(1, MESSAGE);
+    play.admit(2, LONGER);
+    play.admit(3, MESSAGE);
+    play.admit(1, MESSAGE);
+}
+
+/// A request that is abandoned before its chunk is settled.
+fn abandoned<O: Output>(play: &mut Play<'_, O>) {
+    play.admit(1, MESSAGE);
+    play.flush();
+    let chunk = play.take(0, 0);
+    play.abandon();
+    play.settle(chunk);
+    play.collect();
+}
+
+/// Which calls are made.
+#[derive(Clone, Copy, Debug, PartialEq, Eq)]
+pub enum Story {
+    WayBack,
+    LaterFirst,
+    InOrder,
+    Lost,
+    Full,
+    Abandoned,
+}
+
+impl Story {
+    /// The most bytes of a chunk, and of all entries.
+    fn limits(self) -> (u32, u64) {
+        match self {
+            Story::LaterFirst | Story::InOrder => (6, 100_000),
+            Story::Full => (1000, 6),
+            _ => (1000, 100_000),
+        }
+    }
+}
+
+/// What a story's calls answer.
+fn played<O: Output>(alloc: Global, out: &mut O, story: Story) -> Vec<Note> {
+    let mut play = Play {
+        alloc,
+        out,
+        notes: Vec::new(alloc),
+        tickets: Vec::new(alloc),
+    };
+    match story {
+        Story::WayBack => way_back(&mut play),
+        Story::LaterFirst => in_two(&mut play, true),
+        Story::InOrder => in_two(&mut play, false),
+        Story::Lost => lost(&mut play),
+        Story::Full => full(&mut play),
+        Story::Abandoned => abandoned(&mut play),
+    }
+    play.end_play()
+}
+
+/// An output and its counters.
+fn locked(alloc: Global, story: Story) -> Result<Locked<Plain, Plain>> {
+    let (chunk, total) = story.limits();
+    let state = output(alloc, chunk, total)?;
+    Ok(Locked::new(state, Plain::new(0), Plain::new(0)))
+}
+
+/// How many calls a story has, and whether the output answered them alike behind its lock.
+pub fn mirrored<R: Wait>(rt: &R, alloc: Global, story: Story) -> Result<(usize, bool)> {
+    let mut bare = locked(alloc, story)?;
+    let plain = played(alloc, &mut bare, story);
+    let mut behind = Behind {
+        rt,
+        shared: SharedOutput::new(locked(alloc, story)?),
+    };
+    let shared = played(alloc, &mut behind, story);
+    Ok((plain.len(), plain.as_slice() == shared.as_slice()))
+}
+
+/// What a story's calls answer behind a lock, one after the other.
+pub fn told<R: Wait>(rt: &R, alloc: Global, story: Story) -> Result<String> {
+    let mut behind = Behind {
+        rt,
+        shared: SharedOutput::new(locked(alloc, story)?),
+    };
+    let notes = played(alloc, &mut behind, story);
+    let mut text = String::new(alloc);
+    for note in &notes {
+        let answer = note.answer;
+        let line = format!(in alloc; " {answer:?}")?;
+        text.push_str(&line)?;
+    }
+    Ok(text)
+}
