@@ -1,0 +1,3 @@
+pub mod HeadText
+pub mod PageLemmas
+pub mod StatusLemmas
