@@ -1,3 +1,2 @@
-pub mod HeadText
 pub mod PageLemmas
 pub mod StatusLemmas

@@ -1,6 +1,5 @@
 -- What a monitor is sent.
 use Rattle.std.specs.Prelude.{◌≡◌, ℕ, ◌<◌, List, [], ◌∷◌, ◌++◌, length, codes}
-use Rattle.std.specs.List.{flat_map}
 use Rattle.std.specs.Fmt.{decimal}
 use Rattle.httparse.specs.Ascii.{crlf_bytes}
 use Rattle.httparse.specs.Grammar.{RequestHead, ReadsRequest, NeverHasRequest, EndsInTarget}
@@ -20,13 +19,10 @@ use Rattle.fwd_monitor.specs.Requests.{
   HasStatus,
 }
 
--- a line of a reply's head
-abbrev pub ended : List ℕ → List ℕ
-ended line = line ++ crlf_bytes
-
--- the status line and the headers, and the empty line behind them
+-- the status line and the headers, each with its end, and the empty line behind them
 abbrev pub head_text : List (List ℕ) → List ℕ
-head_text lines = flat_map ended lines ++ crlf_bytes
+head_text [] = crlf_bytes
+head_text (line ∷ lines) = line ++ (crlf_bytes ++ head_text lines)
 
 -- the head for a page of so many bytes
 abbrev pub page_head : ℕ → List ℕ

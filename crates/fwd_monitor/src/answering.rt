@@ -1,6 +1,7 @@
 ghost use Rattle.std.specs.Prelude.{◌≡◌, IfOk, OnErr};
 ghost use Rattle.std.specs.String.{string_bytes};
 ghost use Rattle.fwd_monitor.specs.Page.{page_of};
+ghost use Rattle.fwd_monitor.specs.Replies as replies;
 ghost use Rattle.fwd_monitor.specs.Replies.{HasReason, IsReplyTo, reply_of, with_page};
 ghost use Rattle.fwd_monitor.specs.Requests.{IsDue, MustWait};
 
@@ -54,18 +55,17 @@ fn found(alloc: Global, counts: &[Counts]) -> Result<String, AllocError>
     ensures { IfOk result (λ text. string_bytes text ≡ with_page (page_of counts.now)) }
 {
     let body = page(alloc, counts)?;
-    with_head(alloc, &body)
+    let mut text = page_head(alloc, body.len())?;
+    text.push_str(&body)?;
+    Ok(text)
 }
 
-/// A page behind its head.
-fn with_head(alloc: Global, body: &str) -> Result<String, AllocError>
-    ensures { IfOk result (λ text. string_bytes text ≡ with_page body.now) }
+/// The head for a page of so many bytes.
+fn page_head(alloc: Global, size: usize) -> Result<String, AllocError>
+    ensures { IfOk result (λ text. string_bytes text ≡ replies.page_head size) }
 {
-    let length = body.len();
-    let mut text = format!(in alloc;
-        "HTTP/1.1 200 OK\r\nContent-Type: text/plain\r\nContent-Length: {length}\r\n\
+    format!(in alloc;
+        "HTTP/1.1 200 OK\r\nContent-Type: text/plain\r\nContent-Length: {size}\r\n\
         Connection: close\r\n\r\n"
-    )?;
-    text.push_str(body)?;
-    Ok(text)
+    )
 }
