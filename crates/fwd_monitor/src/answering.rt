@@ -1,0 +1,71 @@
+ghost use Rattle.std.specs.Prelude.{◌≡◌, IfOk, OnErr};
+ghost use Rattle.std.specs.String.{string_bytes};
+ghost use Rattle.fwd_monitor.specs.Page.{page_of};
+ghost use Rattle.fwd_monitor.specs.Replies as replies;
+ghost use Rattle.fwd_monitor.specs.Replies.{HasReason, IsReplyTo, reply_of, with_page};
+ghost use Rattle.fwd_monitor.specs.Requests.{IsDue, MustWait};
+
+use crate::judging::judge;
+use crate::pages::page;
+use crate::reply::Reply;
+use crate::status::Status;
+use fwd_chunks::Counts;
+use std::alloc::{AllocError, Global};
+
+/// What a monitor that has sent the bytes of `head` so far is told. A whole request head (RFC 9112,
+/// sections 2 to 5) of at most `MAX_HEADERS` headers is told the page where its method is `GET` and
+/// its target is `/`, and 404 otherwise, whatever stands behind it. A head of more headers is told
+/// 400, and so are bytes that nothing can make a head, and `HEAD_LIMIT` bytes or more without a
+/// whole head. The only error is want of memory, and to wait takes none.
+pub fn answer(alloc: Global, head: &[u8], counts: &[Counts]) -> Result<Reply, AllocError>
+    ensures reply { IfOk result (IsReplyTo head.now counts.now) }
+    ensures reason { IfOk result (HasReason head.now counts.now) }
+
+    ensures memory { OnErr result (IsDue head.now) }
+    ensures waits { MustWait head.now → result ≡ Ok Reply.More }
+{
+    match judge(head) {
+        Some(status) => {
+            let text = text(alloc, status, counts)?;
+            Ok(Reply::Bytes(text.into_bytes()))
+        }
+        None => Ok(Reply::More),
+    }
+}
+
+/// The bytes of a status's reply.
+fn text(alloc: Global, status: Status, counts: &[Counts]) -> Result<String, AllocError>
+    ensures { IfOk result (λ text. string_bytes text ≡ reply_of status counts.now) }
+{
+    match status {
+        Status::Found => found(alloc, counts),
+        Status::NotFound => String::from_str(
+            alloc,
+            "HTTP/1.1 404 Not Found\r\nContent-Length: 0\r\nConnection: close\r\n\r\n",
+        ),
+        Status::BadRequest => String::from_str(
+            alloc,
+            "HTTP/1.1 400 Bad Request\r\nContent-Length: 0\r\nConnection: close\r\n\r\n",
+        ),
+    }
+}
+
+/// The page behind its head.
+fn found(alloc: Global, counts: &[Counts]) -> Result<String, AllocError>
+    ensures { IfOk result (λ text. string_bytes text ≡ with_page (page_of counts.now)) }
+{
+    let body = page(alloc, counts)?;
+    let mut text = page_head(alloc, body.len())?;
+    text.push_str(&body)?;
+    Ok(text)
+}
+
+/// The head for a page of so many bytes.
+fn page_head(alloc: Global, size: usize) -> Result<String, AllocError>
+    ensures { IfOk result (λ text. string_bytes text ≡ replies.page_head size) }
+{
+    format!(in alloc;
+        "HTTP/1.1 200 OK\r\nContent-Type: text/plain\r\nContent-Length: {size}\r\n\
+        Connection: close\r\n\r\n"
+    )
+}

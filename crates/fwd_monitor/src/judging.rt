@@ -1,0 +1,32 @@
+ghost use Rattle.std.specs.Prelude.{◌≡◌, ◌↔◌, IsTrue, codes};
+ghost use Rattle.fwd_monitor.specs.Requests.{IsJudged};
+
+use crate::limits::{HEAD_LIMIT, MAX_HEADERS};
+use crate::status::Status;
+use httparse::Status as Parsed;
+use httparse::spans::{EMPTY_HEADER_SPAN, parse_request};
+
+/// The status of the reply to these bytes, or none while there is none to be given.
+pub(crate) fn judge(heard: &[u8]) -> Option<Status>
+    ensures { IsJudged heard.now result }
+{
+    let mut headers = [EMPTY_HEADER_SPAN; MAX_HEADERS];
+    match parse_request(heard, &mut headers) {
+        Ok(Parsed::Complete(head)) => {
+            if asks_for_page(head.method.of(heard), head.path.of(heard)) {
+                Some(Status::Found)
+            } else {
+                Some(Status::NotFound)
+            }
+        }
+        Ok(Parsed::Partial) if heard.len() < HEAD_LIMIT => None,
+        Ok(Parsed::Partial) | Err(_) => Some(Status::BadRequest),
+    }
+}
+
+/// Whether a request is for the page.
+fn asks_for_page(method: &[u8], target: &[u8]) -> bool
+    ensures { IsTrue result ↔ ((method.now ≡ codes "GET") × (target.now ≡ codes "/")) }
+{
+    method == b"GET".as_slice() && target == b"/".as_slice()
+}

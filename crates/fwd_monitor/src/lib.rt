@@ -1,0 +1,19 @@
+//! The monitor's page, which has a line for each output, and what a connection that asks for it
+//! over HTTP/1.x (RFC 9112) is told, by the bytes that it has sent. Sizes are in bytes.
+#![tactic(auto)]
+
+mod answering;
+mod judging;
+mod laws;
+mod limits;
+mod pages;
+mod reply;
+mod status;
+#[cfg(test)]
+mod tests;
+
+pub use answering::answer;
+pub use laws::{one_head, one_reply};
+pub use limits::{HEAD_LIMIT, MAX_HEADERS};
+pub use pages::page;
+pub use reply::Reply;

@@ -1,0 +1,140 @@
+//! The texts that the rules give for a few worked heads.
+use super::*;
+use fwd_chunks::Counts;
+use std::alloc::{AllocError, Global};
+use std::test::Fail;
+
+const FIRST: Counts = Counts {
+    accepted: 3,
+    settled: 2,
+    held: 1,
+    bytes: 3,
+    chunks: 1,
+};
+
+const SECOND: Counts = Counts {
+    accepted: 18_446_744_073_709_551_615,
+    settled: 18_446_744_073_709_551_605,
+    held: 10,
+    bytes: 120,
+    chunks: 2,
+};
+
+const PAGE: &str = "HTTP/1.1 200 OK\r\nContent-Type: text/plain\r\nContent-Length: 149\r\n\
+    Connection: close\r\n\r\n\
+    output 0 accepted 3 settled 2 held 1 bytes 3 chunks 1\n\
+    output 1 accepted 18446744073709551615 settled 18446744073709551605 held 10 \
+    bytes 120 chunks 2\n";
+
+const NOT_FOUND: &str = "HTTP/1.1 404 Not Found\r\nContent-Length: 0\r\nConnection: close\r\n\r\n";
+
+const BAD_REQUEST: &str =
+    "HTTP/1.1 400 Bad Request\r\nContent-Length: 0\r\nConnection: close\r\n\r\n";
+
+const ASKED: &[u8] = b"GET / HTTP/1.1\r\nHost: a\r\n\r\n";
+
+/// Whether these bytes are told this text.
+fn is_told(alloc: Global, head: &[u8], text: &str) -> Result<bool, AllocError> {
+    match answer(alloc, head, &[FIRST, SECOND])? {
+        Reply::More => Ok(false),
+        Reply::Bytes(bytes) => Ok(bytes.as_slice() == text.as_bytes()),
+    }
+}
+
+/// Whether these bytes are told nothing yet.
+fn waits(alloc: Global, head: &[u8]) -> Result<bool, AllocError> {
+    match answer(alloc, head, &[FIRST, SECOND])? {
+        Reply::More => Ok(true),
+        Reply::Bytes(_) => Ok(false),
+    }
+}
+
+/// A head for the page, with so many headers.
+fn with_headers(alloc: Global, count: usize) -> Result<Vec<u8>, AllocError> {
+    let mut head = b"GET / HTTP/1.1\r\n".to_vec(alloc)?;
+    for _ in 0..count {
+        head.extend_from_slice(b"a: b\r\n")?;
+    }
+    head.extend_from_slice(b"\r\n")?;
+    Ok(head)
+}
+
+/// The front of a head for the page: 19 bytes, and so many of its first header's value.
+fn unfinished(alloc: Global, value: usize) -> Result<Vec<u8>, AllocError> {
+    let mut head = b"GET / HTTP/1.1\r\na: ".to_vec(alloc)?;
+    for _ in 0..value {
+        head.push(b'b')?;
+    }
+    Ok(head)
+}
+
+#[test]
+fn a_line_for_each_output(rt: HostRuntime) -> Result<(), Fail> {
+    let text = page(rt.alloc(), &[FIRST])?;
+    assert_eq!(rt;
+        text.as_str(),
+        "output 0 accepted 3 settled 2 held 1 bytes 3 chunks 1\n"
+    );
+    assert_eq!(rt; text.len(), 54);
+    let text = page(rt.alloc(), &[])?;
+    assert_eq!(rt; text.as_str(), "");
+    Ok(())
+}
+
+#[test]
+fn the_page_is_told(rt: HostRuntime) -> Result<(), Fail> {
+    let alloc = rt.alloc();
+    assert!(rt; is_told(alloc, ASKED, PAGE)?);
+    assert!(rt; is_told(alloc, b"GET / HTTP/1.0\n\n", PAGE)?);
+    assert!(rt; is_told(alloc, b"GET / HTTP/1.1\r\n\r\nGET /", PAGE)?);
+    Ok(())
+}
+
+#[test]
+fn others_are_not_found(rt: HostRuntime) -> Result<(), Fail> {
+    let alloc = rt.alloc();
+    assert!(rt; is_told(alloc, b"GET /metrics HTTP/1.1\r\n\r\n", NOT_FOUND)?);
+    assert!(rt; is_told(alloc, b"GET /? HTTP/1.1\r\n\r\n", NOT_FOUND)?);
+    assert!(rt; is_told(alloc, b"HEAD / HTTP/1.1\r\n\r\n", NOT_FOUND)?);
+    assert!(rt; is_told(alloc, b"get / HTTP/1.1\r\n\r\n", NOT_FOUND)?);
+    Ok(())
+}
+
+#[test]
+fn what_is_no_request_is_bad(rt: HostRuntime) -> Result<(), Fail> {
+    let alloc = rt.alloc();
+    assert!(rt; is_told(alloc, b"\x01", BAD_REQUEST)?);
+    assert!(rt; is_told(alloc, b"GET  / HTTP/1.1\r\n\r\n", BAD_REQUEST)?);
+    assert!(rt; is_told(alloc, b"GET / HTTP/2.0\r\n\r\n", BAD_REQUEST)?);
+    assert!(rt; is_told(alloc, b"GET / HTTP/1.1\r\n: b\r\n", BAD_REQUEST)?);
+    Ok(())
+}
+
+#[test]
+fn headers_are_counted(rt: HostRuntime) -> Result<(), Fail> {
+    let alloc = rt.alloc();
+    assert!(rt; is_told(alloc, &with_headers(alloc, 64)?, PAGE)?);
+    assert!(rt; is_told(alloc, &with_headers(alloc, 65)?, BAD_REQUEST)?);
+    Ok(())
+}
+
+#[test]
+fn unfinished_bytes_are_counted(rt: HostRuntime) -> Result<(), Fail> {
+    let alloc = rt.alloc();
+    assert!(rt; waits(alloc, &unfinished(alloc, 8172)?)?);
+    let mut head = unfinished(alloc, 8173)?;
+    assert_eq!(rt; head.len(), 8192);
+    assert!(rt; is_told(alloc, &head, BAD_REQUEST)?);
+    head.extend_from_slice(b"\r\n\r\n")?;
+    assert!(rt; is_told(alloc, &head, PAGE)?);
+    Ok(())
+}
+
+#[test]
+fn each_front_of_a_head_waits(rt: HostRuntime) -> Result<(), Fail> {
+    let alloc = rt.alloc();
+    for end in 0..ASKED.len() {
+        assert!(rt; waits(alloc, &ASKED[..end])?, "cut at {end}");
+    }
+    Ok(())
+}
