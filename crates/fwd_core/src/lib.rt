@@ -12,7 +12,7 @@ mod worker;
 pub use fwd_chunks::{AdmitError, BufferLimits, Carried, Counts};
 pub use fwd_model::{
     Answer, Config, EndKind, Event, FlushKind, OutputConfig, OwnedSalt, Refusal, SessionFault,
-    SourceFault,
+    SourceFault, unrelated_events_commute,
 };
 pub use output::OutputState;
 pub use relay::Relay;

@@ -30,6 +30,7 @@ use Rattle.fwd_source.specs.Judged.{judged_of}
 use Rattle.fwd_model.specs.Step.{answers, after}
 use Rattle.fwd_book.specs.History.{leaves}
 use Rattle.fwd_model.specs.History.{opening, histories}
+use Rattle.fwd_model.specs.Names.{are_unrelated}
 
 -- no shared key is set
 abbrev nobody : Security
@@ -476,3 +477,55 @@ late_server : answers histories (after histories (opening settings) until_sent) 
     answer.Took 1 1 ∷ []
 unfolding opening route pattern_matches matches adds wait_after server_wait leaves chunk_frame chunk_name encode_symbols ack_text ack_name head_bytes reply_stream word_of judged_of request_of parts_of row_of_values split_of first_of fault_at item_begun payload_ended reading_of row_of named_rows
 late_server = refl
+
+-- ---- in either order
+
+-- two requests of two connections: a worker has the first one's chunk, and the second one's is open
+abbrev two_chunks : List Event
+two_chunks =
+    event.Accept 1 (replicate 16 0) (replicate 16 0) ∷
+    event.Accept 2 (replicate 16 0) (replicate 16 0) ∷
+    event.Piece 1 message ∷
+    event.Piece 2 message ∷
+    event.Admit 1 0 0 ∷
+    event.Flush 0 0 All ∷
+    event.Take 0 0 0 ∷
+    event.Up 0 0 0 [] 0 ∷
+    event.Admit 2 0 0 ∷ []
+
+-- an output and the session of its worker have nothing in common
+abbrev load_flush : Event × Event
+load_flush = (event.Load 0 0 0, event.Flush 0 0 All)
+
+loaded_and_flushed : (are_unrelated load_flush.0 load_flush.1 ≡ true)
+    × (answers histories (after histories (opening settings) two_chunks) (load_flush.0 ∷ load_flush.1 ∷ []) ≡ answer.Frame frame ∷ answer.Closed 1 ∷ [])
+    × (answers histories (after histories (opening settings) two_chunks) (load_flush.1 ∷ load_flush.0 ∷ []) ≡ answer.Closed 1 ∷ answer.Frame frame ∷ [])
+unfolding opening route pattern_matches matches adds leaves chunk_frame chunk_name encode_symbols ack_text ack_name head_bytes reply_stream word_of judged_of request_of parts_of row_of_values split_of first_of fault_at item_begun payload_ended reading_of row_of named_rows
+loaded_and_flushed = (refl, refl, refl)
+
+-- a connection comes, and another one asks what it is to be told
+abbrev accept_collect : Event × Event
+accept_collect = (event.Accept 3 (replicate 16 0) (replicate 16 0), event.Collect 1 0)
+
+accepted_and_told : (are_unrelated accept_collect.0 accept_collect.1 ≡ true)
+    × (answers histories (after histories (opening settings) two_chunks) (accept_collect.0 ∷ accept_collect.1 ∷ []) ≡ answer.Accepted [] ∷ answer.Told [] [] ∷ [])
+    × (answers histories (after histories (opening settings) two_chunks) (accept_collect.1 ∷ accept_collect.0 ∷ []) ≡ answer.Told [] [] ∷ answer.Accepted [] ∷ [])
+unfolding opening route pattern_matches matches adds leaves chunk_frame chunk_name encode_symbols ack_text ack_name head_bytes reply_stream word_of judged_of request_of parts_of row_of_values split_of first_of fault_at item_begun payload_ended reading_of row_of named_rows
+accepted_and_told = (refl, refl, refl)
+
+-- what closes a chunk and what takes one name one output, and their order matters
+abbrev flush_take : Event × Event
+flush_take = (event.Flush 0 0 All, event.Take 0 1 0)
+
+flushed_and_taken : (are_unrelated flush_take.0 flush_take.1 ≡ false)
+    × (answers histories (after histories (opening settings) two_chunks) (flush_take.0 ∷ flush_take.1 ∷ []) ≡ answer.Closed 1 ∷ answer.Took 2 1 ∷ [])
+    × (answers histories (after histories (opening settings) two_chunks) (flush_take.1 ∷ flush_take.0 ∷ []) ≡ answer.TookNothing ∷ answer.Closed 1 ∷ [])
+unfolding opening route pattern_matches matches adds wait_after leaves chunk_frame chunk_name encode_symbols ack_text ack_name head_bytes reply_stream word_of judged_of request_of parts_of row_of_values split_of first_of fault_at item_begun payload_ended reading_of row_of named_rows
+flushed_and_taken = (refl, refl, refl)
+
+-- two connections name nothing in common, and still come in the order of their ids
+accepted_twice : (are_unrelated (event.Accept 3 (replicate 16 0) (replicate 16 0)) (event.Accept 4 (replicate 16 0) (replicate 16 0)) ≡ true)
+    × (answers histories (opening settings) (event.Accept 3 (replicate 16 0) (replicate 16 0) ∷ event.Accept 4 (replicate 16 0) (replicate 16 0) ∷ []) ≡ answer.Accepted [] ∷ answer.Accepted [] ∷ [])
+    × (answers histories (opening settings) (event.Accept 4 (replicate 16 0) (replicate 16 0) ∷ event.Accept 3 (replicate 16 0) (replicate 16 0) ∷ []) ≡ answer.Accepted [] ∷ answer.Refused NotNow ∷ [])
+unfolding opening
+accepted_twice = (refl, refl, refl)

@@ -63,7 +63,7 @@ pub count-same : (l : Lane) (w : ℕ) (c : Load) → IsSaneLane l → IsHis l.ou
 unfolding live_lane live_output
 count-same l w c own is = sym (buffer.count-live l.output.buffer c.number own.buffer is.carried)
 
-settles-drops : (o : OutputHistory) (w server : ℕ) (reply : Option (List ℕ)) (c : Load)
+pub settles-drops : (o : OutputHistory) (w server : ℕ) (reply : Option (List ℕ)) (c : Load)
     → AreApart o.buffer.carried
     → IsHis o.buffer w c
     → Drops o.buffer (output_history_settles o (evidence_of c server reply)).buffer w
