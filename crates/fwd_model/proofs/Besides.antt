@@ -29,7 +29,7 @@ use Rattle.fwd_model.specs.History.{Connection, Lane, History, histories, histor
 use Rattle.fwd_model.specs.Names as part
 use Rattle.fwd_model.specs.Names.{Named, is_same, does_name, is_accept}
 use Rattle.fwd_model.proofs.Agree.{Agrees, Kept, stays, goes, checked, sought, inside}
-use Rattle.fwd_model.proofs.Changes.{Change, Arrives, AtSource, Departs, part_of, comes, at_connections, at_lanes, made, changed_lane, with_place, tests_same, option_id, connections_commute, source_stays, fresh_stays, set-set, get-set_other, lane_found, lane_put, Touches, Nothing, TheOutput, TheSession, touch_of}
+use Rattle.fwd_model.proofs.Changes.{Change, Arrives, AtSource, Departs, part_of, comes, at_connections, at_lanes, made, changed_lane, with_place, tests_same, first_differs, second_differs, option_id, connections_commute, source_stays, fresh_stays, set-set, get-set_other, lane_found, lane_put, Touches, Nothing, TheOutput, TheSession, touch_of}
 
 -- ---- outcomes that are one
 
@@ -113,8 +113,10 @@ get-set : {X : Type 0} (xs : List X) (i j : ℕ) (x : X)
     → slice_get (set xs i x) j ≡ option_map (λ y. cond (eqb i j) x y) (slice_get xs j)
 get-set [] i j x = refl
 get-set (a ∷ xs) zero zero x = refl
-get-set (a ∷ xs) zero (suc j) x = option_id (slice_get xs j)
-get-set (a ∷ xs) (suc i) zero x = refl
+get-set (a ∷ xs) zero (suc j) x =
+    option_id (slice_get xs j)
+    ∙ ap (λ b. option_map (λ y. cond b x y) (slice_get xs j)) (sym (first_differs j))
+get-set (a ∷ xs) (suc i) zero x = ap (λ b. Some (cond b x a)) (sym (second_differs i))
 get-set (a ∷ xs) (suc i) (suc j) x =
     get-set xs i j x ∙ ap (λ b. option_map (λ y. cond b x y) (slice_get xs j)) (tests_same i j)
 
@@ -164,7 +166,7 @@ module _ (l : Lane) (v : ℕ) (s : Option SessionHistory) where
     emptied o t = ap (λ ss. record l { output = o; sessions = ss }) (set-set l.sessions v w s t apart)
 
     take_beside : (now : ℕ) → Agrees (with_place v s) Any (steps.take histories l w now) (steps.take histories (with_place v s l) w now)
-    take_beside now = sought {g = λ (x : Worker SessionHistory). x} _ _ worker_here (λ x e. checked NotNow refl (λ none. goes refl (refl, tt)))
+    take_beside now = sought {g = λ (x : Worker SessionHistory). x} _ _ worker_here (λ x e. checked NotNow {b = is_some x.chunk} refl (λ none. goes refl (refl, tt)))
 
     settle_beside : Agrees (with_place v s) Any (steps.settle histories l w) (steps.settle histories (with_place v s l) w)
     settle_beside =
@@ -176,8 +178,8 @@ module _ (l : Lane) (v : ℕ) (s : Option SessionHistory) where
     end_beside : (kind : EndKind) (now : ℕ) → Agrees (with_place v s) Any (steps.end histories l w kind now) (steps.end histories (with_place v s l) w kind now)
     end_beside kind now =
         sought {g = λ (x : Worker SessionHistory). x} _ _ worker_here (λ x e.
-        checked NotNow refl (λ some.
-        checked NotNow refl (λ none.
+        checked NotNow {b = steps.is_idle histories x} refl (λ some.
+        checked NotNow {b = steps.has_acked histories x.session} refl (λ none.
         goes refl (emptied (output_history_ends l.output (returned x.chunk (steps.has_loaded histories x.session)) (steps.lost_server histories kind x.session) now) None, tt))))
 
 -- ---- a connection and an output
@@ -212,7 +214,7 @@ module _ (v : ℕ) (t : Option SessionHistory) where
 
   collect_beside : (id : ℕ) (s : SourceHistory) (l : Lane)
       → Agrees (on_lane (with_place v t)) Any (steps.collect histories id s l) (steps.collect histories id s (with_place v t l))
-  collect_beside id s l = checked Closed refl (λ up. goes refl (refl, tt))
+  collect_beside id s l = checked Closed {b = s.shut} refl (λ up. goes refl (refl, tt))
 
 -- ---- where an event happens
 

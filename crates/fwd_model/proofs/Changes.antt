@@ -215,13 +215,21 @@ changed_twice g k (suc o) (x ∷ xs) = ap (λ ys. x ∷ ys) (changed_twice g k o
 pub tests_same : (o j : ℕ) → eqb o j ≡ eqb (suc o) (suc j)
 tests_same o j = grind (arith, nat_tests)
 
+pub first_differs : (j : ℕ) → eqb zero (suc j) ≡ false
+first_differs j = grind (arith, nat_tests)
+
+pub second_differs : (o : ℕ) → eqb (suc o) zero ≡ false
+second_differs o = grind (arith, nat_tests)
+
 changed-get : {X : Type 0} (g : X → X) (o j : ℕ) (xs : List X)
     → slice_get (changed g o xs) j
     ≡ option_map (λ x. cond (eqb o j) (g x) x) (slice_get xs j)
 changed-get g o j [] = refl
 changed-get g zero zero (x ∷ xs) = refl
-changed-get g zero (suc j) (x ∷ xs) = option_id (slice_get xs j)
-changed-get g (suc o) zero (x ∷ xs) = refl
+changed-get g zero (suc j) (x ∷ xs) =
+    option_id (slice_get xs j)
+    ∙ ap (λ b. option_map (λ y. cond b (g y) y) (slice_get xs j)) (sym (first_differs j))
+changed-get g (suc o) zero (x ∷ xs) = ap (λ b. Some (cond b (g x) x)) (sym (second_differs o))
 changed-get g (suc o) (suc j) (x ∷ xs) =
     changed-get g o j xs
     ∙ ap (λ b. option_map (λ x. cond b (g x) x) (slice_get xs j)) (tests_same o j)
@@ -230,8 +238,10 @@ changed-set : {X : Type 0} (g : X → X) (o j : ℕ) (xs : List X) (x : X)
     → changed g o (set xs j x) ≡ set (changed g o xs) j (cond (eqb o j) (g x) x)
 changed-set g o j [] x = refl
 changed-set g zero zero (y ∷ xs) x = refl
-changed-set g zero (suc j) (y ∷ xs) x = refl
-changed-set g (suc o) zero (y ∷ xs) x = refl
+changed-set g zero (suc j) (y ∷ xs) x =
+    ap (λ b. g y ∷ set xs j (cond b (g x) x)) (sym (first_differs j))
+changed-set g (suc o) zero (y ∷ xs) x =
+    ap (λ b. cond b (g x) x ∷ changed g o xs) (sym (second_differs o))
 changed-set g (suc o) (suc j) (y ∷ xs) x =
     ap (λ ys. y ∷ ys) (changed-set g o j xs x ∙ ap (λ b. set (changed g o xs) j (cond b (g x) x)) (tests_same o j))
 

@@ -23,8 +23,8 @@ no_test : {b : Bool} → b ≡ true → b ≡ false → ⊥
 no_test e f = cc
 
 is_false : (b : Bool) → (b ≡ true → ⊥) → b ≡ false
-is_false true no = absurd (no refl)
-is_false false no = refl
+is_false true never = absurd (never refl)
+is_false false never = refl
 
 both_true : (a b : Bool) → (a && b) ≡ true → (a ≡ true) × (b ≡ true)
 both_true true true e = (refl, refl)
@@ -42,7 +42,7 @@ same_is a b e = absurd cc
 apart_in : (ns : List Named) (g : Named → Bool) (t : Named)
     → list_all (λ n. not (g n)) ns ≡ true → list_any (λ n. is_same n t) ns ≡ true → g t ≡ false
 apart_in [] g t all any = absurd cc
-apart_in (n ∷ ns) g t all any = by (is_same n t) refl any
+apart_in (n ∷ ns) g t all any = by (λ e. apart_in ns g t parts.1 e) (is_same n t) refl any
   where
     parts : (not (g n) ≡ true) × (list_all (λ k. not (g k)) ns ≡ true)
     parts = and_parts (not (g n)) (list_all (λ k. not (g k)) ns) all
@@ -51,9 +51,10 @@ apart_in (n ∷ ns) g t all any = by (is_same n t) refl any
     turned true e = absurd cc
     turned false e = refl
 
-    by : (b : Bool) → is_same n t ≡ b → (b || list_any (λ k. is_same k t) ns) ≡ true → g t ≡ false
-    by true e f = ap g (sym (same_is n t e)) ∙ turned (g n) parts.0
-    by false e f = apart_in ns g t parts.1 f
+    by : (list_any (λ k. is_same k t) ns ≡ true → g t ≡ false) → (b : Bool) → is_same n t ≡ b
+        → (b || list_any (λ k. is_same k t) ns) ≡ true → g t ≡ false
+    by rest true e f = ap g (sym (same_is n t e)) ∙ turned (g n) parts.0
+    by rest false e f = rest f
 
 -- the first names nothing that the second does
 abbrev Apart : Event → Event → Type 0

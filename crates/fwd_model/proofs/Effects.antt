@@ -108,6 +108,9 @@ abbrev Keeps : Event → ℕ → Lane → OutputHistory → Type 0
 Keeps e o l x = (w : ℕ) → does_name e (part.Session o w) ≡ false
     → carried_by x.buffer w ≡ carried_by l.output.buffer w
 
+some_same : {X : Type 0} {y z : X} → Some y ≡ Some z → y ≡ z
+some_same f = cc
+
 place_output : (b : Bool) (w : ℕ) (s : Option SessionHistory) (l : Lane)
     → (cond b (with_place w s l) l).output ≡ l.output
 place_output true w s l = refl
@@ -124,9 +127,6 @@ module _ (e : Event) (h : History) (a : ℕ) (l : Lane) (here : slice_get h.lane
           let same = same_number a o f in
           let lane : l ≡ k = some_same (sym here ∙ ap (slice_get h.lanes) same ∙ at) in
           keeps w (ap (λ j. does_name e (part.Session j w)) same ∙ none) ∙ ap (λ (m : Lane). carried_by m.output.buffer w) lane
-
-      some_same : {X : Type 0} {y z : X} → Some y ≡ Some z → y ≡ z
-      some_same f = cc
 
   session_own : (k : History) (w : ℕ) (s : Option SessionHistory) → does_name e (part.Session a w) ≡ true → IsOwn e (AtSession a w s) k
   session_own k w s named = record {
