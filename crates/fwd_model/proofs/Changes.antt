@@ -10,7 +10,7 @@ use Rattle.fwd_model.specs.Outputs.{OutputHistory}
 use Rattle.fwd_model.specs.History.{Connection, Lane, History, source_at, with_source, with_gone, is_fresh, with_output}
 use Rattle.fwd_model.specs.Names as part
 use Rattle.fwd_model.specs.Names.{Named, is_same}
-use Rattle.fwd_model.proofs.Places.{is_fresh-with_source, is_fresh-with_gone}
+use Rattle.fwd_model.proofs.Places.{option_id, is_fresh-with_source, is_fresh-with_gone}
 
 -- ---- a change
 
@@ -71,7 +71,7 @@ changed_lane (AtOutput a x) o l = cond (eqb a o) (with_output l x) l
 changed_lane (AtSession a w s) o l = cond (eqb a o) (with_place w s l) l
 changed_lane _ o l = l
 
--- ---- numbers and options
+-- ---- numbers
 
 pub differ : (a b : ℕ) → eqb a b ≡ false → a ≢ b
 differ a b e same = grind (arith, nat_tests, e, same)
@@ -82,9 +82,14 @@ same_number a b e = grind (arith, nat_tests, e)
 turned : (a b : ℕ) → eqb a b ≡ false → eqb b a ≡ false
 turned a b e = grind (arith, nat_tests, e)
 
-pub option_id : {X : Type 0} (o : Option X) → o ≡ option_map (λ x. x) o
-option_id None = refl
-option_id (Some x) = refl
+tests_same : (o j : ℕ) → eqb o j ≡ eqb (suc o) (suc j)
+tests_same o j = grind (arith, nat_tests)
+
+first_differs : (j : ℕ) → eqb zero (suc j) ≡ false
+first_differs j = grind (arith, nat_tests)
+
+second_differs : (o : ℕ) → eqb (suc o) zero ≡ false
+second_differs o = grind (arith, nat_tests)
 
 -- ---- connections
 
@@ -181,13 +186,26 @@ set-set (a ∷ xs) zero (suc j) x y apart = refl
 set-set (a ∷ xs) (suc i) zero x y apart = refl
 set-set (a ∷ xs) (suc i) (suc j) x y apart = ap (λ ys. a ∷ ys) (set-set xs i j x y (λ e. apart (ap suc e)))
 
-pub get-set_other : {X : Type 0} (xs : List X) (i j : ℕ) (x : X) → i ≢ j
+pub slice_get-set_other : {X : Type 0} (xs : List X) (i j : ℕ) (x : X) → i ≢ j
     → slice_get (set xs i x) j ≡ slice_get xs j
-get-set_other [] i j x apart = refl
-get-set_other (a ∷ xs) zero zero x apart = absurd (apart refl)
-get-set_other (a ∷ xs) zero (suc j) x apart = refl
-get-set_other (a ∷ xs) (suc i) zero x apart = refl
-get-set_other (a ∷ xs) (suc i) (suc j) x apart = get-set_other xs i j x (λ e. apart (ap suc e))
+slice_get-set_other [] i j x apart = refl
+slice_get-set_other (a ∷ xs) zero zero x apart = absurd (apart refl)
+slice_get-set_other (a ∷ xs) zero (suc j) x apart = refl
+slice_get-set_other (a ∷ xs) (suc i) zero x apart = refl
+slice_get-set_other (a ∷ xs) (suc i) (suc j) x apart = slice_get-set_other xs i j x (λ e. apart (ap suc e))
+
+-- the place itself has the other element, if there is the place
+pub slice_get-set_any : {X : Type 0} (xs : List X) (i j : ℕ) (x : X)
+    → slice_get (set xs i x) j ≡ option_map (λ y. cond (eqb i j) x y) (slice_get xs j)
+slice_get-set_any [] i j x = refl
+slice_get-set_any (a ∷ xs) zero zero x = refl
+slice_get-set_any (a ∷ xs) zero (suc j) x =
+    option_id (slice_get xs j)
+    ∙ ap (λ b. option_map (λ y. cond b x y) (slice_get xs j)) (sym (first_differs j))
+slice_get-set_any (a ∷ xs) (suc i) zero x = ap (λ b. Some (cond b x a)) (sym (second_differs i))
+slice_get-set_any (a ∷ xs) (suc i) (suc j) x =
+    slice_get-set_any xs i j x
+    ∙ ap (λ b. option_map (λ y. cond b x y) (slice_get xs j)) (tests_same i j)
 
 changed-changed : {X : Type 0} (g k : X → X) (o j : ℕ) (xs : List X)
     → (o ≡ j → (x : X) → g (k x) ≡ k (g x))
@@ -211,15 +229,6 @@ pub changed_twice : {X : Type 0} (g k : X → X) (o : ℕ) (xs : List X)
 changed_twice g k o [] = refl
 changed_twice g k zero (x ∷ xs) = refl
 changed_twice g k (suc o) (x ∷ xs) = ap (λ ys. x ∷ ys) (changed_twice g k o xs)
-
-pub tests_same : (o j : ℕ) → eqb o j ≡ eqb (suc o) (suc j)
-tests_same o j = grind (arith, nat_tests)
-
-pub first_differs : (j : ℕ) → eqb zero (suc j) ≡ false
-first_differs j = grind (arith, nat_tests)
-
-pub second_differs : (o : ℕ) → eqb (suc o) zero ≡ false
-second_differs o = grind (arith, nat_tests)
 
 changed-get : {X : Type 0} (g : X → X) (o j : ℕ) (xs : List X)
     → slice_get (changed g o xs) j

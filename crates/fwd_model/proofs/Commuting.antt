@@ -14,13 +14,10 @@ use Rattle.fwd_model.specs.Names.{Named, is_same, names, does_name, are_unrelate
 use Rattle.fwd_model.proofs.Onward.{at_next}
 use Rattle.fwd_model.proofs.Reached.{IsSane}
 use Rattle.fwd_model.proofs.Changes.{Change, part_of, comes, made, all_made, same_number, changes_commute}
-use Rattle.fwd_model.proofs.Besides.{Spares, beside}
+use Rattle.fwd_model.proofs.Besides.{Spares, beside, no_test}
 use Rattle.fwd_model.proofs.Effects.{IsNamed, IsOwn, AllOwn, Effect, no_effect, event_leads}
 
 -- ---- what one names, the other does not
-
-no_test : {b : Bool} → b ≡ true → b ≡ false → ⊥
-no_test e f = cc
 
 is_false : (b : Bool) → (b ≡ true → ⊥) → b ≡ false
 is_false true never = absurd (never refl)
