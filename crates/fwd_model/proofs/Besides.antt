@@ -1,7 +1,6 @@
 -- An event is answered alike, and leads to the same, beside a change of a part that it does not
 -- name: each proof has the shape of its event.
-use Rattle.std.proofs.Common.{◌≡◌, ◌≢◌, ℕ, zero, suc, ◌+◌, Bool, true, false, cond, eqb, List, [], ◌∷◌, Option, Some, None, refl, sym, ap, subst, ◌∙◌, arith}
-use Rattle.std.proofs.Math.ListN.{set}
+use Rattle.std.proofs.Common.{◌≡◌, ◌≢◌, ℕ, ◌+◌, Bool, true, false, cond, eqb, List, Option, Some, None, refl, sym, ap, subst, ◌∙◌, arith}
 use Rattle.std.proofs.lemmas.Bool.Decides.{nat_tests}
 use Rattle.std.proofs.lemmas.Bool.{or_parts}
 use Rattle.std.specs.Prelude.{option_map, slice_get, is_some, not, ◌&&◌, ◌||◌}
@@ -132,7 +131,7 @@ at_worker : (m : Lane → Lane) (l : Lane) (w : ℕ)
     (p : Worker SessionHistory → Outcome (Worker SessionHistory))
     → histories.worker_at (m l) w ≡ histories.worker_at l w
     → ((x : Worker SessionHistory)
-        → m (histories.puts_worker l w x) ≡ histories.puts_worker (m l) w x)
+    → m (histories.puts_worker l w x) ≡ histories.puts_worker (m l) w x)
     → Agrees m Any (steps.at_worker histories l w p) (steps.at_worker histories (m l) w p)
 at_worker m l w p same puts =
     sought {g = λ (x : Worker SessionHistory). x} _ _ (same ∙ option_id (histories.worker_at l w)) (λ x e.
@@ -253,10 +252,13 @@ module _ (p : Change) (h : History) where
       → Beside (made p) (λ h. steps.at_lane histories h o event) h
   at_lane o event beside =
       sought _ _ (lane_found p h.lanes o) (λ l e.
-      inside _ _ (beside l e) (λ m any. ((λ i. record h {
-        connections = at_connections p h.connections;
-        lanes = lane_put p h.lanes o m i;
-      }), tt)))
+      inside _ _ (beside l e) (λ m any. (
+        (λ i. record h {
+          connections = at_connections p h.connections;
+          lanes = lane_put p h.lanes o m i;
+        }),
+        tt,
+      )))
 
   at_both : (id o : ℕ) (event : SourceHistory → Lane → Outcome (SourceHistory × Lane))
       → is_same (part.Connection id) (part_of p) ≡ false
@@ -265,16 +267,19 @@ module _ (p : Change) (h : History) where
   at_both id o event apart beside =
       sought {g = λ (s : SourceHistory). s} _ _ (source_here id apart) (λ s e.
       sought _ _ (lane_found p h.lanes o) (λ l f.
-      inside _ _ (beside s l) (λ two any. ((λ i. record h {
-        connections = connections_commute (AtSource id two.0) p h.connections apart refl i;
-        lanes = lane_put p h.lanes o two.1 i;
-      }), tt))))
+      inside _ _ (beside s l) (λ two any. (
+        (λ i. record h {
+          connections = connections_commute (AtSource id two.0) p h.connections apart refl i;
+          lanes = lane_put p h.lanes o two.1 i;
+        }),
+        tt,
+      ))))
 
   -- at an output
   at_output : (o : ℕ) (event : Lane → Outcome Lane)
       → is_same (part.Output o) (part_of p) ≡ false
       → ((l : Lane) (v : ℕ) (s : Option SessionHistory) → part_of p ≡ part.Session o v
-          → Beside (with_place v s) event l)
+      → Beside (with_place v s) event l)
       → Beside (made p) (λ h. steps.at_lane histories h o event) h
   at_output o event apart beside =
       at_lane o event (λ l here. lock_case p o apart (λ m. Beside m event l) (alike (event l)) (λ v s is. beside l v s is))
@@ -294,7 +299,7 @@ module _ (p : Change) (h : History) where
       → (is_same (part.Connection id) (part_of p) ≡ false)
       × (is_same (part.Output o) (part_of p) ≡ false)
       → ((v : ℕ) (t : Option SessionHistory) (s : SourceHistory) (l : Lane)
-          → BesideBoth (with_place v t) event s l)
+      → BesideBoth (with_place v t) event s l)
       → Beside (made p) (λ h. steps.at_both histories h id o event) h
   at_source_and_output id o event apart beside =
       at_both id o event apart.0 (λ s l. lock_case p o apart.1 (λ m. BesideBoth m event s l) (alike (event s l)) (λ v t is. beside v t s l))
@@ -304,7 +309,7 @@ module _ (p : Change) (h : History) where
       (event : OutputConfig → Worker SessionHistory → Outcome (Worker SessionHistory))
       → is_same (part.Session o w) (part_of p) ≡ false
       → ((l : Lane) → slice_get h.lanes o ≡ Some l
-          → carried_by (changed_lane p o l).output.buffer w ≡ carried_by l.output.buffer w)
+      → carried_by (changed_lane p o l).output.buffer w ≡ carried_by l.output.buffer w)
       → Beside (made p)
       (λ h. steps.at_lane histories h o (λ l. steps.at_worker histories l w (event l.config))) h
   at_session o w event apart spares =
@@ -317,18 +322,24 @@ module _ (p : Change) (h : History) where
       → comes p ≡ false → Beside (made p) (λ h. steps.accept histories h setup) h
   accept setup apart none =
       let new : Connection = record { id = setup.conn; source = opened setup; gone = false } in
-      checked NotNow (ap not (fresh_stays setup.conn p h.connections none)) (λ fresh. goes refl ((λ i. record h {
-        connections = connections_commute (Arrives new) p h.connections apart none i;
-        lanes = at_lanes p h.lanes;
-      }), tt))
+      checked NotNow (ap not (fresh_stays setup.conn p h.connections none)) (λ fresh. goes refl (
+        (λ i. record h {
+          connections = connections_commute (Arrives new) p h.connections apart none i;
+          lanes = at_lanes p h.lanes;
+        }),
+        tt,
+      ))
 
   shut : (id : ℕ) → is_same (part.Connection id) (part_of p) ≡ false
       → Beside (made p) (λ h. steps.shut histories h id) h
   shut id apart =
-      sought {g = λ (s : SourceHistory). s} _ _ (source_here id apart) (λ s e. goes refl ((λ i. record h {
-        connections = connections_commute (Departs id) p h.connections apart refl i;
-        lanes = at_lanes p h.lanes;
-      }), tt))
+      sought {g = λ (s : SourceHistory). s} _ _ (source_here id apart) (λ s e. goes refl (
+        (λ i. record h {
+          connections = connections_commute (Departs id) p h.connections apart refl i;
+          lanes = at_lanes p h.lanes;
+        }),
+        tt,
+      ))
 
   -- an event beside a change of a part that it does not name
   pub beside : (f : Event) → does_name f (part_of p) ≡ false → (is_accept f && comes p) ≡ false

@@ -4,7 +4,6 @@ use Rattle.std.proofs.Common.{◌≡◌, Bool, true, false, List, [], ◌∷◌,
 use Rattle.std.proofs.lemmas.Bool.{and_parts}
 use Rattle.std.specs.Prelude.{not, ◌==◌, ◌&&◌, ◌||◌}
 use Rattle.std.specs.List.{list_all, list_any}
-use Rattle.fwd_model.specs.declared.answer.Answer.{Answer}
 use Rattle.fwd_model.specs.declared.event.Event.{Event}
 use Rattle.fwd_model.specs.Outcome.{Outcome, Stays, Goes, answer_of, state_of, within}
 use Rattle.fwd_model.specs.Step.{step, after}
@@ -15,7 +14,7 @@ use Rattle.fwd_model.proofs.Onward.{at_next}
 use Rattle.fwd_model.proofs.Reached.{IsSane}
 use Rattle.fwd_model.proofs.Changes.{Change, part_of, comes, made, all_made, same_number, changes_commute}
 use Rattle.fwd_model.proofs.Besides.{Spares, beside, no_test}
-use Rattle.fwd_model.proofs.Effects.{IsNamed, IsOwn, AllOwn, Effect, no_effect, event_leads}
+use Rattle.fwd_model.proofs.Effects.{IsNamed, AllOwn, Effect, no_effect, event_leads}
 
 -- ---- what one names, the other does not
 

@@ -1,9 +1,7 @@
 -- What an event goes on to: changes of parts that it names. What the workers have that it does not
 -- name stays.
-use Rattle.std.proofs.Common.{◌≡◌, ◌≢◌, ℕ, ◌+◌, Bool, true, false, cond, eqb, List, [], ◌∷◌, length, Option, Some, None, refl, sym, ap, ◌∙◌, arith}
-use Rattle.std.proofs.Math.ListN.{set}
-use Rattle.std.proofs.lemmas.Bool.Decides.{nat_tests}
-use Rattle.std.specs.Prelude.{option_map, slice_get, is_some, not, nat_lt, ◌==◌, ◌&&◌, ◌||◌}
+use Rattle.std.proofs.Common.{◌≡◌, ◌≢◌, ℕ, ◌+◌, Bool, true, false, cond, eqb, List, [], ◌∷◌, length, Option, Some, None, refl, sym, ap, ◌∙◌}
+use Rattle.std.specs.Prelude.{option_map, slice_get, is_some, not, ◌==◌, ◌&&◌, ◌||◌}
 use Rattle.fwd_modes.specs.Requests.{Request}
 use Rattle.fwd_match.specs.Patterns.{route}
 use Rattle.fwd_source.specs.declared.origin.Origin.{Origin}
@@ -26,7 +24,7 @@ use Rattle.fwd_model.specs.Step as steps
 use Rattle.fwd_model.specs.Step.{step}
 use Rattle.fwd_model.specs.Setups.{setup_of}
 use Rattle.fwd_model.specs.Outputs.{OutputHistory, carried_by, returned, output_history_enters, output_history_settles, output_history_looks, output_history_ends}
-use Rattle.fwd_model.specs.History.{Connection, Lane, History, histories, accepts, with_connection, leaves, with_output, with_lane}
+use Rattle.fwd_model.specs.History.{Lane, History, histories, accepts, with_connection, leaves, with_output, with_lane}
 use Rattle.fwd_model.specs.Names as part
 use Rattle.fwd_model.specs.Names.{Named, is_same, does_name, is_accept}
 use Rattle.fwd_model.proofs.Onward.{Onward, to, past, past_found, source_on, lane_on, both_on, worker_on}
@@ -36,7 +34,7 @@ use Rattle.fwd_model.proofs.FollowsAdmits.{worker_stays}
 use Rattle.fwd_model.proofs.FollowsTakes.{others_carry}
 use Rattle.fwd_model.proofs.FollowsSettles.{acked_is, settles-drops, some_same}
 use Rattle.fwd_model.proofs.FollowsEnds.{backs, back-drops}
-use Rattle.fwd_model.proofs.Changes.{Change, Arrives, AtSource, Departs, AtOutput, AtSession, part_of, comes, at_lanes, made, all_made, changed_lane, with_place, same_number, changed, changed-here, changed_twice}
+use Rattle.fwd_model.proofs.Changes.{Change, Arrives, AtSource, Departs, AtOutput, AtSession, part_of, comes, made, all_made, changed_lane, with_place, same_number, changed-here, changed_twice}
 use Rattle.fwd_model.proofs.Besides.{same_self, named_alone, no_test}
 
 -- ---- changes that an event may make
@@ -189,7 +187,7 @@ always (Goes a s) all = record { holds = all a s }
 -- another worker of the output
 other_named : (o v w : ℕ)
     → (is_same (part.Output o) (part.Session o v)
-        || (is_same (part.Session o w) (part.Session o v) || false)) ≡ false
+    || (is_same (part.Session o w) (part.Session o v) || false)) ≡ false
     → w ≢ v
 other_named o v w none same =
     no_test (ap (λ k. is_same (part.Session o k) (part.Session o v) || false) same ∙ named_alone (part.Session o v)) none
@@ -226,7 +224,7 @@ module _ (h : History) (sane : IsSane h) where
 
   at_output : (e : Event) (o : ℕ) (event : Lane → Outcome Lane)
       → ((l : Lane) → slice_get h.lanes o ≡ Some l → IsSaneLane l
-          → Onward (LaneLeads e h o) (event l))
+      → Onward (LaneLeads e h o) (event l))
       → Onward (Leads e h) (steps.at_lane histories h o event)
   at_output e o event leads = lane_on histories h o (Leads e h) event (λ l here. leads l here (own_lane o l here))
 

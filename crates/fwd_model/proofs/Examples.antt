@@ -8,6 +8,7 @@ use Rattle.fwd_modes.specs.Requests.{request_of}
 use Rattle.fwd_modes.specs.Frames.{chunk_frame, chunk_name, encode_symbols}
 use Rattle.fwd_modes.specs.Acks.{ack_text, ack_name}
 use Rattle.fwd_match.specs.Patterns.{route, pattern_matches, matches}
+use Rattle.fwd_model.specs.declared.answer.Answer.{Answer}
 use Rattle.fwd_model.specs.declared.answer.Answer.TheVariants as answer
 use Rattle.fwd_model.specs.declared.event.Event.{Event}
 use Rattle.fwd_model.specs.declared.event.Event.TheVariants as event
@@ -493,39 +494,51 @@ two_chunks =
     event.Up 0 0 0 [] 0 ∷
     event.Admit 2 0 0 ∷ []
 
--- an output and the session of its worker have nothing in common
-abbrev load_flush : Event × Event
-load_flush = (event.Load 0 0 0, event.Flush 0 0 All)
+-- what further events are answered
+abbrev then_answered : List Event → List Answer
+then_answered es = answers histories (after histories (opening settings) two_chunks) es
 
-loaded_and_flushed : (are_unrelated load_flush.0 load_flush.1 ≡ true)
-    × (answers histories (after histories (opening settings) two_chunks) (load_flush.0 ∷ load_flush.1 ∷ []) ≡ answer.Frame frame ∷ answer.Closed 1 ∷ [])
-    × (answers histories (after histories (opening settings) two_chunks) (load_flush.1 ∷ load_flush.0 ∷ []) ≡ answer.Closed 1 ∷ answer.Frame frame ∷ [])
-unfolding opening route pattern_matches matches adds leaves chunk_frame chunk_name encode_symbols ack_text ack_name head_bytes reply_stream word_of judged_of request_of parts_of row_of_values split_of first_of fault_at item_begun payload_ended reading_of row_of named_rows
+-- an output and the session of its worker have nothing in common
+abbrev load : Event
+load = event.Load 0 0 0
+
+abbrev flush : Event
+flush = event.Flush 0 0 All
+
+loaded_and_flushed : (are_unrelated load flush ≡ true)
+    × (then_answered (load ∷ flush ∷ []) ≡ answer.Frame frame ∷ answer.Closed 1 ∷ [])
+    × (then_answered (flush ∷ load ∷ []) ≡ answer.Closed 1 ∷ answer.Frame frame ∷ [])
+unfolding opening route pattern_matches matches adds wait_after leaves chunk_frame chunk_name encode_symbols ack_text ack_name head_bytes reply_stream word_of judged_of request_of parts_of row_of_values split_of first_of fault_at item_begun payload_ended reading_of row_of named_rows
 loaded_and_flushed = (refl, refl, refl)
 
 -- a connection comes, and another one asks what it is to be told
-abbrev accept_collect : Event × Event
-accept_collect = (event.Accept 3 (replicate 16 0) (replicate 16 0), event.Collect 1 0)
+abbrev accept : ℕ → Event
+accept id = event.Accept id (replicate 16 0) (replicate 16 0)
 
-accepted_and_told : (are_unrelated accept_collect.0 accept_collect.1 ≡ true)
-    × (answers histories (after histories (opening settings) two_chunks) (accept_collect.0 ∷ accept_collect.1 ∷ []) ≡ answer.Accepted [] ∷ answer.Told [] [] ∷ [])
-    × (answers histories (after histories (opening settings) two_chunks) (accept_collect.1 ∷ accept_collect.0 ∷ []) ≡ answer.Told [] [] ∷ answer.Accepted [] ∷ [])
-unfolding opening route pattern_matches matches adds leaves chunk_frame chunk_name encode_symbols ack_text ack_name head_bytes reply_stream word_of judged_of request_of parts_of row_of_values split_of first_of fault_at item_begun payload_ended reading_of row_of named_rows
+abbrev collect : Event
+collect = event.Collect 1 0
+
+accepted_and_told : (are_unrelated (accept 3) collect ≡ true)
+    × (then_answered (accept 3 ∷ collect ∷ []) ≡ answer.Accepted [] ∷ answer.Told [] [] ∷ [])
+    × (then_answered (collect ∷ accept 3 ∷ []) ≡ answer.Told [] [] ∷ answer.Accepted [] ∷ [])
+unfolding opening route pattern_matches matches adds wait_after leaves chunk_frame chunk_name encode_symbols ack_text ack_name head_bytes reply_stream word_of judged_of request_of parts_of row_of_values split_of first_of fault_at item_begun payload_ended reading_of row_of named_rows
 accepted_and_told = (refl, refl, refl)
 
 -- what closes a chunk and what takes one name one output, and their order matters
-abbrev flush_take : Event × Event
-flush_take = (event.Flush 0 0 All, event.Take 0 1 0)
+abbrev take : Event
+take = event.Take 0 1 0
 
-flushed_and_taken : (are_unrelated flush_take.0 flush_take.1 ≡ false)
-    × (answers histories (after histories (opening settings) two_chunks) (flush_take.0 ∷ flush_take.1 ∷ []) ≡ answer.Closed 1 ∷ answer.Took 2 1 ∷ [])
-    × (answers histories (after histories (opening settings) two_chunks) (flush_take.1 ∷ flush_take.0 ∷ []) ≡ answer.TookNothing ∷ answer.Closed 1 ∷ [])
+flushed_and_taken : (are_unrelated flush take ≡ false)
+    × (then_answered (flush ∷ take ∷ []) ≡ answer.Closed 1 ∷ answer.Took 2 1 ∷ [])
+    × (then_answered (take ∷ flush ∷ []) ≡ answer.TookNothing ∷ answer.Closed 1 ∷ [])
 unfolding opening route pattern_matches matches adds wait_after leaves chunk_frame chunk_name encode_symbols ack_text ack_name head_bytes reply_stream word_of judged_of request_of parts_of row_of_values split_of first_of fault_at item_begun payload_ended reading_of row_of named_rows
 flushed_and_taken = (refl, refl, refl)
 
--- two connections name nothing in common, and still come in the order of their ids
-accepted_twice : (are_unrelated (event.Accept 3 (replicate 16 0) (replicate 16 0)) (event.Accept 4 (replicate 16 0) (replicate 16 0)) ≡ true)
-    × (answers histories (opening settings) (event.Accept 3 (replicate 16 0) (replicate 16 0) ∷ event.Accept 4 (replicate 16 0) (replicate 16 0) ∷ []) ≡ answer.Accepted [] ∷ answer.Accepted [] ∷ [])
-    × (answers histories (opening settings) (event.Accept 4 (replicate 16 0) (replicate 16 0) ∷ event.Accept 3 (replicate 16 0) (replicate 16 0) ∷ []) ≡ answer.Accepted [] ∷ answer.Refused NotNow ∷ [])
-unfolding opening
-accepted_twice = (refl, refl, refl)
+-- two connections have nothing in common, and still come in the order of their ids
+accepted_in_order : (are_unrelated (accept 3) (accept 4) ≡ true)
+    × (then_answered (accept 3 ∷ accept 4 ∷ [])
+    ≡ answer.Accepted [] ∷ answer.Accepted [] ∷ [])
+    × (then_answered (accept 4 ∷ accept 3 ∷ [])
+    ≡ answer.Accepted [] ∷ answer.Refused NotNow ∷ [])
+unfolding opening route pattern_matches matches adds wait_after leaves chunk_frame chunk_name encode_symbols ack_text ack_name head_bytes reply_stream word_of judged_of request_of parts_of row_of_values split_of first_of fault_at item_begun payload_ended reading_of row_of named_rows
+accepted_in_order = (refl, refl, refl)

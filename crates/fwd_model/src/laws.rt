@@ -1,7 +1,17 @@
 //! Laws over the definitions, each the contract of a function that does nothing.
 
 ghost use Rattle.std.specs.Prelude.{
-    ◌≡◌, ◌++◌, ◌&&◌, ℕ, List, [], Some, true, false, is_some, slice_get,
+  ◌≡◌,
+  ◌++◌,
+  ◌&&◌,
+  ℕ,
+  List,
+  [],
+  Some,
+  true,
+  false,
+  is_some,
+  slice_get,
 };
 ghost use Rattle.fwd_source.specs.History.{SourceHistory};
 ghost use Rattle.fwd_model.specs.declared.answer.Answer.TheVariants as answer;
