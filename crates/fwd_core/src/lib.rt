@@ -13,7 +13,7 @@ mod worker;
 pub use fwd_chunks::{AdmitError, BufferLimits, Carried, Counts};
 pub use fwd_model::{
     Answer, Config, EndKind, Event, FlushKind, Origin, OutputConfig, OwnedSalt, Refusal,
-    SessionFault, SourceFault,
+    SessionFault, SourceFault, unrelated_events_commute,
 };
 pub use leaving::{Leaving, leave};
 pub use output::OutputState;

@@ -8,6 +8,7 @@ use Rattle.fwd_modes.specs.Requests.{request_of}
 use Rattle.fwd_modes.specs.Frames.{chunk_frame, chunk_name, encode_symbols}
 use Rattle.fwd_modes.specs.Acks.{ack_text, ack_name}
 use Rattle.fwd_match.specs.Patterns.{route, pattern_matches, matches}
+use Rattle.fwd_model.specs.declared.answer.Answer.{Answer}
 use Rattle.fwd_model.specs.declared.answer.Answer.TheVariants as answer
 use Rattle.fwd_model.specs.declared.event.Event.{Event}
 use Rattle.fwd_model.specs.declared.event.Event.TheVariants as event
@@ -30,6 +31,7 @@ use Rattle.fwd_source.specs.Judged.{judged_of}
 use Rattle.fwd_model.specs.Step.{answers, after}
 use Rattle.fwd_book.specs.History.{leaves}
 use Rattle.fwd_model.specs.History.{opening, histories}
+use Rattle.fwd_model.specs.Names.{are_unrelated}
 
 -- no shared key is set
 abbrev nobody : Security
@@ -476,3 +478,67 @@ late_server : answers histories (after histories (opening settings) until_sent) 
     answer.Took 1 1 ∷ []
 unfolding opening route pattern_matches matches adds wait_after server_wait leaves chunk_frame chunk_name encode_symbols ack_text ack_name head_bytes reply_stream word_of judged_of request_of parts_of row_of_values split_of first_of fault_at item_begun payload_ended reading_of row_of named_rows
 late_server = refl
+
+-- ---- in either order
+
+-- two requests of two connections: a worker has the first one's chunk, and the second one's is open
+abbrev two_chunks : List Event
+two_chunks =
+    event.Accept 1 (replicate 16 0) (replicate 16 0) ∷
+    event.Accept 2 (replicate 16 0) (replicate 16 0) ∷
+    event.Piece 1 message ∷
+    event.Piece 2 message ∷
+    event.Admit 1 0 0 ∷
+    event.Flush 0 0 All ∷
+    event.Take 0 0 0 ∷
+    event.Up 0 0 0 [] 0 ∷
+    event.Admit 2 0 0 ∷ []
+
+-- what further events are answered
+abbrev then_answered : List Event → List Answer
+then_answered es = answers histories (after histories (opening settings) two_chunks) es
+
+-- an output and the session of its worker have nothing in common
+abbrev load : Event
+load = event.Load 0 0 0
+
+abbrev flush : Event
+flush = event.Flush 0 0 All
+
+loaded_and_flushed : (are_unrelated load flush ≡ true)
+    × (then_answered (load ∷ flush ∷ []) ≡ answer.Frame frame ∷ answer.Closed 1 ∷ [])
+    × (then_answered (flush ∷ load ∷ []) ≡ answer.Closed 1 ∷ answer.Frame frame ∷ [])
+unfolding opening route pattern_matches matches adds wait_after leaves chunk_frame chunk_name encode_symbols ack_text ack_name head_bytes reply_stream word_of judged_of request_of parts_of row_of_values split_of first_of fault_at item_begun payload_ended reading_of row_of named_rows
+loaded_and_flushed = (refl, refl, refl)
+
+-- a connection comes, and another one asks what it is to be told
+abbrev accept : ℕ → Event
+accept id = event.Accept id (replicate 16 0) (replicate 16 0)
+
+abbrev collect : Event
+collect = event.Collect 1 0
+
+accepted_and_told : (are_unrelated (accept 3) collect ≡ true)
+    × (then_answered (accept 3 ∷ collect ∷ []) ≡ answer.Accepted [] ∷ answer.Told [] [] ∷ [])
+    × (then_answered (collect ∷ accept 3 ∷ []) ≡ answer.Told [] [] ∷ answer.Accepted [] ∷ [])
+unfolding opening route pattern_matches matches adds wait_after leaves chunk_frame chunk_name encode_symbols ack_text ack_name head_bytes reply_stream word_of judged_of request_of parts_of row_of_values split_of first_of fault_at item_begun payload_ended reading_of row_of named_rows
+accepted_and_told = (refl, refl, refl)
+
+-- what closes a chunk and what takes one name one output, and their order matters
+abbrev take : Event
+take = event.Take 0 1 0
+
+flushed_and_taken : (are_unrelated flush take ≡ false)
+    × (then_answered (flush ∷ take ∷ []) ≡ answer.Closed 1 ∷ answer.Took 2 1 ∷ [])
+    × (then_answered (take ∷ flush ∷ []) ≡ answer.TookNothing ∷ answer.Closed 1 ∷ [])
+unfolding opening route pattern_matches matches adds wait_after leaves chunk_frame chunk_name encode_symbols ack_text ack_name head_bytes reply_stream word_of judged_of request_of parts_of row_of_values split_of first_of fault_at item_begun payload_ended reading_of row_of named_rows
+flushed_and_taken = (refl, refl, refl)
+
+-- two connections have nothing in common, and still come in the order of their ids
+accepted_in_order : (are_unrelated (accept 3) (accept 4) ≡ true)
+    × (then_answered (accept 3 ∷ accept 4 ∷ [])
+    ≡ answer.Accepted [] ∷ answer.Accepted [] ∷ [])
+    × (then_answered (accept 4 ∷ accept 3 ∷ [])
+    ≡ answer.Accepted [] ∷ answer.Refused NotNow ∷ [])
+unfolding opening route pattern_matches matches adds wait_after leaves chunk_frame chunk_name encode_symbols ack_text ack_name head_bytes reply_stream word_of judged_of request_of parts_of row_of_values split_of first_of fault_at item_begun payload_ended reading_of row_of named_rows
+accepted_in_order = (refl, refl, refl)

@@ -39,7 +39,7 @@ use Rattle.fwd_model.specs.Outputs.{returned, live_output}
 use Rattle.fwd_model.specs.History.{Lane, History, histories, source_at, new_lane, new_lanes, counts, opening, is_fresh, with_connection, IsReached}
 use Rattle.fwd_model.specs.Live.{LiveLane, live, live_lane, lives, last_id, is_above, live_source_at, with_live_lane, with_live_worker, live_relay_counts}
 use Rattle.fwd_model.proofs.Agree.{Agrees, Leads, stays, goes, checked, sought, inside}
-use Rattle.fwd_model.proofs.Places.{source_at-live}
+use Rattle.fwd_model.proofs.Places.{source_at-live, option_id}
 use Rattle.fwd_model.proofs.Reached.{IsSaneSession, IsSaneLane, AllSane, IsSane, AllSources-at, AllSane-at}
 use Rattle.fwd_model.proofs.FollowsSources.{accepts-live, accepts-sane, with_connection-live, with_connection-sane, drained-sane, leaves-live, leaves-sane}
 use Rattle.fwd_model.proofs.FollowsOutputs.{lane_at-live, with_lane-live, with_lane-sane, worker_at-live, flushes-live, flushes-sane, choice-same, watches-live, watches-sane}
@@ -52,10 +52,6 @@ use Rattle.fwd_book.proofs.Following.{follows-due, follows-owed_of}
 use Rattle.fwd_model.specs.Books.{telling}
 use Rattle.fwd_model.proofs.FollowsCollects.{tells-live, tells-sane, forgets-live, forgets-sane}
 use Rattle.fwd_model.proofs.Workers.{worker_map, worker_seen, worker_is, session_here, none_carried, carried_is}
-
-option_id : {X : Type 0} (o : Option X) → o ≡ option_map (λ x. x) o
-option_id None = refl
-option_id (Some x) = refl
 
 -- ---- where it happens
 

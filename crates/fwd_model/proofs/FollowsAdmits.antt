@@ -43,7 +43,7 @@ one_stays : (h : BufferHistory) (origin : Origin) (r : Request) (now : ℕ) (c :
 one_stays h origin r now None own has = refl
 one_stays h origin r now (Some d) own has = ap Some (load-stays h origin r now d.number own (has d refl))
 
-worker_stays : (h : BufferHistory) (origin : Origin) (r : Request) (now w : ℕ)
+pub worker_stays : (h : BufferHistory) (origin : Origin) (r : Request) (now w : ℕ)
     → sane.IsSane h
     → carried_by (enters h origin r now) w ≡ carried_by h w
 worker_stays h origin r now w own =

@@ -63,7 +63,7 @@ pub count-same : (l : Lane) (w : ℕ) (c : Load) → IsSaneLane l → IsHis l.ou
 unfolding live_lane live_output
 count-same l w c own is = sym (buffer.count-live l.output.buffer c.number own.buffer is.carried)
 
-settles-drops : (o : OutputHistory) (w server : ℕ) (reply : Option (List ℕ)) (c : Load)
+pub settles-drops : (o : OutputHistory) (w server : ℕ) (reply : Option (List ℕ)) (c : Load)
     → AreApart o.buffer.carried
     → IsHis o.buffer w c
     → Drops o.buffer (output_history_settles o (evidence_of c server reply)).buffer w
@@ -92,7 +92,7 @@ settles-live l w s c server reply here own is = λ i. record {
 
 -- ---- an output stays sane
 
-some_same : {X : Type 0} {x y : X} → Some x ≡ Some y → x ≡ y
+pub some_same : {X : Type 0} {x y : X} → Some x ≡ Some y → x ≡ y
 some_same e = cc
 
 pub settles-sane : (l : Lane) (w : ℕ) (s : SessionHistory) (c : Load) (server : ℕ)

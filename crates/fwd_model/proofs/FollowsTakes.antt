@@ -116,7 +116,7 @@ carry_more-apart : (w : ℕ) (found : Option ℕ) (cs : List Carry) → AreApart
 carry_more-apart w None cs apart none free = apart
 carry_more-apart w (Some k) cs apart none free = apart-push w k cs apart none (free k refl)
 
-others_carry : (w j : ℕ) (found : Option ℕ) (cs : List Carry) → w ≢ j
+pub others_carry : (w j : ℕ) (found : Option ℕ) (cs : List Carry) → w ≢ j
     → carry_of j (carry_more w found cs) ≡ carry_of j cs
 others_carry w j None cs differ = refl
 others_carry w j (Some k) cs differ = carry_of-push_other w j k cs differ

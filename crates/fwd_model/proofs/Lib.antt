@@ -24,4 +24,8 @@ pub mod Deliver
 pub mod WayBack
 pub mod Marks
 pub mod Refusals
+pub mod Changes
+pub mod Besides
+pub mod Effects
+pub mod Commuting
 mod Examples

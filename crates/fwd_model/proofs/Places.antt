@@ -12,6 +12,11 @@ use Rattle.fwd_model.specs.Outputs.{OutputHistory, carried_by}
 use Rattle.fwd_model.specs.History.{Connection, source_at, with_source, with_gone, is_fresh}
 use Rattle.fwd_model.specs.Live.{live_connection, known, last_id, live_worker, live_workers, live_source_at, with_live_source, without}
 
+-- nothing is done to what there may be
+pub option_id : {X : Type 0} (o : Option X) → o ≡ option_map (λ x. x) o
+option_id None = refl
+option_id (Some x) = refl
+
 -- ---- an id stands once
 
 abbrev pub is_absent : ℕ → List Connection → Bool

@@ -1,6 +1,7 @@
 -- To be read in this order. Outcome, Layers and Step say what each event does, over any layers;
 -- Books to History are the history of all that came, with the histories of the crates below;
--- Delivered is what is promised of it; Live is what of it still matters, which the code shows.
+-- Names says which events may come in either order; Delivered is what is promised of it; Live is
+-- what of it still matters, which the code shows.
 pub mod Outcome
 pub mod Setups
 pub mod Books
@@ -9,5 +10,6 @@ pub mod Layers
 pub mod Step
 pub mod Sessions
 pub mod History
+pub mod Names
 pub mod Delivered
 pub mod Live

@@ -1,6 +1,18 @@
 //! Laws over the definitions, each the contract of a function that does nothing.
 
-ghost use Rattle.std.specs.Prelude.{◌≡◌, ◌++◌, ℕ, List, [], Some, true, false, is_some, slice_get};
+ghost use Rattle.std.specs.Prelude.{
+  ◌≡◌,
+  ◌++◌,
+  ◌&&◌,
+  ℕ,
+  List,
+  [],
+  Some,
+  true,
+  false,
+  is_some,
+  slice_get,
+};
 ghost use Rattle.fwd_source.specs.History.{SourceHistory};
 ghost use Rattle.fwd_model.specs.declared.answer.Answer.TheVariants as answer;
 ghost use Rattle.fwd_model.specs.declared.config.Config.{Config};
@@ -16,6 +28,7 @@ ghost use Rattle.fwd_chunks.specs.History.{Load};
 ghost use Rattle.fwd_session.specs.declared.fault.SessionFault.{SessionFault};
 ghost use Rattle.fwd_session.specs.History.{SessionHistory, is_handed_on, says};
 ghost use Rattle.fwd_model.specs.History.{History, Lane, histories, source_at, counts, IsReached};
+ghost use Rattle.fwd_model.specs.Names.{Commute, are_unrelated, is_accept};
 ghost use Rattle.fwd_model.specs.Delivered.{IsTold, IsToldAmong, IsDelivered, reached};
 ghost use Rattle.fwd_model.specs.Live.{LiveRelay, live, lives, live_relay_counts};
 
@@ -106,4 +119,13 @@ pub fn acknowledgement_before_fault_stands()
         (step histories (state_of h (step histories h (event.Heard o w bytes)))
         (event.Settle o w))
         ≡ answer.Settled (count_at c.number l.output)) }
+{}
+
+/// Events that name nothing in common, and do not both accept a connection, come to the same in
+/// either order: from a history that a run reaches each is answered alike, and they lead to one
+/// history. Two connections, two outputs, the sessions of two workers, and an output and the
+/// session of one of its workers have nothing in common.
+pub fn unrelated_events_commute()
+    ensures { (config : Config) (h : History) (e f : Event) → IsReached config h →
+        are_unrelated e f ≡ true → (is_accept e && is_accept f) ≡ false → Commute h e f }
 {}

@@ -18,5 +18,5 @@ pub use fwd_source::{Origin, SourceFault};
 pub use laws::{
     acknowledgement_before_fault_stands, early_reply_settles_nothing, live_follows,
     live_run_follows, marked_is_told, refusal_changes_nothing, told_among_is_delivered,
-    told_is_delivered, told_without_entries,
+    told_is_delivered, told_without_entries, unrelated_events_commute,
 };
