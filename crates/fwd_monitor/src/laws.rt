@@ -15,8 +15,8 @@ pub fn one_head()
         → ReadsRequest heard h rest → ReadsRequest (heard ++ more) h (rest ++ more) }
 {}
 
-/// The same bytes have one reply: no whole head of few enough headers is bad, and where bytes are to
-/// wait none is due.
+/// The same bytes have one reply: no whole head of few enough headers is bad, and none is due where
+/// bytes are to wait.
 pub fn one_reply()
     ensures one { (heard : List ℕ) (counts : List TheCounts) (text other : List ℕ)
         → IsDueText heard counts text → IsDueText heard counts other → text ≡ other }
