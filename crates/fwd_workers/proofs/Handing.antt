@@ -327,8 +327,8 @@ handing-told o all now receipts back ts t r os after h held next =
           ∙ (λ i. record {
             buffer = o.buffer;
             book = (leaves-then o.book (origins_of h.told) t.origin
-            ∙ ap (live_leaves o.book)
-            (sym (map-append (λ (u : Ticket). u.origin) h.told (t ∷ [])))) i;
+                ∙ ap (live_leaves o.book)
+                (sym (map-append (λ (u : Ticket). u.origin) h.told (t ∷ [])))) i;
             servers = o.servers;
           });
     }
@@ -366,7 +366,6 @@ handing-back o all now receipts back ts t a os h why = record {
   left = h.left;
 }
 
-
 -- what is found for a ticket, by what is told of it
 pub answer-is : (b : LiveBook) (t : Ticket) (found : Option Receipt)
     → IfSome found (λ r. IsDue b t × (r ≡ receipt_for b t)) → IfNone found (¬ (IsDue b t))
@@ -402,7 +401,7 @@ pub back-then : (o : LiveOutput) (all : List Ticket) (now : LiveOutput) (receipt
     → Handing o all now receipts back rest answers → rest ≡ t ∷ ts
     → answers ≡ option_to_list found ++ os → (found ≡ None → answers ≡ [])
     → (is_some (request_at now.book.requests t.origin) ≡ false)
-        ⊎ ((found ≡ None) ⊎ (found ≡ Some None))
+    ⊎ ((found ≡ None) ⊎ (found ≡ Some None))
     → more ≡ back ++ t ∷ [] → Handing o all now receipts more ts os
 back-then o all now receipts back rest answers ts t None os more h first next none why pushed =
     absurd (subst (λ xs. AreAnswered o.book (t ∷ ts) xs) (none refl)

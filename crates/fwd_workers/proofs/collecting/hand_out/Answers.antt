@@ -19,7 +19,7 @@ loop-ticket-init c =
     let none_first = ap length c.requires.none.0 in
     let none_back = ap length c.requires.none.1 in (
       subst (λ us. Handing o all o c.args.receipts.items c.args.back.items us (into_iter_items c.into_iter-answers.result)) (sym c.into_iter-rest.ensures.rest)
-      (subst (λ xs. Handing o all o c.args.receipts.items c.args.back.items all xs) (sym c.into_iter-answers.ensures.rest) first),
+          (subst (λ xs. Handing o all o c.args.receipts.items c.args.back.items all xs) (sym c.into_iter-answers.ensures.rest) first),
       omega (arith, none_first, c.args.receipts.ok.0, c.args.tickets.ok.0, c.into_iter-rest.ensures.len, c.requires.room.0),
       omega (arith, none_back, c.args.back.ok.0, c.args.tickets.ok.0, c.into_iter-rest.ensures.len, c.requires.room.1),
     )
@@ -37,11 +37,11 @@ loop-ticket-preserved-in-Some-receipt_if c =
     let one = c.next.ensures.len in
     let is_one = ap (λ x. length (option_to_list x)) c.in-Some.is in (
       told-then c.args.state.now c.args.tickets.items now c.loop-ticket.receipts.items c.loop-ticket.back.items
-      (into_iter_items c.loop-ticket.rest) (into_iter_items c.loop-ticket.answers) (into_iter_items c.next.new.self) t r
-      (into_iter_items c.next-in-Some.new.self) c.forget.new.self c.push_reserved.new.self.items
-      c.loop-ticket.invariant.0 first found held
-      (c.forget.ensures.left ∙ ap (λ p. record now { book = live_leaves now.book (p ∷ []) }) origin)
-      c.push_reserved.ensures.items,
+          (into_iter_items c.loop-ticket.rest) (into_iter_items c.loop-ticket.answers) (into_iter_items c.next.new.self) t r
+          (into_iter_items c.next-in-Some.new.self) c.forget.new.self c.push_reserved.new.self.items
+          c.loop-ticket.invariant.0 first found held
+          (c.forget.ensures.left ∙ ap (λ p. record now { book = live_leaves now.book (p ∷ []) }) origin)
+          c.push_reserved.ensures.items,
       omega (arith, one, is_one, c.loop-ticket.invariant.1, c.push_reserved.ensures.len, c.push_reserved.ensures.capacity),
       omega (arith, one, is_one, c.loop-ticket.invariant.2),
     )
@@ -56,12 +56,12 @@ loop-ticket-preserved c =
     let Steps : Option (Option Receipt) → Type 0 = λ x. into_iter_steps c.loop-ticket.answers x c.next-in-Some.new.self in
     let is_one = ap (λ x. length (option_to_list x)) c.in-Some.is in (
       back-then c.args.state.now c.args.tickets.items now c.loop-ticket.receipts.items c.loop-ticket.back.items
-      (into_iter_items c.loop-ticket.rest) (into_iter_items c.loop-ticket.answers) (into_iter_items c.next.new.self) t
-      c.next-in-Some.result (into_iter_items c.next-in-Some.new.self) c.push_reserved-in-None.new.self.items
-      c.loop-ticket.invariant.0 first c.next-in-Some.ensures.items
-      (λ none. nothing (into_iter_items c.loop-ticket.answers) (into_iter_len c.loop-ticket.answers) c.loop-ticket.answers.rest.ok.0 (subst Steps none c.next-in-Some.ensures.cases).0)
-      (elim c.in-None.ensures.none [ inl e ↦ inl (sym held ∙ e) | inr w ↦ inr w ])
-      c.push_reserved-in-None.ensures.items,
+          (into_iter_items c.loop-ticket.rest) (into_iter_items c.loop-ticket.answers) (into_iter_items c.next.new.self) t
+          c.next-in-Some.result (into_iter_items c.next-in-Some.new.self) c.push_reserved-in-None.new.self.items
+          c.loop-ticket.invariant.0 first c.next-in-Some.ensures.items
+          (λ none. nothing (into_iter_items c.loop-ticket.answers) (into_iter_len c.loop-ticket.answers) c.loop-ticket.answers.rest.ok.0 (subst Steps none c.next-in-Some.ensures.cases).0)
+          (elim c.in-None.ensures.none [ inl e ↦ inl (sym held ∙ e) | inr w ↦ inr w ])
+          c.push_reserved-in-None.ensures.items,
       omega (arith, one, is_one, c.loop-ticket.invariant.1),
       omega (arith, one, is_one, c.loop-ticket.invariant.2, c.push_reserved-in-None.ensures.len, c.push_reserved-in-None.ensures.capacity),
     )

@@ -29,12 +29,15 @@ returns-in-Ok-Bytes-clause-served g c =
       taken = g.L.Link.taken c.read.new.self;
       given = g.L.Link.given c.read.new.self;
       failures = g.L.Link.failures c.read.new.self;
-    } in
-    (c.send.new.session, between, c.in_default.ensures.sent,
-    bytes-seen c.hear.result c.send.new.session c.hear.new.session between after c.read.result
-    c.in-Ok-Bytes.count c.read.new.room (c.in-Ok-Bytes.is ∙ ap Ok c.in-Ok-Bytes.field-0-is)
-    c.read.ensures.given c.read.ensures.taken c.read.ensures.failures
-    (c.hear.ensures.heard between))
+    } in (
+      c.send.new.session,
+      between,
+      c.in_default.ensures.sent,
+      bytes-seen c.hear.result c.send.new.session c.hear.new.session between after c.read.result
+          c.in-Ok-Bytes.count c.read.new.room (c.in-Ok-Bytes.is ∙ ap Ok c.in-Ok-Bytes.field-0-is)
+          c.read.ensures.given c.read.ensures.taken c.read.ensures.failures
+          (c.hear.ensures.heard between),
+    )
 
 pub returns-in-Ok-Nothing-clause-served : goal.returns-in-Ok-Nothing-clause-served
 returns-in-Ok-Nothing-clause-served g c =
@@ -47,11 +50,17 @@ returns-in-Ok-Nothing-clause-served g c =
       taken = g.L.Link.taken c.read.new.self;
       given = g.L.Link.given c.read.new.self;
       failures = g.L.Link.failures c.read.new.self;
-    } in
-    (c.send.new.session, between, c.in_default.ensures.sent,
-    inr (refl, nothing-seen between after c.read.result c.read.new.room
-    (c.in-Ok-Nothing.is ∙ ap Ok c.in-Ok-Nothing.field-0-is)
-    c.read.ensures.given c.read.ensures.taken c.read.ensures.failures))
+    } in (
+      c.send.new.session,
+      between,
+      c.in_default.ensures.sent,
+      inr (
+        refl,
+        nothing-seen between after c.read.result c.read.new.room
+            (c.in-Ok-Nothing.is ∙ ap Ok c.in-Ok-Nothing.field-0-is)
+            c.read.ensures.given c.read.ensures.taken c.read.ensures.failures,
+      ),
+    )
 
 pub returns-in-Ok-Closed-clause-served : goal.returns-in-Ok-Closed-clause-served
 returns-in-Ok-Closed-clause-served g c =
@@ -64,11 +73,17 @@ returns-in-Ok-Closed-clause-served g c =
       taken = g.L.Link.taken c.read.new.self;
       given = g.L.Link.given c.read.new.self;
       failures = g.L.Link.failures c.read.new.self;
-    } in
-    (c.send.new.session, between, c.in_default.ensures.sent,
-    (refl, closed-seen between after c.read.result c.read.new.room
-    (c.in-Ok-Closed.is ∙ ap Ok c.in-Ok-Closed.field-0-is)
-    c.read.ensures.given c.read.ensures.taken c.read.ensures.failures))
+    } in (
+      c.send.new.session,
+      between,
+      c.in_default.ensures.sent,
+      (
+        refl,
+        closed-seen between after c.read.result c.read.new.room
+            (c.in-Ok-Closed.is ∙ ap Ok c.in-Ok-Closed.field-0-is)
+            c.read.ensures.given c.read.ensures.taken c.read.ensures.failures,
+      ),
+    )
 
 pub returns-in-Err-read-clause-served : goal.returns-in-Err-read-clause-served
 returns-in-Err-read-clause-served g c =
@@ -81,7 +96,13 @@ returns-in-Err-read-clause-served g c =
       taken = g.L.Link.taken c.read.new.self;
       given = g.L.Link.given c.read.new.self;
       failures = g.L.Link.failures c.read.new.self;
-    } in
-    (c.send.new.session, between, c.in_default.ensures.sent,
-    (refl, failed-seen between after c.read.result c.in-Err-read.fault c.read.new.room
-    c.in-Err-read.is c.read.ensures.given c.read.ensures.taken c.read.ensures.failures))
+    } in (
+      c.send.new.session,
+      between,
+      c.in_default.ensures.sent,
+      (
+        refl,
+        failed-seen between after c.read.result c.in-Err-read.fault c.read.new.room
+            c.in-Err-read.is c.read.ensures.given c.read.ensures.taken c.read.ensures.failures,
+      ),
+    )
