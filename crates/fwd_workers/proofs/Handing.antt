@@ -1,34 +1,5 @@
 -- What collecting tickets one after the other comes to.
-use Rattle.std.proofs.Common.{
-  arith,
-  ◌≡◌,
-  ◌≢◌,
-  ◌+◌,
-  ◌⊎◌,
-  inl,
-  inr,
-  ℕ,
-  zero,
-  suc,
-  Bool,
-  true,
-  false,
-  cond,
-  List,
-  [],
-  ◌∷◌,
-  ◌++◌,
-  map,
-  length,
-  Option,
-  Some,
-  None,
-  refl,
-  sym,
-  ap,
-  subst,
-  ◌∙◌,
-}
+use Rattle.std.proofs.Common.{arith, ◌≡◌, ◌⊎◌, inl, inr, ℕ, Bool, true, false, cond, List, [], ◌∷◌, ◌++◌, map, length, Option, Some, None, refl, sym, ap, subst, ◌∙◌}
 use Rattle.std.specs.Prelude.{not, filter, is_some, All, IfSome, IfNone, option_to_list}
 use Rattle.std.specs.List.Sorted.{IsPermutation}
 use Rattle.std.proofs.lemmas.List.Sorted.{
@@ -41,18 +12,9 @@ use Rattle.std.proofs.lemmas.List.Sorted.{
 use Rattle.std.proofs.lemmas.List.{append_assoc, append-nil, map-append}
 use Rattle.std.proofs.lemmas.List.Elements.{All-nil, All-cons}
 use Rattle.fwd_source.specs.declared.origin.Origin.{Origin}
-use Rattle.fwd_chunks.specs.declared.span.Span.{Span}
-use Rattle.fwd_session.specs.Evidence.{Evidence}
-use Rattle.fwd_book.specs.History.{
-  BookSetting,
-  Entered,
-  is_among,
-  is_origin,
-  is_settled,
-  request_at,
-}
+use Rattle.fwd_book.specs.History.{Entered, is_among, is_origin, is_settled, request_at}
 use Rattle.fwd_book.specs.Live.{LiveBook, IsSound, evidence_for, live_leaves}
-use Rattle.fwd_book.specs.Receipts.{Receipt, IsRightFor, receipt_if, receipt_of}
+use Rattle.fwd_book.specs.Receipts.{Receipt, IsRightFor, receipt_if}
 use Rattle.fwd_book.proofs.Facts.{some_is, none_some, origin-is}
 use Rattle.fwd_book.proofs.Keeping.{leaves-none, leaves-then}
 use Rattle.fwd_book.proofs.Right.{good, found_stands}

@@ -1,3 +1,4 @@
 pub mod Handing
 pub mod Serving
 pub mod Counting
+pub mod Lasting

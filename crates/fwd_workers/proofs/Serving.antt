@@ -1,22 +1,5 @@
 -- What one turn of a session comes to.
-use Rattle.std.proofs.Common.{
-  arith,
-  ◌≡◌,
-  ◌+◌,
-  ◌++◌,
-  ℕ,
-  List,
-  [],
-  take,
-  Result,
-  Ok,
-  Err,
-  refl,
-  sym,
-  ap,
-  subst,
-  ◌∙◌,
-}
+use Rattle.std.proofs.Common.{arith, ◌≡◌, ◌+◌, ◌++◌, ℕ, List, take, Result, Ok, Err, refl, sym, ap, subst, ◌∙◌}
 use Rattle.std.proofs.lemmas.List.{append-nil}
 use Rattle.fwd_session.specs.Live.{LiveSession}
 use Rattle.fwd_workers.specs.declared.link.Read.{Read}

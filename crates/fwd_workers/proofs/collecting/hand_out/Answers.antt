@@ -1,5 +1,5 @@
-use Rattle.std.proofs.Common.{arith, ◌≡◌, ◌+◌, ◌≤◌, ◌++◌, ◌∷◌, [], ℕ, List, Option, Some, None, length, refl, sym, ap, subst, ◌∙◌, inl, inr}
-use Rattle.std.specs.Prelude.{◌⊎◌, is_some, option_to_list, vec_len, vec_capacity, MatchOption}
+use Rattle.std.proofs.Common.{arith, ◌++◌, ◌∷◌, [], Option, length, sym, ap, subst, ◌∙◌, inl, inr}
+use Rattle.std.specs.Prelude.{is_some, option_to_list}
 use Rattle.std.specs.Vec.Iter.{into_iter_items, into_iter_len, into_iter_steps}
 use Rattle.fwd_book.specs.History.{request_at}
 use Rattle.fwd_book.specs.Live.{live_leaves}

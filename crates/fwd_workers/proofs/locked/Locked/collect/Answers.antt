@@ -1,4 +1,4 @@
-use Rattle.std.proofs.Common.{◌≡◌, ◌++◌, [], List, map, sym, subst, ◌∙◌}
+use Rattle.std.proofs.Common.{◌++◌, [], List, map, sym, subst}
 use Rattle.std.specs.Prelude.{All}
 use Rattle.std.specs.List.Sorted.{IsPermutation}
 use Rattle.fwd_book.specs.Receipts.{Receipt}
