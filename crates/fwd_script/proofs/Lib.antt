@@ -10,4 +10,3 @@ pub mod History
 pub mod Examples
 pub mod Results
 pub mod CheckLemmas
-pub mod Ranges

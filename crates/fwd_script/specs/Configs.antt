@@ -1,14 +1,11 @@
 -- What a text of settings sets the relay to.
-use Rattle.std.specs.Prelude.{◌≡◌, ℕ, Bool, List, [], ◌∷◌, ◌++◌, map, replicate, codes, Option, unwrap_or, Result, Ok, Err}
+use Rattle.std.specs.Prelude.{◌≡◌, ℕ, List, [], ◌∷◌, ◌++◌, codes, Result, Ok, Err}
 use Rattle.std.specs.List.{flat_map}
 use Rattle.fwd_settings.specs.declared.settings.Settings.{Settings}
-use Rattle.fwd_settings.specs.declared.settings.OutputSettings.{OutputSettings}
-use Rattle.fwd_settings.specs.declared.settings.UserSettings.{UserSettings}
 use Rattle.fwd_settings.specs.declared.fault.SettingsFault.{SettingsFault}
 use Rattle.fwd_settings.specs.Whole.{settings_of}
-use Rattle.fwd_handshake.specs.declared.credentials.User.{User}
+use Rattle.fwd_config.specs.Configs.{IsConfig}
 use Rattle.fwd_model.specs.declared.config.Config.{Config}
-use Rattle.fwd_model.specs.declared.config.OutputConfig.{OutputConfig}
 
 -- the lines that an empty text stands for
 abbrev pub row_lines : List (List ℕ)
@@ -38,71 +35,6 @@ row_text = flat_map (λ line. line ++ 10 ∷ []) row_lines
 abbrev pub settings_text : List ℕ → List ℕ
 settings_text [] = row_text
 settings_text (byte ∷ more) = byte ∷ more
-
--- what an output is set to, part by part
-pub record OutputParts : Type 0 where
-  pub workers : ℕ
-  pub standby : List Bool
-  pub chunk : ℕ
-  pub total : ℕ
-  pub interval : ℕ
-  pub retry_wait : ℕ
-  pub retry_max : ℕ
-  pub first : ℕ
-  pub ack_wait : ℕ
-  pub hostname : List ℕ
-  pub shared_key : Option (List ℕ)
-  pub username : List ℕ
-  pub password : List ℕ
-
--- what the relay knows of it
-abbrev pub parts_known : OutputConfig → OutputParts
-parts_known c = record {
-  workers = c.workers;
-  standby = c.standby;
-  chunk = c.limits.chunk;
-  total = c.limits.total;
-  interval = c.limits.interval;
-  retry_wait = c.limits.retry_wait;
-  retry_max = c.limits.retry_max;
-  first = c.limits.first;
-  ack_wait = c.ack_wait;
-  hostname = c.login.hostname;
-  shared_key = c.login.shared_key;
-  username = c.login.username;
-  password = c.login.password;
-}
-
--- what settings set it to; the first chunk has number 1
-abbrev pub parts_set : OutputSettings → OutputParts
-parts_set o = record {
-  workers = o.workers;
-  standby = map (λ s. s.standby) o.servers;
-  chunk = o.chunk_limit;
-  total = o.total_limit;
-  interval = o.flush_interval;
-  retry_wait = o.retry_wait;
-  retry_max = o.retry_max;
-  first = 1;
-  ack_wait = o.ack_wait;
-  hostname = o.hostname;
-  shared_key = o.shared_key;
-  username = o.username;
-  password = o.password;
-}
-
--- a user that a source may name
-abbrev pub user_of : UserSettings → User
-user_of u = record { name = u.name; password = u.password }
-
--- the settings set the relay to this: without a run id, zeros
-pub record IsConfig (s : Settings) (config : Config) : Type 0 where
-  pub run : config.run ≡ unwrap_or s.relay.run_id (replicate 6 0)
-  pub routes : config.routes ≡ map (λ o. o.pattern) s.outputs
-  pub hostname : config.security.hostname ≡ s.relay.hostname
-  pub shared_key : config.security.shared_key ≡ s.relay.shared_key
-  pub users : config.security.users ≡ map user_of s.relay.users
-  pub outputs : map parts_known config.outputs ≡ map parts_set s.outputs
 
 -- what a script's text of settings sets the relay to, or its first fault
 abbrev pub Configures : List ℕ → Result Config SettingsFault → Type 0

@@ -4,7 +4,7 @@ use Rattle.std.proofs.lemmas.Bool.{and_parts}
 use Rattle.fwd_settings.specs.Kinds.{is_within}
 use Rattle.fwd_settings.specs.Ranges.{relay_in_range, output_in_range}
 use Rattle.std.specs.Prelude.{◌&&◌}
-use Rattle.fwd_script.proofs.config.config_of.Goals as goal
+use Rattle.fwd_config.proofs.config.config_of.Goals as goal
 
 pub configs_of-requires : goal.configs_of-requires
 configs_of-requires c =

@@ -1,5 +1,5 @@
 use Rattle.std.proofs.Common.{◌≡◌, ◌+◌, ◌++◌, map, length, vec_len}
-use Rattle.fwd_script.proofs.config.patterns_of.Given as goal
+use Rattle.fwd_config.proofs.config.patterns_of.Given as goal
 
 -- the patterns so far, and then those of the outputs that are left
 abbrev pub invariant-loop-outputs : goal.invariant-loop-outputs

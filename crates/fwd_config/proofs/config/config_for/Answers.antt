@@ -1,8 +1,8 @@
 use Rattle.std.proofs.Common.{◌≡◌, ◌≤◌, Bool, true, not, List, length, map, subst, sym, ap, ◌∙◌}
 use Rattle.std.specs.List.{list_any}
 use Rattle.fwd_settings.specs.declared.settings.ServerSettings.{ServerSettings}
-use Rattle.fwd_script.proofs.Ranges.{servers_few, servers_primary}
-use Rattle.fwd_script.proofs.config.config_for.Goals as goal
+use Rattle.fwd_config.proofs.Ranges.{servers_few, servers_primary}
+use Rattle.fwd_config.proofs.config.config_for.Goals as goal
 
 abbrev standby_of : ServerSettings → Bool
 standby_of s = s.standby

@@ -1,6 +1,6 @@
 use Rattle.std.proofs.Common.{◌≡◌, length, map, take}
-use Rattle.fwd_script.specs.Configs.{parts_known, parts_set}
-use Rattle.fwd_script.proofs.config.configs_of.Given as goal
+use Rattle.fwd_config.specs.Configs.{parts_known, parts_set}
+use Rattle.fwd_config.proofs.config.configs_of.Given as goal
 
 abbrev pub invariant-loop-output : goal.invariant-loop-output
 invariant-loop-output l =

@@ -1,0 +1,6 @@
+//! What settings set the relay to.
+#![tactic(auto)]
+
+mod config;
+
+pub use config::config_of;
