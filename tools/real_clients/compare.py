@@ -17,6 +17,7 @@ import time
 
 import msgpack
 from fluent import sender
+from next_hop import NextHop
 
 COUNT = 100
 KEY = "a secret of both sides"
@@ -29,33 +30,17 @@ def free_port():
         return probe.getsockname()[1]
 
 
-class NextHop(threading.Thread):
-    """Takes chunks, keeps their entries, and acknowledges each."""
+class Left:
+    """The entries that left the relay."""
 
-    def __init__(self, port):
-        super().__init__(daemon=True)
+    def __init__(self):
         self.entries = []
         self.changed = threading.Condition()
-        self.listener = socket.create_server(("127.0.0.1", port))
 
-    def run(self):
-        while True:
-            stream, _ = self.listener.accept()
-            threading.Thread(target=self.serve, args=(stream,), daemon=True).start()
-
-    def serve(self, stream):
-        chunks = msgpack.Unpacker(raw=True, strict_map_key=False)
-        while piece := stream.recv(65536):
-            chunks.feed(piece)
-            for tag, packed, option in chunks:
-                entries = msgpack.Unpacker(raw=True, strict_map_key=False)
-                entries.feed(packed)
-                entries = [(tag, moment, record) for moment, record in entries]
-                assert option[b"size"] == len(entries)
-                with self.changed:
-                    self.entries += entries
-                    self.changed.notify_all()
-                stream.sendall(msgpack.packb({"ack": option[b"chunk"].decode()}))
+    def take(self, entries):
+        with self.changed:
+            self.entries += entries
+            self.changed.notify_all()
 
     def wait_for(self, count):
         """The entries, once there are so many, or after ten seconds."""
@@ -152,8 +137,8 @@ def login_client(port):
 def trial(relay, folder, name, key, send):
     """A relay of its own for one client, and whether what left is what was sent."""
     listen, server = free_port(), free_port()
-    hop = NextHop(server)
-    hop.start()
+    left = Left()
+    NextHop(server, left.take).start()
     program = subprocess.Popen([relay, "run", str(settings(folder, listen, server, key))])
     try:
         for _ in range(100):
@@ -162,12 +147,12 @@ def trial(relay, folder, name, key, send):
                     break
             time.sleep(0.05)
         sent = send(listen)
-        left = hop.wait_for(len(sent))
+        entries = left.wait_for(len(sent))
     finally:
         program.kill()
         program.wait()
-    is_same = left == sent
-    print(f"{name}: {len(sent)} sent, {len(left)} left, {'the same' if is_same else 'OTHERS'}", flush=True)
+    is_same = entries == sent
+    print(f"{name}: {len(sent)} sent, {len(entries)} left, {'the same' if is_same else 'OTHERS'}", flush=True)
     return is_same
 
 
