@@ -33,7 +33,8 @@ pub(crate) struct TcpLink<'a> {
 }
 
 impl<'a> TcpLink<'a> {
-    /// Begins to connect.
+    /// Begins to connect, and waits a while for the server. A connection that is refused by then
+    /// cannot be had; one that is neither up nor refused goes on as a link that takes nothing yet.
     fn begin<R: Net>(
         rt: &R,
         alloc: Global,
@@ -45,14 +46,16 @@ impl<'a> TcpLink<'a> {
         let mut stream = TcpStream::connect(rt, addr)?;
         let interest = Interest::READABLE | Interest::WRITABLE;
         poll.registry().register(&mut stream, STREAM, interest)?;
-        Ok(TcpLink {
+        let mut link = TcpLink {
             board,
             poll,
             events,
             stream,
             is_up: false,
             is_owed: true,
-        })
+        };
+        link.wait()?;
+        Ok(link)
     }
 
     /// Waits for the server, and looks whether a connection that began is up.

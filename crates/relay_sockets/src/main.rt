@@ -2,22 +2,29 @@
 //! prints what holds whatever the order of the threads' turns.
 #![tactic(auto)]
 
+mod limits;
 mod peer;
 mod site;
+mod standby;
+mod torn;
 mod whole_way;
 
-use crate::site::Ended;
-use crate::whole_way::whole_way;
 use anyhow::Result;
 
-/// Prints what a relay came to.
-fn tell<R: Print>(rt: &R, ended: &Ended) -> Result<()> {
+fn main(rt: HostRuntime) -> Result<()> {
+    let (seen, ended) = whole_way::whole_way(&rt)?;
+    println!(rt; "the whole way: {seen:?}")?;
+    println!(rt; "  {ended:?}")?;
+    let (seen, ended) = standby::standby(&rt)?;
+    println!(rt; "a standby: {seen:?}")?;
+    println!(rt; "  {ended:?}")?;
+    let (seen, ended) = torn::torn(&rt)?;
+    println!(rt; "a torn request: {seen:?}")?;
+    println!(rt; "  {ended:?}")?;
+    let ((crowd, pages), ended) = limits::limits(&rt)?;
+    println!(rt; "two sources at a time: {crowd:?}")?;
+    println!(rt; "{}", pages.root)?;
+    println!(rt; "{}", pages.other)?;
     println!(rt; "  {ended:?}")?;
     Ok(())
-}
-
-fn main(rt: HostRuntime) -> Result<()> {
-    let (seen, ended) = whole_way(&rt)?;
-    println!(rt; "the whole way: {seen:?}")?;
-    tell(&rt, &ended)
 }

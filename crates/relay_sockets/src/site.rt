@@ -25,7 +25,7 @@ pub fn listen<R: Net<Listener = TcpListener, Stream = TcpStream>>(rt: &R) -> Res
 }
 
 /// Two free ports.
-pub fn site<R: Net<Listener = TcpListener, Stream = TcpStream>>(rt: &R) -> Result<Site> {
+pub fn free_site<R: Net<Listener = TcpListener, Stream = TcpStream>>(rt: &R) -> Result<Site> {
     let sources = listen(rt)?;
     let monitors = listen(rt)?;
     Ok(Site {

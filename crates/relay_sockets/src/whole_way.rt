@@ -1,7 +1,7 @@
 //! A request goes the whole way: to the relay, to its server, and back.
 
 use crate::peer::{accept, connect, hurry, is_silent, send, value};
-use crate::site::{Ended, Site, listen, relay, site};
+use crate::site::{Ended, Site, free_site, listen, relay};
 use anyhow::{Result, anyhow};
 use hex::encode;
 use std::alloc::Global;
@@ -76,7 +76,7 @@ pub fn whole_way<
     rt: &R,
 ) -> Result<(Seen, Ended)> {
     let server = listen(rt)?;
-    let site = site(rt)?;
+    let site = free_site(rt)?;
     let relay = relay(rt, site, 4, 10_000, &[server.local_addr()?])?;
     let (ended, seen) = thread::join(
         rt,
