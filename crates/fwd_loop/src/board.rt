@@ -1,10 +1,10 @@
 //! What the loop and the workers tell each other.
 
 use mio::Waker;
-use std::alloc::Global;
+use std::alloc::{AllocError, Global};
 use std::mem;
 use std::sync::atomic::{AtomicBool, Ordering};
-use std::sync::{Mutex, Wait};
+use std::sync::{Arc, Mutex, Wait};
 
 /// That the entries of an output's chunk are settled.
 #[derive(Clone, Copy, Debug, PartialEq, Eq)]
@@ -39,17 +39,42 @@ pub(crate) struct Board {
     news: Mutex<News>,
     /// Ends the loop's wait.
     waker: Waker,
-    stopped: AtomicBool,
+    stop: Stop,
+}
+
+/// Whether all workers are to end. Who shares it sees it change.
+#[derive(Drop)]
+pub(crate) struct Stop {
+    told: Arc<AtomicBool>,
+}
+
+impl Stop {
+    /// Nobody is to end. The only error is want of memory.
+    fn new(alloc: Global) -> Result<Stop, AllocError> {
+        let told = Arc::new(alloc, AtomicBool::new(false))?;
+        Ok(Stop { told })
+    }
+
+    /// The same, shared.
+    fn share(&self) -> Result<Stop, AllocError> {
+        let told = Arc::try_clone(&self.told)?;
+        Ok(Stop { told })
+    }
+
+    /// Whether all workers are to end.
+    pub fn is_told(&self) -> bool {
+        self.told.load(Ordering::SeqCst)
+    }
 }
 
 impl Board {
-    /// A board without news, whose loop is woken by this.
-    pub fn new(alloc: Global, waker: Waker) -> Board {
-        Board {
+    /// A board without news, whose loop is woken by this. The only error is want of memory.
+    pub fn new(alloc: Global, waker: Waker) -> Result<Board, AllocError> {
+        Ok(Board {
             news: Mutex::new(News::none(alloc)),
             waker,
-            stopped: AtomicBool::new(false),
-        }
+            stop: Stop::new(alloc)?,
+        })
     }
 
     /// A worker tells that a chunk is settled, and wakes the loop.
@@ -75,11 +100,16 @@ impl Board {
 
     /// All workers are to end.
     pub fn stop(&self) {
-        self.stopped.store(true, Ordering::SeqCst);
+        self.stop.told.store(true, Ordering::SeqCst);
     }
 
     /// Whether all workers are to end.
     pub fn is_stopped(&self) -> bool {
-        self.stopped.load(Ordering::SeqCst)
+        self.stop.is_told()
+    }
+
+    /// What tells whether all workers are to end. The only error is want of memory.
+    pub fn stop_sign(&self) -> Result<Stop, AllocError> {
+        self.stop.share()
     }
 }

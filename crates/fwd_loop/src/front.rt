@@ -53,9 +53,9 @@ impl Front {
             let now = clock.moment();
             desk.hear(&board.take(rt, self.alloc));
             desk.collect(rt, &mut self.peers);
+            self.visit_all(rt, outputs, desk, now);
             let registry = self.poll.registry();
             self.lobby.accept(self.alloc, registry, &mut self.peers);
-            self.visit_all(rt, outputs, desk, now);
             desk.flush(rt, now);
         }
         Ok(())
@@ -66,7 +66,10 @@ impl Front {
         desk.settle_all();
         desk.collect(rt, &mut self.peers);
         for _ in 0..self.peers.noted() {
-            if let Some((_, Peer::Source(source))) = self.peers.next() {
+            let Some((_, peer)) = self.peers.next() else {
+                continue;
+            };
+            if let Peer::Source(source) = peer {
                 source.write();
             }
         }

@@ -1,6 +1,6 @@
 //! A worker's link over TCP.
 
-use crate::board::Board;
+use crate::board::{Board, Stop};
 use fwd_workers::{Hub, Link, LinkFault, Read};
 use mio::net::TcpStream;
 use mio::{Events, Interest, Poll, Token};
@@ -22,8 +22,8 @@ const STREAM: Token = Token(0);
 
 /// A connection to a server, with a wait of its own.
 #[derive(Drop)]
-pub(crate) struct TcpLink<'a> {
-    board: &'a Board,
+pub(crate) struct TcpLink {
+    stop: Stop,
     poll: Poll,
     events: Events,
     stream: TcpStream,
@@ -32,22 +32,22 @@ pub(crate) struct TcpLink<'a> {
     is_owed: bool,
 }
 
-impl<'a> TcpLink<'a> {
+impl TcpLink {
     /// Begins to connect, and waits a while for the server. A connection that is refused by then
     /// cannot be had; one that is neither up nor refused goes on as a link that takes nothing yet.
     fn begin<R: Net>(
         rt: &R,
         alloc: Global,
-        board: &'a Board,
+        stop: Stop,
         addr: SocketAddr,
-    ) -> io::Result<TcpLink<'a>> {
+    ) -> io::Result<TcpLink> {
         let poll = Poll::new(rt)?;
         let events = Events::with_capacity(alloc, 4)?;
         let mut stream = TcpStream::connect(rt, addr)?;
         let interest = Interest::READABLE | Interest::WRITABLE;
         poll.registry().register(&mut stream, STREAM, interest)?;
         let mut link = TcpLink {
-            board,
+            stop,
             poll,
             events,
             stream,
@@ -91,7 +91,7 @@ impl<'a> TcpLink<'a> {
     }
 }
 
-impl<'a> Link for TcpLink<'a> {
+impl Link for TcpLink {
     ghost use Rattle.std.specs.Prelude.{[]};
 
     ghost taken = { λ l. [] };
@@ -101,7 +101,7 @@ impl<'a> Link for TcpLink<'a> {
     ghost failures = { λ l. 0 };
 
     fn read<R: Wait>(&mut self, _rt: &R, room: &mut [u8]) -> Result<Read, LinkFault> {
-        if self.board.is_stopped() {
+        if self.stop.is_told() {
             return Err(LinkFault::Read);
         }
         if self.is_up {
@@ -159,13 +159,16 @@ impl<'a, N: Net> TcpHub<'a, N> {
 }
 
 impl<'a, N: Net> Hub for TcpHub<'a, N> {
-    type Line = TcpLink<'a>;
+    type Line = TcpLink;
 
-    fn connect<R: Wait>(&mut self, _rt: &R, server: u16) -> Result<TcpLink<'a>, LinkFault> {
+    fn connect<R: Wait>(&mut self, _rt: &R, server: u16) -> Result<TcpLink, LinkFault> {
         let Some(addr) = self.servers.get(server as usize) else {
             return Err(LinkFault::Connect);
         };
-        match TcpLink::begin(self.net, self.alloc, self.board, *addr) {
+        let Ok(stop) = self.board.stop_sign() else {
+            return Err(LinkFault::Connect);
+        };
+        match TcpLink::begin(self.net, self.alloc, stop, *addr) {
             Ok(link) => Ok(link),
             Err(_) => Err(LinkFault::Connect),
         }

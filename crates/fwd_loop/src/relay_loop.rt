@@ -23,7 +23,7 @@ use fwd_settings::{OutputSettings, Settings};
 use mio::{Events, Poll, Waker};
 use rand_chacha::ChaCha20Rng;
 use std::alloc::{AllocError, Global};
-use std::net::{Net, SocketAddr};
+use std::net::{Net, SocketAddr, TcpListener, TcpStream};
 use std::rt::{Clock, Files};
 use std::sync::{Arc, Wait};
 use std::thread;
@@ -114,7 +114,7 @@ fn front_of<R: Net>(
         lobby,
         peers: Peers::new(alloc),
     };
-    Ok((front, Board::new(alloc, waker)))
+    Ok((front, Board::new(alloc, waker)?))
 }
 
 impl Loop {
@@ -163,7 +163,14 @@ impl Loop {
     ///
     /// It fails with `Thread` where a worker's thread cannot be had, with `Poll` where a wait
     /// failed, and with `Memory`. All threads that were started have ended then, too.
-    pub fn run<R: Net + Threads + Wait + Clock + AllocGlobal + Sync>(
+    pub fn run<
+        R: Net<Listener = TcpListener, Stream = TcpStream>
+            + Threads
+            + Wait
+            + Clock
+            + AllocGlobal
+            + Sync,
+    >(
         self,
         rt: &R,
         turns: u64,
