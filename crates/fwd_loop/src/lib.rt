@@ -23,6 +23,8 @@ mod since;
 mod source_peer;
 mod stream;
 mod teams;
+mod told;
+mod wire;
 
 pub use fault::StartFault;
 pub use relay_loop::Loop;

@@ -1,138 +1,73 @@
 //! A worker's link over TCP.
 
 use crate::board::{Board, Stop};
+use crate::told::Told;
+use crate::wire::Wire;
 use fwd_workers::{Hub, Link, LinkFault, Read};
-use mio::net::TcpStream;
-use mio::{Events, Interest, Poll, Token};
 use std::alloc::Global;
 use std::io;
-use std::io::{ErrorKind, Read as _, Write};
 use std::net::{Net, SocketAddr};
 use std::sync::Wait;
-use std::time::Duration;
 
-/// How long a read waits for a server that owes something, in milliseconds.
-const PATIENCE: u64 = 100;
-
-/// How long it waits for one that owes nothing, in milliseconds.
-const GLANCE: u64 = 1;
-
-/// The one stream of a link's own wait.
-const STREAM: Token = Token(0);
-
-/// A connection to a server, with a wait of its own.
+/// A connection to a server. What it told of its bytes and failures is kept for contracts alone,
+/// and takes no memory: they claim that it told so, and nothing of what the server sent or got.
 #[derive(Drop)]
 pub(crate) struct TcpLink {
-    stop: Stop,
-    poll: Poll,
-    events: Events,
-    stream: TcpStream,
-    is_up: bool,
-    /// Bytes were written since the last were read, or none was read yet.
-    is_owed: bool,
+    wire: Wire,
+    taken: Told,
+    given: Told,
+    /// A byte for each call that failed.
+    failed: Told,
 }
 
 impl TcpLink {
-    /// Begins to connect, and waits a while for the server. A connection that is refused by then
-    /// cannot be had; one that is neither up nor refused goes on as a link that takes nothing yet.
-    fn begin<R: Net>(
-        rt: &R,
-        alloc: Global,
-        stop: Stop,
-        addr: SocketAddr,
-    ) -> io::Result<TcpLink> {
-        let poll = Poll::new(rt)?;
-        let events = Events::with_capacity(alloc, 4)?;
-        let mut stream = TcpStream::connect(rt, addr)?;
-        let interest = Interest::READABLE | Interest::WRITABLE;
-        poll.registry().register(&mut stream, STREAM, interest)?;
-        let mut link = TcpLink {
-            stop,
-            poll,
-            events,
-            stream,
-            is_up: false,
-            is_owed: true,
-        };
-        link.wait()?;
-        Ok(link)
-    }
-
-    /// Waits for the server, and looks whether a connection that began is up.
-    fn wait(&mut self) -> io::Result<()> {
-        let millis = if self.is_owed { PATIENCE } else { GLANCE };
-        let longest = Duration::from_millis(millis);
-        self.poll.poll(&mut self.events, Some(longest))?;
-        if !self.is_up && !self.events.is_empty() {
-            if let Some(error) = self.stream.take_error()? {
-                return Err(error);
-            }
-            if self.stream.peer_addr().is_ok() {
-                self.stream.set_nodelay(true)?;
-                self.is_up = true;
-            }
-        }
-        Ok(())
-    }
-
-    /// Reads what is there.
-    fn read_once(&mut self, room: &mut [u8]) -> Result<Read, LinkFault> {
-        match self.stream.read(room) {
-            Ok(0) => Ok(Read::Closed),
-            Ok(count) => {
-                self.is_owed = false;
-                Ok(Read::Bytes(count))
-            }
-            Err(error) => match error.kind() {
-                ErrorKind::WouldBlock | ErrorKind::Interrupted => Ok(Read::Nothing),
-                _ => Err(LinkFault::Read),
-            },
-        }
+    /// Begins to connect.
+    fn begin<R: Net>(rt: &R, alloc: Global, stop: Stop, addr: SocketAddr) -> io::Result<TcpLink> {
+        Ok(TcpLink {
+            wire: Wire::begin(rt, alloc, stop, addr)?,
+            taken: Told::none(),
+            given: Told::none(),
+            failed: Told::none(),
+        })
     }
 }
 
 impl Link for TcpLink {
-    ghost use Rattle.std.specs.Prelude.{[]};
+    ghost use Rattle.std.specs.Prelude.{length};
 
-    ghost taken = { λ l. [] };
+    ghost taken = { λ l. l.taken.bytes };
 
-    ghost given = { λ l. [] };
+    ghost given = { λ l. l.given.bytes };
 
-    ghost failures = { λ l. 0 };
+    ghost failures = { λ l. length l.failed.bytes };
 
     fn read<R: Wait>(&mut self, _rt: &R, room: &mut [u8]) -> Result<Read, LinkFault> {
-        if self.stop.is_told() {
-            return Err(LinkFault::Read);
-        }
-        if self.is_up {
-            match self.read_once(room)? {
-                Read::Nothing => {}
-                read => return Ok(read),
+        match self.wire.read(room) {
+            Ok(None) => Ok(Read::Nothing),
+            Ok(Some(0)) => Ok(Read::Closed),
+            Ok(Some(count)) => {
+                let bytes = &room[..count];
+                self.given = self.given.and(&bytes);
+                Ok(Read::Bytes(count))
             }
-        }
-        if self.wait().is_err() {
-            return Err(LinkFault::Read);
-        }
-        if self.is_up {
-            self.read_once(room)
-        } else {
-            Ok(Read::Nothing)
+            Err(_) => {
+                self.failed = self.failed.and(&b"!".as_slice());
+                Err(LinkFault::Read)
+            }
         }
     }
 
     fn write<R: Wait>(&mut self, _rt: &R, bytes: &[u8]) -> Result<usize, LinkFault> {
-        if !self.is_up {
-            return Ok(0);
-        }
-        match self.stream.write(bytes) {
+        match self.wire.write(bytes) {
             Ok(count) => {
-                self.is_owed = self.is_owed || count > 0;
+                let taken = &bytes[..count];
+                self.taken = self.taken.and(&taken);
                 Ok(count)
             }
-            Err(error) => match error.kind() {
-                ErrorKind::WouldBlock | ErrorKind::Interrupted => Ok(0),
-                _ => Err(LinkFault::Write),
-            },
+            Err(_) => {
+                self.failed = self.failed.and(&b"!".as_slice());
+                Err(LinkFault::Write)
+            }
         }
     }
 }
