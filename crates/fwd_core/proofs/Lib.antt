@@ -6,3 +6,4 @@ pub mod CouplingLemmas
 pub mod CollectLemmas
 pub mod HeldLemmas
 pub mod LaneLemmas
+pub mod SpanLemmas

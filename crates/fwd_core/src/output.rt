@@ -55,6 +55,7 @@ ghost use Rattle.fwd_book.specs.Receipts.{
 };
 ghost use Rattle.fwd_book.specs.Live.{
   IsSound as IsSoundBook,
+  evidence_for,
   live_leaves,
   live_owed,
   live_owed_of,
@@ -163,10 +164,13 @@ impl OutputState {
         })
     }
 
-    /// What is true of every output's chunks, and of its requests.
+    /// What is true of every output's chunks, and of its requests. And what it shows as
+    /// acknowledged is what its requests need of it.
     pub fn is_sound(&self)
         ensures chunks { IsSound self.now.buffer }
         ensures requests { IsSoundBook self.now.book }
+        ensures kept { evidence_for self.now.book.requests self.now.book.settled
+            ≡ self.now.book.settled }
     {
         self.buffer.is_sound();
         self.book.is_sound();

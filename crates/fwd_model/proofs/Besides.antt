@@ -37,8 +37,8 @@ abbrev Any : {S : Type 0} → S → Type 0
 Any s = Unit {0}
 
 -- what an event comes to after a change is what it comes to before, with the change
-abbrev Beside : {S : Type 0} → (S → S) → (S → Outcome S) → S → Type 0
-Beside change event s = Agrees change Any (event s) (event (change s))
+abbrev IsBeside : {S : Type 0} → (S → S) → (S → Outcome S) → S → Type 0
+IsBeside change event s = Agrees change Any (event s) (event (change s))
 
 alike : {S : Type 0} (x : Outcome S) → Agrees (λ s. s) Any x x
 alike (Stays a) = stays
@@ -140,14 +140,14 @@ at_worker m l w p same puts =
 -- ---- an output's events beside the session of a worker
 
 module _ (l : Lane) (v : ℕ) (s : Option SessionHistory) where
-  forget : (id : ℕ) → Beside (with_place v s) (λ l. steps.forget histories l id) l
+  forget : (id : ℕ) → IsBeside (with_place v s) (λ l. steps.forget histories l id) l
   forget id = goes refl (refl, tt)
 
   flush : (now : ℕ) (kind : FlushKind)
-      → Beside (with_place v s) (λ l. steps.flush histories l now kind) l
+      → IsBeside (with_place v s) (λ l. steps.flush histories l now kind) l
   flush now kind = goes refl (refl, tt)
 
-  choose : (w now : ℕ) → Beside (with_place v s) (λ l. steps.choose histories l w now) l
+  choose : (w now : ℕ) → IsBeside (with_place v s) (λ l. steps.choose histories l w now) l
   choose w now = sought {g = seated (eqb v w) s} _ _ (still_seated l v w s) (λ x e. goes refl (refl, tt))
 
   module _ (w : ℕ) (apart : v ≢ w) where
@@ -160,12 +160,12 @@ module _ (l : Lane) (v : ℕ) (s : Option SessionHistory) where
         ≡ with_place w t (with_output (with_place v s l) o)
     both_places o t = ap (λ ss. record l { output = o; sessions = ss }) (set-set l.sessions v w s t apart)
 
-    take : (now : ℕ) → Beside (with_place v s) (λ l. steps.take histories l w now) l
+    take : (now : ℕ) → IsBeside (with_place v s) (λ l. steps.take histories l w now) l
     take now =
         sought {g = λ (x : Worker SessionHistory). x} _ _ worker_here (λ x e.
         checked NotNow {b = is_some x.chunk} refl (λ none. goes refl (refl, tt)))
 
-    settle : Beside (with_place v s) (λ l. steps.settle histories l w) l
+    settle : IsBeside (with_place v s) (λ l. steps.settle histories l w) l
     settle =
         sought {g = λ (x : Worker SessionHistory). x} _ _ worker_here (λ x e.
         sought {g = λ (t : SessionHistory). t} _ _ (option_id x.session) (λ t f.
@@ -173,7 +173,7 @@ module _ (l : Lane) (v : ℕ) (s : Option SessionHistory) where
         goes refl (both_places (output_history_settles l.output (histories.evidence t c)) (Some (unloads t)), tt))))
 
     end : (kind : EndKind) (now : ℕ)
-        → Beside (with_place v s) (λ l. steps.end histories l w kind now) l
+        → IsBeside (with_place v s) (λ l. steps.end histories l w kind now) l
     end kind now =
         sought {g = λ (x : Worker SessionHistory). x} _ _ worker_here (λ x e.
         checked NotNow {b = steps.is_idle histories x} refl (λ some.
@@ -187,13 +187,13 @@ abbrev on_lane : (Lane → Lane) → SourceHistory × Lane → SourceHistory × 
 on_lane m two = (two.0, m two.1)
 
 -- what an event of both comes to
-abbrev BesideBoth : (Lane → Lane) → (SourceHistory → Lane → Outcome (SourceHistory × Lane))
+abbrev IsBesideBoth : (Lane → Lane) → (SourceHistory → Lane → Outcome (SourceHistory × Lane))
     → SourceHistory → Lane → Type 0
-BesideBoth m event s l = Agrees (on_lane m) Any (event s l) (event s (m l))
+IsBesideBoth m event s l = Agrees (on_lane m) Any (event s l) (event s (m l))
 
 module _ (v : ℕ) (t : Option SessionHistory) (id o now : ℕ) (s : SourceHistory) (l : Lane) where
   enter_unless : (fault : Option AdmitError) (q : Request) (origin : Origin)
-      → BesideBoth (with_place v t)
+      → IsBesideBoth (with_place v t)
       (λ s l. steps.enter_unless histories fault s q origin l now) s l
   enter_unless None q origin = goes refl (refl, tt)
   enter_unless (Some Full) q origin = goes refl (refl, tt)
@@ -201,22 +201,22 @@ module _ (v : ℕ) (t : Option SessionHistory) (id o now : ℕ) (s : SourceHisto
   enter_unless (Some Memory) q origin = stays
 
   enter : (q : Request)
-      → BesideBoth (with_place v t) (λ s l. steps.enter histories s q id l now) s l
+      → IsBesideBoth (with_place v t) (λ s l. steps.enter histories s q id l now) s l
   enter q =
       let origin : Origin = record { conn = id; request = s.admitted + 1 } in
       enter_unless (histories.refusal l origin q now) q origin
 
   routed : (to : Option ℕ) (q : Request)
-      → BesideBoth (with_place v t) (λ s l. steps.routed histories to s q id o l now) s l
+      → IsBesideBoth (with_place v t) (λ s l. steps.routed histories to s q id o l now) s l
   routed None q = goes refl (refl, tt)
   routed (Some to) q = checked NotNow refl (λ here. enter q)
 
   admit : (patterns : List (List (List ℕ)))
-      → BesideBoth (with_place v t) (steps.admit histories patterns id o now) s l
+      → IsBesideBoth (with_place v t) (steps.admit histories patterns id o now) s l
   admit patterns =
       sought {g = λ (q : Request). q} _ _ (option_id (first_of (waiting s))) (λ q e. routed (route patterns q.tag) q)
 
-  collect : BesideBoth (with_place v t) (steps.collect histories id) s l
+  collect : IsBesideBoth (with_place v t) (steps.collect histories id) s l
   collect = checked Closed {b = s.shut} refl (λ up. goes refl (refl, tt))
 
 -- ---- where an event happens
@@ -242,14 +242,14 @@ module _ (p : Change) (h : History) where
 
   at_source : (id : ℕ) (event : SourceHistory → Outcome SourceHistory)
       → is_same (part.Connection id) (part_of p) ≡ false
-      → Beside (made p) (λ h. steps.at_source histories h id event) h
+      → IsBeside (made p) (λ h. steps.at_source histories h id event) h
   at_source id event apart =
       sought {g = λ (s : SourceHistory). s} _ _ (source_here id apart) (λ s e.
       inside _ _ (alike (event s)) (λ t any. (source_put id t apart, tt)))
 
   at_lane : (o : ℕ) (event : Lane → Outcome Lane)
-      → ((l : Lane) → slice_get h.lanes o ≡ Some l → Beside (changed_lane p o) event l)
-      → Beside (made p) (λ h. steps.at_lane histories h o event) h
+      → ((l : Lane) → slice_get h.lanes o ≡ Some l → IsBeside (changed_lane p o) event l)
+      → IsBeside (made p) (λ h. steps.at_lane histories h o event) h
   at_lane o event beside =
       sought _ _ (lane_found p h.lanes o) (λ l e.
       inside _ _ (beside l e) (λ m any. (
@@ -262,8 +262,8 @@ module _ (p : Change) (h : History) where
 
   at_both : (id o : ℕ) (event : SourceHistory → Lane → Outcome (SourceHistory × Lane))
       → is_same (part.Connection id) (part_of p) ≡ false
-      → ((s : SourceHistory) (l : Lane) → BesideBoth (changed_lane p o) event s l)
-      → Beside (made p) (λ h. steps.at_both histories h id o event) h
+      → ((s : SourceHistory) (l : Lane) → IsBesideBoth (changed_lane p o) event s l)
+      → IsBeside (made p) (λ h. steps.at_both histories h id o event) h
   at_both id o event apart beside =
       sought {g = λ (s : SourceHistory). s} _ _ (source_here id apart) (λ s e.
       sought _ _ (lane_found p h.lanes o) (λ l f.
@@ -279,17 +279,17 @@ module _ (p : Change) (h : History) where
   at_output : (o : ℕ) (event : Lane → Outcome Lane)
       → is_same (part.Output o) (part_of p) ≡ false
       → ((l : Lane) (v : ℕ) (s : Option SessionHistory) → part_of p ≡ part.Session o v
-      → Beside (with_place v s) event l)
-      → Beside (made p) (λ h. steps.at_lane histories h o event) h
+      → IsBeside (with_place v s) event l)
+      → IsBeside (made p) (λ h. steps.at_lane histories h o event) h
   at_output o event apart beside =
-      at_lane o event (λ l here. lock_case p o apart (λ m. Beside m event l) (alike (event l)) (λ v s is. beside l v s is))
+      at_lane o event (λ l here. lock_case p o apart (λ m. IsBeside m event l) (alike (event l)) (λ v s is. beside l v s is))
 
   -- at an output and a worker's session
   at_output_and_worker : (o w : ℕ) (event : Lane → Outcome Lane)
       → (is_same (part.Output o) (part_of p) ≡ false)
       × (is_same (part.Session o w) (part_of p) ≡ false)
-      → ((l : Lane) (v : ℕ) (s : Option SessionHistory) → v ≢ w → Beside (with_place v s) event l)
-      → Beside (made p) (λ h. steps.at_lane histories h o event) h
+      → ((l : Lane) (v : ℕ) (s : Option SessionHistory) → v ≢ w → IsBeside (with_place v s) event l)
+      → IsBeside (made p) (λ h. steps.at_lane histories h o event) h
   at_output_and_worker o w event apart beside =
       at_output o event apart.0 (λ l v s is. beside l v s (λ same. other_worker o w v (ap (is_same (part.Session o w)) (sym is) ∙ apart.1) (sym same)))
 
@@ -299,10 +299,10 @@ module _ (p : Change) (h : History) where
       → (is_same (part.Connection id) (part_of p) ≡ false)
       × (is_same (part.Output o) (part_of p) ≡ false)
       → ((v : ℕ) (t : Option SessionHistory) (s : SourceHistory) (l : Lane)
-      → BesideBoth (with_place v t) event s l)
-      → Beside (made p) (λ h. steps.at_both histories h id o event) h
+      → IsBesideBoth (with_place v t) event s l)
+      → IsBeside (made p) (λ h. steps.at_both histories h id o event) h
   at_source_and_output id o event apart beside =
-      at_both id o event apart.0 (λ s l. lock_case p o apart.1 (λ m. BesideBoth m event s l) (alike (event s l)) (λ v t is. beside v t s l))
+      at_both id o event apart.0 (λ s l. lock_case p o apart.1 (λ m. IsBesideBoth m event s l) (alike (event s l)) (λ v t is. beside v t s l))
 
   -- at a worker's session
   at_session : (o w : ℕ)
@@ -310,16 +310,16 @@ module _ (p : Change) (h : History) where
       → is_same (part.Session o w) (part_of p) ≡ false
       → ((l : Lane) → slice_get h.lanes o ≡ Some l
       → carried_by (changed_lane p o l).output.buffer w ≡ carried_by l.output.buffer w)
-      → Beside (made p)
+      → IsBeside (made p)
       (λ h. steps.at_lane histories h o (λ l. steps.at_worker histories l w (event l.config))) h
   at_session o w event apart spares =
       let here : Lane → Outcome Lane = λ l. steps.at_worker histories l w (event l.config) in
-      at_lane o here (λ l e. session_case p o w apart (λ m. Beside m here l) (alike (here l))
+      at_lane o here (λ l e. session_case p o w apart (λ m. IsBeside m here l) (alike (here l))
       (λ x f. at_worker (λ k. with_output k x) l w (event l.config) (chunk_stays l x w (ap (λ m. carried_by (m l).output.buffer w) (sym f) ∙ spares l e)) (λ y. refl))
       (λ v s differs. at_worker (with_place v s) l w (event l.config) (worker_stays l v w s differs) (λ y. ap (λ ss. record l { sessions = ss }) (set-set l.sessions v w s y.session differs))))
 
   accept : (setup : Setup) → is_same (part.Connection setup.conn) (part_of p) ≡ false
-      → comes p ≡ false → Beside (made p) (λ h. steps.accept histories h setup) h
+      → comes p ≡ false → IsBeside (made p) (λ h. steps.accept histories h setup) h
   accept setup apart none =
       let new : Connection = record { id = setup.conn; source = opened setup; gone = false } in
       checked NotNow (ap not (fresh_stays setup.conn p h.connections none)) (λ fresh. goes refl (
@@ -331,7 +331,7 @@ module _ (p : Change) (h : History) where
       ))
 
   shut : (id : ℕ) → is_same (part.Connection id) (part_of p) ≡ false
-      → Beside (made p) (λ h. steps.shut histories h id) h
+      → IsBeside (made p) (λ h. steps.shut histories h id) h
   shut id apart =
       sought {g = λ (s : SourceHistory). s} _ _ (source_here id apart) (λ s e. goes refl (
         (λ i. record h {
@@ -343,7 +343,7 @@ module _ (p : Change) (h : History) where
 
   -- an event beside a change of a part that it does not name
   pub beside : (f : Event) → does_name f (part_of p) ≡ false → (is_accept f && comes p) ≡ false
-      → Spares p f h → Beside (made p) (λ h. step histories h f) h
+      → Spares p f h → IsBeside (made p) (λ h. step histories h f) h
   beside (event.Accept id nonce auth) apart one spares = accept (setup_of h.security id nonce auth) (one_named (part.Connection id) (part_of p) apart) one
   beside (event.Piece id bytes) apart one spares = at_source id _ (one_named (part.Connection id) (part_of p) apart)
   beside (event.Admit id o now) apart one spares =

@@ -56,8 +56,9 @@ apart_in (n ∷ ns) g t all any = by (λ e. apart_in ns g t parts.1 e) (is_same 
 abbrev Apart : Event → Event → Type 0
 Apart e f = (t : Named) → does_name e t ≡ true → does_name f t ≡ false
 
-apart : (e f : Event) → are_unrelated e f ≡ true → Apart e f
-apart e f unrelated t named = apart_in (names e) (does_name f) t unrelated named
+unrelated_apart : (e f : Event) → are_unrelated e f ≡ true → Apart e f
+unrelated_apart e f unrelated t named =
+    apart_in (names e) (does_name f) t unrelated named
 
 apart_back : (e f : Event) → Apart e f → Apart f e
 apart_back e f all t named = is_false (does_name e t) (λ has. no_test named (all t has))
@@ -132,21 +133,23 @@ module _ (e f : Event) (away : Apart e f) (one : (is_accept e && is_accept f) �
 
   module _ (h : History) (first : Effect e h (state_of h (step histories h e))) where
     -- the second is answered after the first as before
-    answered_after : answer_of (step histories (after histories h (e ∷ [])) f) ≡ answer_of (step histories h f)
+    answered_after : answer_of (step histories (after histories h (e ∷ [])) f)
+        ≡ answer_of (step histories h f)
     answered_after =
         ap (λ k. answer_of (step histories k f)) first.leads
         ∙ ap answer_of (sym (beside_all first.changes h first.own))
         ∙ answer_within (all_made first.changes) (step histories h f)
 
     -- and leads after the first to where it leads before, with the first's changes
-    leads_after : after histories h (e ∷ f ∷ []) ≡ all_made first.changes (state_of h (step histories h f))
+    leads_after : after histories h (e ∷ f ∷ [])
+        ≡ all_made first.changes (state_of h (step histories h f))
     leads_after =
         ap (λ k. state_of k (step histories k f)) first.leads
         ∙ ap (state_of (all_made first.changes h)) (sym (beside_all first.changes h first.own))
         ∙ state_within (all_made first.changes) h (step histories h f)
 
-effect : (h : History) (e : Event) → IsSane h → Effect e h (state_of h (step histories h e))
-effect h e sane =
+effect_of : (h : History) (e : Event) → IsSane h → Effect e h (state_of h (step histories h e))
+effect_of h e sane =
     at_next h (step histories h e) (Effect e h) (λ a s. no_effect e h) (event_leads h sane e) (λ a k s leads. leads)
 
 and_turned : (a b : Bool) → (a && b) ≡ false → (b && a) ≡ false
@@ -158,11 +161,11 @@ and_turned false false e = refl
 pub unrelated_commute : (h : History) (e f : Event) → IsSane h → are_unrelated e f ≡ true
     → (is_accept e && is_accept f) ≡ false → Commute h e f
 unrelated_commute h e f sane unrelated one =
-    let away = apart e f unrelated in
+    let away = unrelated_apart e f unrelated in
     let back = apart_back e f away in
     let other = and_turned (is_accept e) (is_accept f) one in
-    let x = effect h e sane in
-    let y = effect h f sane in record {
+    let x = effect_of h e sane in
+    let y = effect_of h f sane in record {
       first = sym (answered_after f e back other h y);
       second = answered_after e f away one h x;
       state = leads_after e f away one h x

@@ -79,24 +79,24 @@ named_second a b = ap (λ t. is_same a b || (t || false)) (same_self b) ∙ or_t
 -- ---- a change of the connections
 
 module _ (e : Event) (h : History) where
-  arrives : (setup : Setup) → does_name e (part.Connection setup.conn) ≡ true
+  arrival : (setup : Setup) → does_name e (part.Connection setup.conn) ≡ true
       → is_accept e ≡ true → Effect e h (accepts h setup)
-  arrives setup named accepts = record {
+  arrival setup named accepts = record {
     changes = Arrives (record { id = setup.conn; source = opened setup; gone = false }) ∷ [];
     leads = refl;
     own = (record { own = record { named = named; accepts = ap not accepts }; keeps = λ o w l none here. refl }, tt);
   }
 
-  continues : (id : ℕ) (s : SourceHistory) → does_name e (part.Connection id) ≡ true
+  continuation : (id : ℕ) (s : SourceHistory) → does_name e (part.Connection id) ≡ true
       → Effect e h (with_connection id s h)
-  continues id s named = record {
+  continuation id s named = record {
     changes = AtSource id s ∷ [];
     leads = refl;
     own = (record { own = record { named = named; accepts = refl }; keeps = λ o w l none here. refl }, tt);
   }
 
-  departs : (id : ℕ) → does_name e (part.Connection id) ≡ true → Effect e h (leaves id h)
-  departs id named = record {
+  departure : (id : ℕ) → does_name e (part.Connection id) ≡ true → Effect e h (leaves id h)
+  departure id named = record {
     changes = Departs id ∷ [];
     leads = refl;
     own = (record { own = record { named = named; accepts = refl }; keeps = λ o w l none here. refl }, tt);
@@ -210,7 +210,7 @@ module _ (h : History) (sane : IsSane h) where
       → does_name e (part.Connection id) ≡ true
       → Onward (Leads e h) (steps.at_source histories h id event)
   at_source e id event named =
-      source_on histories h id (Leads e h) event (λ s here. always (event s) (λ a t. continues e h id t named))
+      source_on histories h id (Leads e h) event (λ s here. always (event s) (λ a t. continuation e h id t named))
 
   at_session : (e : Event) (o w : ℕ)
       (event : Lane → Worker SessionHistory → Outcome (Worker SessionHistory))
@@ -327,10 +327,10 @@ module _ (h : History) (sane : IsSane h) where
   accept id nonce auth =
       let setup = setup_of h.security id nonce auth in
       past NotNow {b = not (histories.is_fresh h setup.conn)} (λ fresh. to {a = answer.Accepted (opening_text setup)}
-      (arrives (event.Accept id nonce auth) h setup (named_alone (part.Connection id)) refl))
+      (arrival (event.Accept id nonce auth) h setup (named_alone (part.Connection id)) refl))
 
   shut : (id : ℕ) → Onward (Leads (event.Shut id) h) (steps.shut histories h id)
-  shut id = past_found NoSuch {x = histories.source_at h id} (λ s here. to {a = answer.Done} (departs (event.Shut id) h id (named_alone (part.Connection id))))
+  shut id = past_found NoSuch {x = histories.source_at h id} (λ s here. to {a = answer.Done} (departure (event.Shut id) h id (named_alone (part.Connection id))))
 
   -- an event goes on to changes of parts that it names
   pub event_leads : (e : Event) → Onward (Leads e h) (step histories h e)

@@ -1,3 +1,4 @@
 pub mod Page
 pub mod Replies
 pub mod Requests
+pub mod Statuses

@@ -1,22 +1,32 @@
 -- What a monitor is sent.
-use Rattle.std.specs.Prelude.{◌≡◌, ℕ, ◌<◌, List, [], ◌∷◌, ◌++◌, length, codes}
+use Rattle.std.specs.Prelude.{
+  ◌≡◌,
+  ℕ,
+  ◌<◌,
+  ◌⊎◌,
+  List,
+  [],
+  ◌∷◌,
+  ◌++◌,
+  length,
+  codes,
+  if◌then◌else◌,
+}
 use Rattle.std.specs.Fmt.{decimal}
 use Rattle.httparse.specs.Ascii.{crlf_bytes}
 use Rattle.httparse.specs.Grammar.{RequestHead, ReadsRequest, NeverHasRequest, EndsInTarget}
 use Rattle.fwd_chunks.specs.declared.counts.Counts.{Counts}
 use Rattle.fwd_monitor.specs.declared.limits.TheConstants.{MAX_HEADERS}
-use Rattle.fwd_monitor.specs.declared.status.Status.{Status}
-use Rattle.fwd_monitor.specs.declared.status.Status.TheVariants.{Found, NotFound, BadRequest}
 use Rattle.fwd_monitor.specs.declared.reply.Reply.{Reply}
 use Rattle.fwd_monitor.specs.declared.reply.Reply.TheVariants.{More, Bytes}
 use Rattle.fwd_monitor.specs.Page.{page_of}
 use Rattle.fwd_monitor.specs.Requests.{
-  AsksForPage,
+  is_for_page,
   BeginsWith,
   IsTooLong,
+  IsBad,
   MayWait,
   MustWait,
-  HasStatus,
 }
 
 -- the status line and the headers, each with its end, and the empty line behind them
@@ -34,19 +44,25 @@ page_head size =
     ∷ codes "Connection: close"
     ∷ [])
 
--- a page behind its head
-abbrev pub with_page : List ℕ → List ℕ
-with_page body = page_head (length body) ++ body
+-- the page behind its head
+abbrev pub page_reply : List Counts → List ℕ
+page_reply counts = page_head (length (page_of counts)) ++ page_of counts
 
 -- a reply that is a head alone
 abbrev pub bare : List ℕ → List ℕ
 bare line = head_text (line ∷ codes "Content-Length: 0" ∷ codes "Connection: close" ∷ [])
 
--- the bytes of the reply of each status
-abbrev pub reply_of : Status → List Counts → List ℕ
-reply_of Found counts = with_page (page_of counts)
-reply_of NotFound counts = bare (codes "HTTP/1.1 404 Not Found")
-reply_of BadRequest counts = bare (codes "HTTP/1.1 400 Bad Request")
+-- to what is not there
+abbrev pub not_found : List ℕ
+not_found = bare (codes "HTTP/1.1 404 Not Found")
+
+-- to what is no request
+abbrev pub bad_request : List ℕ
+bad_request = bare (codes "HTTP/1.1 400 Bad Request")
+
+-- to a whole head
+abbrev pub reply_to : RequestHead → List Counts → List ℕ
+reply_to h counts = if is_for_page h.method h.target then page_reply counts else not_found
 
 -- the reply is these bytes
 abbrev pub Sends : Reply → List ℕ → Type 0
@@ -55,19 +71,20 @@ Sends (Bytes out) bytes = out.items ≡ bytes
 
 -- what a monitor that has sent these bytes is told, by what they are
 pub record IsReplyTo (heard : List ℕ) (counts : List Counts) (reply : Reply) : Type 0 where
-  pub page : (h : RequestHead) → BeginsWith heard h → AsksForPage h
-      → Sends reply (reply_of Found counts)
-  pub other : (h : RequestHead) → BeginsWith heard h → ¬ (AsksForPage h)
-      → Sends reply (reply_of NotFound counts)
+  pub whole : (h : RequestHead) → BeginsWith heard h → Sends reply (reply_to h counts)
   pub crowded : (h : RequestHead) (rest : List ℕ) → ReadsRequest heard h rest
-      → MAX_HEADERS < length h.fields → Sends reply (reply_of BadRequest counts)
-  pub hopeless : NeverHasRequest heard → ¬ (EndsInTarget heard)
-      → Sends reply (reply_of BadRequest counts)
-  pub long : IsTooLong heard → Sends reply (reply_of BadRequest counts)
+      → MAX_HEADERS < length h.fields → Sends reply bad_request
+  pub hopeless : NeverHasRequest heard → ¬ (EndsInTarget heard) → Sends reply bad_request
+  pub long : IsTooLong heard → Sends reply bad_request
   pub waits : MustWait heard → reply ≡ More
+
+-- these bytes are the reply that is due, and why
+abbrev pub IsDueText : List ℕ → List Counts → List ℕ → Type 0
+IsDueText heard counts text =
+    ((h : RequestHead) × BeginsWith heard h × (text ≡ reply_to h counts))
+    ⊎ (IsBad heard × (text ≡ bad_request))
 
 -- why the reply is right
 abbrev pub HasReason : List ℕ → List Counts → Reply → Type 0
 HasReason heard counts More = MayWait heard
-HasReason heard counts (Bytes out) =
-    (status : Status) × HasStatus heard status × (out.items ≡ reply_of status counts)
+HasReason heard counts (Bytes out) = IsDueText heard counts out.items

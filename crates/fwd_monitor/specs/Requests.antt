@@ -1,15 +1,13 @@
--- Which status the bytes of a monitor come to.
-use Rattle.std.specs.Prelude.{◌≡◌, ℕ, ◌<◌, ◌≤◌, ◌⊎◌, List, ◌++◌, length, codes, Option, Some, None}
+-- What the bytes of a monitor are: a whole request, none, or not yet either.
+use Rattle.std.specs.Prelude.{ℕ, ◌<◌, ◌≤◌, ◌⊎◌, Bool, ◌&&◌, List, ◌++◌, length, codes}
+use Rattle.std.specs.Str.{bytes_eq}
 use Rattle.httparse.specs.Grammar.{RequestHead, ReadsRequest, HasNoRequest, MayBecomeRequest}
 use Rattle.httparse.specs.Spans.{RequestOverflows}
 use Rattle.fwd_monitor.specs.declared.limits.TheConstants.{HEAD_LIMIT, MAX_HEADERS}
-use Rattle.fwd_monitor.specs.declared.status.Status.{Status}
-use Rattle.fwd_monitor.specs.declared.status.Status.TheVariants.{Found, NotFound, BadRequest}
 
--- a request for the page
-pub record AsksForPage (h : RequestHead) : Type 0 where
-  pub method : h.method ≡ codes "GET"
-  pub target : h.target ≡ codes "/"
+-- a method and a target ask for the page
+abbrev pub is_for_page : List ℕ → List ℕ → Bool
+is_for_page method target = bytes_eq method (codes "GET") && bytes_eq target (codes "/")
 
 -- the bytes begin with this whole head, which has few enough headers
 pub record BeginsWith (heard : List ℕ) (h : RequestHead) : Type 0 where
@@ -20,6 +18,14 @@ pub record BeginsWith (heard : List ℕ) (h : RequestHead) : Type 0 where
 pub record IsTooLong (heard : List ℕ) : Type 0 where
   pub unfinished : HasNoRequest heard
   pub long : HEAD_LIMIT ≤ length heard
+
+-- whatever follows, a head at the front has too many headers; or the bytes are too many
+abbrev pub IsBad : List ℕ → Type 0
+IsBad heard = RequestOverflows MAX_HEADERS heard ⊎ IsTooLong heard
+
+-- a reply is due
+abbrev pub IsDue : List ℕ → Type 0
+IsDue heard = ((h : RequestHead) × BeginsWith heard h) ⊎ IsBad heard
 
 -- no whole head yet, and few enough bytes to wait for one, which may still come
 pub record MayWait (heard : List ℕ) : Type 0 where
@@ -32,18 +38,3 @@ pub record MustWait (heard : List ℕ) : Type 0 where
   pub unfinished : HasNoRequest heard
   pub hopeful : (more : List ℕ) × (h : RequestHead) × BeginsWith (heard ++ more) h
   pub short : length heard < HEAD_LIMIT
-
--- why the bytes come to this status
-abbrev pub HasStatus : List ℕ → Status → Type 0
-HasStatus heard Found = (h : RequestHead) × BeginsWith heard h × AsksForPage h
-HasStatus heard NotFound = (h : RequestHead) × BeginsWith heard h × ¬ (AsksForPage h)
-HasStatus heard BadRequest = RequestOverflows MAX_HEADERS heard ⊎ IsTooLong heard
-
--- a reply to the bytes is due
-abbrev pub IsDue : List ℕ → Type 0
-IsDue heard = (status : Status) × HasStatus heard status
-
--- the status of the bytes, or none while it is right to wait
-abbrev pub IsJudged : List ℕ → Option Status → Type 0
-IsJudged heard (Some status) = HasStatus heard status
-IsJudged heard None = MayWait heard

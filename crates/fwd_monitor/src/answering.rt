@@ -1,9 +1,9 @@
 ghost use Rattle.std.specs.Prelude.{◌≡◌, IfOk, OnErr};
 ghost use Rattle.std.specs.String.{string_bytes};
-ghost use Rattle.fwd_monitor.specs.Page.{page_of};
 ghost use Rattle.fwd_monitor.specs.Replies as replies;
-ghost use Rattle.fwd_monitor.specs.Replies.{HasReason, IsReplyTo, reply_of, with_page};
+ghost use Rattle.fwd_monitor.specs.Replies.{HasReason, IsReplyTo, page_reply};
 ghost use Rattle.fwd_monitor.specs.Requests.{IsDue, MustWait};
+ghost use Rattle.fwd_monitor.specs.Statuses.{reply_of};
 
 use crate::judging::judge;
 use crate::pages::page;
@@ -20,7 +20,6 @@ use std::alloc::{AllocError, Global};
 pub fn answer(alloc: Global, head: &[u8], counts: &[Counts]) -> Result<Reply, AllocError>
     ensures reply { IfOk result (IsReplyTo head.now counts.now) }
     ensures reason { IfOk result (HasReason head.now counts.now) }
-
     ensures memory { OnErr result (IsDue head.now) }
     ensures waits { MustWait head.now → result ≡ Ok Reply.More }
 {
@@ -52,7 +51,7 @@ fn text(alloc: Global, status: Status, counts: &[Counts]) -> Result<String, Allo
 
 /// The page behind its head.
 fn found(alloc: Global, counts: &[Counts]) -> Result<String, AllocError>
-    ensures { IfOk result (λ text. string_bytes text ≡ with_page (page_of counts.now)) }
+    ensures { IfOk result (λ text. string_bytes text ≡ page_reply counts.now) }
 {
     let body = page(alloc, counts)?;
     let mut text = page_head(alloc, body.len())?;

@@ -1,5 +1,6 @@
-ghost use Rattle.std.specs.Prelude.{◌≡◌, ◌↔◌, IsTrue, codes};
-ghost use Rattle.fwd_monitor.specs.Requests.{IsJudged};
+ghost use Rattle.std.specs.Prelude.{◌≡◌};
+ghost use Rattle.fwd_monitor.specs.Requests.{is_for_page};
+ghost use Rattle.fwd_monitor.specs.Statuses.{IsJudged};
 
 use crate::limits::{HEAD_LIMIT, MAX_HEADERS};
 use crate::status::Status;
@@ -26,7 +27,7 @@ pub(crate) fn judge(heard: &[u8]) -> Option<Status>
 
 /// Whether a request is for the page.
 fn asks_for_page(method: &[u8], target: &[u8]) -> bool
-    ensures { IsTrue result ↔ ((method.now ≡ codes "GET") × (target.now ≡ codes "/")) }
+    ensures { result ≡ is_for_page method.now target.now }
 {
     method == b"GET".as_slice() && target == b"/".as_slice()
 }

@@ -3,8 +3,8 @@
 ghost use Rattle.std.specs.Prelude.{◌≡◌, ◌++◌, ℕ, List};
 ghost use Rattle.httparse.specs.Grammar.{ReadsRequest, RequestHead};
 ghost use Rattle.fwd_chunks.specs.declared.counts.Counts.{Counts as TheCounts};
-ghost use Rattle.fwd_monitor.specs.declared.reply.Reply.{Reply as TheReply};
-ghost use Rattle.fwd_monitor.specs.Replies.{HasReason, Sends};
+ghost use Rattle.fwd_monitor.specs.Replies.{IsDueText};
+ghost use Rattle.fwd_monitor.specs.Requests.{BeginsWith, IsBad, IsDue, MustWait};
 
 /// The bytes begin with at most one whole head, and behind it stands one rest; more bytes lengthen
 /// the rest and leave the head as it is.
@@ -15,9 +15,11 @@ pub fn one_head()
         → ReadsRequest heard h rest → ReadsRequest (heard ++ more) h (rest ++ more) }
 {}
 
-/// The bytes that a monitor may be sent are the same in all replies to what it has sent.
+/// The same bytes have one reply: no whole head of few enough headers is bad, and none is due where
+/// bytes are to wait.
 pub fn one_reply()
-    ensures { (heard : List ℕ) (counts : List TheCounts) (r q : TheReply) (sent other : List ℕ)
-        → HasReason heard counts r → HasReason heard counts q → Sends r sent → Sends q other
-        → sent ≡ other }
+    ensures one { (heard : List ℕ) (counts : List TheCounts) (text other : List ℕ)
+        → IsDueText heard counts text → IsDueText heard counts other → text ≡ other }
+    ensures apart { (heard : List ℕ) (h : RequestHead) → BeginsWith heard h → ¬ (IsBad heard) }
+    ensures early { (heard : List ℕ) → MustWait heard → ¬ (IsDue heard) }
 {}

@@ -1,1 +1,4 @@
-pub mod Collecting
+pub mod Handing
+pub mod Serving
+pub mod Counting
+pub mod Lasting

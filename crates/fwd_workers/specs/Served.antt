@@ -1,19 +1,17 @@
 -- What one turn of a session does with its link's bytes.
-use Rattle.std.specs.Prelude.{
-  ◌≡◌,
-  ◌≤◌,
-  ◌⊎◌,
-  ◌+◌,
-  ℕ,
-  List,
-  [],
-  ◌++◌,
-  length,
-  take,
-}
+use Rattle.std.specs.Prelude.{◌≡◌, ◌≤◌, ◌⊎◌, ◌+◌, ℕ, List, ◌++◌, length, take, Some}
+use Rattle.fwd_modes.specs.Acks.{ack_name}
+use Rattle.fwd_chunks.specs.History.{Load}
 use Rattle.fwd_session.specs.declared.told.Heard.{Heard}
 use Rattle.fwd_session.specs.declared.told.Heard.TheVariants as told
-use Rattle.fwd_session.specs.Live.{LiveSession, live_piece_told, session_hears, session_sends}
+use Rattle.fwd_session.specs.History.{SessionHistory, IsSane, says, sends, to_send}
+use Rattle.fwd_session.specs.Live.{
+  LiveSession,
+  live_piece_told,
+  live_session,
+  session_hears,
+  session_sends,
+}
 use Rattle.fwd_workers.specs.declared.serve.Served.{Served}
 use Rattle.fwd_workers.specs.declared.serve.Served.TheVariants as served
 
@@ -67,3 +65,31 @@ abbrev pub IsServed : Served → LiveSession → LiveSession → Seen → Seen �
 IsServed what s t before after =
     (middle : LiveSession) × (between : Seen)
     × Sends s middle before between × HasHeard what middle t between after
+
+-- ---- over a session's life
+
+-- the bytes that a session was told of and heard are its link's, since it began
+pub record AreTheLinks (s : SessionHistory) (seen : Seen) : Type 0 where
+  pub taken : seen.taken ≡ take s.sent s.appended
+  pub given : seen.given ≡ s.heard
+
+-- a session is the live part of a history whose bytes are the link's
+pub record IsOver (t : LiveSession) (seen : Seen) : Type 0 where
+  pub history : SessionHistory
+  pub live : t ≡ live_session history
+  pub sane : IsSane history
+  pub bytes : AreTheLinks history seen
+
+-- A session's chunk is acknowledged by its link's bytes: all bytes that were appended for sending,
+-- and so the whole frame, were written on the link, and the last byte of a value that names the
+-- chunk was read afterwards.
+pub record IsAcknowledged (s : SessionHistory) (before after : Seen) : Type 0 where
+  pub count : ℕ
+  pub chunk : Load
+  pub loaded : s.loaded ≡ Some chunk
+  pub written : before.taken ++ take count (to_send s) ≡ s.appended
+  pub read : List ℕ
+  pub given : after.given ≡ before.given ++ read
+  pub value : List ℕ
+  pub said : (says (sends s count) read).reply ≡ Some value
+  pub named : ack_name value ≡ Some chunk.name

@@ -1,24 +1,6 @@
 -- Tickets: that a request was admitted to an output, and who is to learn of it. And receipts: that
 -- all its entries were acknowledged.
-use Rattle.std.specs.Prelude.{
-  ◌≡◌,
-  ℕ,
-  true,
-  false,
-  not,
-  List,
-  [],
-  ◌∷◌,
-  ◌++◌,
-  map,
-  Option,
-  Some,
-  None,
-  is_some,
-  option_map,
-  slice_get,
-  if◌then◌else◌,
-}
+use Rattle.std.specs.Prelude.{◌≡◌, ℕ, true, List, map, Option, Some, is_some, option_map, if◌then◌else◌}
 use Rattle.fwd_modes.specs.Requests.{Request}
 use Rattle.fwd_source.specs.declared.origin.Origin.{Origin}
 use Rattle.fwd_chunks.specs.declared.span.Span.{Span}

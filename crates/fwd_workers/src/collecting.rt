@@ -3,11 +3,13 @@
 ghost use Rattle.std.specs.Prelude.{
   ◌≡◌,
   ◌≤◌,
+  ◌⊎◌,
   ◌+◌,
-  ◌×◌,
   ℕ,
   true,
   false,
+  Some,
+  None,
   List,
   [],
   length,
@@ -77,6 +79,14 @@ pub(crate) fn receipts_for(
     Ok(given)
 }
 
+/// The receipt that was found for a ticket, where its request is still owed an answer.
+fn receipt_if(is_held: bool, found: Option<Option<Receipt>>) -> Option<Receipt>
+    ensures some { IfSome result (λ r. (is_held ≡ true) × (found ≡ Some (Some r))) }
+    ensures none { IfNone result ((is_held ≡ false) ⊎ ((found ≡ None) ⊎ (found ≡ Some None))) }
+{
+    if is_held { found? } else { None }
+}
+
 /// Each ticket with a receipt is spent, and its request leaves the output; each other ticket comes
 /// back. Of two tickets of one request, the second comes back.
 pub(crate) fn hand_out(
@@ -97,19 +107,20 @@ pub(crate) fn hand_out(
           book = live_leaves state.old.book (origins_of told);
         }) }
 {
+    state.is_sound();
     let mut receipts = receipts;
     let mut back = back;
     let mut answers = given.into_iter();
     let mut rest = tickets.into_iter();
     while let Some(ticket) = rest.next() {
         let origin = ticket.origin();
-        match answers.next() {
-            Some(Some(receipt)) if state.holds(origin) => {
+        match receipt_if(state.holds(origin), answers.next()) {
+            Some(receipt) => {
                 state.forget(&[origin]);
                 ticket.spend();
                 receipts.push_reserved(receipt);
             }
-            _ => back.push_reserved(ticket),
+            None => back.push_reserved(ticket),
         }
     }
     rest.destroy_empty();

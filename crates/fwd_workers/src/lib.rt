@@ -2,6 +2,7 @@
 #![tactic(auto)]
 
 mod collecting;
+mod laws;
 mod link;
 mod locked;
 mod refusal;
@@ -11,6 +12,7 @@ mod tally;
 mod ticket;
 mod worker;
 
+pub use laws::served_bytes_are_the_links;
 pub use link::{Clock, Gate, Hub, Link, LinkFault, Loss, News, Pass, Place, Read};
 pub use locked::{Closing, Locked};
 pub use refusal::AdmitRefusal;

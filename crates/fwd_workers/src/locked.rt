@@ -134,8 +134,10 @@ impl<A: Tally, S: Tally> Locked<A, S> {
 
     /// The entries accepted, settled and held, with the bytes held and the chunks that hold them.
     pub fn counts(&self) -> Counts
-        ensures { result ≡ live_counts self.now.output.buffer }
+        ensures counts { result ≡ live_counts self.now.output.buffer }
+        ensures sum { result.accepted ≡ result.settled + result.held }
     {
+        self.state.is_sound();
         self.state.counts()
     }
 

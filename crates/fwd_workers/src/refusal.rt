@@ -25,7 +25,7 @@ pub enum AdmitRefusal {
 }
 
 impl From<AdmitError> for AdmitRefusal {
-    ghost from_gives = { λ error. refusal_as error };
+    ghost from_gives = { λ error refusal. refusal ≡ refusal_as error };
 
     fn from(error: AdmitError) -> Self {
         match error {

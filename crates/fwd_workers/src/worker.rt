@@ -1,7 +1,7 @@
 //! A worker: it takes chunks from its output, sends them to a server, and settles what the server
 //! acknowledged.
 
-ghost use Rattle.std.specs.Prelude.{◌≡◌, ◌≤◌, None};
+ghost use Rattle.std.specs.Prelude.{◌≡◌, ◌≤◌, None, IfOk};
 
 use crate::link::{Clock, Gate, Hub, Link, Loss, News, Pass, Place};
 use crate::serve::{Served, serve_turn};
@@ -106,6 +106,7 @@ pub struct Worker {
 }
 
 /// A turn of a line: it may be late at a moment (milliseconds), and else its session is served.
+#[tactic(auto, unfolding(fwd_session::specs::Live::session_looks))]
 fn serve<L: Link, R: Wait>(rt: &R, alloc: Global, line: Line<L>, now: u64) -> Line<L>
     ensures { result.session.loaded ≡ line.session.loaded }
 {

@@ -1,5 +1,11 @@
-use Rattle.fwd_monitor.proofs.StatusLemmas.{reason-one}
+use Rattle.fwd_monitor.proofs.ReplyLemmas.{begins-good, due-one, must-none}
 use Rattle.fwd_monitor.proofs.laws.one_reply.Goals as goal
 
-pub returns : goal.returns
-returns c heard counts r q sent other x y s t = reason-one heard counts r q sent other x y s t
+pub returns-clause-one : goal.returns-clause-one
+returns-clause-one c heard counts text other due x = due-one heard counts text other due x
+
+pub returns-clause-apart : goal.returns-clause-apart
+returns-clause-apart c heard h x bad = begins-good heard h x bad
+
+pub returns-clause-early : goal.returns-clause-early
+returns-clause-early c heard must due = must-none heard must due

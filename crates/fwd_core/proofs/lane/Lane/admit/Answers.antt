@@ -11,3 +11,9 @@ invariant_of-self c =
     either_way (c.admit.new.self ≡ output_enters c.self.inside.output c.args.origin c.args.batch.now c.args.now) (c.admit.new.self ≡ c.self.inside.output) (AreHeld c.admit.new.self.buffer ws) c.admit.result c.admit.ensures.ok c.admit.ensures.err
     (λ e. subst (λ o. AreHeld o ws) (sym (ap (λ o. o.buffer) e)) (held-enters b c.args.batch.now c.args.now ws c.is_sound.ensures.chunks c.self.invariant))
     (λ e. subst (λ o. AreHeld o ws) (sym (ap (λ o. o.buffer) e)) c.self.invariant)
+
+pub invariant_of-self-2 : goal.invariant_of-self-2
+invariant_of-self-2 c =
+    let b = c.self.inside.output.buffer in
+    let ws = c.self.inside.workers.items in
+    subst (λ o. AreHeld o ws) (sym (ap (λ o. o.buffer) c.in_ok-admit.ensures.ok)) (held-enters b c.args.batch.now c.args.now ws c.is_sound.ensures.chunks c.self.invariant)

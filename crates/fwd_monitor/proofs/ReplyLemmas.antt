@@ -1,0 +1,123 @@
+-- The bytes of a monitor come to one reply.
+use Rattle.std.proofs.Common.{
+  ◌≡◌,
+  ℕ,
+  ◌<◌,
+  inl,
+  inr,
+  List,
+  [],
+  ◌++◌,
+  length,
+  refl,
+  sym,
+  ap,
+  subst,
+  ◌∙◌,
+  arith,
+}
+use Rattle.httparse.specs.Grammar.{RequestHead, ReadsRequest, NeverHasRequest}
+use Rattle.httparse.specs.Spans.{RequestOverflows}
+use Rattle.httparse.proofs.GrammarLemmas.{
+  request_unique,
+  request_prefix_free,
+  ReadsRequest-append,
+}
+use Rattle.fwd_chunks.specs.declared.counts.Counts.{Counts}
+use Rattle.fwd_monitor.specs.declared.limits.TheConstants.{MAX_HEADERS}
+use Rattle.fwd_monitor.specs.declared.reply.Reply.{Reply}
+use Rattle.fwd_monitor.specs.declared.reply.Reply.TheVariants.{More, Bytes}
+use Rattle.fwd_monitor.specs.Requests.{BeginsWith, IsBad, IsDue, MustWait}
+use Rattle.fwd_monitor.specs.Replies.{IsReplyTo, IsDueText, HasReason, bad_request, reply_to}
+
+-- the bytes begin with one head
+begins-one : (heard : List ℕ) (h k : RequestHead)
+    → BeginsWith heard h → BeginsWith heard k → h ≡ k
+begins-one heard h k x y =
+    (request_unique heard h k x.whole.0 y.whole.0 x.whole.1 y.whole.1).0
+
+-- a whole head of few headers does not overflow
+few-fits : (heard : List ℕ) (h : RequestHead)
+    → BeginsWith heard h → RequestOverflows MAX_HEADERS heard → ⊥
+few-fits heard h x over =
+    let few = x.few in
+    let many = over [] h (x.whole.0 ++ []) (ReadsRequest-append heard h x.whole.0 [] x.whole.1) in
+    omega (arith, few, many)
+
+-- a whole head of few headers is not bad
+pub begins-good : (heard : List ℕ) (h : RequestHead) → BeginsWith heard h → IsBad heard → ⊥
+begins-good heard h x bad =
+    elim bad [
+      | inl over ↦ few-fits heard h x over
+      | inr long ↦ long.unfinished h x.whole.0 x.whole.1
+    ]
+
+-- a head of too many headers overflows, whatever follows
+crowded-bad : (heard : List ℕ) (h : RequestHead) (rest : List ℕ)
+    → ReadsRequest heard h rest → MAX_HEADERS < length h.fields → IsBad heard
+crowded-bad heard h rest x many =
+    inl (λ more k q y.
+    let same = (request_prefix_free heard more h k rest q x y).0 in
+    subst (λ (v : RequestHead). MAX_HEADERS < length v.fields) same many)
+
+-- bytes that nothing makes a head overflow
+never-bad : (heard : List ℕ) → NeverHasRequest heard → IsBad heard
+never-bad heard never = inl (λ more k q y. absurd (never more k q y))
+
+-- no reply is due to bytes that must wait
+pub must-none : (heard : List ℕ) → MustWait heard → IsDue heard → ⊥
+must-none heard must (inl (h, x)) = must.unfinished h x.whole.0 x.whole.1
+must-none heard must (inr (inl over)) =
+    let next = must.hopeful in
+    let few = next.2.few in
+    let many = over next.0 next.1 next.2.whole.0 next.2.whole.1 in
+    omega (arith, few, many)
+must-none heard must (inr (inr long)) =
+    let short = must.short in
+    let least = long.long in
+    omega (arith, short, least)
+
+-- bytes to which these are the reply
+due-any : (heard : List ℕ) (counts : List Counts) (text : List ℕ)
+    → IsDueText heard counts text → IsDue heard
+due-any heard counts text (inl (h, x, is)) = inl (h, x)
+due-any heard counts text (inr (bad, is)) = inr bad
+
+-- the reply to bytes that begin with a head
+due-whole : (heard : List ℕ) (counts : List Counts) (text : List ℕ) (h : RequestHead)
+    → IsDueText heard counts text → BeginsWith heard h → text ≡ reply_to h counts
+due-whole heard counts text h (inl (k, y, is)) x =
+    is ∙ ap (λ (v : RequestHead). reply_to v counts) (begins-one heard k h y x)
+due-whole heard counts text h (inr (bad, is)) x = absurd (begins-good heard h x bad)
+
+-- the reply to bytes that are bad
+due-bad : (heard : List ℕ) (counts : List Counts) (text : List ℕ)
+    → IsDueText heard counts text → IsBad heard → text ≡ bad_request
+due-bad heard counts text (inl (k, y, is)) bad = absurd (begins-good heard k y bad)
+due-bad heard counts text (inr (worse, is)) bad = is
+
+-- the bytes have one reply
+pub due-one : (heard : List ℕ) (counts : List Counts) (text other : List ℕ)
+    → IsDueText heard counts text → IsDueText heard counts other → text ≡ other
+due-one heard counts text other due (inl (h, x, is)) =
+    due-whole heard counts text h due x ∙ sym is
+due-one heard counts text other due (inr (bad, is)) = due-bad heard counts text due bad ∙ sym is
+
+-- a reply with a reason is the reply to what the bytes are
+pub reason-reply : (heard : List ℕ) (counts : List Counts) (reply : Reply)
+    → HasReason heard counts reply → IsReplyTo heard counts reply
+reason-reply heard counts More may = record {
+  whole = λ h x. may.unfinished h x.whole.0 x.whole.1;
+  crowded = λ h rest x many. may.unfinished h rest x;
+  hopeless = λ never outside.
+      elim may.hopeful [ inl next ↦ never next.0 next.1 [] next.2 | inr target ↦ outside target ];
+  long = λ long. let short = may.short in let least = long.long in omega (arith, short, least);
+  waits = λ must. refl;
+}
+reason-reply heard counts (Bytes out) due = record {
+  whole = λ h x. due-whole heard counts out.items h due x;
+  crowded = λ h rest x many. due-bad heard counts out.items due (crowded-bad heard h rest x many);
+  hopeless = λ never outside. due-bad heard counts out.items due (never-bad heard never);
+  long = λ long. due-bad heard counts out.items due (inr long);
+  waits = λ must. absurd (must-none heard must (due-any heard counts out.items due));
+}

@@ -1,0 +1,27 @@
+-- The status of a reply, and its bytes.
+use Rattle.std.specs.Prelude.{ℕ, List, Option, Some, None, IsTrue, IsFalse}
+use Rattle.httparse.specs.Grammar.{RequestHead}
+use Rattle.fwd_chunks.specs.declared.counts.Counts.{Counts}
+use Rattle.fwd_monitor.specs.declared.status.Status.{Status}
+use Rattle.fwd_monitor.specs.declared.status.Status.TheVariants.{Found, NotFound, BadRequest}
+use Rattle.fwd_monitor.specs.Replies.{page_reply, not_found, bad_request}
+use Rattle.fwd_monitor.specs.Requests.{BeginsWith, IsBad, MayWait, is_for_page}
+
+-- why the bytes come to this status
+abbrev pub HasStatus : List ℕ → Status → Type 0
+HasStatus heard Found =
+    (h : RequestHead) × BeginsWith heard h × IsTrue (is_for_page h.method h.target)
+HasStatus heard NotFound =
+    (h : RequestHead) × BeginsWith heard h × IsFalse (is_for_page h.method h.target)
+HasStatus heard BadRequest = IsBad heard
+
+-- the status of the bytes, or none while it is right to wait
+abbrev pub IsJudged : List ℕ → Option Status → Type 0
+IsJudged heard (Some status) = HasStatus heard status
+IsJudged heard None = MayWait heard
+
+-- the bytes of the reply of each status
+abbrev pub reply_of : Status → List Counts → List ℕ
+reply_of Found counts = page_reply counts
+reply_of NotFound counts = not_found
+reply_of BadRequest counts = bad_request
