@@ -50,7 +50,8 @@ impl Door {
         token: Token,
     ) -> io::Result<TcpListener> {
         let mut listener = TcpListener::bind(rt, address)?;
-        poll.registry().register(&mut listener, token, Interest::READABLE)?;
+        poll.registry()
+            .register(&mut listener, token, Interest::READABLE)?;
         Ok(listener)
     }
 

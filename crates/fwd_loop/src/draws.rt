@@ -13,7 +13,9 @@ const RANDOM: &str = "/dev/urandom";
 
 /// The streams of the sources' nonces, of the run's id, and of the first worker's salts.
 const NONCES: u64 = 0;
+
 const RUN: u64 = 1;
+
 const SALTS: u64 = 2;
 
 /// How many streams an output has: at most so many workers.

@@ -107,9 +107,11 @@ impl Owed {
         let back = match self.tickets.insert(owner, Some(ticket)) {
             Ok(None) => None,
             Ok(Some(before)) => before,
-            Err(AllocFailed {
-                value: (_, refused),
-            }) => refused,
+            Err(
+                AllocFailed {
+                    value: (_, refused),
+                },
+            ) => refused,
         };
         match back {
             None => Ok(()),

@@ -73,7 +73,9 @@ impl Peers {
 
     /// The same, and its key.
     fn try_add(&mut self, registry: &Registry, peer: Peer) -> Option<usize> {
-        self.queue.reserve(self.standing.len().saturating_add(1)).ok()?;
+        self.queue
+            .reserve(self.standing.len().saturating_add(1))
+            .ok()?;
         let id = match &peer {
             Peer::Source(source) => Some(source.id),
             Peer::Monitor(_) => None,

@@ -170,11 +170,7 @@ impl Loop {
             + Clock
             + AllocGlobal
             + Sync,
-    >(
-        self,
-        rt: &R,
-        turns: u64,
-    ) -> Result<Vec<Counts>, StartFault> {
+    >(self, rt: &R, turns: u64) -> Result<Vec<Counts>, StartFault> {
         let Loop {
             alloc,
             routes,

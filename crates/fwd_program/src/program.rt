@@ -40,13 +40,7 @@ pub fn run_all<
     I: Read,
     W: Write,
     E: Write,
->(
-    rt: &R,
-    words: io::Result<Vec<String>>,
-    input: &mut I,
-    output: &mut W,
-    errors: &mut E,
-) -> u8
+>(rt: &R, words: io::Result<Vec<String>>, input: &mut I, output: &mut W, errors: &mut E) -> u8
     ensures { IfOk words (λ list.
         ((path : List ℕ) (turns : ℕ)
         → ¬ AsksRun (words_behind (map string_bytes list.items)) path turns)

@@ -43,11 +43,7 @@ fn try_run<
         + AllocGlobal
         + Sync,
     W: Write,
->(
-    rt: &R,
-    run: Run<'_>,
-    output: &mut W,
-) -> Result<(), RunEnd> {
+>(rt: &R, run: Run<'_>, output: &mut W) -> Result<(), RunEnd> {
     let settings = settings_in(rt.alloc(), rt, run.path)?;
     let relay = Loop::new(rt, settings)?;
     let counts = relay.run(rt, run.turns)?;
@@ -67,11 +63,7 @@ pub fn run_file<
         + AllocGlobal
         + Sync,
     W: Write,
->(
-    rt: &R,
-    run: Run<'_>,
-    output: &mut W,
-) -> RunEnd {
+>(rt: &R, run: Run<'_>, output: &mut W) -> RunEnd {
     let end = match try_run(rt, run, output) {
         Ok(()) => RunEnd::Ran(Status::Done),
         Err(end) => end,

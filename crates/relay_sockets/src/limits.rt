@@ -74,9 +74,7 @@ pub fn limits<
         + Files
         + AllocGlobal
         + Sync,
->(
-    rt: &R,
-) -> Result<((Crowd, Pages), Ended)> {
+>(rt: &R) -> Result<((Crowd, Pages), Ended)> {
     let server = listen(rt)?;
     let site = free_site(rt)?;
     let relay = relay(rt, site, 2, 10_000, &[server.local_addr()?])?;

@@ -58,9 +58,7 @@ pub fn standby<
         + Files
         + AllocGlobal
         + Sync,
->(
-    rt: &R,
-) -> Result<(Rescue, Ended)> {
+>(rt: &R) -> Result<(Rescue, Ended)> {
     let first = listen(rt)?;
     let second = listen(rt)?;
     let site = free_site(rt)?;

@@ -53,9 +53,7 @@ pub fn torn<
         + Files
         + AllocGlobal
         + Sync,
->(
-    rt: &R,
-) -> Result<(Onward, Ended)> {
+>(rt: &R) -> Result<(Onward, Ended)> {
     let server = listen(rt)?;
     let site = free_site(rt)?;
     let relay = relay(rt, site, 4, 10_000, &[server.local_addr()?])?;

@@ -72,9 +72,7 @@ pub fn whole_way<
         + Files
         + AllocGlobal
         + Sync,
->(
-    rt: &R,
-) -> Result<(Seen, Ended)> {
+>(rt: &R) -> Result<(Seen, Ended)> {
     let server = listen(rt)?;
     let site = free_site(rt)?;
     let relay = relay(rt, site, 4, 10_000, &[server.local_addr()?])?;
