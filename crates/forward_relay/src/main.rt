@@ -1,12 +1,12 @@
 //! The program: `forward_relay run CONFIG [TURNS] | check CONFIG | replay`.
 #![tactic(auto)]
 
-use fwd_script::{buffered, run_program, words};
+use fwd_program::run_all;
+use fwd_script::{buffered, words};
 use std::process::ExitCode;
 
 fn main(rt: HostRuntime) -> ExitCode {
-    ExitCode::from(run_program(
-        rt.alloc(),
+    ExitCode::from(run_all(
         &rt,
         words(&rt),
         &mut rt.reader(),

@@ -24,3 +24,5 @@ pub use script::{Script, next_line, split_script};
 pub use status::Status;
 pub use stepping::{Step, answer_lines, answer_script, bad_line_is_first};
 pub use text::{print_answer, refusal_name, session_fault_name, source_fault_name};
+pub use word::number;
+pub use writing::{WriteFailed, write_all};

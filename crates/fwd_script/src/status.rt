@@ -42,7 +42,7 @@ impl Status {
 
     /// How a run ends that would end so, once its writer was flushed: a flush that fails is a
     /// failed write.
-    pub(crate) fn flushed(self, flush: io::Result<()>) -> Status
+    pub fn flushed(self, flush: io::Result<()>) -> Status
         ensures ok { OnOk flush (result ≡ self) }
         ensures err { OnErr flush (result ≡ statuses.Output) }
     {

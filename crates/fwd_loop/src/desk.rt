@@ -1,0 +1,168 @@
+//! Where requests are admitted, and sources are told.
+
+use crate::board::News;
+use crate::lane::{Lane, NotAdmitted};
+use crate::output::Output;
+use crate::pace::Pace;
+use crate::peers::Peers;
+use crate::source_peer::SourcePeer;
+use fwd_book::Receipt;
+use fwd_match::Routes;
+use std::alloc::{AllocError, AllocFailed, Global};
+use std::sync::Wait;
+
+/// The outputs as the loop sees them, and which tags go to which. It must be spent: by `close`.
+pub(crate) struct Desk<'a> {
+    alloc: Global,
+    routes: &'a Routes,
+    lanes: Vec<Lane<'a>>,
+}
+
+/// Lanes are closed.
+fn close_all<R: Wait>(rt: &R, lanes: Vec<Lane<'_>>) {
+    let mut rest = lanes.into_iter();
+    while let Some(lane) = rest.next() {
+        lane.close(rt);
+    }
+    rest.destroy_empty();
+}
+
+impl<'a> Desk<'a> {
+    /// The outputs, and the pace of each, before the first request. The only error is want of
+    /// memory.
+    pub fn new<R: Wait>(
+        rt: &R,
+        alloc: Global,
+        routes: &'a Routes,
+        outputs: &'a [Output],
+        paces: Vec<Pace>,
+    ) -> Result<Desk<'a>, AllocError> {
+        let mut lanes = Vec::new(alloc);
+        for (output, pace) in outputs.iter().zip(paces) {
+            let lane = Lane::new(alloc, output, pace);
+            if let Err(AllocFailed { value: lane }) = lanes.push(lane) {
+                lane.close(rt);
+                close_all(rt, lanes);
+                return Err(AllocError);
+            }
+        }
+        Ok(Desk {
+            alloc,
+            routes,
+            lanes,
+        })
+    }
+
+    /// Admits the requests that wait at a source at a moment (milliseconds). A request that is not
+    /// admitted ends the source, and what waits behind it is not looked at.
+    pub fn admit_all<R: Wait>(&mut self, rt: &R, source: &mut SourcePeer, now: u64) {
+        for _ in 0..source.waiting() {
+            if self.admit(rt, source, now).is_err() {
+                source.end();
+                return;
+            }
+        }
+    }
+
+    /// Admits the first request that waits.
+    fn admit<R: Wait>(
+        &mut self,
+        rt: &R,
+        source: &mut SourcePeer,
+        now: u64,
+    ) -> Result<(), NotAdmitted> {
+        let output = source.route(self.routes).ok_or(NotAdmitted)?;
+        let lane = self.lanes.get_mut(output as usize).ok_or(NotAdmitted)?;
+        let (origin, batch) = source.next().ok_or(NotAdmitted)?;
+        lane.admit(rt, origin, batch, now)
+    }
+
+    /// How long the loop may wait from a moment on, at most so long: until the next flush (all in
+    /// milliseconds).
+    pub fn patience(&self, now: u64, longest: u64) -> u64 {
+        let mut wait = longest;
+        for lane in &self.lanes {
+            if lane.is_due() {
+                return 0;
+            }
+            if let Some(due) = lane.flush_due() {
+                wait = wait.min(due.saturating_sub(now));
+            }
+        }
+        wait
+    }
+
+    /// Closes the chunks that are due at a moment (milliseconds).
+    pub fn flush<R: Wait>(&mut self, rt: &R, now: u64) {
+        for lane in &mut self.lanes {
+            lane.flush(rt, now);
+        }
+    }
+
+    /// Workers settled chunks.
+    pub fn hear(&mut self, news: &News) {
+        if news.missed {
+            self.settle_all();
+        }
+        for settled in &news.settled {
+            if let Some(lane) = self.lanes.get_mut(settled.output as usize) {
+                lane.settle(settled.number);
+            }
+        }
+    }
+
+    /// All tickets are to be handed in.
+    pub fn settle_all(&mut self) {
+        for lane in &mut self.lanes {
+            lane.settle_all();
+        }
+    }
+
+    /// Hands in the tickets that are to be, and puts acknowledgements behind what waits to be sent
+    /// to their sources, which are to be visited.
+    pub fn collect<R: Wait>(&mut self, rt: &R, peers: &mut Peers) {
+        let alloc = self.alloc;
+        for lane in &mut self.lanes {
+            if lane.is_due() {
+                let receipts = lane.collect(rt);
+                tell_all(alloc, &receipts, peers);
+            }
+        }
+    }
+
+    /// A source is gone: nobody is to be told of its requests any more.
+    pub fn abandon<R: Wait>(&mut self, rt: &R, conn: u64) {
+        for lane in &mut self.lanes {
+            lane.abandon(rt, conn);
+        }
+    }
+
+    /// The tickets that are left are abandoned.
+    pub fn close<R: Wait>(self, rt: &R) {
+        let Desk {
+            alloc: _,
+            routes: _,
+            lanes,
+        } = self;
+        close_all(rt, lanes);
+    }
+}
+
+/// Tells sources of receipts.
+fn tell_all(alloc: Global, receipts: &[Receipt], peers: &mut Peers) {
+    for receipt in receipts {
+        tell(alloc, receipt, peers);
+    }
+}
+
+/// Tells a source of a receipt, where it asked to be told, and still stands.
+fn tell(alloc: Global, receipt: &Receipt, peers: &mut Peers) {
+    let Some(chunk) = receipt.chunk() else {
+        return;
+    };
+    let Some((key, source)) = peers.source(receipt.origin().conn) else {
+        return;
+    };
+    source.answer(alloc, chunk);
+    peers.note(key);
+}

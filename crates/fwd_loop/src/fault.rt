@@ -1,0 +1,37 @@
+//! Why the relay cannot start, or cannot go on.
+
+use std::alloc::{AllocError, AllocFailed};
+use std::net::SocketAddr;
+use thiserror::Error;
+
+/// Why the relay cannot start, or cannot go on.
+#[derive(Clone, Copy, Debug, PartialEq, Eq, Error)]
+pub enum StartFault {
+    /// Memory was refused.
+    #[error("memory")]
+    Memory,
+    /// Nobody can be listened for at this address, which the settings name.
+    #[error("listen: {0}")]
+    Listen(SocketAddr),
+    /// The system gives nothing to wait for sockets with, or a wait failed.
+    #[error("start: poll")]
+    Poll,
+    /// The system gives no random bytes.
+    #[error("start: seed")]
+    Seed,
+    /// A worker's thread cannot be had.
+    #[error("start: thread")]
+    Thread,
+}
+
+impl From<AllocError> for StartFault {
+    fn from(_error: AllocError) -> StartFault {
+        StartFault::Memory
+    }
+}
+
+impl<T: Drop> From<AllocFailed<T>> for StartFault {
+    fn from(_error: AllocFailed<T>) -> StartFault {
+        StartFault::Memory
+    }
+}

@@ -1,0 +1,141 @@
+//! The loop's turns.
+
+use crate::board::Board;
+use crate::desk::Desk;
+use crate::fault::StartFault;
+use crate::lobby::Lobby;
+use crate::output::Output;
+use crate::peers::{Peer, Peers};
+use crate::since::Since;
+use mio::{Events, Poll, Token};
+use std::alloc::Global;
+use std::rt::Clock;
+use std::sync::Wait;
+use std::time::Duration;
+
+/// What tells that sources wait at the listener.
+pub(crate) const SOURCES: Token = Token(usize::MAX);
+
+/// What tells that monitors wait at theirs.
+pub(crate) const MONITORS: Token = Token(usize::MAX - 1);
+
+/// What tells that a worker settled a chunk.
+pub(crate) const WAKER: Token = Token(usize::MAX - 2);
+
+/// The longest wait of a turn, in milliseconds.
+const LONGEST: u64 = 100;
+
+/// Waits for connections, and visits those that are ready.
+#[derive(Drop)]
+pub(crate) struct Front {
+    pub alloc: Global,
+    pub poll: Poll,
+    pub events: Events,
+    /// What a visit reads: as many bytes as a connection may send in a turn.
+    pub room: Vec<u8>,
+    pub lobby: Lobby,
+    pub peers: Peers,
+}
+
+impl Front {
+    /// So many turns. The only error is a wait that failed.
+    pub fn run<R: Wait + Clock>(
+        &mut self,
+        rt: &R,
+        outputs: &[Output],
+        board: &Board,
+        desk: &mut Desk<'_>,
+        clock: &mut Since<'_, R>,
+        turns: u64,
+    ) -> Result<(), StartFault> {
+        for _ in 0..turns {
+            self.wait(desk, clock.moment())?;
+            let now = clock.moment();
+            desk.hear(&board.take(rt, self.alloc));
+            desk.collect(rt, &mut self.peers);
+            self.visit_all(rt, outputs, desk, now);
+            let registry = self.poll.registry();
+            self.lobby.accept(self.alloc, registry, &mut self.peers);
+            desk.flush(rt, now);
+        }
+        Ok(())
+    }
+
+    /// Hands in all tickets, and writes what that has sources told.
+    pub fn finish<R: Wait>(&mut self, rt: &R, desk: &mut Desk<'_>) {
+        desk.settle_all();
+        desk.collect(rt, &mut self.peers);
+        for _ in 0..self.peers.noted() {
+            let Some((_, peer)) = self.peers.next() else {
+                continue;
+            };
+            if let Peer::Source(source) = peer {
+                source.write();
+            }
+        }
+    }
+
+    /// Waits from a moment on (milliseconds) until something is ready, and notes what is.
+    fn wait(&mut self, desk: &Desk<'_>, now: u64) -> Result<(), StartFault> {
+        let longest = if self.peers.noted() > 0 || self.lobby.is_urgent() {
+            0
+        } else {
+            desk.patience(now, LONGEST)
+        };
+        let longest = Duration::from_millis(longest);
+        match self.poll.poll(&mut self.events, Some(longest)) {
+            Ok(()) => {
+                self.note_all();
+                Ok(())
+            }
+            Err(_) => Err(StartFault::Poll),
+        }
+    }
+
+    /// Notes what is ready.
+    fn note_all(&mut self) {
+        for event in self.events.iter() {
+            match event.token() {
+                WAKER => {}
+                SOURCES => self.lobby.sources.called(),
+                MONITORS => {
+                    if let Some(door) = &mut self.lobby.monitors {
+                        door.called();
+                    }
+                }
+                Token(key) => self.peers.note(key),
+            }
+        }
+    }
+
+    /// Visits each connection that is noted, once.
+    fn visit_all<R: Wait>(&mut self, rt: &R, outputs: &[Output], desk: &mut Desk<'_>, now: u64) {
+        for _ in 0..self.peers.noted() {
+            self.visit(rt, outputs, desk, now);
+        }
+    }
+
+    /// Visits the next connection that is noted, at a moment (milliseconds).
+    fn visit<R: Wait>(&mut self, rt: &R, outputs: &[Output], desk: &mut Desk<'_>, now: u64) {
+        let Some((key, peer)) = self.peers.next() else {
+            return;
+        };
+        let again = match peer {
+            Peer::Source(source) => {
+                let again = source.hear(self.alloc, &mut self.room);
+                desk.admit_all(rt, source, now);
+                if source.write() { Some(again) } else { None }
+            }
+            Peer::Monitor(monitor) => monitor.serve(rt, self.alloc, outputs, &mut self.room),
+        };
+        match again {
+            Some(true) => self.peers.note(key),
+            Some(false) => {}
+            None => {
+                if let Some(id) = self.peers.remove(key) {
+                    desk.abandon(rt, id);
+                }
+            }
+        }
+    }
+}

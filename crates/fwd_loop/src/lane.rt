@@ -1,0 +1,151 @@
+//! An output as the loop sees it.
+
+use crate::output::Output;
+use crate::owed::Owed;
+use crate::pace::Pace;
+use fwd_book::Receipt;
+use fwd_chunks::FlushKind;
+use fwd_modes::Batch;
+use fwd_source::Origin;
+use fwd_workers::Ticket;
+use std::alloc::Global;
+use std::sync::Wait;
+
+/// A request was not admitted, or its ticket could not be kept.
+#[derive(Clone, Copy, Debug, PartialEq, Eq)]
+pub(crate) struct NotAdmitted;
+
+/// An output, the tickets that it gave, and when it is flushed. It must be spent: by `close`.
+pub(crate) struct Lane<'a> {
+    alloc: Global,
+    output: &'a Output,
+    owed: Owed,
+    pace: Pace,
+}
+
+impl<'a> Lane<'a> {
+    /// An output that gave no tickets yet.
+    pub fn new(alloc: Global, output: &'a Output, pace: Pace) -> Lane<'a> {
+        Lane {
+            alloc,
+            output,
+            owed: Owed::new(alloc),
+            pace,
+        }
+    }
+
+    /// Admits a connection's request at a moment (milliseconds), and keeps its ticket.
+    pub fn admit<R: Wait>(
+        &mut self,
+        rt: &R,
+        origin: Origin,
+        batch: Batch,
+        now: u64,
+    ) -> Result<(), NotAdmitted> {
+        let shared = &self.output.shared;
+        let Ok(ticket) = shared.admit(rt, self.alloc, &mut (), origin, batch, now) else {
+            return Err(NotAdmitted);
+        };
+        self.pace.admitted(now);
+        match self.owed.keep(ticket) {
+            Ok(()) => Ok(()),
+            Err(ticket) => {
+                shared.abandon(rt, ticket);
+                Err(NotAdmitted)
+            }
+        }
+    }
+
+    /// When the next flush is due (milliseconds), if one is.
+    pub fn flush_due(&self) -> Option<u64> {
+        self.pace.due()
+    }
+
+    /// Closes the chunks that are due at a moment (milliseconds), and wakes the output's workers
+    /// where it closed any.
+    pub fn flush<R: Wait>(&mut self, rt: &R, now: u64) {
+        let is_due = self.pace.due().is_some_and(|due| due <= now);
+        if !is_due {
+            return;
+        }
+        let count = self.output.shared.flush(rt, now, FlushKind::Due);
+        self.pace.flushed(now);
+        if count > 0 {
+            self.pace.wake();
+        }
+    }
+
+    /// A chunk is settled: the tickets of requests that begin in it are to be handed in.
+    pub fn settle(&mut self, chunk: u64) {
+        self.owed.settle(chunk);
+    }
+
+    /// All tickets are to be handed in.
+    pub fn settle_all(&mut self) {
+        self.owed.settle_all();
+    }
+
+    /// Whether there are tickets to be handed in.
+    pub fn is_due(&self) -> bool {
+        self.owed.is_due()
+    }
+
+    /// Hands in the tickets that are to be, and answers what receipts there are. For want of memory
+    /// there are none, and the tickets are to be handed in again.
+    pub fn collect<R: Wait>(&mut self, rt: &R) -> Vec<Receipt> {
+        let batch = self.owed.gather();
+        match self.output.shared.collect(rt, self.alloc, batch) {
+            Ok((receipts, back)) => {
+                self.put_back(rt, back);
+                self.forget(rt, &receipts);
+                receipts
+            }
+            Err((_, back)) => {
+                self.put_back(rt, back);
+                self.owed.settle_all();
+                Vec::new(self.alloc)
+            }
+        }
+    }
+
+    /// Tickets came back.
+    fn put_back<R: Wait>(&mut self, rt: &R, back: Vec<Ticket>) {
+        let mut rest = back.into_iter();
+        while let Some(ticket) = rest.next() {
+            if let Err(ticket) = self.owed.put_back(ticket) {
+                self.output.shared.abandon(rt, ticket);
+            }
+        }
+        rest.destroy_empty();
+    }
+
+    /// Requests were answered.
+    fn forget<R: Wait>(&mut self, rt: &R, receipts: &[Receipt]) {
+        for receipt in receipts {
+            if let Some(ticket) = self.owed.answered(receipt.origin()) {
+                self.output.shared.abandon(rt, ticket);
+            }
+        }
+    }
+
+    /// A connection is gone: nobody is to be told of its requests any more.
+    pub fn abandon<R: Wait>(&mut self, rt: &R, conn: u64) {
+        for _ in 0..u64::MAX {
+            let Some(ticket) = self.owed.drop_one(conn) else {
+                break;
+            };
+            self.output.shared.abandon(rt, ticket);
+        }
+    }
+
+    /// The tickets that are left are abandoned.
+    pub fn close<R: Wait>(self, rt: &R) {
+        let Lane {
+            alloc: _,
+            output,
+            owed,
+            pace: _,
+        } = self;
+        owed.close(rt, &output.shared);
+    }
+}

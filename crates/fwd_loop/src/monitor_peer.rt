@@ -1,0 +1,84 @@
+//! A monitor's connection over its stream.
+
+ghost use Rattle.std.specs.Prelude.{◌≤◌, length};
+
+use crate::output::{Output, counts_of};
+use crate::stream::{Visit, fill, send};
+use fwd_monitor::{Reply, answer};
+use mio::net::TcpStream;
+use std::alloc::{AllocError, Global};
+use std::sync::Wait;
+
+/// What a monitor is sent, and how much of it was sent.
+#[derive(Drop)]
+struct Sending {
+    reply: Vec<u8>,
+    sent: usize,
+    ghost within: { sent ≤ length reply.items },
+}
+
+/// A monitor's connection: its stream, what it sent so far, and what it is sent.
+#[derive(Drop)]
+pub(crate) struct MonitorPeer {
+    pub stream: TcpStream,
+    heard: Vec<u8>,
+    sending: Option<Sending>,
+}
+
+impl MonitorPeer {
+    /// A connection before its first byte.
+    pub fn new(alloc: Global, stream: TcpStream) -> MonitorPeer {
+        MonitorPeer {
+            stream,
+            heard: Vec::new(alloc),
+            sending: None,
+        }
+    }
+
+    /// Reads what is there, and writes the reply once there is one. It says whether the connection
+    /// is to be looked at again, where it stands.
+    pub fn serve<R: Wait>(
+        &mut self,
+        rt: &R,
+        alloc: Global,
+        outputs: &[Output],
+        room: &mut [u8],
+    ) -> Option<bool> {
+        let (count, visit) = fill(&mut self.stream, room);
+        if count > 0 && self.sending.is_none() {
+            self.take_in(rt, alloc, outputs, &room[..count]).ok()?;
+        }
+        if self.write() || (visit == Visit::Ended && self.sending.is_none()) {
+            return None;
+        }
+        Some(visit == Visit::Full)
+    }
+
+    /// Takes in bytes, and makes the reply where one is due. The only error is want of memory.
+    fn take_in<R: Wait>(
+        &mut self,
+        rt: &R,
+        alloc: Global,
+        outputs: &[Output],
+        bytes: &[u8],
+    ) -> Result<(), AllocError> {
+        self.heard.extend_from_slice(bytes)?;
+        let counts = counts_of(rt, alloc, outputs)?;
+        if let Reply::Bytes(reply) = answer(alloc, &self.heard, &counts)? {
+            self.sending = Some(Sending { reply, sent: 0 });
+        }
+        Ok(())
+    }
+
+    /// Writes what is left of the reply as far as the stream takes it, and says whether nothing is
+    /// to be written any more.
+    fn write(&mut self) -> bool {
+        let Some(sending) = &mut self.sending else {
+            return false;
+        };
+        let from = sending.sent;
+        let (count, visit) = send(&mut self.stream, &sending.reply[from..]);
+        sending.sent = from + count;
+        visit == Visit::Ended || sending.sent == sending.reply.len()
+    }
+}

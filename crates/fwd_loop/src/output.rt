@@ -1,0 +1,27 @@
+//! The outputs, as threads share them.
+
+use fwd_chunks::Counts;
+use fwd_workers::{Plain, SharedOutput};
+use std::alloc::{AllocError, Global};
+use std::net::SocketAddr;
+use std::sync::Wait;
+
+/// An output that threads share, and where its servers are reached.
+#[derive(Drop)]
+pub(crate) struct Output {
+    pub shared: SharedOutput<Plain, Plain>,
+    pub servers: Vec<SocketAddr>,
+}
+
+/// The counts of all outputs, in their order. The only error is want of memory.
+pub(crate) fn counts_of<R: Wait>(
+    rt: &R,
+    alloc: Global,
+    outputs: &[Output],
+) -> Result<Vec<Counts>, AllocError> {
+    let mut counts = Vec::with_capacity(alloc, outputs.len())?;
+    for output in outputs {
+        counts.push(output.shared.counts(rt))?;
+    }
+    Ok(counts)
+}

@@ -1,0 +1,62 @@
+//! When an output's open chunks are closed, and who is told.
+
+use mio::Waker;
+
+/// The least time between two flushes of an output, in milliseconds.
+const STEP: u64 = 5;
+
+/// When an output is flushed next, and what wakes its workers. Moments are in milliseconds.
+#[derive(Drop)]
+pub(crate) struct Pace {
+    /// How long a chunk waits for more entries.
+    interval: u64,
+    /// When a request was admitted last.
+    latest: u64,
+    /// When the next flush is due: never while no chunk can be open.
+    due: Option<u64>,
+    wakers: Vec<Waker>,
+}
+
+impl Pace {
+    /// The pace of an output without entries, whose chunks wait so long, and whose workers these
+    /// wake.
+    pub fn new(interval: u64, wakers: Vec<Waker>) -> Pace {
+        Pace {
+            interval,
+            latest: 0,
+            due: None,
+            wakers,
+        }
+    }
+
+    /// A request was admitted at this moment.
+    pub fn admitted(&mut self, now: u64) {
+        self.latest = now;
+        if self.due.is_none() {
+            self.due = Some(now.saturating_add(self.interval));
+        }
+    }
+
+    /// When the next flush is due, if one is.
+    pub fn due(&self) -> Option<u64> {
+        self.due
+    }
+
+    /// Chunks were flushed at this moment. What was admitted after the last chunk that this closed
+    /// may be open still.
+    pub fn flushed(&mut self, now: u64) {
+        let last = self.latest.saturating_add(self.interval);
+        self.due = if last <= now {
+            None
+        } else {
+            Some(last.min(now.saturating_add(STEP)))
+        };
+    }
+
+    /// Wakes the output's workers.
+    pub fn wake(&self) {
+        for waker in &self.wakers {
+            let _ = waker.wake();
+        }
+    }
+}

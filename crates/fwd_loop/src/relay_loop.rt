@@ -1,0 +1,221 @@
+//! The relay over sockets.
+
+ghost use Rattle.std.specs.Prelude.{◌≡◌, true};
+ghost use Rattle.fwd_settings.specs.Ranges.{in_range};
+
+use crate::board::Board;
+use crate::desk::Desk;
+use crate::door::Door;
+use crate::draws::Draws;
+use crate::fault::StartFault;
+use crate::front::{Front, MONITORS, SOURCES, WAKER};
+use crate::lobby::Lobby;
+use crate::output::counts_of;
+use crate::peers::Peers;
+use crate::since::Since;
+use crate::teams::Teams;
+use fwd_chunks::Counts;
+use fwd_config::config_of;
+use fwd_core::{Config, OutputConfig};
+use fwd_handshake::Security;
+use fwd_match::Routes;
+use fwd_settings::{OutputSettings, Settings};
+use mio::{Events, Poll, Waker};
+use rand_chacha::ChaCha20Rng;
+use std::alloc::{AllocError, Global};
+use std::net::{Net, SocketAddr, TcpListener, TcpStream};
+use std::rt::{Clock, Files};
+use std::sync::{Arc, Wait};
+use std::thread;
+use std::thread::Threads;
+use std::time::Instant;
+
+/// The most bytes that a connection is read in a turn.
+const PIECE: usize = 65_536;
+
+/// How many events a wait tells at once. More are told by the next.
+const EVENTS: usize = 1_024;
+
+/// The relay, with its listeners open, before its first turn.
+#[derive(Drop)]
+pub struct Loop {
+    alloc: Global,
+    routes: Routes,
+    teams: Teams,
+    board: Board,
+    front: Front,
+}
+
+/// Where the relay listens, and how many sources it takes.
+#[derive(Clone, Copy)]
+struct Address {
+    listen: SocketAddr,
+    monitor: Option<SocketAddr>,
+    connections: u16,
+}
+
+/// Where the servers of each output are reached.
+fn servers_of(
+    alloc: Global,
+    outputs: &[OutputSettings],
+) -> Result<Vec<Vec<SocketAddr>>, AllocError> {
+    let mut all = Vec::with_capacity(alloc, outputs.len())?;
+    for output in outputs {
+        let own = output.servers.as_slice();
+        all.push(own.iter().map(|server| server.address).collect(alloc)?)?;
+    }
+    Ok(all)
+}
+
+/// The outputs with their workers, in a run of these bytes.
+fn teams_of<R: Net>(
+    rt: &R,
+    alloc: Global,
+    draws: &Draws,
+    run: [u8; 6],
+    configs: Vec<OutputConfig>,
+    servers: Vec<Vec<SocketAddr>>,
+) -> Result<Teams, StartFault> {
+    let mut teams = Teams::new(alloc);
+    for (number, (config, own)) in (0..u16::MAX).zip(configs.into_iter().zip(servers)) {
+        teams.add(rt, draws, run, number, config, own)?;
+    }
+    Ok(teams)
+}
+
+/// The loop before its first turn, and what workers tell it by.
+fn front_of<R: Net>(
+    rt: &R,
+    alloc: Global,
+    address: Address,
+    security: Security,
+    nonces: ChaCha20Rng,
+) -> Result<(Front, Board), StartFault> {
+    let poll = Poll::new(rt).map_err(|_| StartFault::Poll)?;
+    let waker = Waker::new(poll.registry(), WAKER).map_err(|_| StartFault::Poll)?;
+    let sources = Door::open(rt, &poll, address.listen, SOURCES)?;
+    let monitors = match address.monitor {
+        Some(monitor) => Some(Door::open(rt, &poll, monitor, MONITORS)?),
+        None => None,
+    };
+    let lobby = Lobby {
+        sources,
+        monitors,
+        security: Arc::new(alloc, security)?,
+        nonces,
+        next_id: Some(1),
+        limit: usize::from(address.connections),
+    };
+    let front = Front {
+        alloc,
+        poll,
+        events: Events::with_capacity(alloc, EVENTS)?,
+        room: vec![in alloc; 0; PIECE]?,
+        lobby,
+        peers: Peers::new(alloc),
+    };
+    Ok((front, Board::new(alloc, waker)?))
+}
+
+impl Loop {
+    /// Opens the listeners that the settings name, draws the run's id where they name none, and
+    /// makes the outputs and their workers. No thread runs yet.
+    ///
+    /// It fails with `Listen` where an address cannot be listened at, with `Poll` where the system
+    /// has nothing to wait with, with `Seed` where the settings have no seed and the system gives
+    /// no random bytes, and with `Memory`.
+    pub fn new<R: Net + Files + AllocGlobal>(rt: &R, settings: Settings) -> Result<Loop, StartFault>
+        requires { in_range settings ≡ true }
+    {
+        let alloc = rt.alloc();
+        let relay = &settings.relay;
+        let address = Address {
+            listen: relay.listen,
+            monitor: relay.monitor,
+            connections: relay.connections,
+        };
+        let draws = Draws::new(rt, relay.seed)?;
+        let run = match relay.run_id {
+            Some(run) => run,
+            None => draws.run_id(),
+        };
+        let servers = servers_of(alloc, settings.outputs.as_slice())?;
+        let Config {
+            run: _,
+            routes,
+            security,
+            outputs,
+        } = config_of(alloc, settings)?;
+        let (front, board) = front_of(rt, alloc, address, security, draws.nonces())?;
+        let teams = teams_of(rt, alloc, &draws, run, outputs.into_vec(), servers)?;
+        Ok(Loop {
+            alloc,
+            routes,
+            teams,
+            board,
+            front,
+        })
+    }
+
+    /// Runs the loop for so many turns in this thread, and each worker for as many in a thread of
+    /// its own, and answers the counts of the outputs once all have ended. Whoever still waits for
+    /// an acknowledgement by then is told, if its request's entries are settled.
+    ///
+    /// It fails with `Thread` where a worker's thread cannot be had, with `Poll` where a wait
+    /// failed, and with `Memory`. All threads that were started have ended then, too.
+    pub fn run<
+        R: Net<Listener = TcpListener, Stream = TcpStream>
+            + Threads
+            + Wait
+            + Clock
+            + AllocGlobal
+            + Sync,
+    >(self, rt: &R, turns: u64) -> Result<Vec<Counts>, StartFault> {
+        let Loop {
+            alloc,
+            routes,
+            teams,
+            board,
+            mut front,
+        } = self;
+        let Teams {
+            alloc: _,
+            outputs,
+            paces,
+            members,
+        } = teams;
+        let start = Instant::now(rt).ok();
+        let mut desk = Desk::new(rt, alloc, &routes, &outputs, paces)?;
+        let (own, told) = (&outputs, &board);
+        let (turning, admitting) = (&mut front, &mut desk);
+        let served = thread::scope(thread::scope_env(), rt, move |scope| {
+            let mut children = Vec::with_capacity(alloc, members.len())?;
+            let mut served = Ok(());
+            for member in members {
+                if served.is_ok() {
+                    match scope.spawn(move || member.work(rt, own, told, start, turns)) {
+                        Ok(child) => {
+                            let _ = children.push(child);
+                        }
+                        Err(_) => served = Err(StartFault::Thread),
+                    }
+                }
+            }
+            if served.is_ok() {
+                let mut clock = Since::new(rt, start);
+                served = turning.run(rt, own, told, admitting, &mut clock, turns);
+            }
+            if served.is_err() {
+                told.stop();
+            }
+            for child in children {
+                child.join(rt);
+            }
+            served
+        });
+        front.finish(rt, &mut desk);
+        desk.close(rt);
+        served?;
+        Ok(counts_of(rt, alloc, &outputs)?)
+    }
+}

@@ -1,0 +1,92 @@
+//! The outputs and their workers, before the first turn.
+
+use crate::draws::Draws;
+use crate::fault::StartFault;
+use crate::member::Member;
+use crate::output::Output;
+use crate::pace::Pace;
+use fwd_core::{OutputConfig, OutputState};
+use fwd_handshake::Login;
+use fwd_workers::{Locked, Plain, SharedOutput, Worker};
+use mio::Waker;
+use std::alloc::Global;
+use std::net::{Net, SocketAddr};
+use std::sync::Arc;
+
+/// The outputs, the paces of their flushes, and all workers.
+#[derive(Drop)]
+pub(crate) struct Teams {
+    pub alloc: Global,
+    pub outputs: Vec<Output>,
+    pub paces: Vec<Pace>,
+    pub members: Vec<Member>,
+}
+
+/// What an output's workers share.
+#[derive(Drop)]
+struct Team<'a> {
+    draws: &'a Draws,
+    number: u16,
+    workers: u16,
+    login: Arc<Login>,
+    ack_wait: u64,
+}
+
+impl Teams {
+    /// None.
+    pub fn new(alloc: Global) -> Teams {
+        Teams {
+            alloc,
+            outputs: Vec::new(alloc),
+            paces: Vec::new(alloc),
+            members: Vec::new(alloc),
+        }
+    }
+
+    /// The output of this number, with its workers, in a run of these bytes.
+    pub fn add<R: Net>(
+        &mut self,
+        rt: &R,
+        draws: &Draws,
+        run: [u8; 6],
+        number: u16,
+        config: OutputConfig,
+        servers: Vec<SocketAddr>,
+    ) -> Result<(), StartFault> {
+        let OutputConfig {
+            workers,
+            standby,
+            limits,
+            ack_wait,
+            login,
+        } = config;
+        let state = OutputState::new(self.alloc, limits, run, number, standby.as_slice())?;
+        let shared = SharedOutput::new(Locked::new(state, Plain::new(0), Plain::new(0)));
+        let login = Arc::new(self.alloc, login)?;
+        let team = Team {
+            draws,
+            number,
+            workers,
+            login,
+            ack_wait,
+        };
+        let wakers = self.add_members(rt, &team)?;
+        self.outputs.push(Output { shared, servers })?;
+        self.paces.push(Pace::new(limits.interval, wakers))?;
+        Ok(())
+    }
+
+    /// The workers of an output, and what wakes them.
+    fn add_members<R: Net>(&mut self, rt: &R, team: &Team<'_>) -> Result<Vec<Waker>, StartFault> {
+        let mut wakers = Vec::new(self.alloc);
+        for number in 0..team.workers {
+            let login = Arc::try_clone(&team.login)?;
+            let salts = team.draws.salts(team.number, number);
+            let worker = Worker::new(self.alloc, number, login, team.ack_wait, salts);
+            let (member, waker) = Member::new(rt, self.alloc, team.number, worker)?;
+            self.members.push(member)?;
+            wakers.push(waker)?;
+        }
+        Ok(wakers)
+    }
+}

@@ -1,0 +1,63 @@
+//! The program over its words and streams.
+
+ghost use Rattle.std.specs.Prelude.{◌≡◌, ℕ, List, map, IfOk};
+ghost use Rattle.std.specs.String.{string_bytes};
+ghost use Rattle.fwd_script.specs.declared.program.End.{End};
+ghost use Rattle.fwd_script.specs.Program.{Performs, end_code, words_behind};
+ghost use Rattle.fwd_program.specs.Asked.{AsksRun};
+
+use crate::asked::asked_run;
+use crate::ending::RunEnd;
+use crate::running::run_file;
+use fwd_script::{Status, run_program};
+use std::io;
+use std::io::{Read, Write};
+use std::net::{Net, TcpListener, TcpStream};
+use std::rt::{Clock, Files};
+use std::sync::Wait;
+use std::thread::Threads;
+
+/// Tells how a run ended, on a line of its own: nothing where all is done.
+fn tell<E: Write>(errors: &mut E, end: &RunEnd) -> io::Result<()> {
+    match end {
+        RunEnd::Ran(Status::Done) => Ok(()),
+        end => writeln!(errors, "{end}"),
+    }
+}
+
+/// The whole program, but for where its words and streams come from: where the words ask for a run
+/// it runs, as `run_file` does, and tells how that ended; all other words it answers as
+/// `fwd_script::run_program` does. It returns the exit status. An end that cannot be told has the
+/// same exit status.
+pub fn run_all<
+    R: Net<Listener = TcpListener, Stream = TcpStream>
+        + Threads
+        + Wait
+        + Clock
+        + Files
+        + AllocGlobal
+        + Sync,
+    I: Read,
+    W: Write,
+    E: Write,
+>(rt: &R, words: io::Result<Vec<String>>, input: &mut I, output: &mut W, errors: &mut E) -> u8
+    ensures { IfOk words (λ list.
+        ((path : List ℕ) (turns : ℕ)
+        → ¬ AsksRun (words_behind (map string_bytes list.items)) path turns)
+        → (end : End) × (result ≡ end_code end)
+        × Performs (words_behind (map string_bytes list.items))
+        end (I.remaining input.old) (W.contents output.old) (W.contents output.new)) }
+{
+    let words = match words {
+        Ok(words) => words,
+        Err(error) => return run_program(rt.alloc(), rt, Err(error), input, output, errors),
+    };
+    match asked_run(words.as_slice()) {
+        Some(run) => {
+            let end = run_file(rt, run, output);
+            let _told = tell(errors, &end);
+            end.exit_code()
+        }
+        None => run_program(rt.alloc(), rt, Ok(words), input, output, errors),
+    }
+}
