@@ -44,7 +44,8 @@ pub(crate) struct Wire {
 
 impl Wire {
     /// Begins to connect, and waits a while for the server. A connection that is refused by then
-    /// cannot be had; one that is neither up nor refused goes on as a stream that takes nothing yet.
+    /// cannot be had; one that is neither up nor refused goes on as a stream that takes nothing
+    /// yet.
     pub fn begin<R: Net>(rt: &R, alloc: Global, stop: Stop, addr: SocketAddr) -> io::Result<Wire> {
         let poll = Poll::new(rt)?;
         let events = Events::with_capacity(alloc, 4)?;

@@ -1,6 +1,6 @@
 //! When the program's words ask for a run.
 
-ghost use Rattle.std.specs.Prelude.{◌≡◌, ◌≤◌, ℕ, List, map, drop, length, MatchOption};
+ghost use Rattle.std.specs.Prelude.{◌≡◌, ℕ, List, map, MatchOption};
 ghost use Rattle.std.specs.String.{string_bytes};
 ghost use Rattle.fwd_script.specs.Program.{words_behind};
 ghost use Rattle.fwd_program.specs.Asked.{AsksRun, turns_of};
@@ -36,10 +36,14 @@ pub fn asked_run(words: &[String]) -> Option<Run<'_>>
         → ¬ AsksRun (words_behind (map string_bytes words.now)) path turns)
         (λ run. AsksRun (words_behind (map string_bytes words.now)) run.path.now run.turns) }
 {
-    if words.len() < 3 || words[1].as_str() != "run" {
+    if words.len() < 3 {
         return None;
     }
-    let turns = turns_in(&words[3..])?;
-    let path = words[2].as_str();
-    Some(Run { path, turns })
+    if words[1].as_str() == "run" {
+        let turns = turns_in(&words[3..])?;
+        let path = words[2].as_str();
+        Some(Run { path, turns })
+    } else {
+        None
+    }
 }

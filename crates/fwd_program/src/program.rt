@@ -25,6 +25,41 @@ fn tell<E: Write>(errors: &mut E, end: &RunEnd) -> io::Result<()> {
     }
 }
 
+/// Does what words ask for, and returns the exit status.
+fn run_words<
+    R: Net<Listener = TcpListener, Stream = TcpStream>
+        + Threads
+        + Wait
+        + Clock
+        + Files
+        + AllocGlobal
+        + Sync,
+    I: Read,
+    W: Write,
+    E: Write,
+>(
+    rt: &R,
+    words: Vec<String>,
+    input: &mut I,
+    output: &mut W,
+    errors: &mut E,
+) -> u8
+    ensures { ((path : List ℕ) (turns : ℕ)
+        → ¬ AsksRun (words_behind (map string_bytes words.items)) path turns)
+        → (end : End) × (result ≡ end_code end)
+        × Performs (words_behind (map string_bytes words.items))
+        end (I.remaining input.old) (W.contents output.old) (W.contents output.new) }
+{
+    match asked_run(words.as_slice()) {
+        Some(run) => {
+            let end = run_file(rt, run, output);
+            let _told = tell(errors, &end);
+            end.exit_code()
+        }
+        None => run_program(rt.alloc(), rt, Ok(words), input, output, errors),
+    }
+}
+
 /// The whole program, but for where its words and streams come from: where the words ask for a run
 /// it runs, as `run_file` does, and tells how that ended; all other words it answers as
 /// `fwd_script::run_program` does. It returns the exit status. An end that cannot be told has the
@@ -48,16 +83,8 @@ pub fn run_all<
         × Performs (words_behind (map string_bytes list.items))
         end (I.remaining input.old) (W.contents output.old) (W.contents output.new)) }
 {
-    let words = match words {
-        Ok(words) => words,
-        Err(error) => return run_program(rt.alloc(), rt, Err(error), input, output, errors),
-    };
-    match asked_run(words.as_slice()) {
-        Some(run) => {
-            let end = run_file(rt, run, output);
-            let _told = tell(errors, &end);
-            end.exit_code()
-        }
-        None => run_program(rt.alloc(), rt, Ok(words), input, output, errors),
+    match words {
+        Ok(words) => run_words(rt, words, input, output, errors),
+        Err(error) => run_program(rt.alloc(), rt, Err(error), input, output, errors),
     }
 }
