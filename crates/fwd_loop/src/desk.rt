@@ -92,7 +92,7 @@ impl<'a> Desk<'a> {
         wait
     }
 
-    /// Closes the chunks that are due at a moment (milliseconds).
+    /// Closes the chunks that are due at a moment (milliseconds) after all admissions.
     pub fn flush<R: Wait>(&mut self, rt: &R, now: u64) {
         for lane in &mut self.lanes {
             lane.flush(rt, now);

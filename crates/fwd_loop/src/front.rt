@@ -56,7 +56,7 @@ impl Front {
             self.visit_all(rt, outputs, desk, now);
             let registry = self.poll.registry();
             self.lobby.accept(self.alloc, registry, &mut self.peers);
-            desk.flush(rt, now);
+            desk.flush(rt, clock.moment());
         }
         Ok(())
     }

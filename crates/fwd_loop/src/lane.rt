@@ -46,7 +46,7 @@ impl<'a> Lane<'a> {
         let Ok(ticket) = shared.admit(rt, self.alloc, &mut (), origin, batch, now) else {
             return Err(NotAdmitted);
         };
-        self.pace.admitted(now);
+        self.pace.admitted();
         match self.owed.keep(ticket) {
             Ok(()) => Ok(()),
             Err(ticket) => {
@@ -61,9 +61,10 @@ impl<'a> Lane<'a> {
         self.pace.due()
     }
 
-    /// Closes the chunks that are due at a moment (milliseconds), and wakes the output's workers
-    /// where it closed any.
+    /// Closes the chunks that are due at a moment (milliseconds) after all admissions, and wakes the
+    /// output's workers where it closed any.
     pub fn flush<R: Wait>(&mut self, rt: &R, now: u64) {
+        self.pace.look(now);
         let is_due = self.pace.due().is_some_and(|due| due <= now);
         if !is_due {
             return;

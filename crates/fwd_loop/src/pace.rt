@@ -10,7 +10,9 @@ const STEP: u64 = 5;
 pub(crate) struct Pace {
     /// How long a chunk waits for more entries.
     interval: u64,
-    /// When a request was admitted last.
+    /// Requests were admitted since the last look at the clock.
+    is_fresh: bool,
+    /// When the clock was looked at first, after a request was admitted last.
     latest: u64,
     /// When the next flush is due: never while no chunk can be open.
     due: Option<u64>,
@@ -23,17 +25,27 @@ impl Pace {
     pub fn new(interval: u64, wakers: Vec<Waker>) -> Pace {
         Pace {
             interval,
+            is_fresh: false,
             latest: 0,
             due: None,
             wakers,
         }
     }
 
-    /// A request was admitted at this moment.
-    pub fn admitted(&mut self, now: u64) {
-        self.latest = now;
-        if self.due.is_none() {
-            self.due = Some(now.saturating_add(self.interval));
+    /// A request was admitted.
+    pub fn admitted(&mut self) {
+        self.is_fresh = true;
+    }
+
+    /// The clock is looked at. An output takes the greatest moment that a thread handed in for that
+    /// of a request, so that only the moment after an admission is sure to be no less.
+    pub fn look(&mut self, now: u64) {
+        if self.is_fresh {
+            self.is_fresh = false;
+            self.latest = now;
+            if self.due.is_none() {
+                self.due = Some(now.saturating_add(self.interval));
+            }
         }
     }
 
