@@ -37,13 +37,7 @@ fn run_words<
     I: Read,
     W: Write,
     E: Write,
->(
-    rt: &R,
-    words: Vec<String>,
-    input: &mut I,
-    output: &mut W,
-    errors: &mut E,
-) -> u8
+>(rt: &R, words: Vec<String>, input: &mut I, output: &mut W, errors: &mut E) -> u8
     ensures { ((path : List ℕ) (turns : ℕ)
         → ¬ AsksRun (words_behind (map string_bytes words.items)) path turns)
         → (end : End) × (result ≡ end_code end)

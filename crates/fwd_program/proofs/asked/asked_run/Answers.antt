@@ -9,10 +9,9 @@ pub returns-in_ok-turns : goal.returns-in_ok-turns
 returns-in_ok-turns c =
     let word : string_bytes c.index-words-1.result ≡ codes "run" =
     sym c.as_str.ensures.value ∙ bytes_eq-true c.as_str.result.now (codes "run") (sym c.eq.ensures ∙ c.if-eq.true) in
-    let behind = map string_bytes (take (length c.args.words.now - 3) (drop 3 c.args.words.now)) in
-    (
+    let behind = map string_bytes (take (length c.args.words.now - 3) (drop 3 c.args.words.now)) in (
       behind,
       front string_bytes c.args.words.now c.index-words-1.result c.index-words-2.result c.if-words-lt3.false c.index-words-1.is c.index-words-2.is
-      ∙ ap (λ w. w ∷ string_bytes c.index-words-2.result ∷ behind) word ∙ ap (λ w. codes "run" ∷ w ∷ behind) (sym c.as_str-path.ensures.value),
+          ∙ ap (λ w. w ∷ string_bytes c.index-words-2.result ∷ behind) word ∙ ap (λ w. codes "run" ∷ w ∷ behind) (sym c.as_str-path.ensures.value),
       search rules,
     )
