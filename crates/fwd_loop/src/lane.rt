@@ -61,8 +61,8 @@ impl<'a> Lane<'a> {
         self.pace.due()
     }
 
-    /// Closes the chunks that are due at a moment (milliseconds) after all admissions, and wakes the
-    /// output's workers where it closed any.
+    /// Closes the chunks that are due at a moment (milliseconds) after all admissions, and wakes
+    /// the output's workers where it closed any.
     pub fn flush<R: Wait>(&mut self, rt: &R, now: u64) {
         self.pace.look(now);
         let is_due = self.pace.due().is_some_and(|due| due <= now);

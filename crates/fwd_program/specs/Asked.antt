@@ -11,4 +11,5 @@ turns_of (turns ∷ word ∷ words) = None
 -- words ask for a run by the settings in the file of this path, of so many turns
 abbrev pub AsksRun : List (List ℕ) → (path : List ℕ) → (turns : ℕ) → Type 0
 AsksRun words path turns =
-    (behind : List (List ℕ)) × (words ≡ codes "run" ∷ path ∷ behind) × (turns_of behind ≡ Some turns)
+    (behind : List (List ℕ))
+    × (words ≡ codes "run" ∷ path ∷ behind) × (turns_of behind ≡ Some turns)
