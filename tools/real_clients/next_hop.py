@@ -26,6 +26,12 @@ class NextHop(threading.Thread):
             threading.Thread(target=self.serve, args=(stream,), daemon=True).start()
 
     def serve(self, stream):
+        try:
+            self.take_all(stream)
+        except ConnectionError:
+            pass  # the relay was stopped
+
+    def take_all(self, stream):
         chunks = msgpack.Unpacker(raw=True, strict_map_key=False)
         while piece := stream.recv(65536):
             chunks.feed(piece)
