@@ -31,6 +31,8 @@ struct Places {
     due: Vec<Owner>,
     /// They were handed in, and came back: another chunk of the request is not settled yet.
     late: Vec<Owner>,
+    /// A chunk was settled since some came back: it may be that one.
+    is_stirred: bool,
     /// Memory was refused for these lists: all tickets are due.
     missed: bool,
 }
@@ -43,6 +45,7 @@ impl Places {
             by_chunk: BTreeMap::new(alloc),
             due: Vec::new(alloc),
             late: Vec::new(alloc),
+            is_stirred: false,
             missed: false,
         }
     }
@@ -60,8 +63,9 @@ impl Places {
         Ok(())
     }
 
-    /// A chunk is settled: the tickets that waited for it are due.
+    /// A chunk is settled: the tickets that waited for it are due, and those that came back.
     fn settle(&mut self, chunk: u64) {
+        self.is_stirred = self.is_stirred || !self.late.is_empty();
         let Some(mut owners) = self.by_chunk.remove(&chunk) else {
             return;
         };
@@ -119,7 +123,8 @@ impl Owed {
         }
     }
 
-    /// A chunk is settled: the tickets of requests that begin in it are to be handed in.
+    /// A chunk is settled: the tickets of requests that begin in it are to be handed in, and those
+    /// that came back.
     pub fn settle(&mut self, chunk: u64) {
         self.places.settle(chunk);
     }
@@ -131,7 +136,7 @@ impl Owed {
 
     /// Whether there are tickets to be handed in.
     pub fn is_due(&self) -> bool {
-        self.places.missed || !self.places.due.is_empty()
+        self.places.missed || self.places.is_stirred || !self.places.due.is_empty()
     }
 
     /// Takes out the tickets that are to be handed in.
@@ -139,6 +144,7 @@ impl Owed {
         let mut batch = Vec::new(self.alloc);
         let due = mem::replace(&mut self.places.due, Vec::new(self.alloc));
         let late = mem::replace(&mut self.places.late, Vec::new(self.alloc));
+        self.places.is_stirred = false;
         if mem::replace(&mut self.places.missed, false) {
             self.gather_all(&mut batch);
         } else {
@@ -196,8 +202,8 @@ impl Owed {
         Some(*owner)
     }
 
-    /// A ticket that was handed in came back. It is handed in again with the next ones. A ticket
-    /// that was not kept here is not taken.
+    /// A ticket that was handed in came back. It is handed in again once another chunk is settled. A
+    /// ticket that was not kept here is not taken.
     pub fn put_back(&mut self, ticket: Ticket) -> Result<(), Ticket> {
         let owner = Owner::from(ticket.origin());
         let Some(slot) = self.tickets.get_mut(&owner) else {
