@@ -5,6 +5,7 @@
 mod limits;
 mod peer;
 mod site;
+mod split;
 mod standby;
 mod torn;
 mod whole_way;
@@ -14,6 +15,9 @@ use anyhow::Result;
 fn main(rt: HostRuntime) -> Result<()> {
     let (seen, ended) = whole_way::whole_way(&rt)?;
     println!(rt; "the whole way: {seen:?}")?;
+    println!(rt; "  {ended:?}")?;
+    let (seen, ended) = split::split(&rt)?;
+    println!(rt; "a request in two chunks: {seen:?}")?;
     println!(rt; "  {ended:?}")?;
     let (seen, ended) = standby::standby(&rt)?;
     println!(rt; "a standby: {seen:?}")?;

@@ -34,14 +34,15 @@ pub fn free_site<R: Net<Listener = TcpListener, Stream = TcpStream>>(rt: &R) -> 
     })
 }
 
-/// What the settings of all relays here begin with, and their output but for its servers.
+/// What the settings of all relays here begin with, and their output but for its servers: each entry
+/// is alone in its chunk.
 fn front_text(alloc: Global, site: Site, connections: u16, ack_wait: u64) -> Result<String> {
     let (sources, monitors) = (site.sources, site.monitors);
     Ok(format!(in alloc;
         "[relay]\nlisten = \"{sources}\"\nmonitor = \"{monitors}\"\nconnections = {connections}\n\
         run_id = \"000000000000\"\n\
         seed = \"0000000000000000000000000000000000000000000000000000000000000000\"\n\
-        [[output]]\nmatch = \"**\"\nflush_interval = 0\nack_wait = {ack_wait}\nretry_wait = 1\n"
+        [[output]]\nmatch = \"**\"\nflush_interval = 0\nchunk_limit = 2\nack_wait = {ack_wait}\nretry_wait = 1\n"
     )?)
 }
 
