@@ -101,13 +101,14 @@ int dial(const char *host, const char *port) {
     return fd;
 }
 
-int listen_at(const char *port) {
+int listen_at(const char *port, int segment) {
     struct sockaddr_in address = {.sin_family = AF_INET, .sin_addr.s_addr = htonl(INADDR_LOOPBACK)};
     address.sin_port = htons((uint16_t)number_of("PORT", port, 0, 65535));
     int on = 1;
     socklen_t len = sizeof address;
     int fd = socket(AF_INET, SOCK_STREAM | SOCK_NONBLOCK | SOCK_CLOEXEC, 0);
     if (fd < 0 || setsockopt(fd, SOL_SOCKET, SO_REUSEADDR, &on, sizeof on) ||
+        (segment && setsockopt(fd, IPPROTO_TCP, TCP_MAXSEG, &segment, sizeof segment)) ||
         bind(fd, (struct sockaddr *)&address, sizeof address) || listen(fd, 4096) ||
         getsockname(fd, (struct sockaddr *)&address, &len))
         die("listen: %s", strerror(errno));

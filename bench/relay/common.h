@@ -28,8 +28,9 @@ long number_of(const char *name, const char *text, long least, long most);
 /* Connects, and tries for ten seconds where the connection is refused. The socket does not block. */
 int dial(const char *host, const char *port);
 
-/* Listens at a port of 127.0.0.1, or at a free one where it is 0, and prints the line `port N`. */
-int listen_at(const char *port);
+/* Listens at a port of 127.0.0.1, or at a free one where it is 0, for segments of at most so many bytes, or any where
+ * that is 0, and prints the line `port N`. */
+int listen_at(const char *port, int segment);
 
 /* The next connection that waits at a listener, which does not block, or -1. */
 int next_caller(int listener);

@@ -8,6 +8,10 @@
  *
  * by the monotonic clock, which all processes share, where bytes are those of the messages as they come here. At
  * SIGTERM it prints `messages E`, and ends.
+ *
+ * It asks for segments as on an Ethernet. Those of the loopback are longer than all that rsyslog's client sends without
+ * an answer, and since that lets the system hold back segments that are not full, it would stand still for a tenth of a
+ * second and more between answers, in some runs and not in others.
  */
 
 #include "common.h"
@@ -20,6 +24,7 @@
 #include <unistd.h>
 
 #define ROOM 262144
+#define SEGMENT 1448
 #define OFFERS "200 OK\nrelp_version=0\nrelp_software=relp_sink\ncommands=syslog"
 
 struct conn {
@@ -152,7 +157,7 @@ int main(int argc, char **argv) {
     total = number_of("TOTAL", argv[1], 1, 1000000000000);
     catch_stop();
     int epoll = new_epoll();
-    int listener = listen_at(argv[2]);
+    int listener = listen_at(argv[2], SEGMENT);
     watch(epoll, listener, NULL);
     struct epoll_event events[256];
     while (!is_stopped) {

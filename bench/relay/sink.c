@@ -7,8 +7,8 @@
  *     messages M entries E bytes B
  *
  * where entries are the sum of the options `size`, and bytes are those of the packed entries, which it does not look
- * at. With --silent it acknowledges nothing. What is no message in PackedForward mode with a `chunk` ends it with status
- * 1.
+ * at. With --silent it acknowledges nothing. It ends with status 1 at what is no message in PackedForward mode with a
+ * `chunk`.
  */
 
 #include "common.h"
@@ -230,7 +230,7 @@ int main(int argc, char **argv) {
         die("sink [--silent] PORT");
     catch_stop();
     int epoll = new_epoll();
-    int listener = listen_at(argv[argc - 1]);
+    int listener = listen_at(argv[argc - 1], 0);
     watch(epoll, listener, NULL);
     struct epoll_event events[256];
     while (!is_stopped) {
