@@ -10,8 +10,9 @@
 #
 #     RELAY=PATH          the program
 #     QUICK=1             a small run of some seconds, to see that all works
-#     ENTRIES=1000000     entries of a row; a fifth of them with one entry in a request, and over RELP
+#     ENTRIES=1000000     entries of a row; a fifth of them with one entry in a request, and over RELP (QUICK: 20000)
 #     WINDOW=4            unacknowledged requests of a connection
+#     SECONDS_MOST=5      seconds after which a row sends no more, also where it has not sent all its entries
 #     TIMEOUT=60          seconds after which a row has failed
 #     WAYS="direct socat relay rsyslog"     which ways are measured
 #
@@ -48,10 +49,11 @@ else
 fi
 window=${WINDOW:-4}
 limit=${TIMEOUT:-60}
+seconds=${SECONDS_MOST:-5}
 ways=${WAYS:-direct socat relay rsyslog}
 tick=$(getconf CLK_TCK)
 
-[ -x "$(command -v socat)" ] && [ -x /usr/sbin/rsyslogd ] && [ -f /usr/lib/*/rsyslog/omrelp.so ] || {
+[ -x "$(command -v socat)" ] && [ -x /usr/sbin/rsyslogd ] && ls /usr/lib/*/rsyslog/omrelp.so >/dev/null 2>&1 || {
     apt-get update -q && apt-get install -qy --no-install-recommends socat rsyslog rsyslog-relp
 } >&2
 
@@ -240,7 +242,7 @@ row() {
     start_middle
     print_front "$1" "$2"
     if generate "$folder/generator" --connections "$1" --entries "$2" --total "$3" --window "$window" \
-        --timeout "$limit" 127.0.0.1 "$port"; then
+        --seconds "$seconds" --timeout "$limit" 127.0.0.1 "$port"; then
         printf ' %10s %8s' "$(field entries/s "$folder/generator.out")" "$(field MB/s "$folder/generator.out")"
         print_costs "$(field entries "$folder/generator.out")"
         check_sink

@@ -7,6 +7,7 @@
  *     --total E         ends once so many entries are acknowledged, rounded up to whole requests (100000)
  *     --window W        the most unacknowledged requests of a connection (4)
  *     --tags T          the requests go round so many tags (1)
+ *     --seconds S       sends no more requests after so many seconds, and ends once all that were sent are acknowledged
  *     --timeout S       ends with status 1 after so many seconds (60)
  *     --latency         also prints the median and the 99th percentile of the round trips
  *     --hold S          sends W requests over each connection, prints `holding` once all are sent, and then only reads
@@ -38,7 +39,7 @@
 #define WINDOW_MOST 500
 
 static const char *host, *port;
-static long connections = 1, entries = 100, total = 100000, window = 4, tags = 1, timeout_s = 60, hold_s;
+static long connections = 1, entries = 100, total = 100000, window = 4, tags = 1, timeout_s = 60, seconds_s, hold_s;
 static int is_latency;
 
 /* A request that was made beforehand. */
@@ -70,7 +71,7 @@ struct conn {
 static struct request *made;
 static long made_count, wanted, begun, all_sent, acked;
 static size_t acked_bytes;
-static double *trips;
+static double start, *trips;
 
 /* Requests of about 4 MB in all, and at least one of each tag. */
 static void make_requests(void) {
@@ -187,13 +188,15 @@ static void serve(struct conn *conn) {
     send_queue(conn);
 }
 
-/* Serves the connections until a moment, or until so many requests are sent and so many acknowledged. */
-static void serve_until(int epoll, double deadline, long until_sent, long until_acked) {
+/* Serves the connections until a moment, or until a count comes to the requests that are wanted. */
+static void serve_until(int epoll, double deadline, const long *count) {
     struct epoll_event events[256];
-    while (moment_s() < deadline && (all_sent < until_sent || acked < until_acked)) {
-        int count = wait_unless_stopped(epoll, events, 256, 100);
-        for (int i = 0; i < count; i++)
+    for (double now = moment_s(); now < deadline && *count < wanted; now = moment_s()) {
+        int ready = wait_unless_stopped(epoll, events, 256, 100);
+        for (int i = 0; i < ready; i++)
             serve(events[i].data.ptr);
+        if (seconds_s && now > start + (double)seconds_s)
+            wanted = begun;
     }
 }
 
@@ -225,6 +228,7 @@ static void read_option(int option) {
     case 'w': window = number_of("--window", optarg, 1, WINDOW_MOST); break;
     case 't': tags = number_of("--tags", optarg, 1, 100000); break;
     case 's': timeout_s = number_of("--timeout", optarg, 1, 1000000); break;
+    case 'u': seconds_s = number_of("--seconds", optarg, 1, 1000000); break;
     case 'h': hold_s = number_of("--hold", optarg, 1, 1000000); break;
     case 'l': is_latency = 1; break;
     default: die("generator [OPTIONS] HOST PORT");
@@ -236,7 +240,8 @@ static void read_words(int argc, char **argv) {
         {"connections", required_argument, NULL, 'k'}, {"entries", required_argument, NULL, 'n'},
         {"total", required_argument, NULL, 'e'},       {"window", required_argument, NULL, 'w'},
         {"tags", required_argument, NULL, 't'},        {"timeout", required_argument, NULL, 's'},
-        {"hold", required_argument, NULL, 'h'},        {"latency", no_argument, NULL, 'l'},
+        {"seconds", required_argument, NULL, 'u'},     {"hold", required_argument, NULL, 'h'},
+        {"latency", no_argument, NULL, 'l'},
         {NULL, 0, NULL, 0},
     };
     int option;
@@ -249,17 +254,30 @@ static void read_words(int argc, char **argv) {
     wanted = hold_s ? connections * window : (total + entries - 1) / entries;
 }
 
-/* Sends all and holds: whether all could be sent. */
-static int hold(int epoll, double deadline) {
-    serve_until(epoll, deadline, wanted, 0);
+/* Sends all, where it can by then, and then only reads for a while. */
+static void hold(int epoll, double deadline) {
+    static const long never = -1;
+    serve_until(epoll, deadline, &all_sent);
     if (all_sent < wanted)
-        return 0;
+        die("timeout: sent %ld of %ld requests", all_sent, wanted);
     printf("holding %ld\n", all_sent);
     if (fflush(stdout))
         die("output: %s", strerror(errno));
-    serve_until(epoll, moment_s() + (double)hold_s, wanted + 1, 0);
+    serve_until(epoll, moment_s() + (double)hold_s, &never);
     printf("acknowledged %ld\n", acked);
-    return 1;
+}
+
+/* Sends all and waits for all acknowledgements, where they come by then, and prints how fast that was. */
+static void run(int epoll, double deadline) {
+    serve_until(epoll, deadline, &acked);
+    double took = moment_s() - start;
+    if (acked < wanted)
+        die("timeout: sent %ld and acknowledged %ld of %ld requests", all_sent, acked, wanted);
+    double count = (double)acked * (double)entries;
+    printf("entries %.0f seconds %.4f entries/s %.0f MB/s %.1f bytes %zu\n", count, took, count / took,
+           (double)acked_bytes / took / 1e6, acked_bytes);
+    if (is_latency)
+        print_latency();
 }
 
 int main(int argc, char **argv) {
@@ -268,20 +286,9 @@ int main(int argc, char **argv) {
     trips = is_latency ? room_for((size_t)wanted, sizeof *trips) : NULL;
     struct conn *conns = open_all();
     int epoll = new_epoll();
-    double start = moment_s();
+    start = moment_s();
     for (long i = 0; i < connections; i++)
         watch(epoll, conns[i].fd, &conns[i]);
-    if (hold_s && hold(epoll, start + (double)timeout_s))
-        return 0;
-    if (!hold_s)
-        serve_until(epoll, start + (double)timeout_s, wanted, wanted);
-    if (hold_s || acked < wanted)
-        die("timeout: sent %ld and acknowledged %ld of %ld requests", all_sent, acked, wanted);
-    double took = moment_s() - start;
-    double count = (double)acked * (double)entries;
-    printf("entries %.0f seconds %.4f entries/s %.0f MB/s %.1f bytes %zu\n", count, took, count / took,
-           (double)acked_bytes / took / 1e6, acked_bytes);
-    if (is_latency)
-        print_latency();
+    (hold_s ? hold : run)(epoll, start + (double)timeout_s);
     return fflush(stdout) ? 1 : 0;
 }
