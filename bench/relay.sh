@@ -40,12 +40,15 @@
 # relay takes of one core in 10 s of it, and how long it takes to forget them once all connections close.
 #
 # Latency: round trips with one connection and one outstanding request of one entry.
+#
+# Pieces: one request of 4,000,000 bytes that comes in pieces of 1,448 bytes, as from a slow network, see pieces.py.
 set -eu
+export LC_ALL=C
 
 if [ "${QUICK:-0}" = 1 ]; then
-    entries=${ENTRIES:-20000} idle_conns=100 idle_s=3 trips=300
+    entries=${ENTRIES:-20000} idle_conns=100 idle_s=3 trips=300 long=1000000
 else
-    entries=${ENTRIES:-1000000} idle_conns=1000 idle_s=10 trips=3000
+    entries=${ENTRIES:-1000000} idle_conns=1000 idle_s=10 trips=3000 long=4000000
 fi
 window=${WINDOW:-4}
 limit=${TIMEOUT:-60}
@@ -89,7 +92,7 @@ end_all() {
 }
 
 trap 'end_all; rm -rf "$folder"' EXIT
-trap 'exit 1' HUP INT TERM
+trap 'exit 1' HUP INT PIPE TERM
 
 for program in generator sink relp_generator relp_sink; do
     cc -O2 -Wall -Wextra -o "$folder/$program" "bench/relay/$program.c" bench/relay/common.c bench/relay/entries.c
@@ -176,9 +179,9 @@ cpu_of() {
 }
 
 memory_of() {
-    for id in $(family "$1"); do
-        cat "/proc/$id/status" 2>/dev/null || true
-    done | awk '/^VmHWM/ { sum += $2 } END { printf "%.1f", sum * 1024 / 1e6 }'
+    # one that has ended by now is left out
+    cat $(family "$1" | tr ' ' '\n' | sed '/./!d; s:.*:/proc/&/status:') 2>/dev/null |
+        awk '/^VmHWM/ { sum += $2 } END { printf "%.1f", sum * 1024 / 1e6 }'
 }
 
 # waits until all children of socat have ended, so that their time is counted
@@ -342,6 +345,15 @@ latency() {
     end_all
 }
 
+# a long request in small pieces
+pieces() {
+    start_sink "$folder/sink"
+    start_middle
+    "$folder/generator" --total 1 --entries 1 --timeout "$limit" 127.0.0.1 "$port" >"$folder/generator.out"
+    /usr/bin/python3 bench/relay/pieces.py "$port" "$long" 1448 1 "$middle" || fail pieces
+    end_all
+}
+
 # calls a function for each of the ways, with all settings of the relay
 each_way() {
     for way in $ways; do
@@ -372,5 +384,8 @@ ways=direct
 each_way latency
 ways=$(printf '%s\n' $wanted | grep -E '^(socat|relay)$' || true)
 each_way latency
+
+way=relay flush=0 workers=1
+pieces
 
 [ "$failures" = 0 ] || { echo "failed: $failures"; exit 1; }
