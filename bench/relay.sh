@@ -41,6 +41,9 @@
 #
 # Latency: round trips with one connection and one outstanding request of one entry.
 #
+# Spans: requests of 1,000 entries, 200,000 bytes, one outstanding, where a chunk has at most 50,000 bytes: it fails where
+# one that goes over several chunks is not acknowledged within 10 s.
+#
 # Pieces: one request of 4,000,000 bytes that comes in pieces of 1,448 bytes, as from a slow network, see pieces.py.
 set -eu
 export LC_ALL=C
@@ -132,6 +135,7 @@ connections = 1024
 [[output]]
 match = "**"
 flush_interval = $flush
+chunk_limit = ${chunk_limit:-8000000}
 workers = $workers
 [[output.server]]
 address = "127.0.0.1:$sink_port"
@@ -345,6 +349,14 @@ latency() {
     end_all
 }
 
+# requests that go over several chunks, in a row of its own
+spans() {
+    chunk_limit=50000 window=1 limit=10
+    printf 'spans: '
+    row 1 1000 100000
+    chunk_limit=''
+}
+
 # a long request in small pieces
 pieces() {
     start_sink "$folder/sink"
@@ -387,5 +399,6 @@ each_way latency
 
 way=relay flush=0 workers=1
 pieces
+spans
 
 [ "$failures" = 0 ] || { echo "failed: $failures"; exit 1; }
