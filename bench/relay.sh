@@ -41,8 +41,8 @@
 #
 # Latency: round trips with one connection and one outstanding request of one entry.
 #
-# Spans: requests of 1,000 entries, 200,000 bytes, one outstanding, where a chunk has at most 50,000 bytes: the row fails
-# where one that goes over several chunks is not acknowledged within 10 s.
+# Spans: requests of 1,000 entries, 200,000 bytes, one outstanding, where a chunk has at most 50,000 bytes: the row
+# fails where one that goes over several chunks is not acknowledged within 10 s.
 #
 # Pieces: one request of 4,000,000 bytes that comes in pieces of 1,448 bytes, as from a slow network, see pieces.py.
 set -eu
