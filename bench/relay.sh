@@ -1,0 +1,404 @@
+#!/bin/sh
+# How fast the relay hands on entries, beside a bare proxy and beside rsyslog, and what it takes.
+#
+#     sh bench/relay.sh
+#
+# Run at the top of the repository, on a quiet machine: the whole takes at most about ten minutes, and all programs of a
+# row share the cores. It needs cc, python3 and Debian's socat, rsyslog and rsyslog-relp, which it installs where they
+# are absent. It proves and builds crates/forward_relay, unless RELAY names a built program, and listens at free ports
+# of 127.0.0.1 only. It ends with 1 where a row failed.
+#
+#     RELAY=PATH          the program
+#     QUICK=1             a small run of some seconds, to see that all works
+#     ENTRIES=1000000     entries of a row; a fifth of them with one entry in a request, and over RELP (QUICK: 20000)
+#     WINDOW=4            unacknowledged requests of a connection
+#     SECONDS_MOST=5      seconds after which a row sends no more, also where it has not sent all its entries
+#     TIMEOUT=60          seconds after which a row has failed
+#     WAYS="direct socat relay rsyslog"     which ways are measured
+#
+# The ways, each from bench/relay/generator.c to bench/relay/sink.c (for RELP relp_generator.c and relp_sink.c), which
+# say at their heads what they do:
+#
+#     direct          nothing between: what the two can do at most
+#     socat           `socat TCP-LISTEN,fork TCP`, a process a connection, which copies bytes and knows nothing of them
+#     relay F W       forward_relay with flush_interval F ms and W workers
+#     rsyslog         rsyslogd with imrelp and omrelp, a message of about 200 bytes for an entry, one in a frame, at
+#                     most 128 unanswered a connection. It answers a message once it is in its own queue, in memory,
+#                     and not once the next hop has it: so it promises less than the relay. Its row is the time from the
+#                     first message that relp_generator sends until relp_sink, behind rsyslogd, has all of them.
+#
+# Entries are about 200 bytes, and MB/s counts them alone (a MB is 10^6 bytes). In all other ways the time is that from
+# the first byte that the generator sends to the last acknowledgement that it gets. `cpu s/M` are the processor seconds,
+# user and system, of the process in the middle for a million entries, its start included, of socat with its children;
+# `MB` is its greatest resident memory (VmHWM), of socat the greatest sum over its processes, looked at now and then, in
+# which pages that they share count for each.
+#
+# A row has failed where not all was acknowledged in time, or where the entries or bytes that came to the sink are not
+# exactly those that were sent.
+#
+# Idle: 1,000 connections with 100 outstanding requests of one entry each, while the sink acknowledges nothing: what the
+# relay takes of one core in 10 s of it, and how long it takes to forget them once all connections close.
+#
+# Latency: round trips with one connection and one outstanding request of one entry.
+#
+# Spans: requests of 1,000 entries, 200,000 bytes, one outstanding, where a chunk has at most 50,000 bytes: the row
+# fails where one that goes over several chunks is not acknowledged within 10 s.
+#
+# Pieces: one request of 4,000,000 bytes that comes in pieces of 1,448 bytes, as from a slow network, see pieces.py.
+set -eu
+export LC_ALL=C
+
+if [ "${QUICK:-0}" = 1 ]; then
+    entries=${ENTRIES:-20000} idle_conns=100 idle_s=3 trips=300 long=1000000
+else
+    entries=${ENTRIES:-1000000} idle_conns=1000 idle_s=10 trips=3000 long=4000000
+fi
+window=${WINDOW:-4}
+limit=${TIMEOUT:-60}
+seconds=${SECONDS_MOST:-5}
+ways=${WAYS:-direct socat relay rsyslog}
+tick=$(getconf CLK_TCK)
+
+[ -x "$(command -v socat)" ] && [ -x /usr/sbin/rsyslogd ] && ls /usr/lib/*/rsyslog/omrelp.so >/dev/null 2>&1 || {
+    apt-get update -q && apt-get install -qy --no-install-recommends socat rsyslog rsyslog-relp
+} >&2
+
+[ -n "${RELAY:-}" ] || {
+    (cd crates/forward_relay && rt run -- check ../../examples/relay.toml >&2)
+    RELAY=$PWD/crates/forward_relay/out/forward_relay
+}
+
+ulimit -n "$(ulimit -H -n)"
+
+folder=$(mktemp -d)
+sink='' middle='' generator=''
+
+# a process and its children
+family() {
+    echo "$1"
+    cat "/proc/$1/task/$1/children" 2>/dev/null || true
+}
+
+# ends a process and its children, by their ids
+end() {
+    [ -z "$1" ] || {
+        kill -TERM $(family "$1") 2>/dev/null || true
+        wait "$1" 2>/dev/null || true
+    }
+}
+
+end_all() {
+    end "$generator"
+    end "$middle"
+    end "$sink"
+    sink='' middle='' generator=''
+}
+
+trap 'end_all; rm -rf "$folder"' EXIT
+trap 'exit 1' HUP INT PIPE TERM
+
+for program in generator sink relp_generator relp_sink; do
+    cc -O2 -Wall -Wextra -o "$folder/$program" "bench/relay/$program.c" bench/relay/common.c bench/relay/entries.c
+done
+
+free_port() {
+    /usr/bin/python3 -c 'import socket; it = socket.socket(); it.bind(("127.0.0.1", 0)); print(it.getsockname()[1])'
+}
+
+# the word behind a name in a line of names and values
+field() {
+    awk -v name="$1" '{ for (i = 1; i < NF; i++) if ($i == name) { print $(i + 1); exit } }' "$2"
+}
+
+# waits until a file has a line that begins with a word, at most so many tenths of a second
+await() {
+    for _ in $(seq "$3"); do
+        grep -q "^$1" "$2" && return 0
+        sleep 0.1
+    done
+    return 1
+}
+
+start_sink() {
+    : >"$folder/sink.out"
+    "$@" 0 >"$folder/sink.out" &
+    sink=$!
+    await port "$folder/sink.out" 100
+    sink_port=$(field port "$folder/sink.out")
+}
+
+write_settings() {
+    cat >"$folder/relay.toml" <<TOML
+[relay]
+listen = "127.0.0.1:$port"
+connections = 1024
+[[output]]
+match = "**"
+flush_interval = $flush
+chunk_limit = ${chunk_limit:-8000000}
+workers = $workers
+[[output.server]]
+address = "127.0.0.1:$sink_port"
+TOML
+}
+
+write_rsyslog() {
+    cat >"$folder/rsyslog.conf" <<CONF
+global(workDirectory="$folder")
+main_queue(queue.type="LinkedList" queue.size="100000" queue.timeoutEnqueue="600000")
+module(load="imrelp")
+module(load="omrelp")
+input(type="imrelp" address="127.0.0.1" port="$port" ruleset="on")
+ruleset(name="on") { action(type="omrelp" target="127.0.0.1" port="$sink_port") }
+CONF
+}
+
+# starts what is in the middle: sets its process and the port to send to
+start_middle() {
+    port=$(free_port)
+    case $way in
+    direct)
+        port=$sink_port middle=''
+        return
+        ;;
+    socat)
+        socat "TCP-LISTEN:$port,bind=127.0.0.1,fork,reuseaddr,nodelay,backlog=1024" \
+            "TCP:127.0.0.1:$sink_port,nodelay" &
+        ;;
+    relay)
+        write_settings
+        "$RELAY" run "$folder/relay.toml" >"$folder/relay.out" &
+        ;;
+    rsyslog)
+        write_rsyslog
+        /usr/sbin/rsyslogd -n -f "$folder/rsyslog.conf" -i "$folder/rsyslog.pid" 2>"$folder/rsyslog.err" &
+        ;;
+    esac
+    middle=$!
+}
+
+# processor seconds that a process took, its threads and the children that have ended included
+cpu_of() {
+    sed 's/.*) //' "/proc/$1/stat" | awk -v tick="$tick" '{ print ($12 + $13 + $14 + $15) / tick }'
+}
+
+memory_of() {
+    # one that has ended by now is left out
+    cat $(family "$1" | tr ' ' '\n' | sed '/./!d; s:.*:/proc/&/status:') 2>/dev/null |
+        awk '/^VmHWM/ { sum += $2 } END { printf "%.1f", sum * 1024 / 1e6 }'
+}
+
+# waits until all children of socat have ended, so that their time is counted
+await_children() {
+    for _ in $(seq 50); do
+        [ -n "$(cat "/proc/$1/task/$1/children")" ] || return 0
+        sleep 0.1
+    done
+}
+
+failures=0
+fail() {
+    echo "    FAILED: $*"
+    failures=$((failures + 1))
+}
+
+# runs a generator to its end, and looks at the memory of socat's processes meanwhile
+generate() {
+    "$@" >"$folder/generator.out" 2>"$folder/generator.err" &
+    generator=$!
+    memory=0
+    while [ "$way" = socat ] && kill -0 "$generator" 2>/dev/null; do
+        memory=$(printf '%s\n' "$memory" "$(memory_of "$middle")" | sort -n | tail -n 1)
+        sleep 0.2
+    done
+    wait "$generator" && status=0 || status=$?
+    generator=''
+    [ "$way" = socat ] || [ -z "$middle" ] || memory=$(memory_of "$middle")
+    return "$status"
+}
+
+# the processor seconds for a million entries and the memory of what is in the middle
+print_costs() {
+    if [ -z "$middle" ]; then
+        printf ' %8s %8s\n' - -
+        return
+    fi
+    [ "$way" != socat ] || await_children "$middle"
+    cpu_of "$middle" | awk -v count="$1" -v memory="$memory" '{ printf " %8.2f %8.1f\n", $1 / count * 1e6, memory }'
+}
+
+# a row's front: its way, its connections, the entries of a request
+print_front() {
+    printf '%-14s %6d %8d' "$way${flush:+ $flush $workers}" "$1" "$2"
+}
+
+# whether the sink got exactly what was sent
+check_sink() {
+    end "$sink"
+    sink=''
+    for name in entries bytes; do
+        sent=$(field "$name" "$folder/generator.out")
+        got=$(field "$name" "$folder/sink.out")
+        [ "$sent" = "$got" ] || fail "$name: sent $sent, at the sink $got"
+    done
+}
+
+# a row of the Forward Protocol: CONNECTIONS ENTRIES_A_REQUEST ENTRIES
+row() {
+    start_sink "$folder/sink"
+    start_middle
+    print_front "$1" "$2"
+    if generate "$folder/generator" --connections "$1" --entries "$2" --total "$3" --window "$window" \
+        --seconds "$seconds" --timeout "$limit" 127.0.0.1 "$port"; then
+        printf ' %10s %8s' "$(field entries/s "$folder/generator.out")" "$(field MB/s "$folder/generator.out")"
+        print_costs "$(field entries "$folder/generator.out")"
+        check_sink
+    else
+        fail "$(cat "$folder/generator.err")"
+    fi
+    end_all
+}
+
+# a row of RELP: CONNECTIONS ENTRIES. The time ends when the last sink has all of them.
+relp_row() {
+    start_sink "$folder/relp_sink" "$2"
+    start_middle
+    print_front "$1" 1
+    if generate "$folder/relp_generator" --connections "$1" --total "$2" --timeout "$limit" 127.0.0.1 "$port" &&
+        await full "$folder/sink.out" $((10 * limit)); then
+        count=$(field entries "$folder/sink.out")
+        memory=$(memory_of "$middle")
+        echo "$(field start "$folder/generator.out") $(field full "$folder/sink.out") $count" \
+            "$(field bytes "$folder/sink.out")" |
+            awk '{ took = $2 - $1; printf " %10.0f %8.1f", $3 / took, $4 / took / 1e6 }'
+        print_costs "$count"
+    else
+        fail "$(cat "$folder/generator.err")"
+    fi
+    end_all
+}
+
+# the rows of a way: connections with 100 entries in a request, then entries in a request with 10 connections
+rows() {
+    for conns in 1 10 100 1000; do
+        if [ "$way" = rsyslog ]; then
+            relp_row "$conns" $((entries / 5))
+        else
+            row "$conns" 100 "$entries"
+        fi
+    done
+    if [ "$way" != rsyslog ]; then
+        row 10 1 $((entries / 5))
+        row 10 10000 "$entries"
+    fi
+}
+
+# what the relay takes of one core while 1,000 connections wait, and how long it is busy once they have gone
+idle() {
+    way=relay flush=0
+    start_sink "$folder/sink" --silent
+    start_middle
+    "$folder/generator" --connections "$idle_conns" --entries 1 --window 100 --hold $((idle_s + 3)) --timeout "$limit" \
+        127.0.0.1 "$port" >"$folder/generator.out" 2>"$folder/generator.err" &
+    generator=$!
+    if await holding "$folder/generator.out" $((10 * limit)); then
+        sleep 2
+        before=$(cpu_of "$middle")
+        sleep "$idle_s"
+        after=$(cpu_of "$middle")
+        echo "$before $after" | awk -v span="$idle_s" -v conns="$idle_conns" -v workers="$workers" \
+            '{ printf "idle, %d connections with 100 requests each, workers %d: %.2f %% of a core\n",
+               conns, workers, ($2 - $1) / span * 100 }'
+        wait "$generator" || fail "idle: $(cat "$folder/generator.err")"
+        generator=''
+        farewell
+    else
+        fail "idle: $(cat "$folder/generator.out" "$folder/generator.err")"
+    fi
+    end_all
+}
+
+# how long the relay is busy after all connections have closed: until it takes less than a fifth of a core, or a minute
+farewell() {
+    start=$(cpu_of "$middle")
+    last=$start
+    for second in $(seq 60); do
+        sleep 1
+        now=$(cpu_of "$middle")
+        echo "$last $now" | awk '{ exit !($2 - $1 < 0.2) }' && break
+        last=$now
+    done
+    echo "$start $now" | awk -v second="$second" \
+        '{ printf "    once all have closed: %.2f processor seconds, busy for at most %d s\n", $2 - $1, second }'
+}
+
+# round trips of a way, in milliseconds: median and 99th percentile, and what they are more than those of the first call
+latency() {
+    start_sink "$folder/sink"
+    start_middle
+    if generate "$folder/generator" --window 1 --entries 1 --total "$trips" --latency --timeout "$limit" \
+        127.0.0.1 "$port"; then
+        median=$(field median_ms "$folder/generator.out")
+        p99=$(field p99_ms "$folder/generator.out")
+        : "${direct_median:=$median}" "${direct_p99:=$p99}"
+        echo "$median $p99 $direct_median $direct_p99" | awk -v name="$way${flush:+ $flush $workers}" \
+            '{ printf "%-14s %8.3f %8.3f %12.3f %8.3f\n", name, $1, $2, $1 - $3, $2 - $4 }'
+    else
+        fail "$(cat "$folder/generator.err")"
+    fi
+    end_all
+}
+
+# requests that go over several chunks, in a row of its own
+spans() {
+    chunk_limit=50000 window=1 limit=10
+    printf 'spans: '
+    row 1 1000 100000
+    chunk_limit=''
+}
+
+# a long request in small pieces
+pieces() {
+    start_sink "$folder/sink"
+    start_middle
+    "$folder/generator" --total 1 --entries 1 --timeout "$limit" 127.0.0.1 "$port" >"$folder/generator.out"
+    /usr/bin/python3 bench/relay/pieces.py "$port" "$long" 1448 1 "$middle" || fail pieces
+    end_all
+}
+
+# calls a function for each of the ways, with all settings of the relay
+each_way() {
+    for way in $ways; do
+        flush='' workers=''
+        if [ "$way" = relay ]; then
+            for setting in '0 1' '0 4' '10 1' '10 4'; do
+                flush=${setting% *} workers=${setting#* }
+                "$1"
+            done
+        else
+            "$1"
+        fi
+    done
+}
+
+echo "cores $(nproc), entries of a row $entries, unacknowledged requests of a connection $window"
+printf '%-14s %6s %8s %10s %8s %8s %8s\n' way conns entries/r entries/s MB/s 'cpu s/M' MB
+each_way rows
+
+workers=1
+idle
+workers=4
+idle
+
+echo "round trips in ms: median, 99th percentile, and both less those of the direct way"
+wanted=$ways
+ways=direct
+each_way latency
+ways=$(printf '%s\n' $wanted | grep -E '^(socat|relay)$' || true)
+each_way latency
+
+way=relay flush=0 workers=1
+pieces
+spans
+
+[ "$failures" = 0 ] || { echo "failed: $failures"; exit 1; }
