@@ -19,7 +19,7 @@ const TURNS: u64 = 300;
 
 /// What both sides saw.
 #[derive(Debug, Drop)]
-pub struct Split {
+pub struct Halves {
     pub first: String,
     pub silent: bool,
     pub second: String,
@@ -31,7 +31,7 @@ fn play<R: Net<Listener = TcpListener, Stream = TcpStream> + Clock + AllocGlobal
     rt: &R,
     site: Site,
     server: &TcpListener,
-) -> Result<Split> {
+) -> Result<Halves> {
     let alloc = rt.alloc();
     let source = connect(rt, site.sources)?;
     send(&source, TWO)?;
@@ -42,7 +42,7 @@ fn play<R: Net<Listener = TcpListener, Stream = TcpStream> + Clock + AllocGlobal
     let silent = is_silent(&source)?;
     send(&link, &ack(alloc, &second)?)?;
     let told = value(alloc, &source)?;
-    Ok(Split {
+    Ok(Halves {
         first: encode(alloc, &first)?,
         silent,
         second: encode(alloc, &second)?,
@@ -59,7 +59,7 @@ pub fn split<
         + Files
         + AllocGlobal
         + Sync,
->(rt: &R) -> Result<(Split, Ended)> {
+>(rt: &R) -> Result<(Halves, Ended)> {
     let server = listen(rt)?;
     let site = free_site(rt)?;
     let relay = relay(rt, site, 4, 10_000, &[server.local_addr()?])?;
