@@ -8,8 +8,6 @@ mod numbers;
 mod receipt;
 mod requests;
 mod stored;
-#[cfg(test)]
-mod tests;
 
 pub use book::Book;
 pub use laws::{live_follows, origins_are_enough, receipts_are_right, stays_sound};

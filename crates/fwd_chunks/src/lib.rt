@@ -24,8 +24,6 @@ mod slots;
 mod span;
 mod stage;
 mod tags;
-#[cfg(test)]
-mod tests;
 
 pub use buffer::Buffer;
 pub use carried::Carried;

@@ -14,17 +14,10 @@ ghost use Rattle.fwd_model.specs.Live.{lives};
 
 use fwd_handshake::{Nonces, Security};
 use fwd_model::{Answer, Refusal};
-use fwd_msgpack::Limits;
-use fwd_source::{Piece, Source};
+use fwd_source::{Piece, SOURCE_LIMITS, Source};
 use std::alloc::{AllocError, Global};
 use std::marker::Model;
 use std::sync::Arc;
-
-/// How long and how deep a value of a source may be.
-const SOURCE_LIMITS: Limits = Limits {
-    bytes: 16_777_216,
-    depth: 64,
-};
 
 /// A connection.
 #[derive(Drop)]

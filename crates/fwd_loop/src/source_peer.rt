@@ -4,17 +4,10 @@ use crate::stream::{Visit, fill, send};
 use fwd_handshake::{Nonces, Security};
 use fwd_match::Routes;
 use fwd_modes::{Batch, write_ack};
-use fwd_msgpack::Limits;
-use fwd_source::{Origin, Piece, Source};
+use fwd_source::{Origin, Piece, SOURCE_LIMITS, Source};
 use mio::net::TcpStream;
 use std::alloc::{AllocError, Global};
 use std::sync::Arc;
-
-/// How long and how deep a value of a source may be.
-const SOURCE_LIMITS: Limits = Limits {
-    bytes: 16_777_216,
-    depth: 64,
-};
 
 /// How many bytes an acknowledgement has in front of the chunk's value: a map of one, and `ack`.
 const ACK_FRONT: usize = 5;

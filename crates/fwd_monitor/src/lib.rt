@@ -9,8 +9,6 @@ mod limits;
 mod pages;
 mod reply;
 mod status;
-#[cfg(test)]
-mod tests;
 
 pub use answering::answer;
 pub use laws::{one_head, one_reply};

@@ -11,8 +11,6 @@ mod laws;
 mod outbox;
 mod salt;
 mod session;
-#[cfg(test)]
-mod tests;
 mod told;
 mod word;
 

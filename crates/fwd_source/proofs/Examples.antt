@@ -1,5 +1,5 @@
 -- A connection at work on a few pieces: open, with a shared key, and at a gate.
-use Rattle.std.proofs.Common.{◌≡◌, ℕ, Bool, true, false, List, [], ◌∷◌, ◌++◌, Option, Some, None, refl, arith, le_refl}
+use Rattle.std.proofs.Common.{◌≡◌, ℕ, false, List, [], ◌∷◌, ◌++◌, Option, Some, None, refl, arith, le_refl}
 use Rattle.std.specs.Prelude.{codes, replicate}
 use Rattle.fwd_msgpack.specs.Heads.{row_of, named_rows, reading_of, head_bytes}
 use Rattle.fwd_msgpack.specs.Scans.{first_of, fault_at, item_begun, payload_ended, split_of, row_of_values, parts_of}
@@ -13,7 +13,7 @@ use Rattle.fwd_handshake.specs.Messages.{helo_text}
 use Rattle.fwd_handshake.specs.Verdicts.{ping_verdict}
 use Rattle.fwd_source.specs.declared.fault.SourceFault.TheVariants.{Scan, NotPing, Denied}
 use Rattle.fwd_source.specs.declared.piece.Piece.TheVariants as piece
-use Rattle.fwd_source.specs.Judged.{judged_of, is_nil}
+use Rattle.fwd_source.specs.Judged.{judged_of}
 use Rattle.fwd_source.specs.History.{Setup, SourceHistory, opened, piece_answer, piece_next, waiting, unsent, gives}
 
 abbrev limits : Limits

@@ -1,5 +1,5 @@
 -- What the parts of a hearing show, in the words of the definitions.
-use Rattle.std.specs.Prelude.{◌≡◌, ℕ, ◌+◌, ◌<◌, false, List, [], length, Option, Some, None}
+use Rattle.std.specs.Prelude.{◌≡◌, ℕ, ◌+◌, ◌-◌, ◌<◌, ◌≤◌, false, List, [], length, drop, Option, Some, None}
 use Rattle.fwd_msgpack.specs.declared.limits.Limits.{Limits}
 use Rattle.fwd_msgpack.specs.Values.{bytes_of}
 use Rattle.fwd_modes.specs.Requests.{Request, Reading}
@@ -8,6 +8,7 @@ use Rattle.fwd_handshake.specs.declared.verdict.PingVerdict.TheVariants.{Pass}
 use Rattle.fwd_source.specs.declared.fault.SourceFault.{SourceFault}
 use Rattle.fwd_source.specs.declared.fault.SourceFault.TheVariants.{Scan}
 use Rattle.fwd_source.specs.Judged.{Judged, Gate, failed, resting, greeted, joined, welcomed, asked, value_then, judged_of}
+use Rattle.fwd_source.specs.Live.{LiveSource}
 use Rattle.fwd_source.specs.declared.hearing.Heard.{Heard}
 use Rattle.fwd_source.specs.declared.hearing.Next.{Next}
 use Rattle.fwd_source.specs.declared.hearing.Next.TheVariants as next
@@ -18,16 +19,25 @@ use Rattle.fwd_source.specs.declared.greeting.Greeting.TheVariants as greeting
 abbrev pub shown : Heard → Judged
 shown h = record {
   requests = h.requests.items;
-  rest = h.rest.items;
+  rest = h.rest.now;
   pong = h.pong;
   awaits = h.awaits;
   fault = h.fault;
 }
 
+-- a source as before the bytes that it keeps
+abbrev pub emptied : LiveSource → LiveSource
+emptied s = record s { rest = [] }
+
+-- these are the last of the bytes
+abbrev pub IsEndOf : List ℕ → List ℕ → Type 0
+IsEndOf end bytes = (length end ≤ length bytes) × (drop (length bytes - length end) bytes ≡ end)
+
 -- what comes next says what the bytes say, at any gate and however many requests came before
 abbrev pub IsNext : Limits → List ℕ → Next → Type 0
 IsNext limits bytes (next.Value value behind) =
     (length behind.now < length bytes)
+    × IsEndOf behind.now bytes
     × ((gate : Gate) (n : ℕ)
     → judged_of limits gate n bytes
     ≡ value_then limits.depth gate n (bytes_of value) (λ g k.
@@ -56,6 +66,11 @@ Greets limits verdict n bytes (greeting.Passed pong behind) =
     judged_of limits (Some verdict) n bytes ≡ greeted pong (judged_of limits None n behind.now)
 Greets limits verdict n bytes (greeting.Ended heard) =
     (judged_of limits (Some verdict) n bytes ≡ shown heard) × (heard.requests.items ≡ [])
+
+-- what a greeting leaves is the end of the bytes
+abbrev pub EndsIn : List ℕ → Greeting → Type 0
+EndsIn bytes (greeting.Passed pong behind) = IsEndOf behind.now bytes
+EndsIn bytes (greeting.Ended heard) = IsEndOf heard.rest.now bytes
 
 -- what became of a greeting, by the verdict on the value, before these bytes
 abbrev pub Welcomes : PingVerdict → List ℕ → Greeting → Type 0

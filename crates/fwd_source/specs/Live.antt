@@ -54,6 +54,10 @@ abbrev pub judged_behind : LiveSource → List ℕ → Judged
 judged_behind s bytes =
     judged_of s.setup.limits (gate_of s.setup s.awaits) (s.admitted + length s.waiting) bytes
 
+-- what the bytes that are kept say
+abbrev pub judged_kept : LiveSource → Judged
+judged_kept s = judged_behind s s.rest
+
 -- what a piece says after the bytes of the unfinished value
 abbrev pub judged_piece : LiveSource → List ℕ → Judged
 judged_piece s bytes = judged_behind s (s.rest ++ bytes)

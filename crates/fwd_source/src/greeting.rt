@@ -3,7 +3,7 @@
 ghost use Rattle.std.specs.Prelude.{◌≡◌, ◌+◌, ◌<◌, ◌^◌, ℕ, [], None, Some, true, IfOk, length};
 ghost use Rattle.fwd_handshake.specs.Verdicts.{ping_verdict};
 ghost use Rattle.fwd_source.specs.Judged.{judged_of};
-ghost use Rattle.fwd_source.specs.Hearing.{shown, Greets, Welcomes};
+ghost use Rattle.fwd_source.specs.Hearing.{shown, IsEndOf, EndsIn, Greets, Welcomes};
 
 use crate::fault::SourceFault;
 use crate::hearing::{Heard, Next, failed, hear, next_of};
@@ -17,28 +17,28 @@ pub enum Greeting<'a> {
     /// The PING is good: its PONG, and the bytes behind the PING.
     Passed(Bytes, &'a [u8]),
     /// There is no whole value but nil yet, or the first one is no good PING.
-    Ended(Heard),
+    Ended(Heard<'a>),
 }
 
 /// Nothing but nil came yet, and the bytes of an unfinished value.
-fn unfinished(alloc: Global, rest: &[u8]) -> Result<Heard, AllocError>
-    ensures { IfOk result (λ heard.
-        shown heard
-        ≡ record { requests = []; rest = rest.now; pong = []; awaits = true; fault = None }) }
+fn unfinished(alloc: Global, rest: &[u8]) -> Heard<'_>
+    ensures { shown result
+        ≡ record { requests = []; rest = rest.now; pong = []; awaits = true; fault = None } }
 {
-    Ok(Heard {
+    Heard {
         requests: Vec::new(alloc),
-        rest: Vec::from_slice(alloc, rest)?,
+        rest,
         pong: Bytes::new(alloc),
         awaits: true,
         fault: None,
-    })
+    }
 }
 
 /// What becomes of a connection by the verdict on its first
 /// value: a denied PING has its PONG, what is no PING has none.
 fn welcome(alloc: Global, verdict: PingVerdict, behind: &[u8]) -> Greeting<'_>
-    ensures { Welcomes verdict behind.now result }
+    ensures what { Welcomes verdict behind.now result }
+    ensures end { EndsIn behind.now result }
 {
     match verdict {
         PingVerdict::Pass(pong) => Greeting::Passed(pong, behind),
@@ -61,13 +61,14 @@ fn greet<'a>(
     bytes: &'a [u8],
     limits: Limits,
 ) -> Result<Greeting<'a>, AllocError>
-    ensures { IfOk result (λ greeting.
+    ensures what { IfOk result (λ greeting.
         (n : ℕ) → Greets limits (ping_verdict security.now nonces.now) n bytes.now greeting) }
+    ensures end { IfOk result (λ greeting. EndsIn bytes.now greeting) }
 {
     let mut rest = bytes;
     'values: loop {
         match next_of(rest, limits) {
-            Next::Unfinished => return Ok(Greeting::Ended(unfinished(alloc, rest)?)),
+            Next::Unfinished => return Ok(Greeting::Ended(unfinished(alloc, rest))),
             Next::Fault(fault) => {
                 let heard = failed(alloc, Vec::new(alloc), SourceFault::Scan(fault));
                 return Ok(Greeting::Ended(heard));
@@ -85,18 +86,19 @@ fn greet<'a>(
 
 /// What the bytes say, on a connection of which `count`
 /// requests came before, where a PING is awaited.
-pub fn hear_greeting(
+pub fn hear_greeting<'a>(
     alloc: Global,
     security: &Security,
     nonces: &Nonces,
     count: u64,
-    bytes: &[u8],
+    bytes: &'a [u8],
     limits: Limits,
-) -> Result<Heard, AllocError>
+) -> Result<Heard<'a>, AllocError>
     requires { count < 2 ^ 64 }
     ensures value { IfOk result (λ heard.
         shown heard
         ≡ judged_of limits (Some (ping_verdict security.now nonces.now)) count bytes.now) }
+    ensures end { IfOk result (λ heard. IsEndOf heard.rest.now bytes.now) }
     ensures room { IfOk result (λ heard. count + length heard.requests.items < 2 ^ 64) }
 {
     match greet(alloc, security, nonces, bytes, limits)? {

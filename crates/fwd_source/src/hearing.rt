@@ -5,7 +5,7 @@ ghost use Rattle.std.specs.Prelude.{◌≡◌, ◌+◌, ◌<◌, ◌^◌, [], No
 ghost use Rattle.fwd_msgpack.specs.Values.{bytes_of};
 ghost use Rattle.fwd_modes.specs.Requests.{request_of};
 ghost use Rattle.fwd_source.specs.Judged.{judged_of};
-ghost use Rattle.fwd_source.specs.Hearing.{shown, IsNext, TakesIn};
+ghost use Rattle.fwd_source.specs.Hearing.{shown, IsEndOf, IsNext, TakesIn};
 
 use crate::fault::SourceFault;
 use crate::laws::judged_by_front;
@@ -13,11 +13,11 @@ use fwd_modes::{Batch, Reading, read_request};
 use fwd_msgpack::{Bytes, Cut, Limits, ScanFault, Value, cut};
 use std::alloc::{AllocError, Global};
 
-/// What was heard.
+/// What was heard. The bytes of an unfinished value are the last of those that were judged.
 #[derive(Drop)]
-pub struct Heard {
+pub struct Heard<'a> {
     pub requests: Vec<Batch>,
-    pub rest: Vec<u8>,
+    pub rest: &'a [u8],
     pub pong: Bytes,
     pub awaits: bool,
     pub fault: Option<SourceFault>,
@@ -75,7 +75,7 @@ fn take_in(
 }
 
 /// Requests, and a fault behind them.
-pub fn failed(alloc: Global, requests: Vec<Batch>, fault: SourceFault) -> Heard
+pub fn failed<'a>(alloc: Global, requests: Vec<Batch>, fault: SourceFault) -> Heard<'a>
     ensures { shown result
         ≡ record {
           requests = requests.items;
@@ -87,7 +87,7 @@ pub fn failed(alloc: Global, requests: Vec<Batch>, fault: SourceFault) -> Heard
 {
     Heard {
         requests,
-        rest: Vec::new(alloc),
+        rest: &[],
         pong: Bytes::new(alloc),
         awaits: false,
         fault: Some(fault),
@@ -96,9 +96,15 @@ pub fn failed(alloc: Global, requests: Vec<Batch>, fault: SourceFault) -> Heard
 
 /// What the bytes say, on a connection of which `count`
 /// requests came before, and that awaits no PING.
-pub fn hear(alloc: Global, count: u64, bytes: &[u8], limits: Limits) -> Result<Heard, AllocError>
+pub fn hear(
+    alloc: Global,
+    count: u64,
+    bytes: &[u8],
+    limits: Limits,
+) -> Result<Heard<'_>, AllocError>
     requires { count < 2 ^ 64 }
     ensures value { IfOk result (λ heard. shown heard ≡ judged_of limits None count bytes.now) }
+    ensures end { IfOk result (λ heard. IsEndOf heard.rest.now bytes.now) }
     ensures room { IfOk result (λ heard. count + length heard.requests.items < 2 ^ 64) }
     ensures no_pong { IfOk result (λ heard. heard.pong ≡ []) }
 {
@@ -107,7 +113,6 @@ pub fn hear(alloc: Global, count: u64, bytes: &[u8], limits: Limits) -> Result<H
     'values: loop {
         match next_of(rest, limits) {
             Next::Unfinished => {
-                let rest = Vec::from_slice(alloc, rest)?;
                 return Ok(Heard {
                     requests,
                     rest,

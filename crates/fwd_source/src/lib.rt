@@ -17,4 +17,4 @@ pub use laws::{
 };
 pub use origin::Origin;
 pub use piece::{Piece, Told};
-pub use source::{AnswerError, Source};
+pub use source::{AnswerError, SOURCE_LIMITS, Source};

@@ -3,11 +3,14 @@
 ghost use Rattle.std.specs.Prelude.{
   ◌≡◌,
   ◌+◌,
+  ◌-◌,
   ◌≤◌,
   ◌<◌,
   ◌^◌,
   true,
+  false,
   length,
+  drop,
   IfOk,
   IfErr,
   OnOk,
@@ -19,8 +22,7 @@ ghost use Rattle.std.specs.Arc.{arc_value};
 ghost use Rattle.fwd_source.specs.History.{Setup, opening_text};
 ghost use Rattle.fwd_source.specs.Live.{
   opened_source,
-  judged_behind,
-  judged_piece,
+  judged_kept,
   live_piece_next,
   live_piece_answer,
   live_piece_out,
@@ -30,7 +32,7 @@ ghost use Rattle.fwd_source.specs.Live.{
   source_drains,
   source_shuts,
 };
-ghost use Rattle.fwd_source.specs.Hearing.{shown};
+ghost use Rattle.fwd_source.specs.Hearing.{shown, emptied, IsEndOf};
 
 use crate::greeting::hear_greeting;
 use crate::hearing::{Heard, hear};
@@ -43,6 +45,12 @@ use std::alloc::{AllocError, AllocFailed, Global};
 use std::collections::VecDeque;
 use std::marker::Model;
 use std::sync::Arc;
+
+/// How long and how deep a value of a source may be, in the relay.
+pub const SOURCE_LIMITS: Limits = Limits {
+    bytes: 16_777_216,
+    depth: 64,
+};
 
 /// Why an answer was not taken.
 #[derive(Clone, Copy, Debug, PartialEq, Eq)]
@@ -268,10 +276,11 @@ impl Source {
         Some((Origin { conn, request }, batch))
     }
 
-    /// What these bytes say, of which those of the unfinished value are the first.
-    fn judged(&self, alloc: Global, bytes: &[u8]) -> Result<Heard, AllocError>
+    /// What the bytes that are kept say, all of them.
+    fn judged(&self, alloc: Global) -> Result<Heard<'_>, AllocError>
         ensures value { IfOk result (λ heard.
-            shown heard ≡ judged_behind self.now.live bytes.now) }
+            shown heard ≡ judged_kept self.now.live) }
+        ensures end { IfOk result (λ heard. IsEndOf heard.rest.now self.now.live.rest) }
         ensures room { IfOk result (λ heard.
             self.now.live.admitted + length self.now.live.waiting + length heard.requests.items
             < 2 ^ 64) }
@@ -283,28 +292,65 @@ impl Source {
                 &self.security,
                 &self.nonces,
                 count,
-                bytes,
+                &self.rest,
                 self.limits,
             )
         } else {
-            hear(alloc, count, bytes, self.limits)
+            hear(alloc, count, &self.rest, self.limits)
         }
     }
 
-    /// What more bytes say.
-    fn hears(&self, alloc: Global, bytes: &[u8]) -> Result<Heard, AllocError>
-        ensures value { IfOk result (λ heard.
-            shown heard ≡ judged_piece self.now.live bytes.now) }
-        ensures room { IfOk result (λ heard.
-            self.now.live.admitted + length self.now.live.waiting + length heard.requests.items
-            < 2 ^ 64) }
+    /// Of the bytes that are kept only the last stay, so many of them. A
+    /// connection without an unfinished value holds no memory for one.
+    fn keep_last(&mut self, alloc: Global, count: usize)
+        requires { count ≤ length self.old.live.rest }
+        ensures live { self.new.live ≡ record self.old.live {
+          rest = drop (length self.old.live.rest - count) self.old.live.rest;
+        } }
+        ensures room { self.new.room ≡ self.old.room }
     {
-        if self.rest.is_empty() {
-            return self.judged(alloc, bytes);
+        if count == 0 {
+            self.rest = Vec::new(alloc);
+        } else {
+            let heard = self.rest.len() - count;
+            self.rest.drain(..heard);
         }
-        let mut all = Vec::from_slice(alloc, &self.rest)?;
-        all.extend_from_slice(bytes)?;
-        self.judged(alloc, &all)
+    }
+
+    /// The bytes that are kept are heard, as if they came now. On an error nothing has changed.
+    #[tactic(auto, unfolding(crate::specs::Live::source_hears))]
+    fn hears(&mut self, alloc: Global) -> Result<Told, AllocError>
+        requires { self.old.live.closed ≡ false }
+        ensures answer { IfOk result (λ told.
+            told.piece ≡ live_piece_answer (emptied self.old.live) self.old.live.rest) }
+        ensures out { IfOk result (λ told.
+            told.out ≡ live_piece_out (emptied self.old.live) self.old.live.rest) }
+        ensures live { OnOk result (
+            self.new.live ≡ live_piece_next (emptied self.old.live) self.old.live.rest) }
+        ensures err { OnErr result (self.new.live ≡ self.old.live) }
+        ensures room { length self.old.live.unsent + self.old.room
+            ≤ length self.new.live.unsent + self.new.room }
+    {
+        let Heard {
+            requests,
+            rest,
+            pong: out,
+            awaits,
+            fault,
+        } = self.judged(alloc)?;
+        let unfinished = rest.len();
+        self.unsent.reserve(out.len())?;
+        let mut requests = VecDeque::from_vec(requests);
+        self.waiting.append(&mut requests)?;
+        self.unsent.extend_from_slice(out.as_slice()).unwrap();
+        self.keep_last(alloc, unfinished);
+        self.awaits = awaits;
+        self.closed = fault.is_some();
+        let piece = match fault {
+            None => Piece::Waiting(self.waiting.len()),
+            Some(fault) => Piece::Fault(fault),
+        };
+        Ok(Told { piece, out })
     }
 
     /// More bytes come. After a fault and once shut, each further
@@ -327,19 +373,12 @@ impl Source {
                 out: Bytes::new(alloc),
             });
         }
-        let heard = self.hears(alloc, bytes)?;
-        self.unsent.reserve(heard.pong.len())?;
-        let mut requests = VecDeque::from_vec(heard.requests);
-        self.waiting.append(&mut requests)?;
-        let out = heard.pong;
-        self.unsent.extend_from_slice(out.as_slice()).unwrap();
-        self.rest = heard.rest;
-        self.awaits = heard.awaits;
-        self.closed = heard.fault.is_some();
-        let piece = match heard.fault {
-            None => Piece::Waiting(self.waiting.len()),
-            Some(fault) => Piece::Fault(fault),
-        };
-        Ok(Told { piece, out })
+        let before = self.rest.len();
+        self.rest.extend_from_slice(bytes)?;
+        let told = self.hears(alloc);
+        if told.is_err() {
+            self.rest.truncate(before);
+        }
+        told
     }
 }

@@ -3,17 +3,11 @@
 ghost use Rattle.std.specs.Prelude.{◌≡◌, false, IfOk};
 
 use fwd_handshake::{Nonces, Security};
-use fwd_msgpack::{Bytes, Limits, Seq};
-use fwd_source::{AnswerError, Source};
+use fwd_msgpack::{Bytes, Seq};
+use fwd_source::{AnswerError, SOURCE_LIMITS, Source};
 use std::alloc::{AllocError, Global};
 use std::sync::Arc;
 use std::test::Fail;
-
-/// How long and how deep a source's values may be.
-const LIMITS: Limits = Limits {
-    bytes: 16_777_216,
-    depth: 64,
-};
 
 const NONCES: Nonces = Nonces {
     nonce: [0; 16],
@@ -30,7 +24,7 @@ fn open_source(alloc: Global) -> Result<Source, AllocError>
         users: Seq::new(alloc),
     };
     let security = Arc::new(alloc, security)?;
-    Ok(Source::new(alloc, 7, security, NONCES, LIMITS)?)
+    Ok(Source::new(alloc, 7, security, NONCES, SOURCE_LIMITS)?)
 }
 
 /// That neither answer is refused is proved, by what `reserve` and `answer` ensure.

@@ -1,17 +1,12 @@
 use fwd_modes::*;
-use fwd_msgpack::{Cut, Limits, Value, cut};
+use fwd_msgpack::{Cut, Value, cut};
+use fwd_source::SOURCE_LIMITS;
 use std::alloc::{AllocError, Global};
 use std::test::Fail;
 
-/// How long and how deep a source's values may be.
-const LIMITS: Limits = Limits {
-    bytes: 16_777_216,
-    depth: 64,
-};
-
 /// The one whole value of the bytes.
 fn value(bytes: &[u8]) -> Option<Value<'_>> {
-    match cut(bytes, LIMITS) {
+    match cut(bytes, SOURCE_LIMITS) {
         Cut::Whole(value, _) => Some(value),
         _ => None,
     }
@@ -19,7 +14,7 @@ fn value(bytes: &[u8]) -> Option<Value<'_>> {
 
 /// The request that the bytes are.
 fn request_of(alloc: Global, bytes: &[u8]) -> Option<Batch> {
-    match read_request(alloc, value(bytes)?, LIMITS) {
+    match read_request(alloc, value(bytes)?, SOURCE_LIMITS) {
         Ok(Reading::Asks(batch)) => Some(batch),
         _ => None,
     }

@@ -1,6 +1,7 @@
 use Rattle.std.proofs.Common.{◌≡◌, ℕ, Some, length}
 use Rattle.fwd_handshake.specs.Verdicts.{ping_verdict}
 use Rattle.fwd_source.specs.Judged.{judged_of}
+use Rattle.fwd_source.specs.Hearing.{IsEndOf}
 use Rattle.fwd_source.proofs.greeting.greet.Given as goal
 
 -- what the rest says is what all of the bytes say
@@ -9,6 +10,7 @@ invariant-values l = record {
   said : (n : ℕ)
       → judged_of l.fn.limits (Some (ping_verdict l.fn.security l.fn.nonces)) n l.fn.bytes
       ≡ judged_of l.fn.limits (Some (ping_verdict l.fn.security l.fn.nonces)) n l.rest;
+  end : IsEndOf l.rest l.fn.bytes;
 }
 
 abbrev pub decreases-values : goal.decreases-values

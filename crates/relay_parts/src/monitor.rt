@@ -1,6 +1,7 @@
 //! The texts that the rules give for a few worked heads.
-use super::*;
+
 use fwd_chunks::Counts;
+use fwd_monitor::{Reply, answer, page};
 use std::alloc::{AllocError, Global};
 use std::test::Fail;
 

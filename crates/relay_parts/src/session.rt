@@ -2,11 +2,11 @@
 
 ghost use Rattle.std.specs.Prelude.{◌≡◌, None};
 
-use super::*;
+use crate::request::batch;
 use fwd_chunks::{Buffer, BufferLimits, Carried, FlushKind};
 use fwd_handshake::Login;
-use fwd_modes::{Batch, Reading, read_request};
-use fwd_msgpack::{Bytes, Cut, Limits, cut};
+use fwd_msgpack::Bytes;
+use fwd_session::{Heard, LoadFailed, OwnedSalt, Session, SessionFault};
 use fwd_source::Origin;
 use std::alloc::Global;
 use std::sync::Arc;
@@ -36,20 +36,9 @@ const HELO: &[u8] =
 const DIGEST: &[u8; 128] = b"07e547d9586f6a73f73fbac0435ed76951218fb7d0c8d788a309d785436bbb64\
     2e93a252a954f23912547d1e8a3b5ed6e1bfd7097821233fa0538f3db854fee6";
 
-/// The request of one entry.
-fn batch(alloc: Global) -> Result<Batch, Fail> {
-    let Cut::Whole(value, _) = cut(b"\x93\xa1a\x01\x80", Limits::WIDEST) else {
-        return Err(Fail::from("no value"));
-    };
-    match read_request(alloc, value, Limits::WIDEST)? {
-        Reading::Asks(batch) => Ok(batch),
-        _ => Err(Fail::from("no request")),
-    }
-}
-
 /// The chunk of one entry.
 fn carried(alloc: Global) -> Result<Carried, Fail> {
-    let batch = batch(alloc)?;
+    let batch = batch(alloc, b"\x93\xa1a\x01\x80")?;
     let origin = Origin {
         conn: 1,
         request: 1,

@@ -1,17 +1,13 @@
+//! Chunks by tag: joining, splitting, limits, waits.
+
 ghost use Rattle.std.specs.Prelude.{◌≡◌};
 
-use super::*;
-use fwd_modes::{Batch, Reading, read_request};
-use fwd_msgpack::{Cut, Limits, Seq, cut};
+use crate::request::batch;
+use fwd_chunks::{AdmitError, Buffer, BufferLimits, Counts, FlushKind, Span};
+use fwd_msgpack::Seq;
 use fwd_source::Origin;
 use std::alloc::Global;
 use std::test::Fail;
-
-/// How long and how deep a source's values may be.
-const LIMITS: Limits = Limits {
-    bytes: 16_777_216,
-    depth: 64,
-};
 
 /// A Message of the tag `a` whose kept entry has three bytes, one of four bytes, and one of the
 /// tag `b`.
@@ -41,17 +37,6 @@ const fn limits(chunk: u32, total: u64, first: u64) -> BufferLimits {
 
 fn buffer(alloc: Global, chunk: u32, total: u64) -> Buffer {
     Buffer::new(alloc, limits(chunk, total, 1), [0; 6], 0)
-}
-
-/// The request of these bytes.
-fn batch(alloc: Global, bytes: &[u8]) -> Result<Batch, Fail> {
-    let Cut::Whole(value, _) = cut(bytes, LIMITS) else {
-        return Err(Fail::from("no value"));
-    };
-    match read_request(alloc, value, LIMITS)? {
-        Reading::Asks(batch) => Ok(batch),
-        _ => Err(Fail::from("no request")),
-    }
 }
 
 /// Admits the request of these bytes at the moment 0.

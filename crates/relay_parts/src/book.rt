@@ -1,17 +1,13 @@
+//! A request that needs no chunk.
+
 ghost use Rattle.std.specs.Prelude.{◌≡◌, []};
 
-use super::*;
-use fwd_modes::{Batch, Reading, read_request};
-use fwd_msgpack::{Cut, Limits, cut};
+use crate::request::batch;
+use fwd_book::{Book, Receipt};
+use fwd_modes::Batch;
 use fwd_source::Origin;
 use std::alloc::Global;
 use std::test::Fail;
-
-/// How long and how deep a source's values may be.
-const LIMITS: Limits = Limits {
-    bytes: 16_777_216,
-    depth: 64,
-};
 
 /// A Forward of the tag `a` without entries, whose acknowledgement is to carry `x`.
 const NOTHING: &[u8] = b"\x93\xa1a\x90\x81\xa5chunk\xa1x";
@@ -20,17 +16,6 @@ const ORIGIN: Origin = Origin {
     conn: 1,
     request: 2,
 };
-
-/// The request of these bytes.
-fn batch(alloc: Global, bytes: &[u8]) -> Result<Batch, Fail> {
-    let Cut::Whole(value, _) = cut(bytes, LIMITS) else {
-        return Err(Fail::from("no value"));
-    };
-    match read_request(alloc, value, LIMITS)? {
-        Reading::Asks(batch) => Ok(batch),
-        _ => Err(Fail::from("no request")),
-    }
-}
 
 /// Whether it is the receipt of the request above.
 fn is_whole(receipt: &Receipt) -> bool {
