@@ -33,6 +33,11 @@ emptied s = record s { rest = [] }
 abbrev pub IsEndOf : List ℕ → List ℕ → Type 0
 IsEndOf end bytes = (length end ≤ length bytes) × (drop (length bytes - length end) bytes ≡ end)
 
+-- what is kept: these bytes, if there are any, and else all
+abbrev pub kept_of : List ℕ → Option (List ℕ) → List ℕ
+kept_of all None = all
+kept_of all (Some apart) = apart
+
 -- what comes next says what the bytes say, at any gate and however many requests came before
 abbrev pub IsNext : Limits → List ℕ → Next → Type 0
 IsNext limits bytes (next.Value value behind) =

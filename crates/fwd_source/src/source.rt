@@ -3,14 +3,12 @@
 ghost use Rattle.std.specs.Prelude.{
   ◌≡◌,
   ◌+◌,
-  ◌-◌,
   ◌≤◌,
   ◌<◌,
   ◌^◌,
   true,
   false,
   length,
-  drop,
   IfOk,
   IfErr,
   OnOk,
@@ -32,7 +30,7 @@ ghost use Rattle.fwd_source.specs.Live.{
   source_drains,
   source_shuts,
 };
-ghost use Rattle.fwd_source.specs.Hearing.{shown, emptied, IsEndOf};
+ghost use Rattle.fwd_source.specs.Hearing.{shown, emptied, kept_of, IsEndOf};
 
 use crate::greeting::hear_greeting;
 use crate::hearing::{Heard, hear};
@@ -300,21 +298,17 @@ impl Source {
         }
     }
 
-    /// Of the bytes that are kept only the last stay, so many of them. A
-    /// connection without an unfinished value holds no memory for one.
-    fn keep_last(&mut self, alloc: Global, count: usize)
-        requires { count ≤ length self.old.live.rest }
-        ensures live { self.new.live ≡ record self.old.live {
-          rest = drop (length self.old.live.rest - count) self.old.live.rest;
-        } }
-        ensures room { self.new.room ≡ self.old.room }
+    /// The bytes of an unfinished value in a room of their own, if others stand before them. A value
+    /// that comes in many pieces stays where it is, and is not copied at each.
+    fn apart(&self, alloc: Global, rest: &[u8]) -> Result<Option<Vec<u8>>, AllocError>
+        requires { IsEndOf rest.now self.now.live.rest }
+        ensures { IfOk result (λ apart.
+            kept_of self.now.live.rest (option_map (λ v. v.items) apart) ≡ rest.now) }
     {
-        if count == 0 {
-            self.rest = Vec::new(alloc);
-        } else {
-            let heard = self.rest.len() - count;
-            self.rest.drain(..heard);
+        if rest.len() == self.rest.len() {
+            return Ok(None);
         }
+        Ok(Some(Vec::from_slice(alloc, rest)?))
     }
 
     /// The bytes that are kept are heard, as if they came now. On an error nothing has changed.
@@ -338,12 +332,14 @@ impl Source {
             awaits,
             fault,
         } = self.judged(alloc)?;
-        let unfinished = rest.len();
+        let apart = self.apart(alloc, rest)?;
         self.unsent.reserve(out.len())?;
         let mut requests = VecDeque::from_vec(requests);
         self.waiting.append(&mut requests)?;
         self.unsent.extend_from_slice(out.as_slice()).unwrap();
-        self.keep_last(alloc, unfinished);
+        if let Some(rest) = apart {
+            self.rest = rest;
+        }
         self.awaits = awaits;
         self.closed = fault.is_some();
         let piece = match fault {
