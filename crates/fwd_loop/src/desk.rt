@@ -157,12 +157,9 @@ fn tell_all(alloc: Global, receipts: &[Receipt], peers: &mut Peers) {
 
 /// Tells a source of a receipt, where it asked to be told, and still stands.
 fn tell(alloc: Global, receipt: &Receipt, peers: &mut Peers) {
-    let Some(chunk) = receipt.chunk() else {
-        return;
-    };
     let Some((key, source)) = peers.source(receipt.origin().conn) else {
         return;
     };
-    source.answer(alloc, chunk);
+    source.answer(alloc, receipt);
     peers.note(key);
 }

@@ -1,12 +1,22 @@
-//! A source's connection over its stream.
+//! A source's connection over its stream. What waits to be sent to it changes only by what it sent,
+//! by receipts of its own requests, and by what its stream took.
+
+ghost use Rattle.std.specs.Prelude.{◌≡◌, Some, length, IfOk, IfSome, if◌then◌else◌};
+ghost use Rattle.std.specs.Arc.{arc_value};
+ghost use Rattle.fwd_modes.specs.Acks.{ack_text};
+ghost use Rattle.fwd_model.specs.Setups.{source_limits};
+ghost use Rattle.fwd_source.specs.Live.{opened_source, first_waiting, live_next, source_appends};
+ghost use Rattle.fwd_loop.specs.Peers.{Hears, Writes, IsTold};
 
 use crate::stream::{Visit, fill, send};
+use fwd_book::Receipt;
 use fwd_handshake::{Nonces, Security};
 use fwd_match::Routes;
 use fwd_modes::{Batch, write_ack};
 use fwd_source::{Origin, Piece, SOURCE_LIMITS, Source};
 use mio::net::TcpStream;
 use std::alloc::{AllocError, Global};
+use std::marker::Model;
 use std::sync::Arc;
 
 /// How many bytes an acknowledgement has in front of the chunk's value: a map of one, and `ack`.
@@ -34,6 +44,14 @@ pub(crate) struct SourcePeer {
     promised: usize,
 }
 
+impl Model for SourcePeer {
+    ghost use Rattle.fwd_loop.specs.Peers.{PeerShown};
+
+    ghost Value = { PeerShown };
+
+    ghost view = { λ p. record { id = p.id; live = p.source.live } };
+}
+
 impl SourcePeer {
     /// A connection before its first byte. The only error is want of memory.
     pub fn new(
@@ -42,7 +60,17 @@ impl SourcePeer {
         stream: TcpStream,
         security: Arc<Security>,
         nonces: Nonces,
-    ) -> Result<SourcePeer, AllocError> {
+    ) -> Result<SourcePeer, AllocError>
+        ensures { IfOk result (λ peer. peer ≡ record {
+          id = id;
+          live = opened_source (record {
+            conn = id;
+            security = arc_value security;
+            nonces = nonces;
+            limits = source_limits;
+          });
+        }) }
+    {
         let source = Source::new(alloc, id, security, nonces, SOURCE_LIMITS)?;
         Ok(SourcePeer {
             id,
@@ -54,7 +82,10 @@ impl SourcePeer {
     }
 
     /// Reads what is there, as far as the room goes, and says whether there may be more.
-    pub fn hear(&mut self, alloc: Global, room: &mut [u8]) -> bool {
+    pub fn hear(&mut self, alloc: Global, room: &mut [u8]) -> bool
+        ensures id { self.new.id ≡ self.old.id }
+        ensures live { Hears self.old.live self.new.live }
+    {
         if self.stage != Stage::Open {
             return false;
         }
@@ -69,7 +100,10 @@ impl SourcePeer {
     }
 
     /// Takes in bytes.
-    fn take_in(&mut self, alloc: Global, bytes: &[u8]) {
+    fn take_in(&mut self, alloc: Global, bytes: &[u8])
+        ensures id { self.new.id ≡ self.old.id }
+        ensures live { Hears self.old.live self.new.live }
+    {
         match self.source.piece(alloc, bytes) {
             Ok(told) => match told.piece {
                 Piece::Waiting(_) => {}
@@ -80,7 +114,9 @@ impl SourcePeer {
     }
 
     /// How many requests wait to be admitted.
-    pub fn waiting(&self) -> usize {
+    pub fn waiting(&self) -> usize
+        ensures { result ≡ length self.now.live.waiting }
+    {
         self.source.waiting()
     }
 
@@ -92,7 +128,12 @@ impl SourcePeer {
 
     /// Takes the first request that waits, and makes room for its acknowledgement. There is none
     /// for want of memory.
-    pub fn next(&mut self) -> Option<(Origin, Batch)> {
+    pub fn next(&mut self) -> Option<(Origin, Batch)>
+        ensures id { self.new.id ≡ self.old.id }
+        ensures live { self.new.live ≡ live_next self.old.live self.old.live.waiting }
+        ensures value { IfSome result (λ asked.
+            first_waiting self.old.live self.old.live.waiting ≡ Some asked) }
+    {
         let (origin, batch) = self.source.next()?;
         if let Some(chunk) = batch.chunk() {
             let size = chunk.len().saturating_add(ACK_FRONT);
@@ -103,27 +144,49 @@ impl SourcePeer {
         Some((origin, batch))
     }
 
-    /// All entries of a request are acknowledged, whose chunk's value this is. For want of memory
-    /// the connection is over.
-    pub fn answer(&mut self, alloc: Global, chunk: &[u8]) {
+    /// Puts the acknowledgement of a chunk of this value behind the bytes that wait to be sent, and
+    /// says whether there was memory for it.
+    fn put(&mut self, alloc: Global, chunk: &[u8]) -> bool
+        ensures { self.new ≡ (if result
+            then record self.old { live = source_appends self.old.live (ack_text chunk.now) }
+            else self.old) }
+    {
         let size = chunk.len().saturating_add(ACK_FRONT);
         self.promised = self.promised.saturating_sub(size);
-        let is_told = match write_ack(alloc, chunk) {
+        match write_ack(alloc, chunk) {
             Ok(ack) => self.source.answer(&ack).is_ok(),
             Err(_) => false,
+        }
+    }
+
+    /// Tells the connection of a receipt, if it is of one of its requests and it asked to be told.
+    /// For want of memory the connection is over.
+    pub fn answer(&mut self, alloc: Global, receipt: &Receipt)
+        ensures { IsTold self.old receipt.now self.new }
+    {
+        if receipt.origin().conn != self.id {
+            return;
+        }
+        let Some(chunk) = receipt.chunk() else {
+            return;
         };
-        if !is_told {
+        if !self.put(alloc, chunk) {
             self.end();
         }
     }
 
     /// The connection is over, once what waits was written as far as its stream takes it.
-    pub fn end(&mut self) {
+    pub fn end(&mut self)
+        ensures { self.new ≡ self.old }
+    {
         self.stage = Stage::Over;
     }
 
     /// Writes what waits as far as the stream takes it, and says whether the connection stands.
-    pub fn write(&mut self) -> bool {
+    pub fn write(&mut self) -> bool
+        ensures id { self.new.id ≡ self.old.id }
+        ensures live { Writes self.old.live self.new.live }
+    {
         let (count, visit) = send(&mut self.stream, self.source.out());
         self.source.drained(count);
         if visit == Visit::Ended {
