@@ -1,13 +1,16 @@
 //! A source's connection over its stream.
 
 use crate::stream::{Visit, fill, send};
+use crate::watch::{Fact, SourceEnd, Want};
 use fwd_handshake::{Nonces, Security};
 use fwd_match::Routes;
 use fwd_modes::{Batch, write_ack};
 use fwd_msgpack::Limits;
-use fwd_source::{Origin, Piece, Source};
+use fwd_source::{Origin, Piece, Source, SourceFault};
+use fwd_workers::AdmitRefusal;
 use mio::net::TcpStream;
 use std::alloc::{AllocError, Global};
+use std::net::SocketAddr;
 use std::sync::Arc;
 
 /// How long and how deep a value of a source may be.
@@ -35,8 +38,12 @@ enum Stage {
 pub(crate) struct SourcePeer {
     pub id: u64,
     pub stream: TcpStream,
+    /// Whose it is.
+    peer: SocketAddr,
     source: Source,
     stage: Stage,
+    /// Why the relay closes it, until that is told.
+    fact: Option<Fact>,
     /// So many bytes of acknowledgements there is room for.
     promised: usize,
 }
@@ -47,6 +54,7 @@ impl SourcePeer {
         alloc: Global,
         id: u64,
         stream: TcpStream,
+        peer: SocketAddr,
         security: Arc<Security>,
         nonces: Nonces,
     ) -> Result<SourcePeer, AllocError> {
@@ -54,8 +62,10 @@ impl SourcePeer {
         Ok(SourcePeer {
             id,
             stream,
+            peer,
             source,
             stage: Stage::Open,
+            fact: None,
             promised: 0,
         })
     }
@@ -80,10 +90,44 @@ impl SourcePeer {
         match self.source.piece(alloc, bytes) {
             Ok(told) => match told.piece {
                 Piece::Waiting(_) => {}
-                Piece::Fault(_) | Piece::Closed => self.stage = Stage::Lingering,
+                Piece::Fault(fault) => self.linger(fault),
+                Piece::Closed => self.linger(SourceFault::Closed),
             },
-            Err(_) => self.end(),
+            Err(_) => self.starve(),
         }
+    }
+
+    /// It had a fault: it is read no more.
+    fn linger(&mut self, fault: SourceFault) {
+        self.stage = Stage::Lingering;
+        self.fact = Some(Fact::SourceClosed {
+            peer: self.peer,
+            why: SourceEnd::Fault(fault),
+        });
+    }
+
+    /// It is over for want of memory.
+    fn starve(&mut self) {
+        self.end();
+        self.fact = Some(Fact::Memory(Want::Source(self.peer)));
+    }
+
+    /// It is over, since a request of it is not admitted.
+    pub fn refuse(&mut self, why: SourceEnd) {
+        if why == SourceEnd::Refused(AdmitRefusal::Memory) {
+            self.starve();
+        } else {
+            self.end();
+            self.fact = Some(Fact::SourceClosed {
+                peer: self.peer,
+                why,
+            });
+        }
+    }
+
+    /// Why the relay closes it, where it does, and that was not told yet.
+    pub fn fact(&mut self) -> Option<Fact> {
+        self.fact.take()
     }
 
     /// How many requests wait to be admitted.
@@ -120,7 +164,7 @@ impl SourcePeer {
             Err(_) => false,
         };
         if !is_told {
-            self.end();
+            self.starve();
         }
     }
 
