@@ -69,8 +69,8 @@ impl fmt::Display for Telling {
         write!(f, "{kind}: ")?;
         match self.fact {
             Fact::Listening { caller, address } => {
-                let callers = callers_name(caller);
-                write!(f, "{callers} at {address}")
+                let caller = caller_name(caller);
+                write!(f, "{caller}s at {address}")
             }
             Fact::SourceClosed { peer, why } => {
                 let name = source_end_name(why);
@@ -86,8 +86,8 @@ impl fmt::Display for Telling {
             }
             Fact::ServerBack { output, server } => write!(f, "output {output} {server}"),
             Fact::OverLimit { caller, peer } => {
-                let callers = callers_name(caller);
-                write!(f, "{callers} {peer}")
+                let caller = caller_name(caller);
+                write!(f, "{caller} {peer}")
             }
             Fact::Memory(want) => tell_want(f, want),
         }
@@ -104,11 +104,11 @@ fn tell_want<W: fmt::Write>(f: &mut fmt::Formatter<W>, want: Want) -> fmt::Resul
     }
 }
 
-/// Those who connect to a listener.
-fn callers_name(caller: Caller) -> &'static str {
+/// Who connects to a listener.
+fn caller_name(caller: Caller) -> &'static str {
     match caller {
-        Caller::Source => "sources",
-        Caller::Monitor => "monitors",
+        Caller::Source => "source",
+        Caller::Monitor => "monitor",
     }
 }
 
