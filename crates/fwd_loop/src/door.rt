@@ -37,8 +37,8 @@ impl Door {
     ) -> Result<Door, StartFault> {
         match Door::listen(rt, poll, address, token) {
             Ok(listener) => Ok(Door {
-                address: listener.local_addr().unwrap_or(address),
                 listener,
+                address,
                 calling: Calling::Quiet,
             }),
             Err(_) => Err(StartFault::Listen(address)),
@@ -58,7 +58,7 @@ impl Door {
         Ok(listener)
     }
 
-    /// Where it listens: the port is the one that the system gave, where any was asked for.
+    /// Where it listens.
     pub fn address(&self) -> SocketAddr {
         self.address
     }
