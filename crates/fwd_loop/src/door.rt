@@ -74,8 +74,8 @@ impl Door {
         self.calling == Calling::Now
     }
 
-    /// The next connection that waits, and whose it is, if there is one. Where the system cannot give it, as for
-    /// want of descriptors, it is tried again after the next wait.
+    /// The next connection that waits, and whose it is, if there is one. Where the system cannot
+    /// give it, as for want of descriptors, it is tried again after the next wait.
     pub fn next(&mut self) -> Option<(TcpStream, SocketAddr)> {
         if self.calling == Calling::Quiet {
             return None;

@@ -59,8 +59,8 @@ impl<'a> Lane<'a> {
     }
 
     /// Calls the output's workers where a request may have closed a chunk by its size. That happens
-    /// just where the next chunk of a tag is opened, which has a greater number than all before it;
-    /// the first chunk of a tag has one too, and closes none. So each chunk calls them at most once.
+    /// only where the next chunk of a tag is opened, which has a greater number than all before it.
+    /// So has the first chunk of a tag, which closes none: each chunk calls them at most once here.
     fn call_workers(&mut self, ticket: &Ticket) {
         let Some(last) = ticket.spans().last() else {
             return;

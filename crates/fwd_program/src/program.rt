@@ -56,9 +56,9 @@ fn run_words<
 }
 
 /// The whole program, but for where its words and streams come from: where the words ask for a run
-/// it runs, as `run_file` does with this log, and tells how that ended; all other words it answers as
-/// `fwd_script::run_program` does. It returns the exit status. An end that cannot be told has the
-/// same exit status.
+/// it runs, as `run_file` does with this log, and tells how that ended; all other words it answers
+/// as `fwd_script::run_program` does. It returns the exit status. An end that cannot be told has
+/// the same exit status.
 pub fn run_all<
     R: Net<Listener = TcpListener, Stream = TcpStream>
         + Threads
