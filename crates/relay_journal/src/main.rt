@@ -1,11 +1,12 @@
-//! What a run says of each fact, by a clock that is set by hand, how its lines are paced, and which
-//! environments ask for them.
+//! What a run says of each fact, by a clock that is set by hand, how its lines are paced, which
+//! environments ask for them, and what a run over sockets tells its watch.
 #![tactic(auto)]
 
 mod asking;
 mod facts;
 mod hand;
 mod pacing;
+mod run;
 
 use anyhow::Result;
 
@@ -14,5 +15,7 @@ fn main(rt: HostRuntime) -> Result<()> {
     println!(rt; "--")?;
     pacing::say_many(&rt);
     println!(rt; "--")?;
-    asking::say_asked(&rt)
+    asking::say_asked(&rt)?;
+    println!(rt; "--")?;
+    run::say_run(&rt)
 }
