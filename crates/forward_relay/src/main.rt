@@ -1,7 +1,7 @@
 //! The program: `forward_relay run CONFIG [TURNS] | check CONFIG | replay`.
 #![tactic(auto)]
 
-use fwd_program::run_all;
+use fwd_program::{asked_log, run_all};
 use fwd_script::{buffered, words};
 use std::process::ExitCode;
 
@@ -9,6 +9,7 @@ fn main(rt: HostRuntime) -> ExitCode {
     ExitCode::from(run_all(
         &rt,
         words(&rt),
+        asked_log(&rt),
         &mut rt.reader(),
         &mut buffered(&rt),
         &mut rt.stderr(),

@@ -1,33 +1,34 @@
 //! What the loop and the workers tell each other.
 
+use fwd_workers::News;
 use mio::Waker;
 use std::alloc::{AllocError, Global};
 use std::mem;
 use std::sync::atomic::{AtomicBool, Ordering};
 use std::sync::{Arc, Mutex, Wait};
 
-/// That the entries of an output's chunk are settled.
+/// What a worker told: at most once a turn.
 #[derive(Clone, Copy, Debug, PartialEq, Eq)]
-pub(crate) struct Settled {
-    /// The output's number.
+pub(crate) struct Notice {
+    /// The number of the worker's output.
     pub output: u16,
-    /// The chunk's number.
-    pub number: u64,
+    pub news: News,
 }
 
 /// What workers told since the loop last asked.
 #[derive(Drop)]
-pub(crate) struct News {
-    pub settled: Vec<Settled>,
+pub(crate) struct Notices {
+    /// In the order in which they were told.
+    pub all: Vec<Notice>,
     /// Memory was refused for more of them.
     pub missed: bool,
 }
 
-impl News {
+impl Notices {
     /// Nothing.
-    fn none(alloc: Global) -> News {
-        News {
-            settled: Vec::new(alloc),
+    fn none(alloc: Global) -> Notices {
+        Notices {
+            all: Vec::new(alloc),
             missed: false,
         }
     }
@@ -36,7 +37,7 @@ impl News {
 /// What the loop and the workers share, beside the outputs.
 #[derive(Drop)]
 pub(crate) struct Board {
-    news: Mutex<News>,
+    notices: Mutex<Notices>,
     /// Ends the loop's wait.
     waker: Waker,
     stop: Stop,
@@ -68,34 +69,34 @@ impl Stop {
 }
 
 impl Board {
-    /// A board without news, whose loop is woken by this. The only error is want of memory.
+    /// A board without notices, whose loop is woken by this. The only error is want of memory.
     pub fn new(alloc: Global, waker: Waker) -> Result<Board, AllocError> {
         Ok(Board {
-            news: Mutex::new(News::none(alloc)),
+            notices: Mutex::new(Notices::none(alloc)),
             waker,
             stop: Stop::new(alloc)?,
         })
     }
 
-    /// A worker tells that a chunk is settled, and wakes the loop.
-    pub fn tell<R: Wait>(&self, rt: &R, settled: Settled) {
-        self.note(rt, settled);
+    /// A worker tells something, and wakes the loop.
+    pub fn tell<R: Wait>(&self, rt: &R, notice: Notice) {
+        self.note(rt, notice);
         let _ = self.waker.wake();
     }
 
-    /// Notes that a chunk is settled.
-    fn note<R: Wait>(&self, rt: &R, settled: Settled) {
-        let mut guard = self.news.lock(rt);
-        let news = &mut *guard;
-        if news.settled.push(settled).is_err() {
-            news.missed = true;
+    /// Notes what a worker tells.
+    fn note<R: Wait>(&self, rt: &R, notice: Notice) {
+        let mut guard = self.notices.lock(rt);
+        let notices = &mut *guard;
+        if notices.all.push(notice).is_err() {
+            notices.missed = true;
         }
     }
 
     /// What workers told since the last call.
-    pub fn take<R: Wait>(&self, rt: &R, alloc: Global) -> News {
-        let mut guard = self.news.lock(rt);
-        mem::replace(&mut *guard, News::none(alloc))
+    pub fn take<R: Wait>(&self, rt: &R, alloc: Global) -> Notices {
+        let mut guard = self.notices.lock(rt);
+        mem::replace(&mut *guard, Notices::none(alloc))
     }
 
     /// All workers are to end.

@@ -1,13 +1,15 @@
 //! Where requests are admitted, and sources are told.
 
-use crate::board::News;
-use crate::lane::{Lane, NotAdmitted};
+use crate::board::Notices;
+use crate::lane::Lane;
 use crate::output::Output;
 use crate::pace::Pace;
 use crate::peers::Peers;
 use crate::source_peer::SourcePeer;
+use crate::watch::{Fact, SourceEnd, Want, Watch};
 use fwd_book::Receipt;
 use fwd_match::Routes;
+use fwd_workers::{AdmitRefusal, News};
 use std::alloc::{AllocError, AllocFailed, Global};
 use std::sync::Wait;
 
@@ -57,8 +59,8 @@ impl<'a> Desk<'a> {
     /// admitted ends the source, and what waits behind it is not looked at.
     pub fn admit_all<R: Wait>(&mut self, rt: &R, source: &mut SourcePeer, now: u64) {
         for _ in 0..source.waiting() {
-            if self.admit(rt, source, now).is_err() {
-                source.end();
+            if let Err(why) = self.admit(rt, source, now) {
+                source.refuse(why);
                 return;
             }
         }
@@ -70,11 +72,16 @@ impl<'a> Desk<'a> {
         rt: &R,
         source: &mut SourcePeer,
         now: u64,
-    ) -> Result<(), NotAdmitted> {
-        let output = source.route(self.routes).ok_or(NotAdmitted)?;
-        let lane = self.lanes.get_mut(output as usize).ok_or(NotAdmitted)?;
-        let (origin, batch) = source.next().ok_or(NotAdmitted)?;
-        lane.admit(rt, origin, batch, now)
+    ) -> Result<(), SourceEnd> {
+        let output = source.route(self.routes).ok_or(SourceEnd::NoRoute)?;
+        let lane = self.lanes.get_mut(output as usize);
+        let lane = lane.ok_or(SourceEnd::NoRoute)?;
+        let refused = SourceEnd::Refused(AdmitRefusal::Memory);
+        let (origin, batch) = source.next().ok_or(refused)?;
+        match lane.admit(rt, origin, batch, now) {
+            Ok(()) => Ok(()),
+            Err(refusal) => Err(SourceEnd::Refused(refusal)),
+        }
     }
 
     /// How long the loop may wait from a moment on, at most so long: until the next flush (all in
@@ -100,14 +107,21 @@ impl<'a> Desk<'a> {
     }
 
     /// Workers settled chunks.
-    pub fn hear(&mut self, news: &News) {
-        if news.missed {
+    pub fn hear(&mut self, notices: &Notices) {
+        if notices.missed {
             self.settle_all();
         }
-        for settled in &news.settled {
-            if let Some(lane) = self.lanes.get_mut(settled.output as usize) {
-                lane.settle(settled.number);
+        for notice in &notices.all {
+            if let News::Settled { number, server: _ } = notice.news {
+                self.settle(notice.output, number);
             }
+        }
+    }
+
+    /// A chunk of the output of this number is settled.
+    fn settle(&mut self, output: u16, number: u64) {
+        if let Some(lane) = self.lanes.get_mut(output as usize) {
+            lane.settle(number);
         }
     }
 
@@ -120,12 +134,14 @@ impl<'a> Desk<'a> {
 
     /// Hands in the tickets that are to be, and puts acknowledgements behind what waits to be sent
     /// to their sources, which are to be visited.
-    pub fn collect<R: Wait>(&mut self, rt: &R, peers: &mut Peers) {
+    pub fn collect<R: Wait, W: Watch>(&mut self, rt: &R, peers: &mut Peers, watch: &mut W) {
         let alloc = self.alloc;
-        for lane in &mut self.lanes {
+        for (output, lane) in (0..u16::MAX).zip(&mut self.lanes) {
             if lane.is_due() {
-                let receipts = lane.collect(rt);
-                tell_all(alloc, &receipts, peers);
+                match lane.collect(rt) {
+                    Ok(receipts) => tell_all(alloc, &receipts, peers),
+                    Err(_) => watch.see(Fact::Memory(Want::Output(output))),
+                }
             }
         }
     }

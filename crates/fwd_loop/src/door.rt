@@ -22,6 +22,8 @@ enum Calling {
 #[derive(Drop)]
 pub(crate) struct Door {
     listener: TcpListener,
+    /// Where it listens.
+    address: SocketAddr,
     calling: Calling,
 }
 
@@ -36,6 +38,7 @@ impl Door {
         match Door::listen(rt, poll, address, token) {
             Ok(listener) => Ok(Door {
                 listener,
+                address,
                 calling: Calling::Quiet,
             }),
             Err(_) => Err(StartFault::Listen(address)),
@@ -55,6 +58,11 @@ impl Door {
         Ok(listener)
     }
 
+    /// Where it listens.
+    pub fn address(&self) -> SocketAddr {
+        self.address
+    }
+
     /// The listener told that connections wait.
     pub fn called(&mut self) {
         self.calling = Calling::Now;
@@ -66,16 +74,16 @@ impl Door {
         self.calling == Calling::Now
     }
 
-    /// The next connection that waits, if there is one. Where the system cannot give it, as for
-    /// want of descriptors, it is tried again after the next wait.
-    pub fn next(&mut self) -> Option<TcpStream> {
+    /// The next connection that waits, and whose it is, if there is one. Where the system cannot
+    /// give it, as for want of descriptors, it is tried again after the next wait.
+    pub fn next(&mut self) -> Option<(TcpStream, SocketAddr)> {
         if self.calling == Calling::Quiet {
             return None;
         }
         match self.listener.accept() {
-            Ok((stream, _)) => {
+            Ok(caller) => {
                 self.calling = Calling::Now;
-                Some(stream)
+                Some(caller)
             }
             Err(error) => {
                 self.calling = match error.kind() {

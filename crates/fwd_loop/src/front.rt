@@ -1,12 +1,14 @@
 //! The loop's turns.
 
-use crate::board::Board;
+use crate::board::{Board, Notices};
 use crate::desk::Desk;
 use crate::fault::StartFault;
 use crate::lobby::Lobby;
 use crate::output::Output;
 use crate::peers::{Peer, Peers};
+use crate::roster::Roster;
 use crate::since::Since;
+use crate::watch::{Fact, Want, Watch};
 use mio::{Events, Poll, Token};
 use std::alloc::Global;
 use std::rt::Clock;
@@ -38,33 +40,41 @@ pub(crate) struct Front {
 }
 
 impl Front {
-    /// So many turns. The only error is a wait that failed.
-    pub fn run<R: Wait + Clock>(
+    /// So many turns, of which a watch is told. The only errors are a wait that failed, and want of
+    /// memory before the first turn.
+    pub fn run<R: Wait + Clock, W: Watch>(
         &mut self,
         rt: &R,
         outputs: &[Output],
         board: &Board,
         desk: &mut Desk<'_>,
         clock: &mut Since<'_, R>,
+        watch: &mut W,
         turns: u64,
     ) -> Result<(), StartFault> {
+        let mut roster = Roster::new(self.alloc, outputs)?;
+        self.lobby.tell(watch);
         for _ in 0..turns {
             self.wait(desk, clock.moment())?;
             let now = clock.moment();
-            desk.hear(&board.take(rt, self.alloc));
-            desk.collect(rt, &mut self.peers);
-            self.visit_all(rt, outputs, desk, now);
+            let notices = board.take(rt, self.alloc);
+            tell_all(&notices, outputs, &mut roster, watch);
+            desk.hear(&notices);
+            desk.collect(rt, &mut self.peers, watch);
+            self.visit_all(rt, outputs, desk, watch, now);
             let registry = self.poll.registry();
-            self.lobby.accept(self.alloc, registry, &mut self.peers);
+            self.lobby
+                .accept(self.alloc, registry, &mut self.peers, watch);
             desk.flush(rt, clock.moment());
+            watch.turned();
         }
         Ok(())
     }
 
     /// Hands in all tickets, and writes what that has sources told.
-    pub fn finish<R: Wait>(&mut self, rt: &R, desk: &mut Desk<'_>) {
+    pub fn finish<R: Wait, W: Watch>(&mut self, rt: &R, desk: &mut Desk<'_>, watch: &mut W) {
         desk.settle_all();
-        desk.collect(rt, &mut self.peers);
+        desk.collect(rt, &mut self.peers, watch);
         for _ in 0..self.peers.noted() {
             let Some((_, peer)) = self.peers.next() else {
                 continue;
@@ -109,14 +119,28 @@ impl Front {
     }
 
     /// Visits each connection that is noted, once.
-    fn visit_all<R: Wait>(&mut self, rt: &R, outputs: &[Output], desk: &mut Desk<'_>, now: u64) {
+    fn visit_all<R: Wait, W: Watch>(
+        &mut self,
+        rt: &R,
+        outputs: &[Output],
+        desk: &mut Desk<'_>,
+        watch: &mut W,
+        now: u64,
+    ) {
         for _ in 0..self.peers.noted() {
-            self.visit(rt, outputs, desk, now);
+            self.visit(rt, outputs, desk, watch, now);
         }
     }
 
     /// Visits the next connection that is noted, at a moment (milliseconds).
-    fn visit<R: Wait>(&mut self, rt: &R, outputs: &[Output], desk: &mut Desk<'_>, now: u64) {
+    fn visit<R: Wait, W: Watch>(
+        &mut self,
+        rt: &R,
+        outputs: &[Output],
+        desk: &mut Desk<'_>,
+        watch: &mut W,
+        now: u64,
+    ) {
         let Some((key, peer)) = self.peers.next() else {
             return;
         };
@@ -124,9 +148,20 @@ impl Front {
             Peer::Source(source) => {
                 let again = source.hear(self.alloc, &mut self.room);
                 desk.admit_all(rt, source, now);
-                if source.write() { Some(again) } else { None }
+                if let Some(fact) = source.fact() {
+                    watch.see(fact);
+                }
+                let stands = source.write();
+                let again = again || source.is_free();
+                if stands { Some(again) } else { None }
             }
-            Peer::Monitor(monitor) => monitor.serve(rt, self.alloc, outputs, &mut self.room),
+            Peer::Monitor(monitor) => {
+                let served = monitor.serve(rt, self.alloc, outputs, &mut self.room);
+                if served.is_err() {
+                    watch.see(Fact::Memory(Want::Monitor));
+                }
+                served.unwrap_or(None)
+            }
         };
         match again {
             Some(true) => self.peers.note(key),
@@ -136,6 +171,18 @@ impl Front {
                     desk.abandon(rt, id);
                 }
             }
+        }
+    }
+}
+
+/// A watch is told what workers told.
+fn tell_all<W: Watch>(notices: &Notices, outputs: &[Output], roster: &mut Roster, watch: &mut W) {
+    if notices.missed {
+        watch.see(Fact::Memory(Want::News));
+    }
+    for notice in &notices.all {
+        if let Some(fact) = roster.hear(outputs, notice) {
+            watch.see(fact);
         }
     }
 }

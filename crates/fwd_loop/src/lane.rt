@@ -7,13 +7,9 @@ use fwd_book::Receipt;
 use fwd_chunks::FlushKind;
 use fwd_modes::Batch;
 use fwd_source::Origin;
-use fwd_workers::Ticket;
-use std::alloc::Global;
+use fwd_workers::{AdmitRefusal, Ticket};
+use std::alloc::{AllocError, Global};
 use std::sync::Wait;
-
-/// A request was not admitted, or its ticket could not be kept.
-#[derive(Clone, Copy, Debug, PartialEq, Eq)]
-pub(crate) struct NotAdmitted;
 
 /// An output, the tickets that it gave, and when it is flushed. It must be spent: by `close`.
 pub(crate) struct Lane<'a> {
@@ -21,6 +17,8 @@ pub(crate) struct Lane<'a> {
     output: &'a Output,
     owed: Owed,
     pace: Pace,
+    /// The greatest number of a chunk that requests went to.
+    newest: Option<u64>,
 }
 
 impl<'a> Lane<'a> {
@@ -31,28 +29,49 @@ impl<'a> Lane<'a> {
             output,
             owed: Owed::new(alloc),
             pace,
+            newest: None,
         }
     }
 
-    /// Admits a connection's request at a moment (milliseconds), and keeps its ticket.
+    /// Admits a connection's request at a moment (milliseconds), and keeps its ticket. Where memory
+    /// is refused for keeping it, its entries stay, and it is as if the request was not admitted.
     pub fn admit<R: Wait>(
         &mut self,
         rt: &R,
         origin: Origin,
         batch: Batch,
         now: u64,
-    ) -> Result<(), NotAdmitted> {
+    ) -> Result<(), AdmitRefusal> {
         let shared = &self.output.shared;
-        let Ok(ticket) = shared.admit(rt, self.alloc, &mut (), origin, batch, now) else {
-            return Err(NotAdmitted);
+        let ticket = match shared.admit(rt, self.alloc, &mut (), origin, batch, now) {
+            Ok(ticket) => ticket,
+            Err((refusal, _)) => return Err(refusal),
         };
         self.pace.admitted();
+        self.call_workers(&ticket);
         match self.owed.keep(ticket) {
             Ok(()) => Ok(()),
             Err(ticket) => {
                 shared.abandon(rt, ticket);
-                Err(NotAdmitted)
+                Err(AdmitRefusal::Memory)
             }
+        }
+    }
+
+    /// Calls the output's workers where a request may have closed a chunk by its size. That happens
+    /// only where the next chunk of a tag is opened, which has a greater number than all before it.
+    /// So has the first chunk of a tag, which closes none: each chunk calls them at most once here.
+    fn call_workers(&mut self, ticket: &Ticket) {
+        let Some(last) = ticket.spans().last() else {
+            return;
+        };
+        let is_new = match self.newest {
+            None => true,
+            Some(newest) => newest < last.number,
+        };
+        if is_new {
+            self.newest = Some(last.number);
+            self.pace.call();
         }
     }
 
@@ -61,7 +80,7 @@ impl<'a> Lane<'a> {
         self.pace.due()
     }
 
-    /// Closes the chunks that are due at a moment (milliseconds) after all admissions, and wakes
+    /// Closes the chunks that are due at a moment (milliseconds) after all admissions, and calls
     /// the output's workers where it closed any.
     pub fn flush<R: Wait>(&mut self, rt: &R, now: u64) {
         self.pace.look(now);
@@ -72,7 +91,7 @@ impl<'a> Lane<'a> {
         let count = self.output.shared.flush(rt, now, FlushKind::Due);
         self.pace.flushed(now);
         if count > 0 {
-            self.pace.wake();
+            self.pace.call();
         }
     }
 
@@ -91,20 +110,20 @@ impl<'a> Lane<'a> {
         self.owed.is_due()
     }
 
-    /// Hands in the tickets that are to be, and answers what receipts there are. For want of memory
-    /// there are none, and the tickets are to be handed in again.
-    pub fn collect<R: Wait>(&mut self, rt: &R) -> Vec<Receipt> {
+    /// Hands in the tickets that are to be, and answers what receipts there are. The only error is
+    /// want of memory, and then the tickets are to be handed in again.
+    pub fn collect<R: Wait>(&mut self, rt: &R) -> Result<Vec<Receipt>, AllocError> {
         let batch = self.owed.gather();
         match self.output.shared.collect(rt, self.alloc, batch) {
             Ok((receipts, back)) => {
                 self.put_back(rt, back);
                 self.forget(rt, &receipts);
-                receipts
+                Ok(receipts)
             }
-            Err((_, back)) => {
+            Err((error, back)) => {
                 self.put_back(rt, back);
                 self.owed.settle_all();
-                Vec::new(self.alloc)
+                Err(error)
             }
         }
     }
@@ -146,6 +165,7 @@ impl<'a> Lane<'a> {
             output,
             owed,
             pace: _,
+            newest: _,
         } = self;
         owed.close(rt, &output.shared);
     }

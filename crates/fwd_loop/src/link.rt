@@ -1,10 +1,12 @@
 //! A worker's link over TCP.
 
 use crate::board::{Board, Stop};
+use crate::nap::Nap;
 use crate::told::Told;
 use crate::wire::Wire;
 use fwd_workers::{Hub, Link, LinkFault, Read};
 use std::alloc::Global;
+use std::cell::RefCell;
 use std::io;
 use std::net::{Net, SocketAddr};
 use std::sync::Wait;
@@ -12,19 +14,25 @@ use std::sync::Wait;
 /// A connection to a server. What it told of its bytes and failures is kept for contracts alone,
 /// and takes no memory: they claim that it told so, and nothing of what the server sent or got.
 #[derive(Drop)]
-pub(crate) struct TcpLink {
-    wire: Wire,
+pub(crate) struct TcpLink<'a> {
+    wire: Wire<'a>,
     taken: Told,
     given: Told,
     /// A byte for each call that failed.
     failed: Told,
 }
 
-impl TcpLink {
+impl<'a> TcpLink<'a> {
     /// Begins to connect.
-    fn begin<R: Net>(rt: &R, alloc: Global, stop: Stop, addr: SocketAddr) -> io::Result<TcpLink> {
+    fn begin<R: Net>(
+        rt: &R,
+        alloc: Global,
+        stop: Stop,
+        nap: &'a RefCell<Nap>,
+        addr: SocketAddr,
+    ) -> io::Result<TcpLink<'a>> {
         Ok(TcpLink {
-            wire: Wire::begin(rt, alloc, stop, addr)?,
+            wire: Wire::begin(rt, alloc, stop, nap, addr)?,
             taken: Told::none(),
             given: Told::none(),
             failed: Told::none(),
@@ -32,7 +40,7 @@ impl TcpLink {
     }
 }
 
-impl Link for TcpLink {
+impl<'a> Link for TcpLink<'a> {
     ghost use Rattle.std.specs.Prelude.{length};
 
     ghost taken = { λ l. l.taken.bytes };
@@ -78,32 +86,40 @@ pub(crate) struct TcpHub<'a, N: Net> {
     net: &'a N,
     alloc: Global,
     board: &'a Board,
+    nap: &'a RefCell<Nap>,
     servers: &'a [SocketAddr],
 }
 
 impl<'a, N: Net> TcpHub<'a, N> {
-    /// Connects to these servers.
-    pub fn new(net: &'a N, alloc: Global, board: &'a Board, servers: &'a [SocketAddr]) -> Self {
+    /// Connects to these servers, for the worker of these waits.
+    pub fn new(
+        net: &'a N,
+        alloc: Global,
+        board: &'a Board,
+        nap: &'a RefCell<Nap>,
+        servers: &'a [SocketAddr],
+    ) -> Self {
         TcpHub {
             net,
             alloc,
             board,
+            nap,
             servers,
         }
     }
 }
 
 impl<'a, N: Net> Hub for TcpHub<'a, N> {
-    type Line = TcpLink;
+    type Line = TcpLink<'a>;
 
-    fn connect<R: Wait>(&mut self, _rt: &R, server: u16) -> Result<TcpLink, LinkFault> {
+    fn connect<R: Wait>(&mut self, _rt: &R, server: u16) -> Result<TcpLink<'a>, LinkFault> {
         let Some(addr) = self.servers.get(server as usize) else {
             return Err(LinkFault::Connect);
         };
         let Ok(stop) = self.board.stop_sign() else {
             return Err(LinkFault::Connect);
         };
-        match TcpLink::begin(self.net, self.alloc, stop, *addr) {
+        match TcpLink::begin(self.net, self.alloc, stop, self.nap, *addr) {
             Ok(link) => Ok(link),
             Err(_) => Err(LinkFault::Connect),
         }

@@ -4,11 +4,13 @@ use crate::door::Door;
 use crate::monitor_peer::MonitorPeer;
 use crate::peers::{Peer, Peers};
 use crate::source_peer::SourcePeer;
+use crate::watch::{Caller, Fact, Want, Watch};
 use fwd_handshake::{Nonces, Security};
 use mio::Registry;
 use mio::net::TcpStream;
 use rand_chacha::ChaCha20Rng;
-use std::alloc::Global;
+use std::alloc::{AllocError, Global};
+use std::net::SocketAddr;
 use std::sync::Arc;
 
 /// The most connections that are taken in a turn at one listener.
@@ -36,47 +38,96 @@ impl Lobby {
         self.sources.is_urgent() || self.monitors.as_ref().is_some_and(|door| door.is_urgent())
     }
 
+    /// Tells where connections come in.
+    pub fn tell<W: Watch>(&self, watch: &mut W) {
+        watch.see(Fact::Listening {
+            caller: Caller::Source,
+            address: self.sources.address(),
+        });
+        if let Some(door) = &self.monitors {
+            watch.see(Fact::Listening {
+                caller: Caller::Monitor,
+                address: door.address(),
+            });
+        }
+    }
+
     /// Takes the connections that wait. One too many is closed at once.
-    pub fn accept(&mut self, alloc: Global, registry: &Registry, peers: &mut Peers) {
-        self.accept_sources(alloc, registry, peers);
-        self.accept_monitors(alloc, registry, peers);
+    pub fn accept<W: Watch>(
+        &mut self,
+        alloc: Global,
+        registry: &Registry,
+        peers: &mut Peers,
+        watch: &mut W,
+    ) {
+        self.accept_sources(alloc, registry, peers, watch);
+        self.accept_monitors(alloc, registry, peers, watch);
     }
 
     /// Takes the sources that wait.
-    fn accept_sources(&mut self, alloc: Global, registry: &Registry, peers: &mut Peers) {
+    fn accept_sources<W: Watch>(
+        &mut self,
+        alloc: Global,
+        registry: &Registry,
+        peers: &mut Peers,
+        watch: &mut W,
+    ) {
         for _ in 0..ACCEPTS {
-            let Some(stream) = self.sources.next() else {
+            let Some((stream, peer)) = self.sources.next() else {
                 return;
             };
-            if peers.sources() < self.limit {
-                if let Some(source) = self.begin(alloc, stream) {
-                    peers.add(registry, Peer::Source(source));
-                }
+            if peers.sources() >= self.limit {
+                let caller = Caller::Source;
+                watch.see(Fact::OverLimit { caller, peer });
+            } else if self.begin(alloc, registry, peers, stream, peer).is_err() {
+                watch.see(Fact::Memory(Want::Source(peer)));
             }
         }
     }
 
-    /// A source begins with the next id. There is none once the ids are spent, and for want of
-    /// memory.
-    fn begin(&mut self, alloc: Global, stream: TcpStream) -> Option<SourcePeer> {
-        let id = self.next_id?;
+    /// A source begins with the next id, if one is left. The only error is that memory or the
+    /// system refuses it.
+    fn begin(
+        &mut self,
+        alloc: Global,
+        registry: &Registry,
+        peers: &mut Peers,
+        stream: TcpStream,
+        peer: SocketAddr,
+    ) -> Result<(), AllocError> {
+        let Some(id) = self.next_id else {
+            return Ok(());
+        };
         self.next_id = id.checked_add(1);
-        let security = Arc::try_clone(&self.security).ok()?;
+        let security = Arc::try_clone(&self.security)?;
         let nonces = Nonces::draw(&mut self.nonces);
-        SourcePeer::new(alloc, id, stream, security, nonces).ok()
+        let source = SourcePeer::new(alloc, id, stream, peer, security, nonces)?;
+        peers.add(registry, Peer::Source(source))
     }
 
     /// Takes the monitors that wait.
-    fn accept_monitors(&mut self, alloc: Global, registry: &Registry, peers: &mut Peers) {
+    fn accept_monitors<W: Watch>(
+        &mut self,
+        alloc: Global,
+        registry: &Registry,
+        peers: &mut Peers,
+        watch: &mut W,
+    ) {
         let Some(door) = &mut self.monitors else {
             return;
         };
         for _ in 0..ACCEPTS {
-            let Some(stream) = door.next() else {
+            let Some((stream, peer)) = door.next() else {
                 return;
             };
-            if peers.monitors() < MONITORS {
-                peers.add(registry, Peer::Monitor(MonitorPeer::new(alloc, stream)));
+            if peers.monitors() >= MONITORS {
+                let caller = Caller::Monitor;
+                watch.see(Fact::OverLimit { caller, peer });
+            } else {
+                let monitor = Peer::Monitor(MonitorPeer::new(alloc, stream));
+                if peers.add(registry, monitor).is_err() {
+                    watch.see(Fact::Memory(Want::Monitor));
+                }
             }
         }
     }

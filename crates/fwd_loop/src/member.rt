@@ -1,49 +1,49 @@
 //! A worker over TCP, in a thread of its own.
 
-use crate::board::{Board, Settled};
+use crate::board::{Board, Notice};
 use crate::fault::StartFault;
 use crate::link::TcpHub;
+use crate::nap::{Bell, Nap};
 use crate::output::Output;
 use crate::since::Since;
 use fwd_workers::{Gate, News, Pass, Place, Worker};
-use mio::{Events, Poll, Token, Waker};
 use std::alloc::Global;
+use std::cell::RefCell;
 use std::net::Net;
 use std::rt::Clock;
 use std::sync::Wait;
-use std::time::{Duration, Instant};
-
-/// How long a worker without a chunk waits for one, in milliseconds.
-const PAUSE: u64 = 10;
-
-/// What wakes a worker.
-const WAKER: Token = Token(0);
+use std::time::Instant;
 
 /// Lets a worker wait for chunks, and stops it where all are to end.
 #[derive(Drop)]
 struct WorkerGate<'a> {
     board: &'a Board,
     output: u16,
-    poll: Poll,
-    events: Events,
-    /// A chunk was just settled: there may be another.
+    nap: &'a RefCell<Nap>,
+    /// The worker had a chunk, and may find another: it looks before it waits.
     is_eager: bool,
 }
 
 impl<'a> WorkerGate<'a> {
-    /// Waits until the loop closed chunks, or for a while.
-    fn pause(&mut self) {
-        let longest = Duration::from_millis(PAUSE);
-        let _ = self.poll.poll(&mut self.events, Some(longest));
+    /// The worker comes to a place, and waits there where it found no chunk before.
+    fn come_to(&mut self, place: Place) {
+        let Ok(mut nap) = self.nap.try_borrow_mut() else {
+            return;
+        };
+        if place != Place::BeforeTake {
+            nap.work();
+        } else if self.is_eager || self.board.is_stopped() {
+            nap.look();
+        } else {
+            nap.look_later();
+        }
+        self.is_eager = place != Place::BeforeTake;
     }
 }
 
 impl<'a> Gate for WorkerGate<'a> {
     fn pass<R: Wait>(&mut self, _rt: &R, _worker: u16, place: Place, _turn: u64) -> Pass {
-        if place == Place::BeforeTake && !self.is_eager && !self.board.is_stopped() {
-            self.pause();
-        }
-        self.is_eager = place == Place::AfterSettle;
+        self.come_to(place);
         if self.board.is_stopped() {
             Pass::Stop
         } else {
@@ -52,10 +52,8 @@ impl<'a> Gate for WorkerGate<'a> {
     }
 
     fn hear<R: Wait>(&mut self, rt: &R, _worker: u16, news: News) {
-        if let News::Settled { number, server: _ } = news {
-            let output = self.output;
-            self.board.tell(rt, Settled { output, number });
-        }
+        let output = self.output;
+        self.board.tell(rt, Notice { output, news });
     }
 }
 
@@ -64,28 +62,24 @@ impl<'a> Gate for WorkerGate<'a> {
 pub(crate) struct Member {
     output: u16,
     worker: Worker,
-    poll: Poll,
-    events: Events,
+    nap: Nap,
 }
 
 impl Member {
-    /// A worker of the output of this number, and what wakes it.
+    /// A worker of the output of this number, and what calls it.
     pub fn new<R: Net>(
         rt: &R,
         alloc: Global,
         output: u16,
         worker: Worker,
-    ) -> Result<(Member, Waker), StartFault> {
-        let events = Events::with_capacity(alloc, 1)?;
-        let poll = Poll::new(rt).map_err(|_| StartFault::Poll)?;
-        let waker = Waker::new(poll.registry(), WAKER).map_err(|_| StartFault::Poll)?;
+    ) -> Result<(Member, Bell), StartFault> {
+        let (nap, bell) = Nap::new(rt, alloc)?;
         let member = Member {
             output,
             worker,
-            poll,
-            events,
+            nap,
         };
-        Ok((member, waker))
+        Ok((member, bell))
     }
 
     /// Works for its output in so many turns, or until all are to end.
@@ -100,18 +94,17 @@ impl Member {
         let Member {
             output,
             mut worker,
-            poll,
-            events,
+            nap,
         } = self;
         let Some(own) = outputs.get(output as usize) else {
             return;
         };
-        let mut hub = TcpHub::new(rt, rt.alloc(), board, &own.servers);
+        let nap = RefCell::new(nap);
+        let mut hub = TcpHub::new(rt, rt.alloc(), board, &nap, &own.servers);
         let mut gate = WorkerGate {
             board,
             output,
-            poll,
-            events,
+            nap: &nap,
             is_eager: false,
         };
         let mut clock = Since::new(rt, start);

@@ -36,22 +36,22 @@ impl MonitorPeer {
     }
 
     /// Reads what is there, and writes the reply once there is one. It says whether the connection
-    /// is to be looked at again, where it stands.
+    /// is to be looked at again, where it stands. The only error is want of memory.
     pub fn serve<R: Wait>(
         &mut self,
         rt: &R,
         alloc: Global,
         outputs: &[Output],
         room: &mut [u8],
-    ) -> Option<bool> {
+    ) -> Result<Option<bool>, AllocError> {
         let (count, visit) = fill(&mut self.stream, room);
         if count > 0 && self.sending.is_none() {
-            self.take_in(rt, alloc, outputs, &room[..count]).ok()?;
+            self.take_in(rt, alloc, outputs, &room[..count])?;
         }
         if self.write() || (visit == Visit::Ended && self.sending.is_none()) {
-            return None;
+            return Ok(None);
         }
-        Some(visit == Visit::Full)
+        Ok(Some(visit == Visit::Full))
     }
 
     /// Takes in bytes, and makes the reply where one is due. The only error is want of memory.

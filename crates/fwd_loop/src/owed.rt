@@ -202,8 +202,8 @@ impl Owed {
         Some(*owner)
     }
 
-    /// A ticket that was handed in came back. It is handed in again once another chunk is settled. A
-    /// ticket that was not kept here is not taken.
+    /// A ticket that was handed in came back. It is handed in again once another chunk is settled.
+    /// A ticket that was not kept here is not taken.
     pub fn put_back(&mut self, ticket: Ticket) -> Result<(), Ticket> {
         let owner = Owner::from(ticket.origin());
         let Some(slot) = self.tickets.get_mut(&owner) else {

@@ -1,11 +1,11 @@
 //! When an output's open chunks are closed, and who is told.
 
-use mio::Waker;
+use crate::nap::Bell;
 
 /// The least time between two flushes of an output, in milliseconds.
 const STEP: u64 = 5;
 
-/// When an output is flushed next, and what wakes its workers. Moments are in milliseconds.
+/// When an output is flushed next, and what calls its workers. Moments are in milliseconds.
 #[derive(Drop)]
 pub(crate) struct Pace {
     /// How long a chunk waits for more entries.
@@ -16,19 +16,19 @@ pub(crate) struct Pace {
     latest: u64,
     /// When the next flush is due: never while no chunk can be open.
     due: Option<u64>,
-    wakers: Vec<Waker>,
+    bells: Vec<Bell>,
 }
 
 impl Pace {
     /// The pace of an output without entries, whose chunks wait so long, and whose workers these
-    /// wake.
-    pub fn new(interval: u64, wakers: Vec<Waker>) -> Pace {
+    /// call.
+    pub fn new(interval: u64, bells: Vec<Bell>) -> Pace {
         Pace {
             interval,
             is_fresh: false,
             latest: 0,
             due: None,
-            wakers,
+            bells,
         }
     }
 
@@ -65,10 +65,10 @@ impl Pace {
         };
     }
 
-    /// Wakes the output's workers.
-    pub fn wake(&self) {
-        for waker in &self.wakers {
-            let _ = waker.wake();
+    /// Calls the output's workers that look for a chunk.
+    pub fn call(&self) {
+        for bell in &self.bells {
+            bell.ring();
         }
     }
 }

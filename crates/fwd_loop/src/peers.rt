@@ -66,16 +66,9 @@ impl Peers {
     }
 
     /// A connection comes, is registered, and is to be visited. Where the system or memory refuses
-    /// it, it is dropped.
-    pub fn add(&mut self, registry: &Registry, peer: Peer) {
-        let _ = self.try_add(registry, peer);
-    }
-
-    /// The same, and its key.
-    fn try_add(&mut self, registry: &Registry, peer: Peer) -> Option<usize> {
-        self.queue
-            .reserve(self.standing.len().saturating_add(1))
-            .ok()?;
+    /// it, which is the only error, it is dropped.
+    pub fn add(&mut self, registry: &Registry, peer: Peer) -> Result<(), AllocError> {
+        self.queue.reserve(self.standing.len().saturating_add(1))?;
         let id = match &peer {
             Peer::Source(source) => Some(source.id),
             Peer::Monitor(_) => None,
@@ -84,13 +77,15 @@ impl Peers {
             peer,
             is_noted: false,
         };
-        let key = self.standing.insert(standing).ok()?;
+        let Ok(key) = self.standing.insert(standing) else {
+            return Err(AllocError);
+        };
         if self.register(registry, key).is_none() || self.count(id, key).is_err() {
             let _ = self.standing.try_remove(key);
-            return None;
+            return Err(AllocError);
         }
         self.note(key);
-        Some(key)
+        Ok(())
     }
 
     /// Has the wait tell of a connection.

@@ -14,6 +14,7 @@ use crate::output::counts_of;
 use crate::peers::Peers;
 use crate::since::Since;
 use crate::teams::Teams;
+use crate::watch::Watch;
 use fwd_chunks::Counts;
 use fwd_config::config_of;
 use fwd_core::{Config, OutputConfig};
@@ -171,6 +172,19 @@ impl Loop {
             + AllocGlobal
             + Sync,
     >(self, rt: &R, turns: u64) -> Result<Vec<Counts>, StartFault> {
+        self.run_watched(rt, &mut (), turns)
+    }
+
+    /// The same, and a watch is told what the run comes to.
+    pub fn run_watched<
+        R: Net<Listener = TcpListener, Stream = TcpStream>
+            + Threads
+            + Wait
+            + Clock
+            + AllocGlobal
+            + Sync,
+        W: Watch,
+    >(self, rt: &R, watch: &mut W, turns: u64) -> Result<Vec<Counts>, StartFault> {
         let Loop {
             alloc,
             routes,
@@ -187,7 +201,7 @@ impl Loop {
         let start = Instant::now(rt).ok();
         let mut desk = Desk::new(rt, alloc, &routes, &outputs, paces)?;
         let (own, told) = (&outputs, &board);
-        let (turning, admitting) = (&mut front, &mut desk);
+        let (turning, admitting, seeing) = (&mut front, &mut desk, &mut *watch);
         let served = thread::scope(thread::scope_env(), rt, move |scope| {
             let mut children = Vec::with_capacity(alloc, members.len())?;
             let mut served = Ok(());
@@ -203,7 +217,7 @@ impl Loop {
             }
             if served.is_ok() {
                 let mut clock = Since::new(rt, start);
-                served = turning.run(rt, own, told, admitting, &mut clock, turns);
+                served = turning.run(rt, own, told, admitting, &mut clock, seeing, turns);
             }
             if served.is_err() {
                 told.stop();
@@ -213,7 +227,7 @@ impl Loop {
             }
             served
         });
-        front.finish(rt, &mut desk);
+        front.finish(rt, &mut desk, watch);
         desk.close(rt);
         served?;
         Ok(counts_of(rt, alloc, &outputs)?)

@@ -9,18 +9,24 @@ ghost use Rattle.fwd_source.specs.Live.{opened_source, first_waiting, live_next,
 ghost use Rattle.fwd_loop.specs.Peers.{Hears, Writes, IsTold};
 
 use crate::stream::{Visit, fill, send};
+use crate::watch::{Fact, SourceEnd, Want};
 use fwd_book::Receipt;
 use fwd_handshake::{Nonces, Security};
 use fwd_match::Routes;
 use fwd_modes::{Batch, write_ack};
-use fwd_source::{Origin, Piece, SOURCE_LIMITS, Source};
+use fwd_source::{Origin, Piece, SOURCE_LIMITS, Source, SourceFault};
+use fwd_workers::AdmitRefusal;
 use mio::net::TcpStream;
 use std::alloc::{AllocError, Global};
 use std::marker::Model;
+use std::net::SocketAddr;
 use std::sync::Arc;
 
 /// How many bytes an acknowledgement has in front of the chunk's value: a map of one, and `ack`.
 const ACK_FRONT: usize = 5;
+
+/// Where so many bytes wait to be sent to a source, it is read no further until it took some.
+const UNSENT: usize = 65_536;
 
 /// How far a connection has come.
 #[derive(Clone, Copy, Debug, PartialEq, Eq)]
@@ -38,10 +44,16 @@ enum Stage {
 pub(crate) struct SourcePeer {
     pub id: u64,
     pub stream: TcpStream,
+    /// Whose it is.
+    peer: SocketAddr,
     source: Source,
     stage: Stage,
+    /// Why the relay closes it, until that is told.
+    fact: Option<Fact>,
     /// So many bytes of acknowledgements there is room for.
     promised: usize,
+    /// It was not read when it was visited last, since too many bytes wait to be sent to it.
+    is_held: bool,
 }
 
 impl Model for SourcePeer {
@@ -58,6 +70,7 @@ impl SourcePeer {
         alloc: Global,
         id: u64,
         stream: TcpStream,
+        peer: SocketAddr,
         security: Arc<Security>,
         nonces: Nonces,
     ) -> Result<SourcePeer, AllocError>
@@ -75,18 +88,26 @@ impl SourcePeer {
         Ok(SourcePeer {
             id,
             stream,
+            peer,
             source,
             stage: Stage::Open,
+            fact: None,
             promised: 0,
+            is_held: false,
         })
     }
 
-    /// Reads what is there, as far as the room goes, and says whether there may be more.
+    /// Reads what is there, as far as the room goes, and says whether there may be more. A source
+    /// that does not take what is sent to it is not read.
     pub fn hear(&mut self, alloc: Global, room: &mut [u8]) -> bool
         ensures id { self.new.id ≡ self.old.id }
         ensures live { Hears self.old.live self.new.live }
     {
         if self.stage != Stage::Open {
+            return false;
+        }
+        self.is_held = self.source.out().len() >= UNSENT;
+        if self.is_held {
             return false;
         }
         let (count, visit) = fill(&mut self.stream, room);
@@ -107,10 +128,52 @@ impl SourcePeer {
         match self.source.piece(alloc, bytes) {
             Ok(told) => match told.piece {
                 Piece::Waiting(_) => {}
-                Piece::Fault(_) | Piece::Closed => self.stage = Stage::Lingering,
+                Piece::Fault(fault) => self.linger(fault),
+                Piece::Closed => self.linger(SourceFault::Closed),
             },
-            Err(_) => self.end(),
+            Err(_) => self.starve(),
         }
+    }
+
+    /// It had a fault: it is read no more.
+    fn linger(&mut self, fault: SourceFault)
+        ensures { self.new ≡ self.old }
+    {
+        self.stage = Stage::Lingering;
+        self.fact = Some(Fact::SourceClosed {
+            peer: self.peer,
+            why: SourceEnd::Fault(fault),
+        });
+    }
+
+    /// It is over for want of memory.
+    fn starve(&mut self)
+        ensures { self.new ≡ self.old }
+    {
+        self.end();
+        self.fact = Some(Fact::Memory(Want::Source(self.peer)));
+    }
+
+    /// It is over, since a request of it is not admitted.
+    pub fn refuse(&mut self, why: SourceEnd)
+        ensures { self.new ≡ self.old }
+    {
+        if why == SourceEnd::Refused(AdmitRefusal::Memory) {
+            self.starve();
+        } else {
+            self.end();
+            self.fact = Some(Fact::SourceClosed {
+                peer: self.peer,
+                why,
+            });
+        }
+    }
+
+    /// Why the relay closes it, where it does, and that was not told yet.
+    pub fn fact(&mut self) -> Option<Fact>
+        ensures { self.new ≡ self.old }
+    {
+        self.fact.take()
     }
 
     /// How many requests wait to be admitted.
@@ -171,7 +234,7 @@ impl SourcePeer {
             return;
         };
         if !self.put(alloc, chunk) {
-            self.end();
+            self.starve();
         }
     }
 
@@ -180,6 +243,11 @@ impl SourcePeer {
         ensures { self.new ≡ self.old }
     {
         self.stage = Stage::Over;
+    }
+
+    /// Whether it was not read, and may be now.
+    pub fn is_free(&self) -> bool {
+        self.is_held && self.source.out().len() < UNSENT
     }
 
     /// Writes what waits as far as the stream takes it, and says whether the connection stands.

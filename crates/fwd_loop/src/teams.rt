@@ -3,12 +3,12 @@
 use crate::draws::Draws;
 use crate::fault::StartFault;
 use crate::member::Member;
+use crate::nap::Bell;
 use crate::output::Output;
 use crate::pace::Pace;
 use fwd_core::{OutputConfig, OutputState};
 use fwd_handshake::Login;
 use fwd_workers::{Locked, Plain, SharedOutput, Worker};
-use mio::Waker;
 use std::alloc::Global;
 use std::net::{Net, SocketAddr};
 use std::sync::Arc;
@@ -70,23 +70,23 @@ impl Teams {
             login,
             ack_wait,
         };
-        let wakers = self.add_members(rt, &team)?;
+        let bells = self.add_members(rt, &team)?;
         self.outputs.push(Output { shared, servers })?;
-        self.paces.push(Pace::new(limits.interval, wakers))?;
+        self.paces.push(Pace::new(limits.interval, bells))?;
         Ok(())
     }
 
-    /// The workers of an output, and what wakes them.
-    fn add_members<R: Net>(&mut self, rt: &R, team: &Team<'_>) -> Result<Vec<Waker>, StartFault> {
-        let mut wakers = Vec::new(self.alloc);
+    /// The workers of an output, and what calls them.
+    fn add_members<R: Net>(&mut self, rt: &R, team: &Team<'_>) -> Result<Vec<Bell>, StartFault> {
+        let mut bells = Vec::new(self.alloc);
         for number in 0..team.workers {
             let login = Arc::try_clone(&team.login)?;
             let salts = team.draws.salts(team.number, number);
             let worker = Worker::new(self.alloc, number, login, team.ack_wait, salts);
-            let (member, waker) = Member::new(rt, self.alloc, team.number, worker)?;
+            let (member, bell) = Member::new(rt, self.alloc, team.number, worker)?;
             self.members.push(member)?;
-            wakers.push(waker)?;
+            bells.push(bell)?;
         }
-        Ok(wakers)
+        Ok(bells)
     }
 }

@@ -1,24 +1,15 @@
-//! A stream to a server, with a wait of its own.
+//! A stream to a server.
 
 ghost use Rattle.std.specs.Prelude.{◌≤◌, length, IfOk, IfSome};
 
 use crate::board::Stop;
+use crate::nap::{Nap, await_connection};
 use mio::net::TcpStream;
-use mio::{Events, Interest, Poll, Token};
 use std::alloc::Global;
+use std::cell::RefCell;
 use std::io;
 use std::io::{ErrorKind, Read, Write};
 use std::net::{Net, SocketAddr};
-use std::time::Duration;
-
-/// How long a read waits for a server that owes something, in milliseconds.
-const PATIENCE: u64 = 100;
-
-/// How long it waits for one that owes nothing, in milliseconds.
-const GLANCE: u64 = 1;
-
-/// The one stream of a wire's own wait.
-const STREAM: Token = Token(0);
 
 /// The stream failed, or it is to end.
 #[derive(Clone, Copy, Debug, PartialEq, Eq)]
@@ -32,53 +23,65 @@ impl From<io::Error> for Broken {
 
 /// A stream to a server, which may not be connected yet.
 #[derive(Drop)]
-pub(crate) struct Wire {
+pub(crate) struct Wire<'a> {
     stop: Stop,
-    poll: Poll,
-    events: Events,
+    /// The waits of its worker.
+    nap: &'a RefCell<Nap>,
     stream: TcpStream,
     is_up: bool,
-    /// Bytes were written since the last were read, or none was read yet.
-    is_owed: bool,
 }
 
-impl Wire {
+impl<'a> Wire<'a> {
     /// Begins to connect, and waits a while for the server. A connection that is refused by then
     /// cannot be had; one that is neither up nor refused goes on as a stream that takes nothing
     /// yet.
-    pub fn begin<R: Net>(rt: &R, alloc: Global, stop: Stop, addr: SocketAddr) -> io::Result<Wire> {
-        let poll = Poll::new(rt)?;
-        let events = Events::with_capacity(alloc, 4)?;
+    pub fn begin<R: Net>(
+        rt: &R,
+        alloc: Global,
+        stop: Stop,
+        nap: &'a RefCell<Nap>,
+        addr: SocketAddr,
+    ) -> io::Result<Wire<'a>> {
         let mut stream = TcpStream::connect(rt, addr)?;
-        let interest = Interest::READABLE | Interest::WRITABLE;
-        poll.registry().register(&mut stream, STREAM, interest)?;
+        await_connection(rt, alloc, &mut stream)?;
+        match nap.try_borrow_mut() {
+            Ok(mut nap) => {
+                nap.work();
+                nap.hear(&mut stream)?;
+            }
+            Err(_) => return Err(io::Error::from(ErrorKind::WouldBlock)),
+        }
         let mut wire = Wire {
             stop,
-            poll,
-            events,
+            nap,
             stream,
             is_up: false,
-            is_owed: true,
         };
-        wire.wait()?;
+        wire.look()?;
         Ok(wire)
     }
 
-    /// Waits for the server, and looks whether a connection that began is up.
-    fn wait(&mut self) -> io::Result<()> {
-        let millis = if self.is_owed { PATIENCE } else { GLANCE };
-        let longest = Duration::from_millis(millis);
-        self.poll.poll(&mut self.events, Some(longest))?;
-        if !self.is_up && !self.events.is_empty() {
-            if let Some(error) = self.stream.take_error()? {
-                return Err(error);
-            }
-            if self.stream.peer_addr().is_ok() {
-                self.stream.set_nodelay(true)?;
-                self.is_up = true;
-            }
+    /// Looks whether a connection that began is up. It is an error that it was refused.
+    fn look(&mut self) -> io::Result<()> {
+        if self.is_up {
+            return Ok(());
+        }
+        if let Some(error) = self.stream.take_error()? {
+            return Err(error);
+        }
+        if self.stream.peer_addr().is_ok() {
+            self.stream.set_nodelay(true)?;
+            self.is_up = true;
         }
         Ok(())
+    }
+
+    /// Waits for the server, where the worker has a chunk, and says whether it did.
+    fn wait(&mut self) -> bool {
+        match self.nap.try_borrow_mut() {
+            Ok(mut nap) => nap.await_server(),
+            Err(_) => false,
+        }
     }
 
     /// Reads what is there: how many bytes, 0 where the server closed its side, and nothing where
@@ -90,10 +93,7 @@ impl Wire {
             return Ok(None);
         }
         match self.stream.read(room) {
-            Ok(count) => {
-                self.is_owed = self.is_owed && count == 0;
-                Ok(Some(count))
-            }
+            Ok(count) => Ok(Some(count)),
             Err(error) => match error.kind() {
                 ErrorKind::WouldBlock | ErrorKind::Interrupted => Ok(None),
                 _ => Err(Broken),
@@ -101,8 +101,8 @@ impl Wire {
         }
     }
 
-    /// The same, and waits where nothing is there yet: a while for a server that owes something,
-    /// and else a moment, so that an idle session does not hold its worker up.
+    /// The same, and waits where nothing is there yet: a while for a server that owes something.
+    /// While the worker has no chunk it waits for none here, so that it is not held up.
     pub fn read(&mut self, room: &mut [u8]) -> Result<Option<usize>, Broken>
         ensures { IfOk result (λ some. IfSome some (λ n. n ≤ length room.new)) }
     {
@@ -110,10 +110,10 @@ impl Wire {
             return Err(Broken);
         }
         let read = self.read_once(room)?;
-        if read.is_some() {
+        if read.is_some() || !self.wait() {
             return Ok(read);
         }
-        self.wait()?;
+        self.look()?;
         self.read_once(room)
     }
 
@@ -125,10 +125,7 @@ impl Wire {
             return Ok(0);
         }
         match self.stream.write(bytes) {
-            Ok(count) => {
-                self.is_owed = self.is_owed || count > 0;
-                Ok(count)
-            }
+            Ok(count) => Ok(count),
             Err(error) => match error.kind() {
                 ErrorKind::WouldBlock | ErrorKind::Interrupted => Ok(0),
                 _ => Err(Broken),

@@ -3,10 +3,14 @@
 
 mod asked;
 mod ending;
+mod journal;
+mod pace;
 mod program;
 mod running;
+mod telling;
 
 pub use asked::{Run, asked_run};
 pub use ending::RunEnd;
+pub use journal::{Journal, Log, asked_log};
 pub use program::run_all;
 pub use running::run_file;

@@ -8,6 +8,7 @@ ghost use Rattle.fwd_program.specs.Asked.{AsksRun};
 
 use crate::asked::asked_run;
 use crate::ending::RunEnd;
+use crate::journal::Log;
 use crate::running::run_file;
 use fwd_script::{Status, run_program};
 use std::io;
@@ -37,7 +38,7 @@ fn run_words<
     I: Read,
     W: Write,
     E: Write,
->(rt: &R, words: Vec<String>, input: &mut I, output: &mut W, errors: &mut E) -> u8
+>(rt: &R, words: Vec<String>, log: Log, input: &mut I, output: &mut W, errors: &mut E) -> u8
     ensures { ((path : List ℕ) (turns : ℕ)
         → ¬ AsksRun (words_behind (map string_bytes words.items)) path turns)
         → (end : End) × (result ≡ end_code end)
@@ -46,7 +47,7 @@ fn run_words<
 {
     match asked_run(words.as_slice()) {
         Some(run) => {
-            let end = run_file(rt, run, output);
+            let end = run_file(rt, run, log, output, errors);
             let _told = tell(errors, &end);
             end.exit_code()
         }
@@ -55,9 +56,9 @@ fn run_words<
 }
 
 /// The whole program, but for where its words and streams come from: where the words ask for a run
-/// it runs, as `run_file` does, and tells how that ended; all other words it answers as
-/// `fwd_script::run_program` does. It returns the exit status. An end that cannot be told has the
-/// same exit status.
+/// it runs, as `run_file` does with this log, and tells how that ended; all other words it answers
+/// as `fwd_script::run_program` does. It returns the exit status. An end that cannot be told has
+/// the same exit status.
 pub fn run_all<
     R: Net<Listener = TcpListener, Stream = TcpStream>
         + Threads
@@ -69,7 +70,14 @@ pub fn run_all<
     I: Read,
     W: Write,
     E: Write,
->(rt: &R, words: io::Result<Vec<String>>, input: &mut I, output: &mut W, errors: &mut E) -> u8
+>(
+    rt: &R,
+    words: io::Result<Vec<String>>,
+    log: Log,
+    input: &mut I,
+    output: &mut W,
+    errors: &mut E,
+) -> u8
     ensures { IfOk words (λ list.
         ((path : List ℕ) (turns : ℕ)
         → ¬ AsksRun (words_behind (map string_bytes list.items)) path turns)
@@ -78,7 +86,7 @@ pub fn run_all<
         end (I.remaining input.old) (W.contents output.old) (W.contents output.new)) }
 {
     match words {
-        Ok(words) => run_words(rt, words, input, output, errors),
+        Ok(words) => run_words(rt, words, log, input, output, errors),
         Err(error) => run_program(rt.alloc(), rt, Err(error), input, output, errors),
     }
 }

@@ -5,7 +5,8 @@ ghost use Rattle.fwd_settings.specs.Ranges.{in_range};
 
 use crate::asked::Run;
 use crate::ending::RunEnd;
-use fwd_loop::Loop;
+use crate::journal::{Journal, Log};
+use fwd_loop::{Loop, Watch};
 use fwd_monitor::page;
 use fwd_script::{InputError, Status, read_input, write_all};
 use fwd_settings::{Settings, SettingsFault, accepted_is_in_range, read_settings};
@@ -33,7 +34,7 @@ fn settings_in<F: Files>(alloc: Global, files: &F, path: &str) -> Result<Setting
     read_settings(alloc, text.as_slice())
 }
 
-/// Runs, and writes the page of the last counts.
+/// Runs under a watch, and writes the page of the last counts.
 fn try_run<
     R: Net<Listener = TcpListener, Stream = TcpStream>
         + Threads
@@ -42,18 +43,20 @@ fn try_run<
         + Files
         + AllocGlobal
         + Sync,
+    V: Watch,
     W: Write,
->(rt: &R, run: Run<'_>, output: &mut W) -> Result<(), RunEnd> {
+>(rt: &R, run: Run<'_>, watch: &mut V, output: &mut W) -> Result<(), RunEnd> {
     let settings = settings_in(rt.alloc(), rt, run.path)?;
     let relay = Loop::new(rt, settings)?;
-    let counts = relay.run(rt, run.turns)?;
+    let counts = relay.run_watched(rt, watch, run.turns)?;
     let text = page(rt.alloc(), &counts)?;
     Ok(write_all(output, text.as_bytes())?)
 }
 
 /// Runs a relay by the settings in a file, and writes the monitor's page of the last counts. A file
 /// that cannot be read is `Ran(BadSettings(Unreadable))`, and so are refused settings with their
-/// own fault; a failed write or flush is `Ran(Output)`, and want of memory `Ran(Memory)`.
+/// own fault; a failed write or flush is `Ran(Output)`, and want of memory `Ran(Memory)`. Where the
+/// log asks for it the errors say what the run comes to.
 pub fn run_file<
     R: Net<Listener = TcpListener, Stream = TcpStream>
         + Threads
@@ -63,8 +66,18 @@ pub fn run_file<
         + AllocGlobal
         + Sync,
     W: Write,
->(rt: &R, run: Run<'_>, output: &mut W) -> RunEnd {
-    let end = match try_run(rt, run, output) {
+    E: Write,
+>(rt: &R, run: Run<'_>, log: Log, output: &mut W, errors: &mut E) -> RunEnd {
+    let ran = match log {
+        Log::Off => try_run(rt, run, &mut (), output),
+        Log::Info => {
+            let mut journal = Journal::new(rt, errors);
+            let ran = try_run(rt, run, &mut journal, output);
+            journal.close();
+            ran
+        }
+    };
+    let end = match ran {
         Ok(()) => RunEnd::Ran(Status::Done),
         Err(end) => end,
     };

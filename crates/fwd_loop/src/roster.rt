@@ -1,0 +1,73 @@
+//! Which servers are lost.
+
+use crate::board::Notice;
+use crate::output::Output;
+use crate::watch::Fact;
+use fwd_workers::News;
+use std::alloc::{AllocError, Global};
+use std::net::SocketAddr;
+
+/// A server, by its output's number and its place in that output's list.
+#[derive(Clone, Copy, Debug, PartialEq, Eq)]
+struct Post {
+    output: u16,
+    server: u16,
+}
+
+impl Post {
+    /// Where it is reached, if there is such a server.
+    fn address(self, outputs: &[Output]) -> Option<SocketAddr> {
+        let own = outputs.get(self.output as usize)?;
+        let address = own.servers.get(self.server as usize)?;
+        Some(*address)
+    }
+}
+
+/// The servers that were lost, and settled no chunk since.
+#[derive(Drop)]
+pub(crate) struct Roster {
+    /// Each at most once.
+    lost: Vec<Post>,
+}
+
+impl Roster {
+    /// No server of these outputs is lost. The only error is want of memory.
+    pub fn new(alloc: Global, outputs: &[Output]) -> Result<Roster, AllocError> {
+        let mut lost = Vec::new(alloc);
+        for output in outputs {
+            lost.reserve(output.servers.len())?;
+        }
+        Ok(Roster { lost })
+    }
+
+    /// What there is to tell of a worker's notice, if anything.
+    pub fn hear(&mut self, outputs: &[Output], notice: &Notice) -> Option<Fact> {
+        let output = notice.output;
+        match notice.news {
+            News::Settled { number: _, server } => {
+                let post = Post { output, server };
+                let place = self.lost.iter().position(|lost| *lost == post)?;
+                self.lost.swap_remove(place);
+                let server = post.address(outputs)?;
+                Some(Fact::ServerBack { output, server })
+            }
+            News::Lost { server, why } => {
+                let post = Post { output, server };
+                self.note(post);
+                let server = post.address(outputs)?;
+                Some(Fact::ServerLost {
+                    output,
+                    server,
+                    why,
+                })
+            }
+        }
+    }
+
+    /// A server is lost. For want of memory it will not be told that it is back.
+    fn note(&mut self, post: Post) {
+        if !self.lost.contains(&post) {
+            let _ = self.lost.push(post);
+        }
+    }
+}

@@ -1,0 +1,83 @@
+//! What a run tells of itself as it goes on.
+
+use fwd_source::SourceFault;
+use fwd_workers::{AdmitRefusal, Loss};
+use std::net::SocketAddr;
+
+/// Who connects to a listener.
+#[derive(Clone, Copy, Debug, PartialEq, Eq)]
+pub enum Caller {
+    Source,
+    Monitor,
+}
+
+/// Why the relay closes a source that would still send.
+#[derive(Clone, Copy, Debug, PartialEq, Eq)]
+pub enum SourceEnd {
+    /// What it sent is no request, or it is not let in.
+    Fault(SourceFault),
+    /// An output does not admit its request.
+    Refused(AdmitRefusal),
+    /// No output takes its request's tag.
+    NoRoute,
+}
+
+/// What memory was refused for.
+#[derive(Clone, Copy, Debug, PartialEq, Eq)]
+pub enum Want {
+    /// For a source, which is closed.
+    Source(SocketAddr),
+    /// For a monitor, which is closed.
+    Monitor,
+    /// For the receipts of the output of this number: they are asked for again.
+    Output(u16),
+    /// For what workers tell: all outputs are looked at in place of it.
+    News,
+}
+
+/// What a run tells of itself.
+#[derive(Clone, Copy, Debug, PartialEq, Eq)]
+pub enum Fact {
+    /// It listens at an address.
+    Listening {
+        caller: Caller,
+        address: SocketAddr,
+    },
+    /// It closes a source.
+    SourceClosed {
+        peer: SocketAddr,
+        why: SourceEnd,
+    },
+    /// A server of the output of this number is lost.
+    ServerLost {
+        output: u16,
+        server: SocketAddr,
+        why: Loss,
+    },
+    /// A server that was lost acknowledged a chunk.
+    ServerBack {
+        output: u16,
+        server: SocketAddr,
+    },
+    /// A connection is one too many, and is closed at once.
+    OverLimit {
+        caller: Caller,
+        peer: SocketAddr,
+    },
+    /// Memory was refused.
+    Memory(Want),
+}
+
+/// Is told what a run comes to. It is called in the thread of the loop alone.
+pub trait Watch {
+    /// A fact is told, when it happens or within a turn of it.
+    fn see(&mut self, fact: Fact);
+
+    /// A turn of the loop is over. The next one waits at most 100 milliseconds.
+    fn turned(&mut self) {}
+}
+
+/// Nobody looks.
+impl Watch for () {
+    fn see(&mut self, _fact: Fact) {}
+}

@@ -1,0 +1,145 @@
+//! What is said of a fact.
+
+use fwd_loop::{Caller, Fact, SourceEnd, Want};
+use fwd_script::{session_fault_name, source_fault_name};
+use fwd_workers::{AdmitRefusal, LinkFault, Loss};
+use std::fmt;
+
+/// The kinds of facts.
+#[derive(Clone, Copy, Debug, PartialEq, Eq)]
+pub enum Kind {
+    Listening = 0,
+    SourceClosed = 1,
+    ServerLost = 2,
+    ServerBack = 3,
+    OverLimit = 4,
+    Memory = 5,
+}
+
+impl Kind {
+    /// How many kinds there are.
+    pub const COUNT: usize = 6;
+
+    /// Each kind once.
+    pub const ALL: [Kind; 6] = [
+        Kind::Listening,
+        Kind::SourceClosed,
+        Kind::ServerLost,
+        Kind::ServerBack,
+        Kind::OverLimit,
+        Kind::Memory,
+    ];
+
+    /// The kind of a fact.
+    pub fn of(fact: &Fact) -> Kind {
+        match fact {
+            Fact::Listening { .. } => Kind::Listening,
+            Fact::SourceClosed { .. } => Kind::SourceClosed,
+            Fact::ServerLost { .. } => Kind::ServerLost,
+            Fact::ServerBack { .. } => Kind::ServerBack,
+            Fact::OverLimit { .. } => Kind::OverLimit,
+            Fact::Memory(_) => Kind::Memory,
+        }
+    }
+}
+
+/// What each line of the kind begins with.
+impl fmt::Display for Kind {
+    fn fmt<W: fmt::Write>(&self, f: &mut fmt::Formatter<W>) -> fmt::Result {
+        f.write_str(match self {
+            Kind::Listening => "listening",
+            Kind::SourceClosed => "source closed",
+            Kind::ServerLost => "server lost",
+            Kind::ServerBack => "server back",
+            Kind::OverLimit => "over the limit",
+            Kind::Memory => "memory",
+        })
+    }
+}
+
+/// A fact in words, on one line, without its line feed. No byte of a peer stands in it.
+#[derive(Clone, Copy, Debug)]
+pub struct Telling {
+    pub fact: Fact,
+}
+
+impl fmt::Display for Telling {
+    fn fmt<W: fmt::Write>(&self, f: &mut fmt::Formatter<W>) -> fmt::Result {
+        let kind = Kind::of(&self.fact);
+        write!(f, "{kind}: ")?;
+        match self.fact {
+            Fact::Listening { caller, address } => {
+                let caller = caller_name(caller);
+                write!(f, "{caller}s at {address}")
+            }
+            Fact::SourceClosed { peer, why } => {
+                let name = source_end_name(why);
+                write!(f, "{peer} {name}")
+            }
+            Fact::ServerLost {
+                output,
+                server,
+                why,
+            } => {
+                let name = loss_name(why);
+                write!(f, "output {output} {server} {name}")
+            }
+            Fact::ServerBack { output, server } => write!(f, "output {output} {server}"),
+            Fact::OverLimit { caller, peer } => {
+                let caller = caller_name(caller);
+                write!(f, "{caller} {peer}")
+            }
+            Fact::Memory(want) => tell_want(f, want),
+        }
+    }
+}
+
+/// What memory was refused for.
+fn tell_want<W: fmt::Write>(f: &mut fmt::Formatter<W>, want: Want) -> fmt::Result {
+    match want {
+        Want::Source(peer) => write!(f, "source {peer}"),
+        Want::Monitor => f.write_str("monitor"),
+        Want::Output(output) => write!(f, "output {output}"),
+        Want::News => f.write_str("news of workers"),
+    }
+}
+
+/// Who connects to a listener.
+fn caller_name(caller: Caller) -> &'static str {
+    match caller {
+        Caller::Source => "source",
+        Caller::Monitor => "monitor",
+    }
+}
+
+/// The name of why a source is closed.
+fn source_end_name(why: SourceEnd) -> &'static str {
+    match why {
+        SourceEnd::Fault(fault) => source_fault_name(fault),
+        SourceEnd::Refused(refusal) => admit_refusal_name(refusal),
+        SourceEnd::NoRoute => "NoRoute",
+    }
+}
+
+/// The name of why an output does not admit a request.
+fn admit_refusal_name(refusal: AdmitRefusal) -> &'static str {
+    match refusal {
+        AdmitRefusal::Memory => "Memory",
+        AdmitRefusal::NotNow => "NotNow",
+        AdmitRefusal::Full => "Full",
+        AdmitRefusal::NumbersSpent => "NumbersSpent",
+    }
+}
+
+/// The name of why a server is lost.
+fn loss_name(why: Loss) -> &'static str {
+    match why {
+        Loss::Link(LinkFault::Connect) => "Connect",
+        Loss::Link(LinkFault::Read) => "Read",
+        Loss::Link(LinkFault::Write) => "Write",
+        Loss::Closed => "Closed",
+        Loss::Fault(fault) => session_fault_name(fault),
+        Loss::Late => "Late",
+        Loss::Memory => "Memory",
+    }
+}

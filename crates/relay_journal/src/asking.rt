@@ -1,0 +1,58 @@
+//! What environments ask for.
+
+ghost use Rattle.std.specs.Io.{WritesAtMost};
+
+use anyhow::Result;
+use fwd_program::asked_log;
+use std::env::{Env, FillError};
+
+/// An environment of one variable.
+#[derive(Clone, Copy, Debug)]
+struct Variable<'a> {
+    name: &'a str,
+    value: &'a str,
+}
+
+/// Bytes at the front of a buffer.
+fn fill(bytes: &[u8], buf: &mut [u8]) -> core::result::Result<usize, FillError>
+    ensures { WritesAtMost result buf.new }
+{
+    match buf.get_mut(..bytes.len()) {
+        Some(front) => {
+            front.copy_from_slice(bytes);
+            Ok(bytes.len())
+        }
+        None => Err(FillError::TooLong),
+    }
+}
+
+impl<'a> Env for Variable<'a> {
+    fn arg(&self, _i: usize, _buf: &mut [u8]) -> core::result::Result<usize, FillError> {
+        Err(FillError::NotPresent)
+    }
+
+    fn var(&self, name: &str, buf: &mut [u8]) -> core::result::Result<usize, FillError> {
+        if name == self.name {
+            fill(self.value.as_bytes(), buf)
+        } else {
+            Err(FillError::NotPresent)
+        }
+    }
+
+    fn var_at(&self, _i: usize, _buf: &mut [u8]) -> core::result::Result<usize, FillError> {
+        Err(FillError::NotPresent)
+    }
+}
+
+/// Says what each environment asks for.
+pub fn say_asked(rt: &(impl Print + AllocGlobal)) -> Result<()> {
+    let name = "FORWARD_RELAY_LOG";
+    for value in ["info", "Info", "", "info ", "debug"] {
+        let log = asked_log(&(Variable { name, value }, rt.alloc()));
+        println!(rt; "{name}={value}: {log:?}")?;
+    }
+    let (name, value) = ("LOG", "info");
+    let log = asked_log(&(Variable { name, value }, rt.alloc()));
+    println!(rt; "{name}={value}: {log:?}")?;
+    Ok(())
+}

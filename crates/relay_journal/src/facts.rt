@@ -1,0 +1,101 @@
+//! Each fact once, a second apart.
+
+use crate::hand::{Hand, START};
+use fwd_loop::{Caller, Fact, SourceEnd, Want, Watch};
+use fwd_modes::InputFault;
+use fwd_msgpack::ScanFault;
+use fwd_program::Journal;
+use fwd_session::SessionFault;
+use fwd_source::SourceFault;
+use fwd_workers::{AdmitRefusal, LinkFault, Loss};
+use std::io;
+use std::net::{Ipv4Addr, Ipv6Addr, SocketAddr};
+
+/// Why sources are closed.
+const ENDS: [SourceEnd; 15] = [
+    SourceEnd::Fault(SourceFault::Scan(ScanFault::Reserved)),
+    SourceEnd::Fault(SourceFault::Scan(ScanFault::TooDeep)),
+    SourceEnd::Fault(SourceFault::Scan(ScanFault::TooLong)),
+    SourceEnd::Fault(SourceFault::Input(InputFault::BadShape)),
+    SourceEnd::Fault(SourceFault::Input(InputFault::BadTag)),
+    SourceEnd::Fault(SourceFault::Input(InputFault::BadEntry)),
+    SourceEnd::Fault(SourceFault::Input(InputFault::BadOption)),
+    SourceEnd::Fault(SourceFault::Input(InputFault::Compressed)),
+    SourceEnd::Fault(SourceFault::NotPing),
+    SourceEnd::Fault(SourceFault::Denied),
+    SourceEnd::Fault(SourceFault::Closed),
+    SourceEnd::Refused(AdmitRefusal::NotNow),
+    SourceEnd::Refused(AdmitRefusal::Full),
+    SourceEnd::Refused(AdmitRefusal::NumbersSpent),
+    SourceEnd::NoRoute,
+];
+
+/// Why servers are lost.
+const LOSSES: [Loss; 12] = [
+    Loss::Link(LinkFault::Connect),
+    Loss::Link(LinkFault::Read),
+    Loss::Link(LinkFault::Write),
+    Loss::Closed,
+    Loss::Fault(SessionFault::BadReply),
+    Loss::Fault(SessionFault::WrongAck),
+    Loss::Fault(SessionFault::EarlyAck),
+    Loss::Fault(SessionFault::NotHelo),
+    Loss::Fault(SessionFault::Denied),
+    Loss::Fault(SessionFault::BadDigest),
+    Loss::Late,
+    Loss::Memory,
+];
+
+/// A journal that is told each fact a second after the one before.
+#[derive(Drop)]
+struct Teller<'a, W: io::Write> {
+    clock: &'a Hand,
+    now: u64,
+    journal: Journal<'a, Hand, W>,
+}
+
+impl<'a, W: io::Write> Teller<'a, W> {
+    /// The next fact.
+    fn tell(&mut self, fact: Fact) {
+        self.clock.set(Some(self.now));
+        self.journal.see(fact);
+        self.now = self.now.saturating_add(1_000);
+    }
+}
+
+/// Says each fact.
+pub fn say_each(rt: &impl Print) {
+    let peer = SocketAddr::from((Ipv4Addr::new(192, 0, 2, 7), 50_000));
+    let server = SocketAddr::from((Ipv6Addr::LOCALHOST, 24_225));
+    let clock = Hand::new(None);
+    let mut out = io::writer(rt);
+    let mut teller = Teller {
+        clock: &clock,
+        now: START,
+        journal: Journal::new(&clock, &mut out),
+    };
+    for caller in [Caller::Source, Caller::Monitor] {
+        let address = peer;
+        teller.tell(Fact::Listening { caller, address });
+        teller.tell(Fact::OverLimit { caller, peer });
+    }
+    for why in ENDS {
+        teller.tell(Fact::SourceClosed { peer, why });
+    }
+    for why in LOSSES {
+        teller.tell(Fact::ServerLost {
+            output: 65_534,
+            server,
+            why,
+        });
+    }
+    teller.tell(Fact::ServerBack { output: 0, server });
+    for want in [
+        Want::Source(peer),
+        Want::Monitor,
+        Want::Output(3),
+        Want::News,
+    ] {
+        teller.tell(Fact::Memory(want));
+    }
+}
