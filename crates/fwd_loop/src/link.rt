@@ -1,38 +1,38 @@
 //! A worker's link over TCP.
 
 use crate::board::{Board, Stop};
-use crate::nap::Nap;
+use crate::nap::SharedNap;
 use crate::told::Told;
 use crate::wire::Wire;
 use fwd_workers::{Hub, Link, LinkFault, Read};
 use std::alloc::Global;
-use std::cell::RefCell;
 use std::io;
 use std::net::{Net, SocketAddr};
-use std::sync::Wait;
+use std::sync::{Arc, Wait};
 
 /// A connection to a server. What it told of its bytes and failures is kept for contracts alone,
 /// and takes no memory: they claim that it told so, and nothing of what the server sent or got.
 #[derive(Drop)]
-pub(crate) struct TcpLink<'a> {
-    wire: Wire<'a>,
+pub(crate) struct TcpLink {
+    wire: Wire,
     taken: Told,
     given: Told,
     /// A byte for each call that failed.
     failed: Told,
 }
 
-impl<'a> TcpLink<'a> {
+impl TcpLink {
     /// Begins to connect.
-    fn begin<R: Net>(
+    fn begin<N: Net, R: Wait>(
+        net: &N,
         rt: &R,
         alloc: Global,
         stop: Stop,
-        nap: &'a RefCell<Nap>,
+        nap: SharedNap,
         addr: SocketAddr,
-    ) -> io::Result<TcpLink<'a>> {
+    ) -> io::Result<TcpLink> {
         Ok(TcpLink {
-            wire: Wire::begin(rt, alloc, stop, nap, addr)?,
+            wire: Wire::begin(net, rt, alloc, stop, nap, addr)?,
             taken: Told::none(),
             given: Told::none(),
             failed: Told::none(),
@@ -40,7 +40,7 @@ impl<'a> TcpLink<'a> {
     }
 }
 
-impl<'a> Link for TcpLink<'a> {
+impl Link for TcpLink {
     ghost use Rattle.std.specs.Prelude.{length};
 
     ghost taken = { λ l. l.taken.bytes };
@@ -49,8 +49,8 @@ impl<'a> Link for TcpLink<'a> {
 
     ghost failures = { λ l. length l.failed.bytes };
 
-    fn read<R: Wait>(&mut self, _rt: &R, room: &mut [u8]) -> Result<Read, LinkFault> {
-        match self.wire.read(room) {
+    fn read<R: Wait>(&mut self, rt: &R, room: &mut [u8]) -> Result<Read, LinkFault> {
+        match self.wire.read(rt, room) {
             Ok(None) => Ok(Read::Nothing),
             Ok(Some(0)) => Ok(Read::Closed),
             Ok(Some(count)) => {
@@ -86,7 +86,7 @@ pub(crate) struct TcpHub<'a, N: Net> {
     net: &'a N,
     alloc: Global,
     board: &'a Board,
-    nap: &'a RefCell<Nap>,
+    nap: &'a SharedNap,
     servers: &'a [SocketAddr],
 }
 
@@ -96,7 +96,7 @@ impl<'a, N: Net> TcpHub<'a, N> {
         net: &'a N,
         alloc: Global,
         board: &'a Board,
-        nap: &'a RefCell<Nap>,
+        nap: &'a SharedNap,
         servers: &'a [SocketAddr],
     ) -> Self {
         TcpHub {
@@ -110,16 +110,16 @@ impl<'a, N: Net> TcpHub<'a, N> {
 }
 
 impl<'a, N: Net> Hub for TcpHub<'a, N> {
-    type Line = TcpLink<'a>;
+    type Line = TcpLink;
 
-    fn connect<R: Wait>(&mut self, _rt: &R, server: u16) -> Result<TcpLink<'a>, LinkFault> {
+    fn connect<R: Wait>(&mut self, rt: &R, server: u16) -> Result<TcpLink, LinkFault> {
         let Some(addr) = self.servers.get(server as usize) else {
             return Err(LinkFault::Connect);
         };
-        let Ok(stop) = self.board.stop_sign() else {
+        let (Ok(stop), Ok(nap)) = (self.board.stop_sign(), Arc::try_clone(self.nap)) else {
             return Err(LinkFault::Connect);
         };
-        match TcpLink::begin(self.net, self.alloc, stop, self.nap, *addr) {
+        match TcpLink::begin(self.net, rt, self.alloc, stop, nap, *addr) {
             Ok(link) => Ok(link),
             Err(_) => Err(LinkFault::Connect),
         }

@@ -3,12 +3,11 @@
 use crate::board::{Board, Notice};
 use crate::fault::StartFault;
 use crate::link::TcpHub;
-use crate::nap::{Bell, Nap};
+use crate::nap::{Bell, Nap, SharedNap};
 use crate::output::Output;
 use crate::since::Since;
 use fwd_workers::{Gate, News, Pass, Place, Worker};
 use std::alloc::Global;
-use std::cell::RefCell;
 use std::net::Net;
 use std::rt::Clock;
 use std::sync::Wait;
@@ -19,17 +18,15 @@ use std::time::Instant;
 struct WorkerGate<'a> {
     board: &'a Board,
     output: u16,
-    nap: &'a RefCell<Nap>,
+    nap: &'a SharedNap,
     /// The worker had a chunk, and may find another: it looks before it waits.
     is_eager: bool,
 }
 
 impl<'a> WorkerGate<'a> {
     /// The worker comes to a place, and waits there where it found no chunk before.
-    fn come_to(&mut self, place: Place) {
-        let Ok(mut nap) = self.nap.try_borrow_mut() else {
-            return;
-        };
+    fn come_to<R: Wait>(&mut self, rt: &R, place: Place) {
+        let mut nap = self.nap.lock(rt);
         if place != Place::BeforeTake {
             nap.work();
         } else if self.is_eager || self.board.is_stopped() {
@@ -42,8 +39,8 @@ impl<'a> WorkerGate<'a> {
 }
 
 impl<'a> Gate for WorkerGate<'a> {
-    fn pass<R: Wait>(&mut self, _rt: &R, _worker: u16, place: Place, _turn: u64) -> Pass {
-        self.come_to(place);
+    fn pass<R: Wait>(&mut self, rt: &R, _worker: u16, place: Place, _turn: u64) -> Pass {
+        self.come_to(rt, place);
         if self.board.is_stopped() {
             Pass::Stop
         } else {
@@ -62,7 +59,7 @@ impl<'a> Gate for WorkerGate<'a> {
 pub(crate) struct Member {
     output: u16,
     worker: Worker,
-    nap: Nap,
+    nap: SharedNap,
 }
 
 impl Member {
@@ -99,7 +96,6 @@ impl Member {
         let Some(own) = outputs.get(output as usize) else {
             return;
         };
-        let nap = RefCell::new(nap);
         let mut hub = TcpHub::new(rt, rt.alloc(), board, &nap, &own.servers);
         let mut gate = WorkerGate {
             board,

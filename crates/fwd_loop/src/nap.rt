@@ -6,8 +6,8 @@ use mio::{Events, Interest, Poll, Token, Waker};
 use std::alloc::Global;
 use std::io;
 use std::net::Net;
-use std::sync::Arc;
 use std::sync::atomic::{AtomicBool, Ordering};
+use std::sync::{Arc, Mutex};
 use std::time::Duration;
 
 /// How long a worker without a chunk waits for one, in milliseconds.
@@ -39,6 +39,9 @@ impl Bell {
     }
 }
 
+/// A worker's waits, as its gate and its link share them in its one thread: the lock is always free.
+pub(crate) type SharedNap = Arc<Mutex<Nap>>;
+
 /// The waits of a worker. Each hears the worker's bell and its stream.
 #[derive(Drop)]
 pub(crate) struct Nap {
@@ -52,7 +55,7 @@ pub(crate) struct Nap {
 
 impl Nap {
     /// The waits of a worker without a stream, and its bell.
-    pub fn new<R: Net>(rt: &R, alloc: Global) -> Result<(Nap, Bell), StartFault> {
+    pub fn new<R: Net>(rt: &R, alloc: Global) -> Result<(SharedNap, Bell), StartFault> {
         let events = Events::with_capacity(alloc, 2)?;
         let poll = Poll::new(rt).map_err(|_| StartFault::Poll)?;
         let waker = Waker::new(poll.registry(), BELL).map_err(|_| StartFault::Poll)?;
@@ -67,11 +70,12 @@ impl Nap {
             is_awaited,
             is_idle: false,
         };
-        Ok((nap, bell))
+        Ok((Arc::new(alloc, Mutex::new(nap))?, bell))
     }
 
-    /// The waits hear this stream too.
-    pub fn hear(&self, stream: &mut TcpStream) -> io::Result<()> {
+    /// The worker has a chunk and a stream, which the waits hear from now on.
+    pub fn start(&mut self, stream: &mut TcpStream) -> io::Result<()> {
+        self.work();
         let interest = Interest::READABLE | Interest::WRITABLE;
         self.poll.registry().register(stream, STREAM, interest)
     }

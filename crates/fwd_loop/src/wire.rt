@@ -3,13 +3,13 @@
 ghost use Rattle.std.specs.Prelude.{◌≤◌, length, IfOk, IfSome};
 
 use crate::board::Stop;
-use crate::nap::{Nap, await_connection};
+use crate::nap::{SharedNap, await_connection};
 use mio::net::TcpStream;
 use std::alloc::Global;
-use std::cell::RefCell;
 use std::io;
 use std::io::{ErrorKind, Read, Write};
 use std::net::{Net, SocketAddr};
+use std::sync::Wait;
 
 /// The stream failed, or it is to end.
 #[derive(Clone, Copy, Debug, PartialEq, Eq)]
@@ -23,34 +23,29 @@ impl From<io::Error> for Broken {
 
 /// A stream to a server, which may not be connected yet.
 #[derive(Drop)]
-pub(crate) struct Wire<'a> {
+pub(crate) struct Wire {
     stop: Stop,
     /// The waits of its worker.
-    nap: &'a RefCell<Nap>,
+    nap: SharedNap,
     stream: TcpStream,
     is_up: bool,
 }
 
-impl<'a> Wire<'a> {
+impl Wire {
     /// Begins to connect, and waits a while for the server. A connection that is refused by then
     /// cannot be had; one that is neither up nor refused goes on as a stream that takes nothing
     /// yet.
-    pub fn begin<R: Net>(
+    pub fn begin<N: Net, R: Wait>(
+        net: &N,
         rt: &R,
         alloc: Global,
         stop: Stop,
-        nap: &'a RefCell<Nap>,
+        nap: SharedNap,
         addr: SocketAddr,
-    ) -> io::Result<Wire<'a>> {
-        let mut stream = TcpStream::connect(rt, addr)?;
-        await_connection(rt, alloc, &mut stream)?;
-        match nap.try_borrow_mut() {
-            Ok(mut nap) => {
-                nap.work();
-                nap.hear(&mut stream)?;
-            }
-            Err(_) => return Err(io::Error::from(ErrorKind::WouldBlock)),
-        }
+    ) -> io::Result<Wire> {
+        let mut stream = TcpStream::connect(net, addr)?;
+        await_connection(net, alloc, &mut stream)?;
+        nap.lock(rt).start(&mut stream)?;
         let mut wire = Wire {
             stop,
             nap,
@@ -76,14 +71,6 @@ impl<'a> Wire<'a> {
         Ok(())
     }
 
-    /// Waits for the server, where the worker has a chunk, and says whether it did.
-    fn wait(&mut self) -> bool {
-        match self.nap.try_borrow_mut() {
-            Ok(mut nap) => nap.await_server(),
-            Err(_) => false,
-        }
-    }
-
     /// Reads what is there: how many bytes, 0 where the server closed its side, and nothing where
     /// nothing is there yet.
     fn read_once(&mut self, room: &mut [u8]) -> Result<Option<usize>, Broken>
@@ -103,14 +90,14 @@ impl<'a> Wire<'a> {
 
     /// The same, and waits where nothing is there yet: a while for a server that owes something.
     /// While the worker has no chunk it waits for none here, so that it is not held up.
-    pub fn read(&mut self, room: &mut [u8]) -> Result<Option<usize>, Broken>
+    pub fn read<R: Wait>(&mut self, rt: &R, room: &mut [u8]) -> Result<Option<usize>, Broken>
         ensures { IfOk result (λ some. IfSome some (λ n. n ≤ length room.new)) }
     {
         if self.stop.is_told() {
             return Err(Broken);
         }
         let read = self.read_once(room)?;
-        if read.is_some() || !self.wait() {
+        if read.is_some() || !self.nap.lock(rt).await_server() {
             return Ok(read);
         }
         self.look()?;
