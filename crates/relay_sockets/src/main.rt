@@ -20,6 +20,7 @@ mod standby;
 mod starts;
 mod strangers;
 mod torn;
+mod unread;
 mod whole_way;
 
 use anyhow::Result;

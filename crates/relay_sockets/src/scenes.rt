@@ -1,7 +1,8 @@
 //! The scenes, side by side: each has a relay of its own, whose workers wait out their turns.
 
 use crate::{
-    fault, hostile, keys, late, liar, limits, monitors, outputs, split, standby, torn, whole_way,
+    fault, hostile, keys, late, liar, limits, monitors, outputs, split, standby, torn, unread,
+    whole_way,
 };
 use anyhow::Result;
 use std::net::{Net, TcpListener, TcpStream};
@@ -25,6 +26,7 @@ enum Scene {
     Limits,
     Monitors,
     Hostile,
+    Unread,
 }
 
 impl Scene {
@@ -43,6 +45,7 @@ impl Scene {
             Scene::Limits => "two sources at a time",
             Scene::Monitors => "sixteen monitors at a time",
             Scene::Hostile => "hostile peers",
+            Scene::Unread => "a source that does not read",
         }
     }
 
@@ -61,6 +64,7 @@ impl Scene {
             Scene::Limits => 11,
             Scene::Monitors => 12,
             Scene::Hostile => 13,
+            Scene::Unread => 14,
         }
     }
 
@@ -87,6 +91,7 @@ impl Scene {
             Scene::Limits => limits::limits(rt, host),
             Scene::Monitors => monitors::monitors(rt, host),
             Scene::Hostile => hostile::hostile(rt, host),
+            Scene::Unread => unread::hoard(rt, host),
         }
     }
 
@@ -156,8 +161,8 @@ fn six<
     behind(text, more)
 }
 
-/// What is printed of all scenes, which are played side by side.
-pub fn play_all<
+/// What is printed of all scenes but the last.
+fn twelve<
     R: Net<Listener = TcpListener, Stream = TcpStream>
         + Threads
         + Wait
@@ -174,5 +179,18 @@ pub fn play_all<
         move || six(rt, ways, servers),
         move || six(rt, faults, peers),
     );
+    behind(text, more)
+}
+
+/// What is printed of all scenes, which are played side by side.
+pub fn play_all<
+    R: Net<Listener = TcpListener, Stream = TcpStream>
+        + Threads
+        + Wait
+        + Clock
+        + AllocGlobal
+        + Sync,
+>(rt: &R) -> Result<String> {
+    let (text, more) = thread::join(rt, move || twelve(rt), move || Scene::Unread.text(rt));
     behind(text, more)
 }
