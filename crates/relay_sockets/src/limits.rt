@@ -1,33 +1,22 @@
 //! A relay that takes two sources at a time, and its monitor's page.
 
-use crate::peer::{connect, hurry, is_silent, page, rest};
-use crate::site::{Ended, Site, free_site, listen, relay};
+use crate::peer::{connect, is_silent, page, rest};
+use crate::site::{Site, around, free_site, front, listen, output, relay};
 use anyhow::Result;
 use std::net::{Net, TcpListener, TcpStream};
-use std::rt::{Clock, Files};
+use std::rt::Clock;
 use std::sync::Wait;
-use std::thread;
 use std::thread::Threads;
 
-/// The most turns.
-const TURNS: u64 = 300;
-
-/// What sources and monitors saw.
+/// What sources saw.
 #[derive(Debug, Drop)]
-pub struct Crowd {
+struct Crowd {
     /// Two sources are neither told anything nor closed.
-    pub both_stand: bool,
+    both_stand: bool,
     /// How many bytes a third is told before it is closed.
-    pub third: usize,
+    third: usize,
     /// A source that came once another was gone stands.
-    pub next_stands: bool,
-}
-
-/// The page, and what is told at another target.
-#[derive(Debug, Drop)]
-pub struct Pages {
-    pub root: String,
-    pub other: String,
+    next_stands: bool,
 }
 
 /// The sources.
@@ -51,18 +40,15 @@ fn sources<R: Net<Listener = TcpListener, Stream = TcpStream> + AllocGlobal>(
     })
 }
 
-/// What sources and monitors saw.
+/// What sources and a monitor saw.
 fn play<R: Net<Listener = TcpListener, Stream = TcpStream> + AllocGlobal>(
     rt: &R,
     site: Site,
-) -> Result<(Crowd, Pages)> {
+) -> Result<String> {
     let alloc = rt.alloc();
     let crowd = sources(rt, site)?;
-    let pages = Pages {
-        root: page(rt, alloc, site.monitors, "/")?,
-        other: page(rt, alloc, site.monitors, "/counts")?,
-    };
-    Ok((crowd, pages))
+    let page = page(rt, alloc, site.monitors, "/")?;
+    Ok(format!(in alloc; "{crowd:?}\n{page}")?)
 }
 
 /// What sources and monitors saw, and what the relay came to.
@@ -71,21 +57,14 @@ pub fn limits<
         + Threads
         + Wait
         + Clock
-        + Files
         + AllocGlobal
         + Sync,
->(rt: &R) -> Result<((Crowd, Pages), Ended)> {
-    let server = listen(rt)?;
-    let site = free_site(rt)?;
-    let relay = relay(rt, site, 2, 10_000, &[server.local_addr()?])?;
-    let (ended, seen) = thread::join(
-        rt,
-        move || relay.run(rt, TURNS),
-        move || {
-            let seen = play(rt, site);
-            hurry(rt, rt.alloc(), site.monitors);
-            seen
-        },
-    );
-    Ok((seen?, ended))
+>(rt: &R, host: u8) -> Result<String> {
+    let alloc = rt.alloc();
+    let server = listen(rt, host)?;
+    let site = free_site(rt, host)?;
+    let mut text = front(alloc, site, 2, "")?;
+    text.push_str(&output(alloc, "**", "", &[server.local_addr()?])?)?;
+    let relay = relay(rt, &text)?;
+    around(rt, site, relay, move || play(rt, site))
 }

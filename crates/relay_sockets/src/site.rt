@@ -1,12 +1,21 @@
-//! A relay on this machine: its ports and its settings.
+//! A relay on this machine: its ports, its settings and its run.
 
+use crate::peer::hurry;
+use crate::sealed::Sealed;
 use anyhow::{Result, anyhow};
 use fwd_chunks::Counts;
 use fwd_loop::{Loop, StartFault};
 use fwd_settings::{accepted_is_in_range, read_settings};
 use std::alloc::Global;
 use std::net::{Ipv4Addr, Net, SocketAddr, TcpListener, TcpStream};
-use std::rt::Files;
+use std::rt::Clock;
+use std::sync::Wait;
+use std::thread;
+use std::thread::Threads;
+
+/// The turns of a relay and of each of its workers. A worker without a chunk waits 10 ms in a turn,
+/// so that it stands for ten seconds at least.
+const TURNS: u64 = 1_000;
 
 /// Where a relay listens.
 #[derive(Clone, Copy, Debug)]
@@ -18,45 +27,60 @@ pub struct Site {
 /// What a relay came to.
 pub type Ended = Result<Vec<Counts>, StartFault>;
 
-/// A listener at a free port.
-pub fn listen<R: Net<Listener = TcpListener, Stream = TcpStream>>(rt: &R) -> Result<TcpListener> {
-    let any = SocketAddr::from((Ipv4Addr::LOCALHOST, 0));
-    Ok(TcpListener::bind(rt, any)?)
+/// A listener at a free port of this machine's host of that number, which is a scene's own.
+/// Connections leave from 127.0.0.1, so that none takes a port that a listener left.
+pub fn listen<R: Net<Listener = TcpListener, Stream = TcpStream>>(
+    rt: &R,
+    host: u8,
+) -> Result<TcpListener> {
+    let host = Ipv4Addr::new(127, 0, 0, host);
+    listen_at(rt, SocketAddr::from((host, 0)))
+}
+
+/// A listener at an address.
+pub fn listen_at<R: Net<Listener = TcpListener, Stream = TcpStream>>(
+    rt: &R,
+    addr: SocketAddr,
+) -> Result<TcpListener> {
+    Ok(TcpListener::bind(rt, addr)?)
 }
 
 /// Two free ports.
-pub fn free_site<R: Net<Listener = TcpListener, Stream = TcpStream>>(rt: &R) -> Result<Site> {
-    let sources = listen(rt)?;
-    let monitors = listen(rt)?;
+pub fn free_site<R: Net<Listener = TcpListener, Stream = TcpStream>>(
+    rt: &R,
+    host: u8,
+) -> Result<Site> {
+    let sources = listen(rt, host)?;
+    let monitors = listen(rt, host)?;
     Ok(Site {
         sources: sources.local_addr()?,
         monitors: monitors.local_addr()?,
     })
 }
 
-/// What the settings of all relays here begin with, and their output but for its servers: each entry
-/// is alone in its chunk.
-fn front_text(alloc: Global, site: Site, connections: u16, ack_wait: u64) -> Result<String> {
+/// What the settings of a relay begin with: it takes so many sources, and has these keys beside.
+pub fn unseeded(alloc: Global, site: Site, connections: u16, keys: &str) -> Result<String> {
     let (sources, monitors) = (site.sources, site.monitors);
     Ok(format!(in alloc;
         "[relay]\nlisten = \"{sources}\"\nmonitor = \"{monitors}\"\nconnections = {connections}\n\
-        run_id = \"000000000000\"\n\
-        seed = \"0000000000000000000000000000000000000000000000000000000000000000\"\n\
-        [[output]]\nmatch = \"**\"\nflush_interval = 0\nchunk_limit = 2\nack_wait = {ack_wait}\nretry_wait = 1\n"
+        run_id = \"000000000000\"\n{keys}"
     )?)
 }
 
-/// A relay that takes so many sources, with one output, which waits so long for acknowledgements
-/// (milliseconds), to these servers, of which only the first is no standby.
-pub fn relay<R: Net + Files + AllocGlobal>(
-    rt: &R,
-    site: Site,
-    connections: u16,
-    ack_wait: u64,
-    servers: &[SocketAddr],
-) -> Result<Loop> {
-    let alloc = rt.alloc();
-    let mut text = front_text(alloc, site, connections, ack_wait)?;
+/// The same of a relay whose random numbers are those of the seed of zeros.
+pub fn front(alloc: Global, site: Site, connections: u16, keys: &str) -> Result<String> {
+    let mut text = unseeded(alloc, site, connections, keys)?;
+    text.push_str("seed = \"0000000000000000000000000000000000000000000000000000000000000000\"\n")?;
+    Ok(text)
+}
+
+/// The settings of an output for the tags of a pattern, with these keys beside, to these servers,
+/// of which only the first is no standby. Each entry is alone in its chunk.
+pub fn output(alloc: Global, pattern: &str, keys: &str, servers: &[SocketAddr]) -> Result<String> {
+    let mut text = format!(in alloc;
+        "[[output]]\nmatch = \"{pattern}\"\nflush_interval = 0\nchunk_limit = 2\n\
+        ack_wait = 60000\nretry_wait = 1\n{keys}"
+    )?;
     for (number, server) in servers.iter().enumerate() {
         let standby = number > 0;
         let table = format!(in alloc;
@@ -64,12 +88,63 @@ pub fn relay<R: Net + Files + AllocGlobal>(
         )?;
         text.push_str(&table)?;
     }
+    Ok(text)
+}
+
+/// The settings of a relay for all tags to these servers.
+pub fn plain(alloc: Global, site: Site, servers: &[SocketAddr]) -> Result<String> {
+    let mut text = front(alloc, site, 8, "")?;
+    let output = output(alloc, "**", "", servers)?;
+    text.push_str(&output)?;
+    Ok(text)
+}
+
+/// A relay by these settings, or why it cannot start.
+pub fn try_relay<R: Net + AllocGlobal>(rt: &R, text: &str) -> Result<Result<Loop, StartFault>> {
     accepted_is_in_range();
-    let Ok(settings) = read_settings(alloc, text.as_bytes()) else {
-        return Err(anyhow!("the settings are not taken"));
-    };
-    match Loop::new(rt, settings) {
+    match read_settings(rt.alloc(), text.as_bytes()) {
+        Ok(settings) => Ok(Loop::new(&Sealed::new(rt), settings)),
+        Err(_) => Err(anyhow!("the settings are not taken")),
+    }
+}
+
+/// A relay by these settings.
+pub fn relay<R: Net + AllocGlobal>(rt: &R, text: &str) -> Result<Loop> {
+    match try_relay(rt, text)? {
         Ok(relay) => Ok(relay),
         Err(fault) => Err(anyhow!("{fault}")),
     }
+}
+
+/// Runs a relay, and plays what happens around it meanwhile: what was seen, and what the relay came
+/// to.
+pub fn around<
+    R: Net<Listener = TcpListener, Stream = TcpStream>
+        + Threads
+        + Wait
+        + Clock
+        + AllocGlobal
+        + Sync,
+    F: FnOnce() -> Result<String>,
+>(rt: &R, site: Site, relay: Loop, play: F) -> Result<String>
+    requires { F.pre play }
+{
+    let (ended, seen) = thread::join(
+        rt,
+        move || relay.run(rt, TURNS),
+        move ||
+            requires { F.pre play }
+        {
+            let seen = play();
+            hurry(rt, rt.alloc(), site.monitors);
+            seen
+        },
+    );
+    both(rt.alloc(), seen, ended)
+}
+
+/// What was seen, and what the relay came to.
+fn both(alloc: Global, seen: Result<String>, ended: Ended) -> Result<String> {
+    let seen = seen?;
+    Ok(format!(in alloc; "{seen}\n  {ended:?}")?)
 }

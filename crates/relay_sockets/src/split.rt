@@ -1,29 +1,24 @@
 //! A request whose entries are in two chunks is told after both.
 
-use crate::peer::{accept, connect, hurry, is_silent, send, value};
-use crate::site::{Ended, Site, free_site, listen, relay};
-use crate::whole_way::ack;
+use crate::peer::{accept, is_silent, serve, shown, source, value_text};
+use crate::site::{Site, around, free_site, listen, plain, relay};
 use anyhow::Result;
 use hex::encode;
 use std::net::{Net, TcpListener, TcpStream};
-use std::rt::{Clock, Files};
+use std::rt::Clock;
 use std::sync::Wait;
-use std::thread;
 use std::thread::Threads;
 
 /// Two entries under the tag `a`, in Forward mode, that ask to be acknowledged as `x`.
 const TWO: &[u8] = b"\x93\xa1a\x92\x92\x01\x80\x92\x02\x80\x81\xa5chunk\xa1x";
 
-/// The most turns.
-const TURNS: u64 = 300;
-
 /// What both sides saw.
 #[derive(Debug, Drop)]
-pub struct Halves {
-    pub first: String,
-    pub silent: bool,
-    pub second: String,
-    pub told: String,
+struct Halves {
+    first: String,
+    silent: bool,
+    second: String,
+    told: String,
 }
 
 /// The source, and a server that acknowledges one chunk, and a while later the other.
@@ -31,23 +26,20 @@ fn play<R: Net<Listener = TcpListener, Stream = TcpStream> + Clock + AllocGlobal
     rt: &R,
     site: Site,
     server: &TcpListener,
-) -> Result<Halves> {
+) -> Result<String> {
     let alloc = rt.alloc();
-    let source = connect(rt, site.sources)?;
-    send(&source, TWO)?;
+    let source = source(rt, site, TWO)?;
     let link = accept(rt, server)?;
-    let first = value(alloc, &link)?;
-    send(&link, &ack(alloc, &first)?)?;
-    let second = value(alloc, &link)?;
+    let first = serve(alloc, &link)?;
     let silent = is_silent(&source)?;
-    send(&link, &ack(alloc, &second)?)?;
-    let told = value(alloc, &source)?;
-    Ok(Halves {
+    let second = serve(alloc, &link)?;
+    let seen = Halves {
         first: encode(alloc, &first)?,
         silent,
         second: encode(alloc, &second)?,
-        told: encode(alloc, &told)?,
-    })
+        told: value_text(alloc, &source)?,
+    };
+    shown(alloc, &seen)
 }
 
 /// What both sides saw, and what the relay came to.
@@ -56,21 +48,11 @@ pub fn split<
         + Threads
         + Wait
         + Clock
-        + Files
         + AllocGlobal
         + Sync,
->(rt: &R) -> Result<(Halves, Ended)> {
-    let server = listen(rt)?;
-    let site = free_site(rt)?;
-    let relay = relay(rt, site, 4, 10_000, &[server.local_addr()?])?;
-    let (ended, seen) = thread::join(
-        rt,
-        move || relay.run(rt, TURNS),
-        move || {
-            let seen = play(rt, site, &server);
-            hurry(rt, rt.alloc(), site.monitors);
-            seen
-        },
-    );
-    Ok((seen?, ended))
+>(rt: &R, host: u8) -> Result<String> {
+    let server = listen(rt, host)?;
+    let site = free_site(rt, host)?;
+    let relay = relay(rt, &plain(rt.alloc(), site, &[server.local_addr()?])?)?;
+    around(rt, site, relay, move || play(rt, site, &server))
 }

@@ -1,26 +1,29 @@
 //! A server closes in the middle of a frame and is gone, and a standby acknowledges the chunk.
 
-use crate::peer::{accept, connect, hurry, send, value};
-use crate::site::{Ended, Site, free_site, listen, relay};
-use crate::whole_way::{MESSAGE, ack};
+use crate::frame::MESSAGE;
+use crate::peer::{accept, serve, shown, source, value_text};
+use crate::site::{Site, around, free_site, listen, plain, relay};
 use anyhow::Result;
 use hex::encode;
 use std::io::Read;
 use std::net::{Net, TcpListener, TcpStream};
-use std::rt::{Clock, Files};
+use std::rt::Clock;
 use std::sync::Wait;
-use std::thread;
 use std::thread::Threads;
-
-/// The most turns.
-const TURNS: u64 = 300;
 
 /// What a source is told, and how many bytes the first server read before it closed.
 #[derive(Debug, Drop)]
-pub struct Rescue {
-    pub read: usize,
-    pub frame: String,
-    pub told: String,
+struct Rescue {
+    read: usize,
+    frame: String,
+    told: String,
+}
+
+/// A server reads the front of a frame, and closes.
+fn leave<R: Clock>(rt: &R, server: TcpListener) -> Result<usize> {
+    let mut link = accept(rt, &server)?;
+    let mut front = [0; 9];
+    Ok(link.read(&mut front)?)
 }
 
 /// The source and the servers.
@@ -29,24 +32,18 @@ fn play<R: Net<Listener = TcpListener, Stream = TcpStream> + Clock + AllocGlobal
     site: Site,
     first: TcpListener,
     second: &TcpListener,
-) -> Result<Rescue> {
+) -> Result<String> {
     let alloc = rt.alloc();
-    let source = connect(rt, site.sources)?;
-    send(&source, MESSAGE)?;
-    let mut link = accept(rt, &first)?;
-    let mut front = [0; 9];
-    let read = link.read(&mut front)?;
-    drop(link);
-    drop(first);
+    let source = source(rt, site, MESSAGE)?;
+    let read = leave(rt, first)?;
     let link = accept(rt, second)?;
-    let frame = value(alloc, &link)?;
-    send(&link, &ack(alloc, &frame)?)?;
-    let told = value(alloc, &source)?;
-    Ok(Rescue {
+    let frame = serve(alloc, &link)?;
+    let seen = Rescue {
         read,
         frame: encode(alloc, &frame)?,
-        told: encode(alloc, &told)?,
-    })
+        told: value_text(alloc, &source)?,
+    };
+    shown(alloc, &seen)
 }
 
 /// What the source and the servers saw, and what the relay came to.
@@ -55,23 +52,13 @@ pub fn standby<
         + Threads
         + Wait
         + Clock
-        + Files
         + AllocGlobal
         + Sync,
->(rt: &R) -> Result<(Rescue, Ended)> {
-    let first = listen(rt)?;
-    let second = listen(rt)?;
-    let site = free_site(rt)?;
+>(rt: &R, host: u8) -> Result<String> {
+    let first = listen(rt, host)?;
+    let second = listen(rt, host)?;
+    let site = free_site(rt, host)?;
     let servers = [first.local_addr()?, second.local_addr()?];
-    let relay = relay(rt, site, 4, 10_000, &servers)?;
-    let (ended, seen) = thread::join(
-        rt,
-        move || relay.run(rt, TURNS),
-        move || {
-            let seen = play(rt, site, first, &second);
-            hurry(rt, rt.alloc(), site.monitors);
-            seen
-        },
-    );
-    Ok((seen?, ended))
+    let relay = relay(rt, &plain(rt.alloc(), site, &servers)?)?;
+    around(rt, site, relay, move || play(rt, site, first, &second))
 }

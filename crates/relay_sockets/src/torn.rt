@@ -1,24 +1,20 @@
 //! A source closes in the middle of a request, while another goes on in pieces.
 
-use crate::peer::{accept, connect, hurry, send, value};
-use crate::site::{Ended, Site, free_site, listen, relay};
-use crate::whole_way::{MESSAGE, ack};
+use crate::frame::MESSAGE;
+use crate::peer::{accept, send, serve, shown, source, value_text};
+use crate::site::{Site, around, free_site, listen, plain, relay};
 use anyhow::Result;
 use hex::encode;
 use std::net::{Net, TcpListener, TcpStream};
-use std::rt::{Clock, Files};
+use std::rt::Clock;
 use std::sync::Wait;
-use std::thread;
 use std::thread::Threads;
-
-/// The most turns.
-const TURNS: u64 = 300;
 
 /// What came of the source that went on.
 #[derive(Debug, Drop)]
-pub struct Onward {
-    pub frame: String,
-    pub told: String,
+struct Onward {
+    frame: String,
+    told: String,
 }
 
 /// Two sources and the server.
@@ -26,22 +22,19 @@ fn play<R: Net<Listener = TcpListener, Stream = TcpStream> + Clock + AllocGlobal
     rt: &R,
     site: Site,
     server: &TcpListener,
-) -> Result<Onward> {
+) -> Result<String> {
     let alloc = rt.alloc();
-    let torn = connect(rt, site.sources)?;
-    let whole = connect(rt, site.sources)?;
-    send(&torn, &MESSAGE[..7])?;
-    send(&whole, &MESSAGE[..5])?;
+    let torn = source(rt, site, &MESSAGE[..7])?;
+    let whole = source(rt, site, &MESSAGE[..5])?;
     drop(torn);
     send(&whole, &MESSAGE[5..])?;
     let link = accept(rt, server)?;
-    let frame = value(alloc, &link)?;
-    send(&link, &ack(alloc, &frame)?)?;
-    let told = value(alloc, &whole)?;
-    Ok(Onward {
+    let frame = serve(alloc, &link)?;
+    let seen = Onward {
         frame: encode(alloc, &frame)?,
-        told: encode(alloc, &told)?,
-    })
+        told: value_text(alloc, &whole)?,
+    };
+    shown(alloc, &seen)
 }
 
 /// What came of the source that went on, and what the relay came to.
@@ -50,21 +43,11 @@ pub fn torn<
         + Threads
         + Wait
         + Clock
-        + Files
         + AllocGlobal
         + Sync,
->(rt: &R) -> Result<(Onward, Ended)> {
-    let server = listen(rt)?;
-    let site = free_site(rt)?;
-    let relay = relay(rt, site, 4, 10_000, &[server.local_addr()?])?;
-    let (ended, seen) = thread::join(
-        rt,
-        move || relay.run(rt, TURNS),
-        move || {
-            let seen = play(rt, site, &server);
-            hurry(rt, rt.alloc(), site.monitors);
-            seen
-        },
-    );
-    Ok((seen?, ended))
+>(rt: &R, host: u8) -> Result<String> {
+    let server = listen(rt, host)?;
+    let site = free_site(rt, host)?;
+    let relay = relay(rt, &plain(rt.alloc(), site, &[server.local_addr()?])?)?;
+    around(rt, site, relay, move || play(rt, site, &server))
 }

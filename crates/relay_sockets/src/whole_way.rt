@@ -1,45 +1,21 @@
 //! A request goes the whole way: to the relay, to its server, and back.
 
-use crate::peer::{accept, connect, hurry, is_silent, send, value};
-use crate::site::{Ended, Site, free_site, listen, relay};
-use anyhow::{Result, anyhow};
+use crate::frame::{MESSAGE, ack};
+use crate::peer::{accept, is_silent, send, shown, source, value, value_text};
+use crate::site::{Site, around, free_site, listen, plain, relay};
+use anyhow::Result;
 use hex::encode;
-use std::alloc::Global;
 use std::net::{Net, TcpListener, TcpStream};
-use std::rt::{Clock, Files};
+use std::rt::Clock;
 use std::sync::Wait;
-use std::thread;
 use std::thread::Threads;
-
-/// A Message under the tag `a` that asks to be acknowledged as `x`.
-pub const MESSAGE: &[u8] = b"\x94\xa1a\x01\x80\x81\xa5chunk\xa1x";
-
-/// The most turns.
-const TURNS: u64 = 300;
-
-/// What an acknowledgement begins with: a map of one, `ack`, and a str of 24 bytes.
-const ACK: &[u8] = b"\x81\xa3ack\xb8";
-
-/// The last so many bytes of a frame are its chunk's name.
-const NAME: usize = 24;
-
-/// The acknowledgement of a frame.
-pub fn ack(alloc: Global, frame: &[u8]) -> Result<Vec<u8>> {
-    let from = frame.len().saturating_sub(NAME);
-    let Some(name) = frame.get(from..) else {
-        return Err(anyhow!("no name"));
-    };
-    let mut reply = Vec::from_slice(alloc, ACK)?;
-    reply.extend_from_slice(name)?;
-    Ok(reply)
-}
 
 /// What both sides saw.
 #[derive(Debug, Drop)]
-pub struct Seen {
-    pub frame: String,
-    pub silent: bool,
-    pub told: String,
+struct Seen {
+    frame: String,
+    silent: bool,
+    told: String,
 }
 
 /// The source and the server.
@@ -47,20 +23,19 @@ fn play<R: Net<Listener = TcpListener, Stream = TcpStream> + Clock + AllocGlobal
     rt: &R,
     site: Site,
     server: &TcpListener,
-) -> Result<Seen> {
+) -> Result<String> {
     let alloc = rt.alloc();
-    let source = connect(rt, site.sources)?;
-    send(&source, MESSAGE)?;
+    let source = source(rt, site, MESSAGE)?;
     let link = accept(rt, server)?;
     let frame = value(alloc, &link)?;
     let silent = is_silent(&source)?;
     send(&link, &ack(alloc, &frame)?)?;
-    let told = value(alloc, &source)?;
-    Ok(Seen {
+    let seen = Seen {
         frame: encode(alloc, &frame)?,
         silent,
-        told: encode(alloc, &told)?,
-    })
+        told: value_text(alloc, &source)?,
+    };
+    shown(alloc, &seen)
 }
 
 /// What both sides saw, and what the relay came to.
@@ -69,21 +44,11 @@ pub fn whole_way<
         + Threads
         + Wait
         + Clock
-        + Files
         + AllocGlobal
         + Sync,
->(rt: &R) -> Result<(Seen, Ended)> {
-    let server = listen(rt)?;
-    let site = free_site(rt)?;
-    let relay = relay(rt, site, 4, 10_000, &[server.local_addr()?])?;
-    let (ended, seen) = thread::join(
-        rt,
-        move || relay.run(rt, TURNS),
-        move || {
-            let seen = play(rt, site, &server);
-            hurry(rt, rt.alloc(), site.monitors);
-            seen
-        },
-    );
-    Ok((seen?, ended))
+>(rt: &R, host: u8) -> Result<String> {
+    let server = listen(rt, host)?;
+    let site = free_site(rt, host)?;
+    let relay = relay(rt, &plain(rt.alloc(), site, &[server.local_addr()?])?)?;
+    around(rt, site, relay, move || play(rt, site, &server))
 }

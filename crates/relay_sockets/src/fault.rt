@@ -1,0 +1,57 @@
+//! A fault behind a good request in one piece: the request's entries are sent, and the source is
+//! closed and told nothing.
+
+use crate::peer::{accept, rest, serve, shown, source, visit};
+use crate::site::{Site, around, free_site, listen, plain, relay};
+use anyhow::Result;
+use hex::encode;
+use std::net::{Net, TcpListener, TcpStream};
+use std::rt::Clock;
+use std::sync::Wait;
+use std::thread::Threads;
+
+/// A Message under the tag `a` that asks to be acknowledged as `x`, and the byte that no value
+/// begins with.
+const FAULTY: &[u8] = b"\x94\xa1a\x01\x80\x81\xa5chunk\xa1x\xc1";
+
+/// What both sides saw.
+#[derive(Debug, Drop)]
+struct Remains {
+    told: usize,
+    frame: String,
+    next: bool,
+}
+
+/// The source, its server, and another source behind it.
+fn play<R: Net<Listener = TcpListener, Stream = TcpStream> + Clock + AllocGlobal>(
+    rt: &R,
+    site: Site,
+    server: &TcpListener,
+) -> Result<String> {
+    let alloc = rt.alloc();
+    let source = source(rt, site, FAULTY)?;
+    let told = rest(alloc, &source)?.len();
+    let link = accept(rt, server)?;
+    let frame = serve(alloc, &link)?;
+    let seen = Remains {
+        told,
+        frame: encode(alloc, &frame)?,
+        next: visit(rt, site, &link)?,
+    };
+    shown(alloc, &seen)
+}
+
+/// What the source and the server saw, and what the relay came to.
+pub fn fault<
+    R: Net<Listener = TcpListener, Stream = TcpStream>
+        + Threads
+        + Wait
+        + Clock
+        + AllocGlobal
+        + Sync,
+>(rt: &R, host: u8) -> Result<String> {
+    let server = listen(rt, host)?;
+    let site = free_site(rt, host)?;
+    let relay = relay(rt, &plain(rt.alloc(), site, &[server.local_addr()?])?)?;
+    around(rt, site, relay, move || play(rt, site, &server))
+}

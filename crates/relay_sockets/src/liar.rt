@@ -1,0 +1,93 @@
+//! A server lies: it names another chunk, says what is no acknowledgement, and at last says the
+//! right name twice. Each lie costs it its connection, and no source is told by one.
+
+use crate::frame::{MESSAGE, ack};
+use crate::peer::{accept, is_silent, rest, send, serve, shown, source, value, value_text};
+use crate::site::{Site, around, free_site, listen, plain, relay};
+use anyhow::Result;
+use hex::encode;
+use std::net::{Net, TcpListener, TcpStream};
+use std::rt::Clock;
+use std::sync::Wait;
+use std::thread::Threads;
+
+/// The acknowledgement of the output's second chunk.
+const OTHER: &[u8] = b"\x81\xa3ack\xb8AAAAAAAAAAAAAAAAAAAAAg==";
+
+/// The bool `true`.
+const TRUE: &[u8] = b"\xc3";
+
+/// What both sides saw.
+#[derive(Debug, Drop)]
+struct Lies {
+    other: String,
+    same: bool,
+    silent: bool,
+    told: String,
+    honest: String,
+    told_again: String,
+}
+
+/// A server reads a frame, says these bytes, and is closed with nothing further: the frame.
+fn lie<R: Clock + AllocGlobal>(rt: &R, server: &TcpListener, said: &[u8]) -> Result<Vec<u8>> {
+    let alloc = rt.alloc();
+    let link = accept(rt, server)?;
+    let frame = value(alloc, &link)?;
+    send(&link, said)?;
+    rest(alloc, &link)?;
+    Ok(frame)
+}
+
+/// A server reads a frame, acknowledges it twice at once, and is closed with nothing further.
+fn repeat<R: Clock + AllocGlobal>(rt: &R, server: &TcpListener) -> Result<Vec<u8>> {
+    let alloc = rt.alloc();
+    let link = accept(rt, server)?;
+    let frame = value(alloc, &link)?;
+    let mut said = ack(alloc, &frame)?;
+    let again = ack(alloc, &frame)?;
+    said.extend_from_slice(&again)?;
+    send(&link, &said)?;
+    rest(alloc, &link)?;
+    Ok(frame)
+}
+
+/// The source and the server.
+fn play<R: Net<Listener = TcpListener, Stream = TcpStream> + Clock + AllocGlobal>(
+    rt: &R,
+    site: Site,
+    server: &TcpListener,
+) -> Result<String> {
+    let alloc = rt.alloc();
+    let source = source(rt, site, MESSAGE)?;
+    let other = lie(rt, server, OTHER)?;
+    let none = lie(rt, server, TRUE)?;
+    let silent = is_silent(&source)?;
+    let twice = repeat(rt, server)?;
+    let told = value_text(alloc, &source)?;
+    send(&source, MESSAGE)?;
+    let honest = serve(alloc, &accept(rt, server)?)?;
+    let seen = Lies {
+        same: none == other && twice == other,
+        other: encode(alloc, &other)?,
+        silent,
+        told,
+        honest: encode(alloc, &honest)?,
+        told_again: value_text(alloc, &source)?,
+    };
+    shown(alloc, &seen)
+}
+
+/// What the source and the server saw, and what the relay came to.
+pub fn liar<
+    R: Net<Listener = TcpListener, Stream = TcpStream>
+        + Threads
+        + Wait
+        + Clock
+        + AllocGlobal
+        + Sync,
+>(rt: &R, host: u8) -> Result<String> {
+    let server = listen(rt, host)?;
+    let site = free_site(rt, host)?;
+    let relay = relay(rt, &plain(rt.alloc(), site, &[server.local_addr()?])?)?;
+    around(rt, site, relay, move || play(rt, site, &server))
+}

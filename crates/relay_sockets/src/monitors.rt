@@ -1,0 +1,148 @@
+//! Sixteen monitors at a time, and each status of what they are told.
+
+use crate::peer::{asked, connect, page, rest, rest_text, send, send_by_bytes, turn};
+use crate::site::{Site, around, free_site, listen, plain, relay};
+use anyhow::{Result, anyhow};
+use std::alloc::Global;
+use std::net::{Net, SocketAddr, TcpListener, TcpStream};
+use std::rt::Clock;
+use std::sync::Wait;
+use std::thread::Threads;
+
+/// The most monitors at a time.
+const MOST: usize = 16;
+
+/// The front of a head for the page, and the rest of it.
+const FRONT: &[u8] = b"GET / HT";
+
+const BACK: &[u8] = b"TP/1.1\r\nHost: relay\r\n\r\n";
+
+/// A head for another target.
+const OTHER: &[u8] = b"GET /counts HTTP/1.1\r\nHost: relay\r\n\r\n";
+
+/// A head for the page.
+const PAGE: &[u8] = b"GET / HTTP/1.1\r\nHost: relay\r\n\r\n";
+
+/// Bytes of which the last makes that nothing is a head any more.
+const NONE: &[u8] = b"GET / HTTP/2";
+
+/// What monitors saw.
+#[derive(Debug, Drop)]
+struct Places {
+    /// How many bytes one too many is told before it is closed.
+    seventeenth: usize,
+    /// One that came once another had left is told the page.
+    next: bool,
+    /// How many of those that stood are told the page, once they ask for it.
+    standing: usize,
+}
+
+/// Whether a head in pieces of one byte is told the same as one in one piece.
+#[derive(Debug, Drop)]
+struct ByBytes {
+    page: bool,
+    other: bool,
+    none: bool,
+}
+
+/// So many monitors that began to ask for the page, and were taken.
+fn crowd<R: Net<Listener = TcpListener, Stream = TcpStream> + AllocGlobal>(
+    rt: &R,
+    site: Site,
+) -> Result<Vec<TcpStream>> {
+    let mut standing = Vec::with_capacity(rt.alloc(), MOST)?;
+    for _ in 0..MOST {
+        let monitor = connect(rt, site.monitors)?;
+        send(&monitor, FRONT)?;
+        standing.push(monitor)?;
+    }
+    turn(rt, site)?;
+    Ok(standing)
+}
+
+/// Whether a monitor that began to ask for the page is told this, once it asked.
+fn is_told(alloc: Global, monitor: &TcpStream, text: &str) -> Result<bool> {
+    send(monitor, BACK)?;
+    let told = rest_text(alloc, monitor)?;
+    Ok(told.as_str() == text)
+}
+
+/// How many of these monitors are told this, once they asked.
+fn count_told(alloc: Global, monitors: &[TcpStream], text: &str) -> Result<usize> {
+    let mut count = 0_usize;
+    for monitor in monitors {
+        if is_told(alloc, monitor, text)? {
+            count = count.saturating_add(1);
+        }
+    }
+    Ok(count)
+}
+
+/// All places are taken, and one becomes free.
+fn fill<R: Net<Listener = TcpListener, Stream = TcpStream> + AllocGlobal>(
+    rt: &R,
+    site: Site,
+    text: &str,
+) -> Result<Places> {
+    let alloc = rt.alloc();
+    let mut standing = crowd(rt, site)?;
+    let seventeenth = rest(alloc, &connect(rt, site.monitors)?)?.len();
+    let Some(first) = standing.pop() else {
+        return Err(anyhow!("no monitor"));
+    };
+    is_told(alloc, &first, text)?;
+    let next = page(rt, alloc, site.monitors, "/")?.as_str() == text;
+    let standing = count_told(alloc, &standing, text)?;
+    Ok(Places {
+        seventeenth,
+        next,
+        standing,
+    })
+}
+
+/// Whether a head in pieces of one byte is told this.
+fn by_bytes<R: Net<Listener = TcpListener, Stream = TcpStream> + AllocGlobal>(
+    rt: &R,
+    monitors: SocketAddr,
+    head: &[u8],
+    text: &str,
+) -> Result<bool> {
+    let monitor = connect(rt, monitors)?;
+    send_by_bytes(&monitor, head)?;
+    let told = rest_text(rt.alloc(), &monitor)?;
+    Ok(told.as_str() == text)
+}
+
+/// What monitors saw, and what is told of another target, and of no head.
+fn play<R: Net<Listener = TcpListener, Stream = TcpStream> + AllocGlobal>(
+    rt: &R,
+    site: Site,
+) -> Result<String> {
+    let alloc = rt.alloc();
+    let at = site.monitors;
+    let page = asked(rt, alloc, at, PAGE)?;
+    let crowd = fill(rt, site, &page)?;
+    let other = asked(rt, alloc, at, OTHER)?;
+    let none = asked(rt, alloc, at, NONE)?;
+    let by_bytes = ByBytes {
+        page: by_bytes(rt, at, PAGE, &page)?,
+        other: by_bytes(rt, at, OTHER, &other)?,
+        none: by_bytes(rt, at, NONE, &none)?,
+    };
+    Ok(format!(in alloc; "{crowd:?}\n{by_bytes:?}\n{page}{other}{none}")?)
+}
+
+/// What monitors saw, and what the relay came to.
+pub fn monitors<
+    R: Net<Listener = TcpListener, Stream = TcpStream>
+        + Threads
+        + Wait
+        + Clock
+        + AllocGlobal
+        + Sync,
+>(rt: &R, host: u8) -> Result<String> {
+    let server = listen(rt, host)?;
+    let site = free_site(rt, host)?;
+    let relay = relay(rt, &plain(rt.alloc(), site, &[server.local_addr()?])?)?;
+    around(rt, site, relay, move || play(rt, site))
+}

@@ -1,0 +1,90 @@
+//! Peers of a relay with a shared key that do not have it.
+
+use crate::peer::{connect, is_silent, rest, round, send, shown, value};
+use crate::site::Site;
+use anyhow::Result;
+use hex::encode;
+use std::alloc::Global;
+use std::net::{Net, TcpListener, TcpStream};
+
+/// A PING with no digest.
+const DENIED: &[u8] = b"\x96\xa4PING\xa6client\xa0\xa0\xa0\xa0";
+
+/// The front of a PING, whose hostname has as many bytes (0xfffff1) as leave one for each of the
+/// four values behind it: 16,777,216 with these.
+const ENDLESS: &[u8] = b"\x96\xa4PING\xdb\x00\xff\xff\xf1";
+
+/// The same of one byte more, so that no continuation is a value.
+const TOO_LONG: &[u8] = b"\x96\xa4PING\xdb\x00\xff\xff\xf2";
+
+/// A hostname comes in so many pieces of so many bytes, and this rest.
+const PIECES: u32 = 255;
+
+const PIECE: usize = 65_536;
+
+const REST: usize = 65_521;
+
+/// The head of a text that takes one byte more than there is room for.
+const BEYOND: &[u8] = b"\xa1";
+
+/// What strangers saw.
+#[derive(Debug, Drop)]
+struct Turned {
+    /// What one without the key is told before it is closed.
+    denied: String,
+    /// How many bytes one with too long a PING is told before it is closed.
+    too_long: usize,
+    /// One whose PING does not end is neither told anything nor closed while it is within the
+    /// limit, and the source beside it is told.
+    waits: bool,
+    beside: bool,
+    /// How many bytes it is told before it is closed for the byte behind.
+    beyond: usize,
+}
+
+/// A connection that was told HELO, and sends these bytes.
+fn stranger<R: Net<Listener = TcpListener, Stream = TcpStream> + AllocGlobal>(
+    rt: &R,
+    site: Site,
+    bytes: &[u8],
+) -> Result<TcpStream> {
+    let stranger = connect(rt, site.sources)?;
+    value(rt.alloc(), &stranger)?;
+    send(&stranger, bytes)?;
+    Ok(stranger)
+}
+
+/// A stranger sends its hostname. The relay keeps what came of an unfinished value, which is
+/// bounded by the limit of a value: 16,777,216 bytes.
+fn dawdle(alloc: Global, stranger: &TcpStream) -> Result<()> {
+    let piece = vec![in alloc; b'a'; PIECE]?;
+    for _ in 0..PIECES {
+        send(stranger, &piece)?;
+    }
+    send(stranger, &piece[..REST])
+}
+
+/// What strangers saw, beside a source and its server.
+pub fn strangers<R: Net<Listener = TcpListener, Stream = TcpStream> + AllocGlobal>(
+    rt: &R,
+    site: Site,
+    source: &TcpStream,
+    link: &TcpStream,
+) -> Result<String> {
+    let alloc = rt.alloc();
+    let denied = rest(alloc, &stranger(rt, site, DENIED)?)?;
+    let too_long = rest(alloc, &stranger(rt, site, TOO_LONG)?)?.len();
+    let endless = stranger(rt, site, ENDLESS)?;
+    dawdle(alloc, &endless)?;
+    let waits = is_silent(&endless)?;
+    let beside = round(alloc, source, link)?;
+    send(&endless, BEYOND)?;
+    let seen = Turned {
+        denied: encode(alloc, &denied)?,
+        too_long,
+        waits,
+        beside,
+        beyond: rest(alloc, &endless)?.len(),
+    };
+    shown(alloc, &seen)
+}
