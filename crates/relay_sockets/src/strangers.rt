@@ -4,7 +4,6 @@ use crate::peer::{connect, is_silent, rest, round, send, shown, value};
 use crate::site::Site;
 use anyhow::Result;
 use hex::encode;
-use std::alloc::Global;
 use std::net::{Net, TcpListener, TcpStream};
 
 /// A PING with no digest.
@@ -17,15 +16,10 @@ const ENDLESS: &[u8] = b"\x96\xa4PING\xdb\x00\xff\xff\xf1";
 /// The same of one byte more, so that no continuation is a value.
 const TOO_LONG: &[u8] = b"\x96\xa4PING\xdb\x00\xff\xff\xf2";
 
-/// A hostname comes in so many pieces of so many bytes, and this rest.
-const PIECES: u32 = 255;
+/// How many bytes of its hostname a source sends at a time, and how often.
+const PIECE: usize = 4_096;
 
-const PIECE: usize = 65_536;
-
-const REST: usize = 65_521;
-
-/// The head of a text that takes one byte more than there is room for.
-const BEYOND: &[u8] = b"\xa1";
+const PIECES: u32 = 64;
 
 /// What strangers saw.
 #[derive(Debug, Drop)]
@@ -34,12 +28,10 @@ struct Turned {
     denied: String,
     /// How many bytes one with too long a PING is told before it is closed.
     too_long: usize,
-    /// One whose PING does not end is neither told anything nor closed while it is within the
-    /// limit, and the source beside it is told.
-    waits: bool,
+    /// One whose PING does not end is neither told anything nor closed.
+    endless_waits: bool,
+    /// Whether the source beside it is told.
     beside: bool,
-    /// How many bytes it is told before it is closed for the byte behind.
-    beyond: usize,
 }
 
 /// A connection that was told HELO, and sends these bytes.
@@ -54,14 +46,13 @@ fn stranger<R: Net<Listener = TcpListener, Stream = TcpStream> + AllocGlobal>(
     Ok(stranger)
 }
 
-/// A stranger sends its hostname. The relay keeps what came of an unfinished value, which is
-/// bounded by the limit of a value: 16,777,216 bytes.
-fn dawdle(alloc: Global, stranger: &TcpStream) -> Result<()> {
-    let piece = vec![in alloc; b'a'; PIECE]?;
+/// A stranger sends a part of its hostname. The relay keeps what came of an unfinished value, which
+/// is bounded by the limit of a value: 16,777,216 bytes.
+fn dawdle(stranger: &TcpStream) -> Result<()> {
     for _ in 0..PIECES {
-        send(stranger, &piece)?;
+        send(stranger, &[b'a'; PIECE])?;
     }
-    send(stranger, &piece[..REST])
+    Ok(())
 }
 
 /// What strangers saw, beside a source and its server.
@@ -75,16 +66,12 @@ pub fn strangers<R: Net<Listener = TcpListener, Stream = TcpStream> + AllocGloba
     let denied = rest(alloc, &stranger(rt, site, DENIED)?)?;
     let too_long = rest(alloc, &stranger(rt, site, TOO_LONG)?)?.len();
     let endless = stranger(rt, site, ENDLESS)?;
-    dawdle(alloc, &endless)?;
-    let waits = is_silent(&endless)?;
-    let beside = round(alloc, source, link)?;
-    send(&endless, BEYOND)?;
+    dawdle(&endless)?;
     let seen = Turned {
         denied: encode(alloc, &denied)?,
         too_long,
-        waits,
-        beside,
-        beyond: rest(alloc, &endless)?.len(),
+        beside: round(alloc, source, link)?,
+        endless_waits: is_silent(&endless)?,
     };
     shown(alloc, &seen)
 }
