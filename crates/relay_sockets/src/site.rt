@@ -14,8 +14,8 @@ use std::thread;
 use std::thread::Threads;
 
 /// The turns of a relay and of each of its workers. A worker without a chunk waits 10 ms in a turn,
-/// so that it stands for ten seconds at least.
-const TURNS: u64 = 1_000;
+/// so that it stands for twenty seconds at least.
+const TURNS: u64 = 2_000;
 
 /// Where a relay listens.
 #[derive(Clone, Copy, Debug)]
