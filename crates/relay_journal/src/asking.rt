@@ -2,7 +2,6 @@
 
 ghost use Rattle.std.specs.Io.{WritesAtMost};
 
-use anyhow::Result;
 use fwd_program::asked_log;
 use std::env::{Env, FillError};
 
@@ -14,7 +13,7 @@ struct Variable<'a> {
 }
 
 /// Bytes at the front of a buffer.
-fn fill(bytes: &[u8], buf: &mut [u8]) -> core::result::Result<usize, FillError>
+fn fill(bytes: &[u8], buf: &mut [u8]) -> Result<usize, FillError>
     ensures { WritesAtMost result buf.new }
 {
     match buf.get_mut(..bytes.len()) {
@@ -27,11 +26,11 @@ fn fill(bytes: &[u8], buf: &mut [u8]) -> core::result::Result<usize, FillError>
 }
 
 impl<'a> Env for Variable<'a> {
-    fn arg(&self, _i: usize, _buf: &mut [u8]) -> core::result::Result<usize, FillError> {
+    fn arg(&self, _i: usize, _buf: &mut [u8]) -> Result<usize, FillError> {
         Err(FillError::NotPresent)
     }
 
-    fn var(&self, name: &str, buf: &mut [u8]) -> core::result::Result<usize, FillError> {
+    fn var(&self, name: &str, buf: &mut [u8]) -> Result<usize, FillError> {
         if name == self.name {
             fill(self.value.as_bytes(), buf)
         } else {
@@ -39,13 +38,13 @@ impl<'a> Env for Variable<'a> {
         }
     }
 
-    fn var_at(&self, _i: usize, _buf: &mut [u8]) -> core::result::Result<usize, FillError> {
+    fn var_at(&self, _i: usize, _buf: &mut [u8]) -> Result<usize, FillError> {
         Err(FillError::NotPresent)
     }
 }
 
 /// Says what each environment asks for.
-pub fn say_asked(rt: &(impl Print + AllocGlobal)) -> Result<()> {
+pub fn say_asked(rt: &(impl Print + AllocGlobal)) -> anyhow::Result<()> {
     let name = "FORWARD_RELAY_LOG";
     for value in ["info", "Info", "", "info ", "debug"] {
         let log = asked_log(&(Variable { name, value }, rt.alloc()));

@@ -1,9 +1,9 @@
 //! What a run over sockets tells its watch.
 
 use anyhow::{Result, anyhow};
+use fwd_chunks::Counts;
 use fwd_loop::{Caller, Fact, Loop, SourceEnd, Watch};
 use fwd_settings::{accepted_is_in_range, read_settings};
-use fwd_workers::Loss;
 use std::alloc::Global;
 use std::io::{Read, Write};
 use std::net::{Ipv4Addr, Net, SocketAddr, TcpListener, TcpStream};
@@ -41,9 +41,21 @@ struct Heard {
     monitors_at: Option<SocketAddr>,
     over_limit: Option<Caller>,
     closed: Option<SourceEnd>,
-    lost: Option<(u16, SocketAddr, Loss)>,
+    lost: Option<(u16, SocketAddr)>,
     back: u32,
     others: u32,
+}
+
+impl Heard {
+    const NOTHING: Heard = Heard {
+        sources_at: None,
+        monitors_at: None,
+        over_limit: None,
+        closed: None,
+        lost: None,
+        back: 0,
+        others: 0,
+    };
 }
 
 impl Watch for Heard {
@@ -58,8 +70,8 @@ impl Watch for Heard {
             Fact::ServerLost {
                 output,
                 server,
-                why,
-            } => self.lost = self.lost.or(Some((output, server, why))),
+                why: _,
+            } => self.lost = self.lost.or(Some((output, server))),
             Fact::ServerBack { .. } => self.back = self.back.saturating_add(1),
             Fact::Memory(_) => self.others = self.others.saturating_add(1),
         }
@@ -146,10 +158,11 @@ fn until_closed(stream: &TcpStream) -> Result<()> {
     Ok(())
 }
 
-/// A source, one too many, and a server that comes late.
+/// A source, one too many, and a server that closes before it serves.
 fn play<R: Net<Listener = TcpListener, Stream = TcpStream> + Clock + AllocGlobal>(
     rt: &R,
     site: Site,
+    listener: &TcpListener,
 ) -> Result<()> {
     let source = connect(rt, site.sources)?;
     let mut writer = &source;
@@ -157,12 +170,11 @@ fn play<R: Net<Listener = TcpListener, Stream = TcpStream> + Clock + AllocGlobal
     until_closed(&connect(rt, site.sources)?)?;
     writer.write_all(b"\xc1")?;
     until_closed(&source)?;
-    let _slept = thread::sleep(rt, Duration::from_millis(100));
-    let listener = TcpListener::bind(rt, site.server)?;
-    let link = accept(rt, &listener)?;
+    drop(accept(rt, listener)?);
+    let link = accept(rt, listener)?;
     serve(rt.alloc(), &link)?;
-    // The link stands until the relay has read the acknowledgement.
-    let _slept = thread::sleep(rt, Duration::from_millis(500));
+    // The link stands until the relay has read the acknowledgement, and closes its side.
+    hurry(rt, site);
     Ok(())
 }
 
@@ -178,7 +190,54 @@ fn hurry<R: Net<Listener = TcpListener, Stream = TcpStream>>(rt: &R, site: Site)
     }
 }
 
-/// Says what a run told.
+/// Runs a relay, and plays what happens around it meanwhile.
+fn around<
+    R: Net<Listener = TcpListener, Stream = TcpStream>
+        + Threads
+        + Wait
+        + Clock
+        + AllocGlobal
+        + Sync,
+>(
+    rt: &R,
+    site: Site,
+    listener: &TcpListener,
+    relay: Loop,
+    heard: &mut Heard,
+) -> Result<Vec<Counts>> {
+    let (ended, played) = thread::join(
+        rt,
+        move || relay.run_watched(rt, heard, TURNS),
+        move || {
+            let played = play(rt, site, listener);
+            hurry(rt, site);
+            played
+        },
+    );
+    played?;
+    match ended {
+        Ok(counts) => Ok(counts),
+        Err(fault) => Err(anyhow!("{fault}")),
+    }
+}
+
+/// Says what was heard of a run.
+fn say(rt: &impl Print, site: Site, heard: &Heard) -> Result<()> {
+    let at_sources = heard.sources_at == Some(site.sources);
+    let at_monitors = heard.monitors_at == Some(site.monitors);
+    println!(rt; "listening: {at_sources} {at_monitors}")?;
+    let (over_limit, closed) = (heard.over_limit, heard.closed);
+    println!(rt; "over the limit: {over_limit:?}, closed: {closed:?}")?;
+    if let Some((output, server)) = heard.lost {
+        let is_it = server == site.server;
+        println!(rt; "lost: output {output} {is_it}")?;
+    }
+    let (back, others) = (heard.back, heard.others);
+    println!(rt; "back: {back}, others: {others}")?;
+    Ok(())
+}
+
+/// Says what a run told, and its counts.
 pub fn say_run<
     R: Net<Listener = TcpListener, Stream = TcpStream>
         + Threads
@@ -189,47 +248,17 @@ pub fn say_run<
         + AllocGlobal
         + Sync,
 >(rt: &R) -> Result<()> {
+    let any = SocketAddr::from((Ipv4Addr::LOCALHOST, 0));
+    let listener = TcpListener::bind(rt, any)?;
     let site = Site {
         sources: free(rt)?,
         monitors: free(rt)?,
-        server: free(rt)?,
+        server: listener.local_addr()?,
     };
     let relay = relay(rt, site)?;
-    let mut heard = Heard {
-        sources_at: None,
-        monitors_at: None,
-        over_limit: None,
-        closed: None,
-        lost: None,
-        back: 0,
-        others: 0,
-    };
-    let ears = &mut heard;
-    let (ended, played) = thread::join(
-        rt,
-        move || relay.run_watched(rt, ears, TURNS),
-        move || {
-            let played = play(rt, site);
-            hurry(rt, site);
-            played
-        },
-    );
-    played?;
-    let counts = match ended {
-        Ok(counts) => counts,
-        Err(fault) => return Err(anyhow!("{fault}")),
-    };
-    let at_sources = heard.sources_at == Some(site.sources);
-    let at_monitors = heard.monitors_at == Some(site.monitors);
-    println!(rt; "listening: {at_sources} {at_monitors}")?;
-    let (over_limit, closed) = (heard.over_limit, heard.closed);
-    println!(rt; "over the limit: {over_limit:?}, closed: {closed:?}")?;
-    if let Some((output, server, why)) = heard.lost {
-        let is_it = server == site.server;
-        println!(rt; "lost: output {output} {is_it} {why:?}")?;
-    }
-    let (back, others) = (heard.back, heard.others);
-    println!(rt; "back: {back}, others: {others}")?;
+    let mut heard = Heard::NOTHING;
+    let counts = around(rt, site, &listener, relay, &mut heard)?;
+    say(rt, site, &heard)?;
     println!(rt; "{counts:?}")?;
     Ok(())
 }
