@@ -381,7 +381,7 @@ each_way() {
     done
 }
 
-echo "cores $(nproc), entries of a row $entries, unacknowledged requests of a connection $window"
+echo "cores $(nproc), entries in each row: $entries, unacknowledged requests of a connection $window"
 printf '%-14s %6s %8s %10s %8s %8s %8s\n' way conns entries/r entries/s MB/s 'cpu s/M' MB
 each_way rows
 
