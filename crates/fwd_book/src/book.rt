@@ -66,7 +66,6 @@ use crate::laws::receipts_are_right;
 use crate::numbers::Numbers;
 use crate::receipt::Receipt;
 use crate::requests::Requests;
-use crate::stored::Stored;
 use fwd_chunks::Span;
 use fwd_modes::Batch;
 use fwd_session::Acked;
@@ -86,7 +85,7 @@ pub struct Book {
     requests: Requests,
     numbers: Numbers,
     /// The request that room was made for.
-    ready: Option<Stored>,
+    ready: Option<Batch>,
 }
 
 impl Model for Book {
@@ -183,10 +182,10 @@ impl Book {
         ensures ok { OnOk result (self.new ≡ record self.old { ready = Some batch.now }) }
         ensures err { OnErr result (self.new ≡ self.old) }
     {
-        let stored = Stored::new(alloc, batch)?;
+        let request = batch.share(alloc)?;
         self.requests.reserve()?;
-        self.numbers.reserve(stored.len())?;
-        self.ready = Some(stored);
+        self.numbers.reserve(request.len())?;
+        self.ready = Some(request);
         Ok(())
     }
 
@@ -199,12 +198,12 @@ impl Book {
         requires fresh { are_fresh self.old.live.settled spans.items ≡ true }
         ensures { self.new ≡ ready_enters self.old origin spans.items }
     {
-        let Some(stored) = self.ready.take() else {
+        let Some(request) = self.ready.take() else {
             unreachable!();
         };
         self.requests.are_few();
         use_all(&mut self.numbers, &spans);
-        self.requests.push(Kept::new(origin, stored, spans));
+        self.requests.push(Kept::new(origin, request, spans));
     }
 
     /// Whether the request of an origin is owed an answer.

@@ -1,9 +1,8 @@
 //! A request that a book holds.
 
-ghost use Rattle.std.specs.Prelude.{◌≡◌, ◌≢◌, true, false, option_copied};
+ghost use Rattle.std.specs.Prelude.{◌≡◌, ◌≢◌, true, false};
 ghost use Rattle.fwd_book.specs.History.{entered_as};
 
-use crate::stored::Stored;
 use fwd_chunks::Span;
 use fwd_modes::Batch;
 use fwd_source::Origin;
@@ -13,7 +12,7 @@ use std::marker::Model;
 #[derive(Debug, Drop)]
 pub(crate) struct Kept {
     origin: Origin,
-    stored: Stored,
+    request: Batch,
     spans: Vec<Span>,
 }
 
@@ -22,7 +21,7 @@ impl Model for Kept {
 
     ghost Value = { Entered };
 
-    ghost view = { λ k. entered_as k.stored k.origin k.spans.items };
+    ghost view = { λ k. entered_as k.request k.origin k.spans.items };
 }
 
 /// Whether runs are alike.
@@ -35,12 +34,12 @@ fn are_same(left: &[Span], right: &[Span]) -> bool
 
 impl Kept {
     /// A request that is entered.
-    pub(crate) fn new(origin: Origin, stored: Stored, spans: Vec<Span>) -> Self
-        ensures { result ≡ entered_as stored origin spans.items }
+    pub(crate) fn new(origin: Origin, request: Batch, spans: Vec<Span>) -> Self
+        ensures { result ≡ entered_as request origin spans.items }
     {
         Kept {
             origin,
-            stored,
+            request,
             spans,
         }
     }
@@ -52,18 +51,11 @@ impl Kept {
         self.origin
     }
 
-    /// The tag's bytes.
-    pub(crate) fn tag(&self) -> &[u8]
-        ensures { result.now ≡ self.now.tag }
+    /// The request as its source sent it.
+    pub(crate) fn request(&self) -> &Batch
+        ensures { self.now ≡ entered_as result.now self.now.origin self.now.spans }
     {
-        self.stored.tag()
-    }
-
-    /// The bytes of the option's `chunk` value, if there is one.
-    pub(crate) fn chunk(&self) -> Option<&[u8]>
-        ensures { option_copied result ≡ self.now.chunk }
-    {
-        self.stored.chunk()
+        &self.request
     }
 
     /// The runs of its entries.
@@ -79,7 +71,7 @@ impl Kept {
         ensures other { result ≡ false
             → self.now ≢ entered_as batch.now self.now.origin spans.now }
     {
-        if !self.stored.is_of(batch) {
+        if !self.request.is(batch) {
             return false;
         }
         are_same(&self.spans, spans)

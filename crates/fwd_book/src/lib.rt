@@ -7,7 +7,6 @@ mod laws;
 mod numbers;
 mod receipt;
 mod requests;
-mod stored;
 
 pub use book::Book;
 pub use laws::{live_follows, origins_are_enough, receipts_are_right, stays_sound};

@@ -2,12 +2,11 @@
 
 ghost use Rattle.std.specs.Prelude.{◌≡◌, option_copied, IfOk};
 ghost use Rattle.std.specs.Arc.{arc_value};
-ghost use Rattle.std.specs.List.{flat_map};
+ghost use Rattle.std.specs.List.{concat, flat_map};
 ghost use Rattle.fwd_book.specs.Receipts.{shown_by};
 
 use crate::kept::Kept;
-use crate::stored::copy_of;
-use fwd_msgpack::Bytes;
+use fwd_modes::Batch;
 use fwd_session::Acked;
 use fwd_source::Origin;
 use std::alloc::{AllocError, Global};
@@ -66,16 +65,17 @@ impl Part {
     }
 }
 
-/// That all entries of a request were acknowledged. Only a book gives one.
+/// That all entries of a request were acknowledged: those that its parts show are the request's.
+/// Only a book gives one.
 #[derive(Debug, Drop)]
 pub struct Receipt {
     origin: Origin,
-    tag: Bytes,
-    chunk: Option<Bytes>,
+    request: Batch,
     parts: Vec<Part>,
 }
 
 impl Model for Receipt {
+    ghost use Rattle.std.specs.Prelude.{◌≡◌};
     ghost use Rattle.std.specs.List.{flat_map};
     ghost use Rattle.fwd_book.specs.Receipts.{Receipt, shown_by};
 
@@ -83,28 +83,30 @@ impl Model for Receipt {
 
     ghost view = { λ r. record {
       origin = r.origin;
-      tag = r.tag;
-      entries = flat_map shown_by r.parts.items;
-      chunk = r.chunk;
+      tag = r.request.tag;
+      entries = r.request.entries;
+      chunk = r.request.chunk;
       parts = r.parts.items;
     } };
+
+    ghost invariant = { λ r. flat_map shown_by r.parts.items ≡ r.request.entries };
 }
 
 impl Receipt {
     /// The receipt of a request by its parts. The only error is want of memory.
     pub(crate) fn new(alloc: Global, kept: &Kept, parts: Vec<Part>) -> Result<Self, AllocError>
+        requires shown { flat_map shown_by parts.items ≡ kept.now.entries }
         ensures { IfOk result (λ receipt. receipt ≡ record {
           origin = kept.now.origin;
           tag = kept.now.tag;
-          entries = flat_map shown_by parts.items;
+          entries = kept.now.entries;
           chunk = kept.now.chunk;
           parts = parts.items;
         }) }
     {
         Ok(Receipt {
             origin: kept.origin(),
-            tag: Bytes::from_slice(alloc, kept.tag())?,
-            chunk: copy_of(alloc, kept.chunk())?,
+            request: kept.request().share(alloc)?,
             parts,
         })
     }
@@ -120,7 +122,14 @@ impl Receipt {
     pub fn tag(&self) -> &[u8]
         ensures { result.now ≡ self.now.tag }
     {
-        self.tag.as_slice()
+        self.request.tag()
+    }
+
+    /// The request's entries as they are kept, one after the other.
+    pub fn entries(&self) -> &[u8]
+        ensures { result.now ≡ concat self.now.entries }
+    {
+        self.request.entries()
     }
 
     /// The bytes of the option's `chunk` value, if there is one (Forward Protocol Specification
@@ -128,10 +137,7 @@ impl Receipt {
     pub fn chunk(&self) -> Option<&[u8]>
         ensures { option_copied result ≡ self.now.chunk }
     {
-        match &self.chunk {
-            None => None,
-            Some(chunk) => Some(chunk.as_slice()),
-        }
+        self.request.chunk()
     }
 
     /// The runs of its entries, in their order. The entries of these runs, one after the other,

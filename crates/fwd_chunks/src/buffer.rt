@@ -68,8 +68,8 @@ use crate::slots::Slots;
 use crate::span::Span;
 use crate::stage::Stage;
 use crate::tags::Tags;
+use fwd_base::Seq;
 use fwd_modes::{Batch, chunk_name};
-use fwd_msgpack::Seq;
 use fwd_source::Origin;
 use std::alloc::{AllocError, Global};
 use std::marker::Model;
@@ -354,7 +354,7 @@ impl Buffer {
         Ok(Carried::new(
             chunk.number,
             chunk.tag.to_owned(alloc)?,
-            chunk.entries.to_owned(alloc)?,
+            chunk.entries.share()?,
             chunk_name(&self.run, self.output, chunk.number),
         ))
     }
@@ -422,16 +422,19 @@ impl Buffer {
     }
 
     /// A server acknowledged the chunk: its entries leave. A chunk that no worker has from this
-    /// buffer is only spent.
-    pub fn settle(&mut self, carried: Carried)
+    /// buffer is only spent. Answers whether a worker had it.
+    pub fn settle(&mut self, carried: Carried) -> bool
+        ensures had { IsTrue result ↔ IsCarried self.old carried }
         ensures here { IsCarried self.old carried
             → self.new ≡ live_settles self.old carried.number }
         ensures elsewhere { ¬ (IsCarried self.old carried) → self.new ≡ self.old }
     {
-        if self.carries(&carried) {
+        let is_here = self.carries(&carried);
+        if is_here {
             self.remove(carried.number());
         }
         carried.spend();
+        is_here
     }
 
     /// The chunk of the number is closed again, with a loss at a moment where one is handed in.

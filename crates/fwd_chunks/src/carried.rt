@@ -2,9 +2,9 @@ ghost use Rattle.std.specs.Prelude.{◌≡◌, ◌≤◌, ◌<◌, ◌^◌, ◌�
 ghost use Rattle.std.specs.List.{concat};
 ghost use Rattle.fwd_modes.specs.Entries.{ends_of};
 
+use crate::body::Body;
 use crate::chunk::Chunk;
-use crate::packed::Packed;
-use fwd_msgpack::Bytes;
+use fwd_base::Bytes;
 use std::marker::Model;
 
 /// A chunk that a worker has: its number, its tag, its entries and its name. It must be spent:
@@ -13,7 +13,7 @@ use std::marker::Model;
 pub struct Carried {
     number: u64,
     tag: Bytes,
-    entries: Packed,
+    entries: Body,
     name: [u8; 24],
 }
 
@@ -32,7 +32,7 @@ impl Model for Carried {
 
 impl Carried {
     /// A chunk of a buffer, which alone makes them.
-    pub(crate) fn new(number: u64, tag: Bytes, entries: Packed, name: [u8; 24]) -> Self
+    pub(crate) fn new(number: u64, tag: Bytes, entries: Body, name: [u8; 24]) -> Self
         requires { length tag ≤ 1024 }
         ensures { result ≡ record { number = number; tag = tag; entries = entries; name = name } }
     {
@@ -50,6 +50,13 @@ impl Carried {
         ensures bound { length result.now ≤ 1024 }
     {
         self.tag.as_slice()
+    }
+
+    /// The entries, in memory that the buffer shares.
+    pub fn body(&self) -> &Body
+        ensures { result.now ≡ self.now.entries }
+    {
+        &self.entries
     }
 
     /// The entries as they are kept, one after the other: less than 2^32 bytes.

@@ -1,10 +1,10 @@
 ghost use Rattle.std.specs.Prelude.{◌≡◌};
 ghost use Rattle.fwd_chunks.specs.Live.{is_taken, is_open_of};
 
+use crate::body::Body;
 use crate::losses::Losses;
-use crate::packed::Packed;
 use crate::stage::Stage;
-use fwd_msgpack::Bytes;
+use fwd_base::Bytes;
 
 /// A chunk that is not settled. Moments are in milliseconds.
 #[derive(Debug, Drop)]
@@ -12,7 +12,7 @@ pub(crate) struct Chunk {
     pub(crate) number: u64,
     pub(crate) tag: Bytes,
     /// Its entries, in order.
-    pub(crate) entries: Packed,
+    pub(crate) entries: Body,
     /// The moment of its first entry.
     pub(crate) since: u64,
     /// Where it stands.

@@ -35,13 +35,13 @@ ghost use Rattle.fwd_chunks.specs.Filling.{
 ghost use Rattle.fwd_chunks.specs.Slots.{AreAbove, appended};
 ghost use Rattle.fwd_chunks.specs.Parts.{entries_in};
 
+use crate::body::Body;
 use crate::chunk::Chunk;
-use crate::packed::Packed;
 use crate::part::Part;
 use crate::slots::Slots;
 use crate::span::Span;
 use crate::stage::stage_of;
-use fwd_msgpack::{Bytes, Seq};
+use fwd_base::{Bytes, Seq};
 use std::alloc::{AllocError, Global};
 
 /// A chunk of these entries.
@@ -63,12 +63,10 @@ fn new_chunk(
       losses = None;
     }) }
 {
-    let mut entries = Packed::new(alloc);
-    entries.extend(part)?;
     Ok(Chunk {
         number,
         tag: Bytes::from_slice(alloc, tag)?,
-        entries,
+        entries: Body::of(alloc, part)?,
         since,
         stage: stage_of(last),
         losses: None,

@@ -3,6 +3,7 @@
 //! moments and waits in milliseconds.
 #![tactic(auto)]
 
+mod body;
 mod buffer;
 mod carried;
 mod chunk;
@@ -25,6 +26,7 @@ mod span;
 mod stage;
 mod tags;
 
+pub use body::Body;
 pub use buffer::Buffer;
 pub use carried::Carried;
 pub use counts::Counts;

@@ -47,6 +47,17 @@ impl Model for Packed {
         × (length p.bytes.items < 2 ^ 32) };
 }
 
+impl Clone for Packed {
+    ghost is_clone = { λ packed copy. copy ≡ packed };
+
+    fn clone(&self) -> Result<Self, AllocError> {
+        Ok(Packed {
+            bytes: self.bytes.clone()?,
+            ends: self.ends.clone()?,
+        })
+    }
+}
+
 /// Adds ends that are told from a place `start`, as they are told from `base`. There is room for
 /// them.
 fn push_ends(ends: &mut Vec<u32>, base: u32, start: u32, more: &[u32])
@@ -121,15 +132,5 @@ impl Packed {
         ensures { IsTrue result ↔ (self.now ≡ other.now) }
     {
         self.bytes == other.bytes && self.ends == other.ends
-    }
-
-    /// The same entries in memory of their own.
-    pub(crate) fn to_owned(&self, alloc: Global) -> Result<Self, AllocError>
-        ensures { IfOk result (λ copy. copy ≡ self.now) }
-    {
-        Ok(Packed {
-            bytes: Vec::from_slice(alloc, &self.bytes)?,
-            ends: Vec::from_slice(alloc, &self.ends)?,
-        })
     }
 }

@@ -5,11 +5,11 @@ ghost use Rattle.std.specs.List.{list_all};
 ghost use Rattle.fwd_settings.specs.Ranges.{in_range, output_in_range, relay_in_range};
 ghost use Rattle.fwd_config.specs.Configs.{parts_known, parts_set, user_of, IsConfig};
 
+use fwd_base::{Bytes, Seq, Text};
 use fwd_handshake::{Login, Security, User};
 use fwd_match::{Pattern, Routes};
 use fwd_model::{BufferLimits, Config, OutputConfig};
-use fwd_msgpack::{Bytes, Seq};
-use fwd_settings::{OutputSettings, RelaySettings, ServerSettings, Settings, Text, UserSettings};
+use fwd_settings::{OutputSettings, RelaySettings, ServerSettings, Settings, UserSettings};
 use std::alloc::{AllocError, Global};
 
 /// Which servers are standbys.

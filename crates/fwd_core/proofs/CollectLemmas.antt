@@ -1,12 +1,12 @@
 -- What a collect comes to, by the receipts of a connection's requests.
-use Rattle.std.proofs.Common.{◌≡◌, ℕ, Bool, true, false, List, [], ◌∷◌, ◌++◌, length, take, suc, refl, sym, ap, ◌∙◌}
+use Rattle.std.proofs.Common.{◌≡◌, ℕ, false, List, [], ◌∷◌, ◌++◌, refl, sym, ap, ◌∙◌}
 use Rattle.std.specs.Prelude.{map}
 use Rattle.std.specs.List.{concat}
 use Rattle.std.proofs.lemmas.List.{append-nil, append_assoc, map-append}
 use Rattle.fwd_source.specs.declared.origin.Origin.{Origin}
 use Rattle.fwd_source.specs.Live.{LiveSource, source_appends}
 use Rattle.fwd_book.specs.Receipts.{Receipt, receipt_of}
-use Rattle.fwd_book.specs.Live.{LiveBook, live_due, live_leaves, live_tells_due}
+use Rattle.fwd_book.specs.Live.{live_due, live_leaves, live_tells_due}
 use Rattle.fwd_model.specs.Books.{ack_asked, numbers_of, acks_of}
 use Rattle.fwd_model.specs.declared.answer.Answer.TheVariants as answer
 use Rattle.fwd_model.specs.declared.fault.Refusal.TheVariants.{Closed}

@@ -1,6 +1,6 @@
 -- What ties an output's chunks to its requests stays.
 use Rattle.std.proofs.Common.{◌≡◌, ◌≢◌, ℕ, zero, suc, Bool, true, false, cond, Option, Some, None, List, [], ◌∷◌, ◌++◌, take, drop, refl, sym, ap, subst, ◌∙◌, inl, inr}
-use Rattle.std.specs.Prelude.{◌⊎◌, map, filter, find, not, ◌&&◌, ◌||◌, ◌==◌, slice_get}
+use Rattle.std.specs.Prelude.{◌⊎◌, filter, find, not, ◌||◌, ◌==◌, slice_get}
 use Rattle.std.specs.Option.{option_or}
 use Rattle.std.specs.List.{list_any}
 use Rattle.std.proofs.lemmas.Bool.{eqb-true, eq-eqb}
@@ -22,7 +22,7 @@ use Rattle.fwd_book.specs.Live as kept
 use Rattle.fwd_book.specs.Live.{LiveBook, HasItsRuns, IsOf, evidence_for, live_drops}
 use Rattle.fwd_book.proofs.Following.{filter-at}
 use Rattle.fwd_book.proofs.Found.{numbered, for-found, comes, found_there, in_both}
-use Rattle.fwd_model.specs.Outputs.{Return, book_setting, moment_if, live_gets_back}
+use Rattle.fwd_model.specs.Outputs.{book_setting}
 use Rattle.fwd_core.specs.Coupling.{AreWaiting, IsCoupled}
 
 some_is : {X : Type 0} {x y : X} → Some x ≡ Some y → x ≡ y

@@ -4,8 +4,7 @@ use Rattle.std.proofs.lemmas.Bool.Decides.{nat_tests}
 use Rattle.std.proofs.lemmas.List.{drop_more, set_split}
 use Rattle.std.proofs.lemmas.Option.{slice_get-get_or}
 use Rattle.fwd_source.specs.Live.{LiveSource}
-use Rattle.fwd_model.specs.Live.{LiveConnection}
-use Rattle.fwd_model.specs.Live.{live_source_at, with_live_source}
+use Rattle.fwd_model.specs.Live.{LiveConnection, live_source_at, with_live_source}
 use Rattle.fwd_core.specs.Places.{IsPlace}
 
 same_id : (a b : ℕ) → a ≡ b → eqb a b ≡ true

@@ -5,12 +5,10 @@ use Rattle.std.specs.Prelude.{slice_get, slice_set}
 use Rattle.fwd_source.specs.Live.{LiveSource}
 use Rattle.fwd_model.specs.Layers.{Worker}
 use Rattle.fwd_session.specs.Live.{LiveSession}
-use Rattle.fwd_model.specs.Live.{LiveConnection, LiveLane, LiveRelay}
-use Rattle.fwd_model.specs.Live.{with_live_lane, with_live_connection, with_live_worker}
+use Rattle.fwd_model.specs.Live.{LiveConnection, LiveLane, LiveRelay, with_live_lane, with_live_connection, with_live_worker, lives}
 use Rattle.fwd_model.specs.declared.fault.Refusal.TheVariants.{NoSuch}
 use Rattle.fwd_model.specs.Outcome.{Outcome, Stays, Goes, answer_of, state_of, within, found, ◌>>=◌}
 use Rattle.fwd_model.specs.Step.{at_source, at_lane, at_both, at_worker}
-use Rattle.fwd_model.specs.Live.{lives}
 use Rattle.fwd_core.specs.Places.{IsPlace}
 
 pub set_same : {X : Type 0} (xs : List X) (i : ℕ) (x : X) → slice_get xs i ≡ Some x

@@ -6,10 +6,9 @@ use Rattle.std.proofs.lemmas.List.Elements.{filter-append}
 use Rattle.fwd_model.specs.declared.event.Event.{Event}
 use Rattle.fwd_model.specs.declared.answer.Answer.{Answer}
 use Rattle.fwd_model.specs.declared.answer.Answer.TheVariants.{Memory, Accepted, Requests, Faulted, Admitted, NoRoute, Full, NumbersSpent, Closed, Chose, Done, Took, TookNothing, Frame, Quiet, Ready, Acked, SessionFaulted, Settled, Late, Ended, Told, Forgot, Refused}
-use Rattle.fwd_model.specs.Live.{LiveRelay}
+use Rattle.fwd_model.specs.Live.{LiveRelay, lives}
 use Rattle.fwd_model.specs.Outcome.{answer_of, state_of}
 use Rattle.fwd_model.specs.Step.{step, answers as answers_to, after}
-use Rattle.fwd_model.specs.Live.{lives}
 use Rattle.fwd_core.specs.Runs.{is_memory, told, kept}
 
 live_answers-push : (r : LiveRelay) (es : List Event) (e : Event)

@@ -1,3 +1,5 @@
+-- To be believed: Coupling, Lanes and Runs. The public calls speak of them.
+-- Places and Relays only describe how the code finds and makes its connections.
 pub mod Coupling
 pub mod Lanes
 pub mod Places

@@ -1,8 +1,7 @@
 -- Where a connection with an id stands.
 use Rattle.std.specs.Prelude.{◌≡◌, ℕ, ◌<◌, List, length, Some, slice_get, slice_set}
 use Rattle.fwd_source.specs.Live.{LiveSource}
-use Rattle.fwd_model.specs.Live.{LiveConnection}
-use Rattle.fwd_model.specs.Live.{live_source_at, with_live_source}
+use Rattle.fwd_model.specs.Live.{LiveConnection, live_source_at, with_live_source}
 
 -- it stands at this place, and to put another source there is to put it under the id
 pub record IsPlace (id : ℕ) (cs : List LiveConnection) (place : ℕ) : Type 0 where

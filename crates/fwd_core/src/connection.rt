@@ -2,15 +2,14 @@
 
 ghost use Rattle.std.specs.Prelude.{◌≡◌, ◌<◌, IfOk, IsOk, OnOk, OnErr, MatchOption, None, true};
 ghost use Rattle.std.specs.Arc.{arc_value};
-ghost use Rattle.fwd_source.specs.Live.{live_next};
+ghost use Rattle.fwd_source.specs.Live.{source_gives_first};
 ghost use Rattle.fwd_model.specs.Setups.{setup_of};
 ghost use Rattle.fwd_core.specs.Places.{IsPlace};
 ghost use Rattle.fwd_core.specs.Relays.{new_live_connection};
-ghost use Rattle.fwd_model.specs.Live.{live_source_at, without};
+ghost use Rattle.fwd_model.specs.Live.{live_source_at, without, lives};
 ghost use Rattle.fwd_core.specs.Runs.{is_free};
 ghost use Rattle.fwd_model.specs.Outcome.{answer_of, state_of};
 ghost use Rattle.fwd_model.specs.Step.{piece, drained};
-ghost use Rattle.fwd_model.specs.Live.{lives};
 
 use fwd_handshake::{Nonces, Security};
 use fwd_model::{Answer, Refusal};
@@ -105,7 +104,7 @@ pub fn hear_piece(alloc: Global, source: &mut Source, bytes: &[u8]) -> Result<An
 
 /// The first request that waits is given away.
 pub fn give(source: &mut Source)
-    ensures { source.new.live ≡ live_next source.old.live source.old.live.waiting }
+    ensures { source.new.live ≡ source_gives_first source.old.live source.old.live.waiting }
 {
     let _given = source.next();
 }

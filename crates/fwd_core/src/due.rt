@@ -4,10 +4,10 @@ ghost use Rattle.std.specs.Prelude.{◌≡◌, ◌++◌, map, OnOk, IfOk};
 ghost use Rattle.std.specs.List.{concat};
 ghost use Rattle.fwd_model.specs.Books.{ack_asked};
 
+use fwd_base::{Bytes, Seq};
 use fwd_book::Receipt;
 use fwd_model::Origin;
 use fwd_modes::write_ack;
-use fwd_msgpack::{Bytes, Seq};
 use std::alloc::{AllocError, Global};
 
 /// What receipts tell: whose they are, the numbers of their requests, and the acknowledgements

@@ -19,7 +19,7 @@ ghost use Rattle.std.specs.Prelude.{
 };
 ghost use Rattle.fwd_chunks.specs.Live.{live_refusal, live_counts};
 ghost use Rattle.fwd_model.specs.Outputs.{output_enters};
-ghost use Rattle.fwd_model.specs.Live.{with_live_output, with_live_book};
+ghost use Rattle.fwd_model.specs.Live.{with_live_output, with_live_book, lives};
 ghost use Rattle.fwd_book.specs.History.{is_of};
 ghost use Rattle.fwd_book.specs.Receipts.{receipts};
 ghost use Rattle.fwd_book.specs.Live.{IsSound, live_leaves};
@@ -40,7 +40,6 @@ ghost use Rattle.fwd_model.specs.Step.{
   end,
   forget,
 };
-ghost use Rattle.fwd_model.specs.Live.{lives};
 
 use crate::lane_config::LaneConfig;
 use crate::leaving::Leaving;

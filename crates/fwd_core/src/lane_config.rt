@@ -5,10 +5,10 @@ ghost use Rattle.std.specs.List.{list_any};
 ghost use Rattle.fwd_session.specs.Live.{session_begins};
 ghost use Rattle.fwd_model.specs.Setups.{session_setup};
 
+use fwd_base::Seq;
 use fwd_chunks::BufferLimits;
 use fwd_handshake::Login;
 use fwd_model::{OutputConfig, OwnedSalt};
-use fwd_msgpack::Seq;
 use fwd_session::Session;
 use std::alloc::{AllocError, Global};
 use std::marker::Model;

@@ -73,12 +73,12 @@ ghost use Rattle.fwd_model.specs.Outputs.{
 };
 ghost use Rattle.fwd_core.specs.Lanes.{IsHere};
 
+use fwd_base::Seq;
 use fwd_book::{Book, Receipt};
 use fwd_chunks::{AdmitError, Buffer, BufferLimits, Carried, Counts, FlushKind, Span};
 use fwd_failover::Servers;
 use fwd_model::Origin;
 use fwd_modes::Batch;
-use fwd_msgpack::Seq;
 use fwd_session::Acked;
 use std::alloc::{AllocError, Global};
 use std::marker::Model;
@@ -272,12 +272,11 @@ impl OutputState {
     {
         self.buffer.is_sound();
         let before = self.buffer.held().settled;
-        if self.buffer.carries(&carried) {
-            let server = acked.server();
+        let server = acked.server();
+        if self.buffer.settle(carried) {
             self.book.settle(acked);
             self.servers.settled(server);
         }
-        self.buffer.settle(carried);
         (self.buffer.held().settled - before) as usize
     }
 

@@ -15,13 +15,17 @@ ghost use Rattle.std.specs.Prelude.{
   OnOk,
   OnErr,
   [],
+  length,
 };
-ghost use Rattle.fwd_model.specs.History.{opening};
-ghost use Rattle.fwd_model.specs.Live.{live, live_relay_counts};
-ghost use Rattle.std.specs.Prelude.{length};
+ghost use Rattle.fwd_model.specs.History.{
+  opening,
+  History,
+  histories,
+  counts as counts_of,
+  IsReached,
+};
+ghost use Rattle.fwd_model.specs.Live.{live, live_relay_counts, lives};
 ghost use Rattle.fwd_model.specs.declared.config.Config.{Config as Settings};
-ghost use Rattle.fwd_model.specs.History.{History};
-ghost use Rattle.fwd_model.specs.History.{histories, counts as counts_of, IsReached};
 ghost use Rattle.fwd_chunks.specs.Live.{live_counts};
 ghost use Rattle.fwd_core.specs.Runs.{told, kept, takes_none, is_free};
 ghost use Rattle.fwd_core.specs.Lanes.{new_live_lanes};
@@ -30,11 +34,11 @@ ghost use Rattle.fwd_model.specs.declared.event.Event.TheVariants as event;
 ghost use Rattle.fwd_model.specs.Delivered.{IsDelivered, IsToldAmong, reached};
 ghost use Rattle.fwd_model.specs.Outcome.{answer_of, state_of};
 ghost use Rattle.fwd_model.specs.Step.{step, admit, collect, answers as answers_to, after};
-ghost use Rattle.fwd_model.specs.Live.{lives};
 
 use crate::connection::{Connection, drain, give, hear_piece, leave, place_of};
 use crate::due::Due;
 use crate::lane::Lane;
+use fwd_base::{Bytes, Seq};
 use fwd_book::origins_are_enough;
 use fwd_chunks::{AdmitError, Counts};
 use fwd_handshake::{Nonces, Security};
@@ -43,7 +47,6 @@ use fwd_model::{
     Answer, Config, EndKind, Event, FlushKind, Origin, OutputConfig, OwnedSalt, Refusal,
     live_follows, live_run_follows, refusal_changes_nothing, told_among_is_delivered,
 };
-use fwd_msgpack::{Bytes, Seq};
 use fwd_source::Source;
 use std::alloc::{AllocError, Global};
 use std::marker::Model;

@@ -39,9 +39,9 @@ ghost use Rattle.fwd_core.specs.Runs.{is_free};
 
 use crate::lane_config::LaneConfig;
 use crate::leaving::{Leaving, leave};
+use fwd_base::Bytes;
 use fwd_chunks::Carried;
 use fwd_model::{Answer, EndKind, OwnedSalt, Refusal};
-use fwd_msgpack::Bytes;
 use fwd_session::{Acked, Heard, LoadFailed, Session, Told, frame_of};
 use std::alloc::{AllocError, Global};
 use std::marker::Model;

@@ -3,7 +3,7 @@
 
 ghost use Rattle.std.specs.Prelude.{◌<◌, ◌^◌, length};
 
-use fwd_msgpack::{Bytes, Seq};
+use fwd_base::{Bytes, Seq};
 
 /// A user that may log in.
 #[derive(Drop)]

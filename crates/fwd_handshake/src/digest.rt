@@ -6,7 +6,7 @@ ghost use Rattle.hex.specs.Hex.{encode_lower};
 ghost use Rattle.fwd_handshake.specs.Digests.{key_digest, password_digest};
 ghost use Rattle.fwd_handshake.specs.Verdicts.{is_key_digest};
 
-use fwd_msgpack::Bytes;
+use fwd_base::Bytes;
 use sha2::{Digest, Sha512};
 
 /// The lower-case hexadecimal digits of 64 bytes.

@@ -18,7 +18,8 @@ use crate::nonces::Nonces;
 use crate::reading::{bool_of, text_under, values_behind};
 use crate::salt::Salt;
 use crate::verdict::HeloAnswer;
-use fwd_msgpack::{Bytes, Head, Pairs, Value, write_head, write_text};
+use fwd_base::Bytes;
+use fwd_msgpack::{Head, Pairs, Value, write_head, write_text};
 use std::alloc::{AllocError, Global};
 
 /// What a HELO says.

@@ -15,7 +15,8 @@ use crate::nonces::Nonces;
 use crate::pong::write_pong;
 use crate::reading::values_behind;
 use crate::verdict::{Denial, PingVerdict};
-use fwd_msgpack::{Bytes, Value};
+use fwd_base::Bytes;
+use fwd_msgpack::Value;
 use std::alloc::{AllocError, Global};
 
 /// The user that a client says it is.

@@ -14,7 +14,8 @@ use crate::credentials::Login;
 use crate::digest::is_key_digest;
 use crate::reading::{bool_of, values_behind};
 use crate::verdict::PongVerdict;
-use fwd_msgpack::{Bytes, Head, Value, write_head, write_text};
+use fwd_base::Bytes;
+use fwd_msgpack::{Head, Value, write_head, write_text};
 use std::alloc::{AllocError, Global};
 
 /// A PONG.

@@ -2,7 +2,7 @@
 
 ghost use Rattle.std.specs.Prelude.{◌≡◌};
 
-use fwd_msgpack::Bytes;
+use fwd_base::Bytes;
 
 /// Why a PING is denied.
 #[derive(Clone, Copy, Debug, PartialEq, Eq)]

@@ -1,14 +1,13 @@
 //! Where requests are admitted, and sources are told.
 
-use crate::board::Notices;
 use crate::lane::Lane;
 use crate::output::Output;
 use crate::pace::Pace;
 use crate::peers::Peers;
-use crate::source_peer::SourcePeer;
-use crate::watch::{Fact, SourceEnd, Want, Watch};
 use fwd_book::Receipt;
+use fwd_links::Notices;
 use fwd_match::Routes;
+use fwd_peers::{Fact, SourceEnd, SourcePeer, Want, Watch};
 use fwd_workers::{AdmitRefusal, News};
 use std::alloc::{AllocError, AllocFailed, Global};
 use std::sync::Wait;

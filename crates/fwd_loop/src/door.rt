@@ -1,6 +1,6 @@
 //! A listener, and whether connections wait there.
 
-use crate::fault::StartFault;
+use fwd_links::StartFault;
 use mio::net::{TcpListener, TcpStream};
 use mio::{Interest, Poll, Token};
 use std::io;

@@ -1,6 +1,6 @@
 //! Where random numbers come from.
 
-use crate::fault::StartFault;
+use fwd_links::StartFault;
 use rand_chacha::ChaCha20Rng;
 use rand_core::SeedableRng;
 use rand_core::utils::fill_bytes_via_u32;

@@ -1,14 +1,13 @@
 //! The loop's turns.
 
-use crate::board::{Board, Notices};
 use crate::desk::Desk;
-use crate::fault::StartFault;
 use crate::lobby::Lobby;
 use crate::output::Output;
 use crate::peers::{Peer, Peers};
 use crate::roster::Roster;
 use crate::since::Since;
-use crate::watch::{Fact, Want, Watch};
+use fwd_links::{Board, Notices, StartFault};
+use fwd_peers::{Fact, Want, Watch};
 use mio::{Events, Poll, Token};
 use std::alloc::Global;
 use std::rt::Clock;

@@ -81,15 +81,19 @@ impl<'a> Lane<'a> {
     }
 
     /// Closes the chunks that are due at a moment (milliseconds) after all admissions, and calls
-    /// the output's workers where it closed any.
+    /// the output's workers where it closed any. Where no worker looks for a chunk, what is due is
+    /// left open for more entries: the next worker to look closes it.
     pub fn flush<R: Wait>(&mut self, rt: &R, now: u64) {
         self.pace.look(now);
         let is_due = self.pace.due().is_some_and(|due| due <= now);
         if !is_due {
             return;
         }
-        let count = self.output.shared.flush(rt, now, FlushKind::Due);
         self.pace.flushed(now);
+        if !self.pace.is_awaited() {
+            return;
+        }
+        let count = self.output.shared.flush(rt, now, FlushKind::Due);
         if count > 0 {
             self.pace.call();
         }

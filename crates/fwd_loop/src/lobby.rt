@@ -3,9 +3,8 @@
 use crate::door::Door;
 use crate::monitor_peer::MonitorPeer;
 use crate::peers::{Peer, Peers};
-use crate::source_peer::SourcePeer;
-use crate::watch::{Caller, Fact, Want, Watch};
 use fwd_handshake::{Nonces, Security};
+use fwd_peers::{Caller, Fact, SourcePeer, Want, Watch};
 use mio::Registry;
 use mio::net::TcpStream;
 use rand_chacha::ChaCha20Rng;

@@ -1,11 +1,8 @@
 //! A worker over TCP, in a thread of its own.
 
-use crate::board::{Board, Notice};
-use crate::fault::StartFault;
-use crate::link::TcpHub;
-use crate::nap::{Bell, Nap, SharedNap};
 use crate::output::Output;
 use crate::since::Since;
+use fwd_links::{Bell, Board, Nap, Notice, SharedNap, StartFault, TcpHub};
 use fwd_workers::{Gate, News, Pass, Place, Worker};
 use std::alloc::Global;
 use std::net::Net;

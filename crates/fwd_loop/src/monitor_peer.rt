@@ -3,8 +3,8 @@
 ghost use Rattle.std.specs.Prelude.{◌≤◌, length};
 
 use crate::output::{Output, counts_of};
-use crate::stream::{Visit, fill, send};
 use fwd_monitor::{Reply, answer};
+use fwd_peers::{Visit, fill, send};
 use mio::net::TcpStream;
 use std::alloc::{AllocError, Global};
 use std::sync::Wait;

@@ -1,6 +1,6 @@
 //! When an output's open chunks are closed, and who is told.
 
-use crate::nap::Bell;
+use fwd_links::Bell;
 
 /// The least time between two flushes of an output, in milliseconds.
 const STEP: u64 = 5;
@@ -54,8 +54,8 @@ impl Pace {
         self.due
     }
 
-    /// Chunks were flushed at this moment. What was admitted after the last chunk that this closed
-    /// may be open still.
+    /// Chunks were flushed at this moment, or are left to the workers to close, who do so before they
+    /// look for one. What was admitted after the last of these chunks may be open still.
     pub fn flushed(&mut self, now: u64) {
         let last = self.latest.saturating_add(self.interval);
         self.due = if last <= now {
@@ -63,6 +63,11 @@ impl Pace {
         } else {
             Some(last.min(now.saturating_add(STEP)))
         };
+    }
+
+    /// Whether one of the output's workers looks for a chunk.
+    pub fn is_awaited(&self) -> bool {
+        self.bells.iter().any(|bell| bell.is_awaited())
     }
 
     /// Calls the output's workers that look for a chunk.

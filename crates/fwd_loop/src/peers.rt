@@ -1,7 +1,7 @@
 //! The connections that stand.
 
 use crate::monitor_peer::MonitorPeer;
-use crate::source_peer::SourcePeer;
+use fwd_peers::SourcePeer;
 use mio::net::TcpStream;
 use mio::{Interest, Registry, Token};
 use slab::Slab;

@@ -3,23 +3,22 @@
 ghost use Rattle.std.specs.Prelude.{◌≡◌, true};
 ghost use Rattle.fwd_settings.specs.Ranges.{in_range};
 
-use crate::board::Board;
 use crate::desk::Desk;
 use crate::door::Door;
 use crate::draws::Draws;
-use crate::fault::StartFault;
 use crate::front::{Front, MONITORS, SOURCES, WAKER};
 use crate::lobby::Lobby;
 use crate::output::counts_of;
 use crate::peers::Peers;
 use crate::since::Since;
 use crate::teams::Teams;
-use crate::watch::Watch;
 use fwd_chunks::Counts;
 use fwd_config::config_of;
 use fwd_core::{Config, OutputConfig};
 use fwd_handshake::Security;
+use fwd_links::{Board, StartFault};
 use fwd_match::Routes;
+use fwd_peers::Watch;
 use fwd_settings::{OutputSettings, Settings};
 use mio::{Events, Poll, Waker};
 use rand_chacha::ChaCha20Rng;

@@ -1,8 +1,8 @@
 //! Which servers are lost.
 
-use crate::board::Notice;
 use crate::output::Output;
-use crate::watch::Fact;
+use fwd_links::Notice;
+use fwd_peers::Fact;
 use fwd_workers::News;
 use std::alloc::{AllocError, Global};
 use std::net::SocketAddr;

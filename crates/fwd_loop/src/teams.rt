@@ -1,13 +1,12 @@
 //! The outputs and their workers, before the first turn.
 
 use crate::draws::Draws;
-use crate::fault::StartFault;
 use crate::member::Member;
-use crate::nap::Bell;
 use crate::output::Output;
 use crate::pace::Pace;
 use fwd_core::{OutputConfig, OutputState};
 use fwd_handshake::Login;
+use fwd_links::{Bell, StartFault};
 use fwd_workers::{Locked, Plain, SharedOutput, Worker};
 use std::alloc::Global;
 use std::net::{Net, SocketAddr};

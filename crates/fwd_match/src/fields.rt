@@ -6,7 +6,7 @@ ghost use Rattle.std.specs.Option.{option_copied};
 ghost use Rattle.fwd_match.specs.Marks.{marks, fields_left, size_left};
 
 /// The bytes at which a text is cut.
-#[derive(Clone, Copy, Debug)]
+#[derive(Clone, Copy)]
 pub enum Mark {
     /// A space or a tab, between words.
     Blank,

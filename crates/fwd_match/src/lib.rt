@@ -11,7 +11,6 @@ mod pattern;
 mod routes;
 mod spelling;
 mod stars;
-mod text;
 
 pub use fault::PatternFault;
 pub use pattern::Pattern;

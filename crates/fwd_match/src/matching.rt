@@ -7,14 +7,14 @@ ghost use Rattle.fwd_match.specs.Steps.{IsStep, IsLater};
 use crate::fields::{Mark, first_field};
 
 /// What is left of a word and of a tag: no part, or the bytes of the parts that are left.
-#[derive(Clone, Copy, Debug)]
+#[derive(Clone, Copy)]
 struct Place<'a> {
     word: Option<&'a [u8]>,
     tag: Option<&'a [u8]>,
 }
 
 /// How a word goes on at a place.
-#[derive(Clone, Copy, Debug)]
+#[derive(Clone, Copy)]
 enum Step<'a> {
     /// Both are at their ends.
     Ends,

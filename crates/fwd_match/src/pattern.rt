@@ -13,7 +13,7 @@ use crate::fields::{Mark, first_field};
 use crate::matching::word_matches;
 use crate::spelling::expand;
 use crate::stars::has_good_stars;
-use crate::text::Text;
+use fwd_base::Bytes;
 use std::alloc::Global;
 use std::marker::Model;
 
@@ -23,7 +23,7 @@ use std::marker::Model;
 /// Contracts see it as the list of its expanded words.
 #[derive(Debug, Drop)]
 pub struct Pattern {
-    words: Vec<Text>,
+    words: Vec<Bytes>,
 }
 
 impl Model for Pattern {

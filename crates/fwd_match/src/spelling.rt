@@ -4,13 +4,13 @@ ghost use Rattle.std.specs.Prelude.{◌≡◌, ◌++◌, map, OnOk, IfOk};
 ghost use Rattle.fwd_match.specs.Patterns.{alternatives, each_with, spellings, expanded};
 
 use crate::fields::{Mark, first_field};
-use crate::text::Text;
+use fwd_base::Bytes;
 use std::alloc::{AllocError, Global};
 
 /// Adds each alternative of a text, put behind a front.
 fn put_each(
     alloc: Global,
-    out: &mut Vec<Text>,
+    out: &mut Vec<Bytes>,
     front: &[u8],
     text: &[u8],
     inside: bool,
@@ -22,7 +22,7 @@ fn put_each(
     let mut rest = Some(text);
     while let Some(bytes) = rest {
         let (alternative, more) = first_field(bytes, Mark::Comma(inside));
-        out.push(Text::joined(alloc, front, alternative)?)?;
+        out.push(Bytes::joined(alloc, front, alternative)?)?;
         rest = more;
     }
     Ok(())
@@ -31,10 +31,10 @@ fn put_each(
 /// Each text with each alternative behind it.
 fn extended(
     alloc: Global,
-    texts: &[Text],
+    texts: &[Bytes],
     text: &[u8],
     inside: bool,
-) -> Result<Vec<Text>, AllocError>
+) -> Result<Vec<Bytes>, AllocError>
     ensures { IfOk result (λ out.
         out.items ≡ each_with texts.now (alternatives inside text.now)) }
 {
@@ -46,11 +46,11 @@ fn extended(
 }
 
 /// The words that one word stands for.
-fn spell(alloc: Global, word: &[u8]) -> Result<Vec<Text>, AllocError>
+fn spell(alloc: Global, word: &[u8]) -> Result<Vec<Bytes>, AllocError>
     ensures { IfOk result (λ texts. texts.items ≡ spellings word.now) }
 {
     let mut texts = Vec::new(alloc);
-    texts.push(Text::new(alloc))?;
+    texts.push(Bytes::new(alloc))?;
     let mut rest = Some(word);
     let mut inside = false;
     while let Some(bytes) = rest {
@@ -63,7 +63,7 @@ fn spell(alloc: Global, word: &[u8]) -> Result<Vec<Text>, AllocError>
 }
 
 /// The words that the words of a text stand for.
-pub fn expand(alloc: Global, text: &[u8]) -> Result<Vec<Text>, AllocError>
+pub fn expand(alloc: Global, text: &[u8]) -> Result<Vec<Bytes>, AllocError>
     ensures { IfOk result (λ words. words.items ≡ expanded text.now) }
 {
     let mut words = Vec::new(alloc);

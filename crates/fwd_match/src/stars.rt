@@ -9,7 +9,7 @@ ghost use Rattle.fwd_match.specs.Asterisks.{Front, Nothing, one_further, further
 use crate::fields::{Mark, first_field};
 
 /// What may stand behind the last dot of some texts.
-#[derive(Clone, Copy, Debug)]
+#[derive(Clone, Copy)]
 struct Fronts {
     nothing: bool,
     /// `*`

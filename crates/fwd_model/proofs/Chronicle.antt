@@ -10,7 +10,7 @@ use Rattle.fwd_chunks.specs.Cells.{Cell, cells_at, contents, entries_of, first_t
 use Rattle.fwd_chunks.specs.History.{BufferHistory, Load, load_of}
 use Rattle.fwd_chunks.proofs.CellLemmas.{has_cell}
 use Rattle.fwd_chunks.proofs.News.{AreOf}
-use Rattle.fwd_book.specs.History.{Entered}
+use Rattle.fwd_book.specs.History.{Entered, Admission}
 use Rattle.fwd_model.specs.declared.config.Config.{Config}
 use Rattle.fwd_model.specs.declared.event.Event.{Event}
 use Rattle.fwd_model.specs.declared.event.Event.TheVariants as event
@@ -22,7 +22,6 @@ use Rattle.fwd_session.specs.Evidence.{frame_of}
 use Rattle.fwd_session.specs.History.{SessionHistory, handshake_of, is_done, is_handed_on}
 use Rattle.fwd_model.specs.Outcome.{state_of}
 use Rattle.fwd_model.specs.Step.{step, after}
-use Rattle.fwd_book.specs.History.{Admission}
 use Rattle.fwd_model.specs.History.{Connection, ever_at, source_at, with_source, with_gone, Lane, History, histories}
 use Rattle.fwd_model.specs.Delivered.{reached, answered, NoneEnded, HasBegun, WasLoaded, WasSent, WasAcknowledged, cells_from}
 use Rattle.fwd_model.proofs.Reached.{slice_get-set}

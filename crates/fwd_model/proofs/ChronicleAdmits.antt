@@ -12,10 +12,9 @@ use Rattle.fwd_source.specs.History.{SourceHistory, judged}
 use Rattle.fwd_chunks.specs.Cells.{Cell, cells_at, entries_of, first_tag, has_number}
 use Rattle.fwd_chunks.specs.History.{BufferHistory, looks, enters as buffer_enters, spans_of}
 use Rattle.fwd_chunks.proofs.News.{AreOf, news, enters-cells, enters-setting, acked-stays, news-entries, news-own, spans-give}
-use Rattle.fwd_book.specs.History.{Entered}
+use Rattle.fwd_book.specs.History.{Entered, Untold, Admission, entered_as}
 use Rattle.fwd_model.specs.declared.config.Config.{Config}
 use Rattle.fwd_model.specs.declared.event.Event.{Event}
-use Rattle.fwd_book.specs.History.{Untold, Admission, entered_as}
 use Rattle.fwd_model.specs.Outputs.{output_history_enters}
 use Rattle.fwd_model.specs.History.{Connection, ever_at, Lane, with_output}
 use Rattle.fwd_model.specs.Delivered.{cells_from, WasAcknowledged}

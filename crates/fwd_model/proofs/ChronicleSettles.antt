@@ -8,18 +8,16 @@ use Rattle.fwd_model.specs.declared.config.Config.{Config}
 use Rattle.fwd_model.specs.declared.event.Event.{Event}
 use Rattle.fwd_modes.specs.Frames.{chunk_name}
 use Rattle.fwd_chunks.specs.History.{BufferHistory, Load}
-use Rattle.fwd_session.specs.Evidence.{frame_of}
+use Rattle.fwd_session.specs.Evidence.{frame_of, evidence_of}
 use Rattle.fwd_session.specs.History as session
-use Rattle.fwd_session.specs.Evidence.{evidence_of}
 use Rattle.fwd_session.specs.History.{SessionHistory, acked}
 use Rattle.fwd_model.specs.Delivered.{WasAcknowledged}
 use Rattle.fwd_model.proofs.Settling.{IsHis}
 use Rattle.fwd_book.specs.History.{Fate, Told, Forgotten, Admission, BookHistory, is_untold, is_due, is_owed_to, becomes, leaves, tells_due, forgets_of}
 use Rattle.fwd_model.specs.Outputs.{output_history_settles}
 use Rattle.fwd_model.specs.History.{Connection, Lane, with_session, with_output, with_book}
-use Rattle.fwd_model.proofs.Chronicle.{Quiet, IsNamed, frame_at, frame_is, LaneStory, NumberStory, RequestStory, AllTold, Extends, extends_same, lane_still, number_still}
+use Rattle.fwd_model.proofs.Chronicle.{Quiet, IsNamed, frame_at, frame_is, LaneStory, NumberStory, RequestStory, AllTold, Extends, extends_same, lane_still, number_still, SessionStory}
 use Rattle.fwd_model.proofs.ChronicleSessions.{put_session, unloads}
-use Rattle.fwd_model.proofs.Chronicle.{SessionStory}
 
 loaded_of : (b : Bool) (loaded : Option Load) (c : Load) → cond b loaded None ≡ Some c
     → (b ≡ true) × (loaded ≡ Some c)

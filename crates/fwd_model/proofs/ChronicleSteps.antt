@@ -18,9 +18,8 @@ use Rattle.fwd_session.specs.declared.told.Heard.{Heard}
 use Rattle.fwd_session.specs.declared.told.Heard.TheVariants as heard_as
 use Rattle.fwd_session.specs.declared.handshake.Handshake.{Handshake}
 use Rattle.fwd_session.specs.declared.handshake.Handshake.TheVariants.{AwaitsHelo, AwaitsPong, Done}
-use Rattle.fwd_session.specs.Evidence.{frame_of}
+use Rattle.fwd_session.specs.Evidence.{frame_of, evidence_of}
 use Rattle.fwd_session.specs.Said.{out_of}
-use Rattle.fwd_session.specs.Evidence.{evidence_of}
 use Rattle.fwd_session.specs.History as session
 use Rattle.fwd_session.specs.History.{SessionHistory, handshake_of, is_done, is_free_for, says, told_of}
 use Rattle.fwd_model.specs.declared.config.Config.{Config}

@@ -10,7 +10,7 @@ use Rattle.fwd_chunks.specs.Cells.{Cell, cells_at, contents, entries_of, first_t
 use Rattle.fwd_chunks.specs.Cells as cells
 use Rattle.fwd_chunks.proofs.CellLemmas.{has_cell, numbers-has}
 use Rattle.fwd_chunks.proofs.News.{AreOf}
-use Rattle.fwd_book.specs.History.{Entered}
+use Rattle.fwd_book.specs.History.{Entered, Admission, evidence_of, is_settled, is_of, is_untold, is_owed_to, is_due}
 use Rattle.fwd_source.specs.declared.origin.Origin.{Origin}
 use Rattle.fwd_model.specs.declared.config.Config.{Config}
 use Rattle.fwd_model.specs.declared.event.Event.{Event}
@@ -21,7 +21,6 @@ use Rattle.fwd_model.specs.declared.fault.Refusal.TheVariants.{Closed, NoSuch}
 use Rattle.fwd_model.specs.Outcome.{answer_of, state_of, within, found as sought, refuse_if, Goes, ◌>>=◌, ◌>>◌}
 use Rattle.fwd_model.specs.Step as steps
 use Rattle.fwd_model.specs.Step.{step}
-use Rattle.fwd_book.specs.History.{Admission, evidence_of, is_settled, is_of, is_untold, is_owed_to, is_due}
 use Rattle.fwd_model.specs.Books.{numbers_of}
 use Rattle.fwd_model.proofs.Settled.{found-numbered}
 use Rattle.fwd_model.specs.Outputs.{OutputHistory}

@@ -1,7 +1,8 @@
 -- To be read in this order. Outcome, Layers and Step say what each event does, over any layers;
 -- Books to History are the history of all that came, with the histories of the crates below;
 -- Names says which events may come in either order; Delivered is what is promised of it; Live is
--- what of it still matters, which the code shows.
+-- what of it still matters, which the code shows. All of them are to be believed: no file here only
+-- describes the code.
 pub mod Outcome
 pub mod Setups
 pub mod Books

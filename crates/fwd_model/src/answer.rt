@@ -1,5 +1,5 @@
 use crate::fault::Refusal;
-use fwd_msgpack::{Bytes, Seq};
+use fwd_base::{Bytes, Seq};
 use fwd_session::SessionFault;
 use fwd_source::SourceFault;
 

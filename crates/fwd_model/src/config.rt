@@ -1,10 +1,10 @@
 ghost use Rattle.std.specs.Prelude.{◌≡◌, ◌≤◌, ◌^◌, length, not, true};
 ghost use Rattle.std.specs.List.{list_any};
 
+use fwd_base::Seq;
 use fwd_chunks::BufferLimits;
 use fwd_handshake::{Login, Security};
 use fwd_match::Routes;
-use fwd_msgpack::Seq;
 
 /// What one output is set to.
 #[derive(Drop)]

@@ -1,5 +1,5 @@
+use fwd_base::Bytes;
 use fwd_chunks::FlushKind;
-use fwd_msgpack::Bytes;
 use fwd_session::OwnedSalt;
 
 /// How a worker's session ends.

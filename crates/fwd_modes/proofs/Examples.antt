@@ -52,9 +52,9 @@ no_tag : request_of 64 (0x93 ∷ 0x05 ∷ 0x01 ∷ 0xc0 ∷ []) ≡ Fails BadTag
 unfolding request_of parts_of row_of_values split_of first_of fault_at item_begun payload_ended reading_of row_of named_rows
 no_tag = refl
 
-no_record : request_of 64 (0x93 ∷ 0xa1 ∷ 0x61 ∷ 0x01 ∷ 0xc0 ∷ []) ≡ Fails BadEntry
+no_fields : request_of 64 (0x93 ∷ 0xa1 ∷ 0x61 ∷ 0x01 ∷ 0xc0 ∷ []) ≡ Fails BadEntry
 unfolding request_of parts_of row_of_values split_of first_of fault_at item_begun payload_ended reading_of row_of named_rows
-no_record = refl
+no_fields = refl
 
 -- five are too many
 five : request_of 64 (0x95 ∷ 0xa1 ∷ 0x61 ∷ 0x01 ∷ 0x80 ∷ 0x80 ∷ 0x80 ∷ [])
@@ -165,7 +165,7 @@ option_before_entry : request_of 64 (0x94 ∷ 0xa1 ∷ 0x61 ∷ 0x01 ∷ 0xc0 �
 unfolding request_of parts_of row_of_values split_of first_of fault_at item_begun payload_ended reading_of row_of named_rows
 option_before_entry = refl
 
--- two entries, whose arrays, times and records keep or lose
+-- two entries, whose arrays, times and fields keep or lose
 -- their spelling as the rules say: the array is written anew
 abbrev two_entries : List ℕ
 two_entries = 0x92 ∷ 0x01 ∷ 0x80 ∷ 0xdc ∷ 0x00 ∷ 0x02 ∷ 0xcc ∷ 0x02 ∷ 0x80 ∷ []

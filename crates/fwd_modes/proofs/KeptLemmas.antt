@@ -86,17 +86,17 @@ members_of deep bytes values value shallow short e =
 
 -- ---- one entry
 
-two_parts : (time entry : List ℕ)
-    → kept_entry time entry ≡ head_bytes (Arr 2) ++ concat (time ∷ entry ∷ [])
+two_parts : (time fields : List ℕ)
+    → kept_entry time fields ≡ head_bytes (Arr 2) ++ concat (time ∷ fields ∷ [])
 unfolding head_bytes
-two_parts time entry = ap (λ xs. 0x92 ∷ (time ++ xs)) (sym (append-nil entry))
+two_parts time fields = ap (λ xs. 0x92 ∷ (time ++ xs)) (sym (append-nil fields))
 
 kept_same : (b : Bool) (kept entry : List ℕ) → cond b (Some kept) None ≡ Some entry
     → kept ≡ entry
 kept_same true kept entry e = some_same kept entry e
 kept_same false kept entry e = absurd cc
 
--- a time and a record, each less deep
+-- a time and fields, each less deep
 kept_one : (deep : ℕ) (time fields entry : List ℕ) → IsValue deep time → IsValue deep fields
     → suc deep ≤ most_deep → length time + length fields ≤ most_bytes
     → kept_if time fields ≡ Some entry → IsKept (suc deep) entry

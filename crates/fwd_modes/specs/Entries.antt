@@ -7,17 +7,18 @@ use Rattle.fwd_msgpack.specs.Scans.{Split, Open, Broken, split_of, most_bytes, e
 use Rattle.fwd_modes.specs.Kinds.{is_map}
 use Rattle.fwd_modes.specs.Times.{is_time}
 
--- an entry as it is kept: an array of two, the time and the record as they are spelled
-abbrev pub kept_entry : (time entry : List ℕ) → List ℕ
-kept_entry time entry = 0x92 ∷ time ++ entry
+-- an entry as it is kept: an array of two, the time and the fields as they are spelled
+abbrev pub kept_entry : (time fields : List ℕ) → List ℕ
+kept_entry time fields = 0x92 ∷ time ++ fields
 
--- a time and a record, which is a map, as they are kept
-abbrev pub kept_if : (time entry : List ℕ) → Option (List ℕ)
-kept_if time entry = if is_time time && is_map entry then Some (kept_entry time entry) else None
+-- a time and fields, which are a map, as they are kept
+abbrev pub kept_if : (time fields : List ℕ) → Option (List ℕ)
+kept_if time fields =
+    if is_time time && is_map fields then Some (kept_entry time fields) else None
 
 -- an array of exactly two
 abbrev pub entry_in : List (List ℕ) → Option (List ℕ)
-entry_in (time ∷ entry ∷ []) = kept_if time entry
+entry_in (time ∷ fields ∷ []) = kept_if time fields
 entry_in _ = None
 
 -- the entry that a whole value is, as it is kept

@@ -1,3 +1,5 @@
+-- To be believed, all eight: the public calls and laws speak of them, or of what stands on them.
+-- No file here only describes the code.
 pub mod Kinds
 pub mod Times
 pub mod Entries

@@ -63,9 +63,9 @@ with_option tag entries (option ∷ []) =
     Some (record { tag = tag; entries = entries; option = Some option })
 with_option tag entries _ = None
 
--- a Message has its record behind its time
+-- a Message has its fields behind its time
 abbrev pub message : (tag time : List ℕ) → List (List ℕ) → Option Parts
-message tag time (entry ∷ others) = with_option tag (one_entry (kept_if time entry)) others
+message tag time (fields ∷ others) = with_option tag (one_entry (kept_if time fields)) others
 message tag time [] = None
 
 -- the parts by the mode

@@ -1,4 +1,16 @@
-ghost use Rattle.std.specs.Prelude.{◌≡◌, ◌<◌, ◌≤◌, ◌^◌, ◌==◌, IfOk, IfSome, length};
+ghost use Rattle.std.specs.Prelude.{
+  ◌≡◌,
+  ◌<◌,
+  ◌≤◌,
+  ◌^◌,
+  ◌==◌,
+  ◌↔◌,
+  IsTrue,
+  IfOk,
+  IfSome,
+  length,
+};
+ghost use Rattle.std.specs.Arc.{arc_value};
 ghost use Rattle.std.specs.List.{concat};
 ghost use Rattle.std.specs.Option.{option_copied, ForSome};
 ghost use Rattle.fwd_modes.specs.Entries.{ends_of};
@@ -9,25 +21,28 @@ use crate::kept::Kept;
 use smallvec::SmallVec;
 use std::alloc::{AllocError, Global};
 use std::marker::Model;
+use std::sync::Arc;
 
-/// A request of a source: a tag, the entries as they are kept (`92`, the time's bytes, the record's
-/// bytes), and the value that the acknowledgement is to carry, if there is one.
+/// A request of a source: a tag, the entries as they are kept (`92`, the time's bytes, the fields'
+/// bytes), and the value that the acknowledgement is to carry, if there is one. Its copies share
+/// the entries.
 #[derive(Debug, Drop)]
 pub struct Batch {
     tag: SmallVec<u8, 32>,
-    entries: Kept,
+    entries: Arc<Kept>,
     chunk: Option<SmallVec<u8, 32>>,
 }
 
 impl Model for Batch {
     ghost use Rattle.fwd_modes.specs.Requests.{Request};
+    ghost use Rattle.std.specs.Arc.{arc_value};
     ghost use Rattle.std.specs.Option.{ForSome, option_map};
 
     ghost Value = { Request };
 
     ghost view = { λ b. record {
       tag = b.tag.items;
-      entries = b.entries;
+      entries = arc_value b.entries;
       chunk = option_map (λ c. c.items) b.chunk;
     } };
 
@@ -36,8 +51,19 @@ impl Model for Batch {
 
     ghost invariant = { λ b.
         (length b.tag.items ≤ 1024)
-        × (length (concat b.entries) < 2 ^ 32)
+        × (length (concat (arc_value b.entries)) < 2 ^ 32)
         × ForSome b.chunk (λ chunk. length chunk.items ≤ 261) };
+}
+
+/// Whether bytes are the same, or there are none on either side.
+fn is_same(left: Option<&[u8]>, right: Option<&[u8]>) -> bool
+    ensures { IsTrue result ↔ (option_copied left.entry ≡ option_copied right.entry) }
+{
+    match (left, right) {
+        (Some(left), Some(right)) => left == right,
+        (None, None) => true,
+        _ => false,
+    }
 }
 
 impl Batch {
@@ -54,6 +80,28 @@ impl Batch {
             b
             ≡ record { tag = tag.now; entries = entries; chunk = option_copied chunk.entry }) }
     {
+        let Ok(entries) = Arc::new(alloc, entries) else {
+            return Err(AllocError);
+        };
+        Batch::over(alloc, tag, entries, chunk)
+    }
+
+    /// A request of entries that others may have, too.
+    fn over(
+        alloc: Global,
+        tag: &[u8],
+        entries: Arc<Kept>,
+        chunk: Option<&[u8]>,
+    ) -> Result<Self, AllocError>
+        requires entries_fit { length (concat (arc_value entries)) < 2 ^ 32 }
+        requires tag_fits { length tag.now ≤ 1024 }
+        requires chunk_fits { ForSome chunk (λ bytes. length bytes.now ≤ 261) }
+        ensures { IfOk result (λ b. b ≡ record {
+          tag = tag.now;
+          entries = arc_value entries;
+          chunk = option_copied chunk.entry;
+        }) }
+    {
         let chunk = match chunk {
             Some(bytes) => Some(SmallVec::from_slice(alloc, bytes)?),
             None => None,
@@ -63,6 +111,23 @@ impl Batch {
             entries,
             chunk,
         })
+    }
+
+    /// A copy, which shares the entries. The only error is want of memory.
+    pub fn share(&self, alloc: Global) -> Result<Self, AllocError>
+        ensures { IfOk result (λ copy. copy ≡ self.now) }
+    {
+        let entries = Arc::try_clone(&self.entries)?;
+        Batch::over(alloc, self.tag(), entries, self.chunk())
+    }
+
+    /// Whether it is the same request.
+    pub fn is(&self, other: &Batch) -> bool
+        ensures { IsTrue result ↔ (self.now ≡ other.now) }
+    {
+        self.tag() == other.tag()
+            && self.entries.is(&other.entries)
+            && is_same(self.chunk(), other.chunk())
     }
 
     /// The tag's bytes.

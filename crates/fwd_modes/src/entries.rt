@@ -4,7 +4,7 @@ ghost use Rattle.std.specs.Prelude.{◌≡◌};
 ghost use Rattle.std.proofs.Props.{props};
 ghost use Rattle.fwd_modes.specs.Entries.{AreCut};
 
-/// The entries of a request one by one, each as it is kept: `92`, its time, its record.
+/// The entries of a request one by one, each as it is kept: `92`, its time, its fields.
 #[derive(Clone, Copy, Debug)]
 pub struct Entries<'a> {
     bytes: &'a [u8],

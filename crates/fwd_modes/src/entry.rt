@@ -8,7 +8,7 @@ use crate::kinds::is_map;
 use crate::time::is_time;
 use fwd_msgpack::Value;
 
-/// The time and the record of an entry, as they are spelled.
+/// The time and the fields of an entry, as they are spelled.
 #[derive(Clone, Copy, Debug)]
 pub(crate) struct Entry<'a> {
     pub(crate) time: &'a [u8],
@@ -20,7 +20,7 @@ impl<'a> Entry<'a> {
     ghost use Rattle.fwd_modes.specs.Entries.{entry_of, kept_if};
     ghost use Rattle.fwd_modes.specs.Readings.{kept};
 
-    /// A time and a record, if they are a time and a map.
+    /// A time and fields, if they are a time and a map.
     pub(crate) fn new(time: Value<'a>, fields: Value<'a>) -> Option<Entry<'a>>
         requires { 1 + length (bytes_of time) + length (bytes_of fields) < 2 ^ 32 }
         ensures value { option_map kept result

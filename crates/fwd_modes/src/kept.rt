@@ -1,6 +1,21 @@
-//! Entries as they are kept: `92`, the time and the record as they were spelled.
+//! Entries as they are kept: `92`, the time and the fields as they were spelled.
 
-ghost use Rattle.std.specs.Prelude.{◌≡◌, ◌+◌, ◌<◌, ◌^◌, [], ◌∷◌, ◌++◌, length, take, IfOk, OnOk, OnErr};
+ghost use Rattle.std.specs.Prelude.{
+  ◌≡◌,
+  ◌+◌,
+  ◌<◌,
+  ◌^◌,
+  ◌↔◌,
+  IsTrue,
+  [],
+  ◌∷◌,
+  ◌++◌,
+  length,
+  take,
+  IfOk,
+  OnOk,
+  OnErr,
+};
 ghost use Rattle.std.specs.List.{concat};
 ghost use Rattle.fwd_modes.specs.Entries.{kept_entry, ends_of};
 ghost use Rattle.fwd_modes.specs.Readings.{entries_left, kept};
@@ -100,6 +115,13 @@ impl Kept {
         ensures { result.now ≡ ends_of self.now }
     {
         self.ends.as_slice()
+    }
+
+    /// Whether the entries are the same.
+    pub(crate) fn is(&self, other: &Kept) -> bool
+        ensures { IsTrue result ↔ (self.now ≡ other.now) }
+    {
+        self.bytes == other.bytes && self.ends.as_slice() == other.ends.as_slice()
     }
 
     /// The entries one by one.

@@ -13,7 +13,7 @@ use fwd_msgpack::{Head, Value};
 /// Where the entries of a request stand.
 #[derive(Clone, Copy, Debug)]
 pub(crate) enum Given<'a> {
-    /// A time and a record, if they are an entry.
+    /// A time and fields, if they are an entry.
     One(Option<Entry<'a>>),
     /// The members of an array.
     List(Value<'a>),

@@ -8,6 +8,7 @@ pub mod Openings
 pub mod Parts
 pub mod Places
 pub mod Plains
+pub mod Readings
 pub mod Rows
 pub mod Seen
 pub mod Shortest

@@ -1,3 +1,5 @@
+-- To be believed: Heads, Scans, Cuts, Streams, Values and Texts, of which public clauses speak.
+-- Extents, Plain and Stacks only describe how the code scans a value.
 pub mod Cuts
 pub mod Extents
 pub mod Heads

@@ -1,8 +1,29 @@
 //! The heads of values: what stands in front of a value's payload or members.
 
-ghost use Rattle.std.specs.Prelude.{◌≡◌, ◌≤◌, ◌<◌, ◌*◌, ◌⊎◌, length};
-ghost use Rattle.std.specs.Int.{w8, w16, w32, w64};
-ghost use Rattle.fwd_msgpack.specs.Heads.{IsWithin, reading_of, row_of, row_reading, number_at, twos_complement};
+ghost use Rattle.std.specs.Prelude.{
+  ◌≡◌,
+  ◌≤◌,
+  ◌<◌,
+  ◌+◌,
+  ◌*◌,
+  ◌⊎◌,
+  length,
+  slice_index,
+  nat_lt,
+  false,
+  if◌then◌else◌,
+};
+ghost use Rattle.std.specs.Int.{w8, w16, w32, w64, cast_signed};
+ghost use Rattle.fwd_msgpack.specs.declared.head.Head.TheVariants.{Int, Ext};
+ghost use Rattle.fwd_msgpack.specs.declared.head.HeadRead.TheVariants.{Whole, Short};
+ghost use Rattle.fwd_msgpack.specs.Heads.{
+  IsWithin,
+  reading_of,
+  row_of,
+  row_reading,
+  number_at,
+  twos_complement,
+};
 
 /// The head of a value, as the MessagePack specification's table of formats lists them.
 #[derive(Clone, Copy, Debug, PartialEq, Eq)]
@@ -139,96 +160,121 @@ pub fn read_head(bytes: &[u8]) -> HeadRead
 
 /// Bytes, or the bytes stop within its length.
 #[inline(always)]
-#[tactic(auto, unfolding(crate::specs::Heads::row_of, crate::specs::Heads::named_rows))]
 fn read_bin(first: u8, rest: &[u8]) -> HeadRead
     requires low { 0xc4 ≤ first }
     requires high { first < 0xc7 }
     ensures { result ≡ row_reading (row_of first) rest.now }
 {
-    let (len, used) = match first {
-        0xc4 => (u8_at(rest).map(u32::from), 2),
-        0xc5 => (u16_at(rest).map(u32::from), 3),
-        _ => (u32_at(rest), 5),
-    };
-    match len {
-        Some(len) => HeadRead::Whole(Head::Bin(len), used),
-        None => HeadRead::Short,
+    match first {
+        0xc4 => match u8_at(rest) {
+            Some(len) => HeadRead::Whole(Head::Bin(u32::from(len)), 2),
+            None => HeadRead::Short,
+        },
+        0xc5 => match u16_at(rest) {
+            Some(len) => HeadRead::Whole(Head::Bin(u32::from(len)), 3),
+            None => HeadRead::Short,
+        },
+        _ => match u32_at(rest) {
+            Some(len) => HeadRead::Whole(Head::Bin(len), 5),
+            None => HeadRead::Short,
+        },
     }
 }
 
 /// A text, or the bytes stop within its length.
 #[inline(always)]
-#[tactic(auto, unfolding(crate::specs::Heads::row_of, crate::specs::Heads::named_rows))]
 fn read_str(first: u8, rest: &[u8]) -> HeadRead
     requires low { 0xd9 ≤ first }
     requires high { first < 0xdc }
     ensures { result ≡ row_reading (row_of first) rest.now }
 {
-    let (len, used) = match first {
-        0xd9 => (u8_at(rest).map(u32::from), 2),
-        0xda => (u16_at(rest).map(u32::from), 3),
-        _ => (u32_at(rest), 5),
-    };
-    match len {
-        Some(len) => HeadRead::Whole(Head::Str(len), used),
-        None => HeadRead::Short,
+    match first {
+        0xd9 => match u8_at(rest) {
+            Some(len) => HeadRead::Whole(Head::Str(u32::from(len)), 2),
+            None => HeadRead::Short,
+        },
+        0xda => match u16_at(rest) {
+            Some(len) => HeadRead::Whole(Head::Str(u32::from(len)), 3),
+            None => HeadRead::Short,
+        },
+        _ => match u32_at(rest) {
+            Some(len) => HeadRead::Whole(Head::Str(len), 5),
+            None => HeadRead::Short,
+        },
     }
 }
 
 /// An array, or the bytes stop within its length.
 #[inline(always)]
-#[tactic(auto, unfolding(crate::specs::Heads::row_of, crate::specs::Heads::named_rows))]
 fn read_arr(first: u8, rest: &[u8]) -> HeadRead
     requires low { 0xdc ≤ first }
     requires high { first < 0xde }
     ensures { result ≡ row_reading (row_of first) rest.now }
 {
-    let (len, used) = match first {
-        0xdc => (u16_at(rest).map(u32::from), 3),
-        _ => (u32_at(rest), 5),
-    };
-    match len {
-        Some(len) => HeadRead::Whole(Head::Arr(len), used),
-        None => HeadRead::Short,
+    match first {
+        0xdc => match u16_at(rest) {
+            Some(n) => HeadRead::Whole(Head::Arr(u32::from(n)), 3),
+            None => HeadRead::Short,
+        },
+        _ => match u32_at(rest) {
+            Some(n) => HeadRead::Whole(Head::Arr(n), 5),
+            None => HeadRead::Short,
+        },
     }
 }
 
 /// A map, or the bytes stop within its length.
 #[inline(always)]
-#[tactic(auto, unfolding(crate::specs::Heads::row_of, crate::specs::Heads::named_rows))]
 fn read_map(first: u8, rest: &[u8]) -> HeadRead
     requires low { 0xde ≤ first }
     requires high { first < 0xe0 }
     ensures { result ≡ row_reading (row_of first) rest.now }
 {
-    let (len, used) = match first {
-        0xde => (u16_at(rest).map(u32::from), 3),
-        _ => (u32_at(rest), 5),
-    };
-    match len {
-        Some(len) => HeadRead::Whole(Head::Map(len), used),
-        None => HeadRead::Short,
+    match first {
+        0xde => match u16_at(rest) {
+            Some(n) => HeadRead::Whole(Head::Map(u32::from(n)), 3),
+            None => HeadRead::Short,
+        },
+        _ => match u32_at(rest) {
+            Some(n) => HeadRead::Whole(Head::Map(n), 5),
+            None => HeadRead::Short,
+        },
     }
 }
 
 /// An integer that is not negative, or the bytes stop within it.
 #[inline(always)]
-#[tactic(auto, unfolding(crate::specs::Heads::row_of, crate::specs::Heads::named_rows))]
 fn read_unsigned(first: u8, rest: &[u8]) -> HeadRead
     requires low { 0xcc ≤ first }
     requires high { first < 0xd0 }
     ensures { result ≡ row_reading (row_of first) rest.now }
 {
-    let (mag, used) = match first {
-        0xcc => (u8_at(rest).map(u64::from), 2),
-        0xcd => (u16_at(rest).map(u64::from), 3),
-        0xce => (u32_at(rest).map(u64::from), 5),
-        _ => (u64_at(rest), 9),
-    };
-    match mag {
-        Some(mag) => HeadRead::Whole(Head::Int { neg: false, mag }, used),
-        None => HeadRead::Short,
+    match first {
+        0xcc => match u8_at(rest) {
+            Some(mag) => HeadRead::Whole(natural(u64::from(mag)), 2),
+            None => HeadRead::Short,
+        },
+        0xcd => match u16_at(rest) {
+            Some(mag) => HeadRead::Whole(natural(u64::from(mag)), 3),
+            None => HeadRead::Short,
+        },
+        0xce => match u32_at(rest) {
+            Some(mag) => HeadRead::Whole(natural(u64::from(mag)), 5),
+            None => HeadRead::Short,
+        },
+        _ => match u64_at(rest) {
+            Some(mag) => HeadRead::Whole(natural(mag), 9),
+            None => HeadRead::Short,
+        },
     }
+}
+
+/// An integer that is not negative.
+#[inline(always)]
+fn natural(mag: u64) -> Head
+    ensures { result ≡ Int false mag }
+{
+    Head::Int { neg: false, mag }
 }
 
 /// The integer of so many bits whose two's complement is `n`.
@@ -238,7 +284,7 @@ fn complement(half: u64, n: u64) -> Head
     ensures { result ≡ twos_complement half n }
 {
     if n < half {
-        Head::Int { neg: false, mag: n }
+        natural(n)
     } else {
         Head::Int {
             neg: true,
@@ -249,7 +295,6 @@ fn complement(half: u64, n: u64) -> Head
 
 /// An integer of either sign, or the bytes stop within it.
 #[inline(always)]
-#[tactic(auto, unfolding(crate::specs::Heads::row_of, crate::specs::Heads::named_rows))]
 fn read_signed(first: u8, rest: &[u8]) -> HeadRead
     requires low { 0xd0 ≤ first }
     requires high { first < 0xd4 }
@@ -275,9 +320,30 @@ fn read_signed(first: u8, rest: &[u8]) -> HeadRead
     }
 }
 
+/// An extension of this length, whose type stands at `at`, or the bytes stop before its type.
+#[inline(always)]
+fn ext_at(len: u32, rest: &[u8], at: usize) -> HeadRead
+    requires { at ≤ 4 }
+    ensures { result
+        ≡ (if nat_lt at (length rest.now)
+        then Whole (Ext (cast_signed w8 (slice_index rest.now at)) len) (at + 2)
+        else Short) }
+{
+    if at < rest.len() {
+        HeadRead::Whole(
+            Head::Ext {
+                kind: rest[at].cast_signed(),
+                len,
+            },
+            at + 2,
+        )
+    } else {
+        HeadRead::Short
+    }
+}
+
 /// An extension of a fixed length, or the bytes stop before its type.
 #[inline(always)]
-#[tactic(auto, unfolding(crate::specs::Heads::row_of, crate::specs::Heads::named_rows))]
 fn read_fixed_ext(first: u8, rest: &[u8]) -> HeadRead
     requires low { 0xd4 ≤ first }
     requires high { first < 0xd9 }
@@ -290,40 +356,29 @@ fn read_fixed_ext(first: u8, rest: &[u8]) -> HeadRead
         0xd7 => 8,
         _ => 16,
     };
-    match u8_at(rest) {
-        Some(kind) => HeadRead::Whole(
-            Head::Ext {
-                kind: kind.cast_signed(),
-                len,
-            },
-            2,
-        ),
-        None => HeadRead::Short,
-    }
+    ext_at(len, rest, 0)
 }
 
 /// An extension, or the bytes stop within its length and type.
 #[inline(always)]
-#[tactic(auto, unfolding(crate::specs::Heads::row_of, crate::specs::Heads::named_rows))]
 fn read_ext(first: u8, rest: &[u8]) -> HeadRead
     requires low { 0xc7 ≤ first }
     requires high { first < 0xca }
     ensures { result ≡ row_reading (row_of first) rest.now }
 {
-    let (len, at) = match first {
-        0xc7 => (u8_at(rest).map(u32::from), 1),
-        0xc8 => (u16_at(rest).map(u32::from), 2),
-        _ => (u32_at(rest), 4),
-    };
-    match len {
-        Some(len) if at < rest.len() => HeadRead::Whole(
-            Head::Ext {
-                kind: rest[at].cast_signed(),
-                len,
-            },
-            at + 2,
-        ),
-        _ => HeadRead::Short,
+    match first {
+        0xc7 => match u8_at(rest) {
+            Some(len) => ext_at(u32::from(len), rest, 1),
+            None => HeadRead::Short,
+        },
+        0xc8 => match u16_at(rest) {
+            Some(len) => ext_at(u32::from(len), rest, 2),
+            None => HeadRead::Short,
+        },
+        _ => match u32_at(rest) {
+            Some(len) => ext_at(len, rest, 4),
+            None => HeadRead::Short,
+        },
     }
 }
 

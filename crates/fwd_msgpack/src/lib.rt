@@ -9,7 +9,6 @@ mod limits;
 mod members;
 mod plain;
 mod scan;
-mod seq;
 mod stack;
 mod value;
 mod writing;
@@ -23,6 +22,5 @@ pub use laws::{
 };
 pub use limits::Limits;
 pub use members::{Members, Pairs};
-pub use seq::{Bytes, Seq};
 pub use value::{Cut, Value};
 pub use writing::{write_head, write_text};

@@ -1,12 +1,11 @@
 -- What is known of results, of words in a list, and of fronts of bytes.
 use Rattle.std.proofs.Common.{◌≡◌, ℕ, ◌+◌, arith, slice_index_or, true, List, [], ◌∷◌, ◌++◌, length, map, take, drop, Option, Some, None, Result, Ok, Err, refl, sym, ap, ◌∙◌, append_assoc}
-use Rattle.std.specs.Prelude.{MatchResult, IsErrAnd, IfSome}
+use Rattle.std.specs.Prelude.{MatchResult, IsErrAnd, IfSome, Bool, false, IsTrue}
 use Rattle.std.specs.Io.KnownBytes.{Appends, Consumes, Keeps}
 use Rattle.std.proofs.lemmas.List.{append-nil, take-append-drop, length-map}
 use Rattle.std.specs.Str.{bytes_eq}
 use Rattle.fwd_script.specs.Program.{words_behind}
 use Rattle.fwd_script.proofs.ReplayLemmas.{Appends-then}
-use Rattle.std.specs.Prelude.{Bool, false, IsTrue}
 use Rattle.fwd_script.proofs.WordLemmas.{bytes_eq-true, bytes_eq-same}
 
 -- what an error shows, at a result that is one

@@ -1,3 +1,5 @@
+-- To be believed, all but Stops: the public calls and laws speak of them.
+-- Stops only describes how the code ends a replay at a line.
 pub mod Words
 pub mod Lines
 pub mod Texts

@@ -18,8 +18,8 @@ ghost use Rattle.std.specs.List.{list_all, list_any};
 ghost use Rattle.std.specs.Str.Parse.{AllDigits, digits_value};
 ghost use Rattle.fwd_script.specs.Words.{words, is_hex, number_of, bytes_of, sixteen_of, salt_of};
 
+use fwd_base::Bytes;
 use fwd_model::OwnedSalt;
-use fwd_msgpack::Bytes;
 use hex::FromHex;
 use std::alloc::{AllocError, Global};
 

@@ -4,8 +4,8 @@ ghost use Rattle.std.specs.Prelude.{◌≡◌, IfOk};
 ghost use Rattle.std.specs.List.{concat};
 ghost use Rattle.fwd_modes.specs.Entries.{ends_of};
 
-use fwd_chunks::Carried;
-use fwd_msgpack::Bytes;
+use fwd_base::Bytes;
+use fwd_chunks::{Body, Carried};
 use std::alloc::{AllocError, Global};
 use std::marker::Model;
 
@@ -15,14 +15,12 @@ use std::marker::Model;
 pub struct Acked {
     number: u64,
     tag: Bytes,
-    packed: Vec<u8>,
-    ends: Vec<u32>,
+    entries: Body,
     server: u16,
     reply: Bytes,
 }
 
 impl Model for Acked {
-    ghost use Rattle.fwd_modes.specs.Entries.{cut_at, AreCut};
     ghost use Rattle.fwd_session.specs.Evidence.{Evidence};
 
     ghost Value = { Evidence };
@@ -30,12 +28,10 @@ impl Model for Acked {
     ghost view = { λ a. record {
       number = a.number;
       tag = a.tag;
-      entries = cut_at 0 a.ends.items a.packed.items;
+      entries = a.entries;
       server = a.server;
       reply = a.reply;
     } };
-
-    ghost invariant = { λ a. AreCut 0 a.ends.items a.packed.items };
 }
 
 impl Acked {
@@ -57,8 +53,7 @@ impl Acked {
         Ok(Acked {
             number: chunk.number(),
             tag: Bytes::from_slice(alloc, chunk.tag())?,
-            packed: Vec::from_slice(alloc, chunk.entries())?,
-            ends: Vec::from_slice(alloc, chunk.ends())?,
+            entries: chunk.body().share()?,
             server,
             reply: Bytes::from_slice(alloc, reply)?,
         })
@@ -82,14 +77,14 @@ impl Acked {
     pub fn entries(&self) -> &[u8]
         ensures { result.now ≡ concat self.now.entries }
     {
-        &self.packed
+        self.entries.bytes()
     }
 
     /// Where each entry ends, in bytes from the front of the first.
     pub fn ends(&self) -> &[u32]
         ensures { result.now ≡ ends_of self.now.entries }
     {
-        &self.ends
+        self.entries.ends()
     }
 
     /// The server that acknowledged the chunk, by its place in the output's list.

@@ -1,4 +1,4 @@
-use fwd_msgpack::Bytes;
+use fwd_base::Bytes;
 
 /// How far the handshake with a server came (Forward Protocol Specification v1, "Handshake
 /// Messages").

@@ -32,9 +32,10 @@ use crate::fault::SessionFault;
 use crate::handshake::Handshake;
 use crate::laws::said_by_front;
 use crate::word::Word;
+use fwd_base::Bytes;
 use fwd_handshake::{HeloAnswer, Login, PongVerdict, Salt, answer_helo, judge_pong};
 use fwd_modes::read_ack;
-use fwd_msgpack::{Bytes, Cut, Head, Limits, Value, cut};
+use fwd_msgpack::{Cut, Head, Limits, Value, cut};
 use std::alloc::{AllocError, Global};
 
 /// What was heard from a server.

@@ -3,8 +3,8 @@
 ghost use Rattle.std.specs.Prelude.{◌≡◌, ◌<◌, ◌^◌, ◌↔◌, length, IsSome, IfSome, IfOk};
 ghost use Rattle.fwd_handshake.specs.Shown.{salt_bytes};
 
+use fwd_base::Bytes;
 use fwd_handshake::Salt;
-use fwd_msgpack::Bytes;
 use std::alloc::{AllocError, Global};
 use std::marker::Model;
 

@@ -1,5 +1,5 @@
 use crate::fault::SessionFault;
-use fwd_msgpack::Bytes;
+use fwd_base::Bytes;
 
 /// What a piece of a server's bytes did to its session.
 #[derive(Clone, Copy, Debug, PartialEq, Eq)]

@@ -1,6 +1,6 @@
 use crate::fault::SessionFault;
 use crate::handshake::Handshake;
-use fwd_msgpack::Bytes;
+use fwd_base::Bytes;
 
 /// What one value of a server says.
 #[derive(Debug, Drop)]

@@ -3,7 +3,7 @@
 ghost use Rattle.std.specs.Prelude.{◌≡◌};
 ghost use Rattle.fwd_settings.specs.declared.fault.SettingsFault.TheVariants as faults;
 
-use crate::text::Text;
+use fwd_base::Text;
 use std::alloc::{AllocError, AllocFailed};
 use std::fmt;
 

@@ -9,10 +9,9 @@ ghost use Rattle.fwd_settings.specs.Keys.{first, output_fault, output_settings, 
 use crate::fault::SettingsFault;
 use crate::place::{Flaw, Place};
 use crate::section::Section;
-use crate::seq::Seq;
 use crate::server::{check_usable, servers_of};
 use crate::settings::{OutputSettings, ServerSettings};
-use crate::text::Text;
+use fwd_base::{Seq, Text};
 use std::alloc::Global;
 use toml::{Table, Value};
 

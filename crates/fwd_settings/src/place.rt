@@ -4,7 +4,7 @@ ghost use Rattle.std.specs.Prelude.{◌≡◌, ◌≢◌, IfOk};
 ghost use Rattle.fwd_settings.specs.Faults.{fault_with, key_under, own_key};
 
 use crate::fault::SettingsFault;
-use crate::text::Text;
+use fwd_base::Text;
 use std::alloc::{AllocError, Global};
 use std::fmt;
 

@@ -8,8 +8,8 @@ ghost use Rattle.fwd_settings.specs.Keys as keys;
 
 use crate::fault::SettingsFault;
 use crate::place::{Flaw, Place};
-use crate::text::Text;
 use crate::values::{address_in, allowed_list_in, digits_in, flag_in, list_in, number_in, text_in};
+use fwd_base::Text;
 use fwd_match::{Pattern, PatternFault};
 use std::alloc::Global;
 use std::net::SocketAddr;

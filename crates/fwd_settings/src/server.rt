@@ -10,9 +10,9 @@ ghost use Rattle.fwd_settings.specs.Keys.{first, is_standby, standby_fault, serv
 use crate::fault::SettingsFault;
 use crate::place::{Flaw, Place};
 use crate::section::Section;
-use crate::seq::Seq;
 use crate::settings::ServerSettings;
 use crate::values::is_true;
+use fwd_base::Seq;
 use std::alloc::Global;
 use toml::{Table, Value};
 

@@ -1,7 +1,6 @@
 //! The settings, with the defaults where a key is absent.
 
-use crate::seq::Seq;
-use crate::text::Text;
+use fwd_base::{Seq, Text};
 use fwd_match::Pattern;
 use std::net::SocketAddr;
 

@@ -9,8 +9,8 @@ ghost use Rattle.fwd_settings.specs.Unknown as spec;
 
 use crate::place::Place;
 use crate::section::Section;
-use crate::text::Text;
 use crate::values::array_in;
+use fwd_base::Text;
 use std::alloc::{AllocError, Global};
 use toml::{Table, Value};
 

@@ -9,8 +9,8 @@ ghost use Rattle.fwd_settings.specs.Keys.{first, user_fault, user_settings, user
 use crate::fault::SettingsFault;
 use crate::place::{Flaw, Place};
 use crate::section::Section;
-use crate::seq::Seq;
 use crate::settings::UserSettings;
+use fwd_base::Seq;
 use std::alloc::Global;
 use toml::{Table, Value};
 

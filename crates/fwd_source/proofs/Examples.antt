@@ -1,4 +1,4 @@
--- A connection at work on a few pieces: open, with a shared key, and at a gate.
+-- A connection at work on a few pieces: open, with a shared key, and where a PING is awaited.
 use Rattle.std.proofs.Common.{◌≡◌, ℕ, false, List, [], ◌∷◌, ◌++◌, Option, Some, None, refl, arith, le_refl}
 use Rattle.std.specs.Prelude.{codes, replicate}
 use Rattle.fwd_msgpack.specs.Heads.{row_of, named_rows, reading_of, head_bytes}
@@ -120,7 +120,7 @@ nothing_waits : waiting (piece_next guarded (0xc0 ∷ a)) ≡ []
 unfolding judged_of request_of ping_verdict parts_of row_of_values split_of first_of fault_at item_begun payload_ended reading_of row_of named_rows
 nothing_waits = refl
 
--- ---- at a gate: whatever comes first is passed with the PONG "yes", or denied with "no"
+-- ---- where a PING is awaited: what comes first is passed with the PONG "yes", or denied with "no"
 
 passed : judged_of limits (Some (λ value. ping.Pass (codes "yes"))) 0 (0xc0 ∷ 0x90 ∷ a) ≡
     record { requests = asks 0x61 1 ∷ []; rest = []; pong = codes "yes"; awaits = false; fault = None }

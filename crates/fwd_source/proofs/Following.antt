@@ -5,9 +5,9 @@ use Rattle.std.proofs.lemmas.List.{length-append, length-drop, drop-append-le}
 use Rattle.fwd_modes.specs.Requests.{Request}
 use Rattle.fwd_source.specs.declared.piece.Piece.TheVariants as piece
 use Rattle.fwd_source.specs.Judged.{judged_of, joined}
-use Rattle.fwd_source.specs.History.{Setup, gate_of, is_guarded, opening_text, SourceHistory, IsSane, opened, judged, is_closed, waiting, unsent, has_heard, new_pong, hears, piece_next, told, piece_answer, gives, appends, drains, shuts}
+use Rattle.fwd_source.specs.History.{Setup, awaited_ping, is_guarded, opening_text, SourceHistory, IsSane, opened, judged, is_closed, waiting, unsent, has_heard, new_pong, hears, piece_next, told, piece_answer, gives, appends, drains, shuts}
 use Rattle.fwd_source.specs.Live.{opened_source, live_source, judged_piece, source_hears, live_piece_next, live_piece_answer, tail_of, source_gives, source_appends, source_drains, source_shuts}
-use Rattle.fwd_source.proofs.Judging.{gate_behind, judged_of-append, judged_of-open, judged_of-nothing}
+use Rattle.fwd_source.proofs.Judging.{awaited_behind, judged_of-append, judged_of-open, judged_of-nothing}
 
 pub none_from : {A : Type 0} (o : Option A) → is_some o ≡ false → o ≡ None
 none_from None h = refl
@@ -17,33 +17,33 @@ or_false : (a b : Bool) → (a || b) ≡ false → (a ≡ false) × (b ≡ false
 or_false true b h = absurd cc
 or_false false b h = (refl, h)
 
--- ---- the gate
+-- ---- the PING that is awaited
 
-pub gate_step : (setup : Setup) (awaits : Bool) (n : ℕ) (bytes : List ℕ)
-    → (judged_of setup.limits (gate_of setup awaits) n bytes).fault ≡ None
-    → gate_behind (gate_of setup awaits)
-    (judged_of setup.limits (gate_of setup awaits) n bytes).awaits
-    ≡ gate_of setup (judged_of setup.limits (gate_of setup awaits) n bytes).awaits
-gate_step setup true n bytes e = by (judged_of setup.limits (gate_of setup true) n bytes).awaits
+pub awaited_step : (setup : Setup) (awaits : Bool) (n : ℕ) (bytes : List ℕ)
+    → (judged_of setup.limits (awaited_ping setup awaits) n bytes).fault ≡ None
+    → awaited_behind (awaited_ping setup awaits)
+    (judged_of setup.limits (awaited_ping setup awaits) n bytes).awaits
+    ≡ awaited_ping setup (judged_of setup.limits (awaited_ping setup awaits) n bytes).awaits
+awaited_step setup true n bytes e = by (judged_of setup.limits (awaited_ping setup true) n bytes).awaits
   where
-    by : (b : Bool) → gate_behind (gate_of setup true) b ≡ gate_of setup b
+    by : (b : Bool) → awaited_behind (awaited_ping setup true) b ≡ awaited_ping setup b
     by true = refl
     by false = refl
-gate_step setup false n bytes e = ap (gate_behind None) (judged_of-open setup.limits n bytes e) ∙ ap (gate_of setup) (sym (judged_of-open setup.limits n bytes e))
+awaited_step setup false n bytes e = ap (awaited_behind None) (judged_of-open setup.limits n bytes e) ∙ ap (awaited_ping setup) (sym (judged_of-open setup.limits n bytes e))
 
 -- ---- the opening
 
--- what is judged of no bytes, at a gate
-gate_is : (setup : Setup) (b : Bool) → is_some (gate_of setup b) ≡ b
-gate_is setup true = refl
-gate_is setup false = refl
+-- what is judged of no bytes, whether or not a PING is awaited
+awaited_is : (setup : Setup) (b : Bool) → is_some (awaited_ping setup b) ≡ b
+awaited_is setup true = refl
+awaited_is setup false = refl
 
 pub opened-live : (setup : Setup) → live_source (opened setup) ≡ opened_source setup
 unfolding live_source
 opened-live setup =
-    let none = judged_of-nothing setup.limits (gate_of setup (is_guarded setup)) 0 in
+    let none = judged_of-nothing setup.limits (awaited_ping setup (is_guarded setup)) 0 in
     (λ i. record { setup = setup; awaits = (none i).awaits; rest = (none i).rest; waiting = (none i).requests; admitted = 0; unsent = opening_text setup; shut = false; closed = is_some (none i).fault })
-    ∙ (λ i. record { setup = setup; awaits = gate_is setup (is_guarded setup) i; rest = []; waiting = []; admitted = 0; unsent = opening_text setup; shut = false; closed = false })
+    ∙ (λ i. record { setup = setup; awaits = awaited_is setup (is_guarded setup) i; rest = []; waiting = []; admitted = 0; unsent = opening_text setup; shut = false; closed = false })
 
 pub opened-sane : (setup : Setup) → IsSane (opened setup)
 opened-sane setup = record { admits = omega arith; drains = omega arith }
@@ -68,15 +68,15 @@ unfolding live_source
 heard s bytes sane not_closed =
     let parts = or_false s.shut (is_some (judged s).fault) not_closed in
     let good = none_from (judged s).fault parts.1 in
-    let gate = gate_of s.setup (is_guarded s.setup) in
+    let awaited = awaited_ping s.setup (is_guarded s.setup) in
     let waits : waiting s ≡ drop s.admitted (judged s).requests = ap (λ b. cond b [] (drop s.admitted (judged s).requests)) parts.0 in
     let count : 0 + length (judged s).requests ≡ s.admitted + length (waiting s) = rw waits (omega (arith, sane.admits, length-drop s.admitted (judged s).requests)) in
     let rests : cond s.shut [] (judged s).rest ≡ (judged s).rest = ap (λ b. cond b [] (judged s).rest) parts.0 in
     let awaits : cond s.shut false (judged s).awaits ≡ (judged s).awaits = ap (λ b. cond b false (judged s).awaits) parts.0 in
-    let next : gate_behind gate (judged s).awaits ≡ gate_of s.setup (cond s.shut false (judged s).awaits) = gate_step s.setup (is_guarded s.setup) 0 s.heard good ∙ ap (gate_of s.setup) (sym awaits) in
-    let piece = judged_of s.setup.limits (gate_of s.setup (cond s.shut false (judged s).awaits)) (s.admitted + length (waiting s)) (cond s.shut [] (judged s).rest ++ bytes) in
+    let next : awaited_behind awaited (judged s).awaits ≡ awaited_ping s.setup (cond s.shut false (judged s).awaits) = awaited_step s.setup (is_guarded s.setup) 0 s.heard good ∙ ap (awaited_ping s.setup) (sym awaits) in
+    let piece = judged_of s.setup.limits (awaited_ping s.setup (cond s.shut false (judged s).awaits)) (s.admitted + length (waiting s)) (cond s.shut [] (judged s).rest ++ bytes) in
     let all : judged (has_heard s bytes) ≡ joined (judged s).requests (judged s).pong piece =
-    judged_of-append s.setup.limits gate 0 s.heard bytes good
+    judged_of-append s.setup.limits awaited 0 s.heard bytes good
     ∙ (λ i. joined (judged s).requests (judged s).pong (judged_of s.setup.limits (next i) (count i) (sym rests i ++ bytes))) in
     let then : waiting (hears s bytes) ≡ waiting s ++ piece.requests =
     ap (λ b. cond b [] (drop s.admitted (judged (has_heard s bytes)).requests)) parts.0 ∙ ap (λ j. drop s.admitted j.requests) all

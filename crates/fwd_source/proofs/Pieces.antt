@@ -4,12 +4,12 @@ use Rattle.std.specs.Prelude.{is_some}
 use Rattle.std.specs.List.{concat}
 use Rattle.std.proofs.lemmas.List.{append-nil, append_assoc, length-append}
 use Rattle.fwd_source.specs.Judged.{Judged, judged_of, joined}
-use Rattle.fwd_source.specs.History.{gate_of, told}
+use Rattle.fwd_source.specs.History.{awaited_ping, told}
 use Rattle.fwd_source.specs.declared.fault.SourceFault.{SourceFault}
 use Rattle.fwd_source.specs.declared.piece.Piece.TheVariants as piece
 use Rattle.fwd_source.specs.Live.{LiveSource, judged_piece, source_hears, live_piece_answer, live_piece_next, live_pieces_next}
 use Rattle.fwd_source.proofs.Judging.{judged_of-append, judged_of-fails}
-use Rattle.fwd_source.proofs.Following.{none_from, gate_step}
+use Rattle.fwd_source.proofs.Following.{none_from, awaited_step}
 
 module _ (s : LiveSource) (a b : List ℕ) where
   abbrev j : Judged
@@ -17,20 +17,20 @@ module _ (s : LiveSource) (a b : List ℕ) where
 
   fails : is_some j.fault ≡ true → judged_piece s (a ++ b) ≡ j
   fails e =
-      ap (judged_of s.setup.limits (gate_of s.setup s.awaits) (s.admitted + length s.waiting)) (sym (append_assoc s.rest a b))
-      ∙ judged_of-fails s.setup.limits (gate_of s.setup s.awaits) (s.admitted + length s.waiting) (s.rest ++ a) b e
+      ap (judged_of s.setup.limits (awaited_ping s.setup s.awaits) (s.admitted + length s.waiting)) (sym (append_assoc s.rest a b))
+      ∙ judged_of-fails s.setup.limits (awaited_ping s.setup s.awaits) (s.admitted + length s.waiting) (s.rest ++ a) b e
 
   goes_on : j.fault ≡ None
       → judged_piece s (a ++ b)
       ≡ joined j.requests j.pong
-      (judged_of s.setup.limits (gate_of s.setup j.awaits)
+      (judged_of s.setup.limits (awaited_ping s.setup j.awaits)
       (s.admitted + length (s.waiting ++ j.requests)) (j.rest ++ b))
   goes_on e =
       let n = s.admitted + length s.waiting in
       let count : n + length j.requests ≡ s.admitted + length (s.waiting ++ j.requests) = omega (arith, length-append s.waiting j.requests) in
-      ap (judged_of s.setup.limits (gate_of s.setup s.awaits) n) (sym (append_assoc s.rest a b))
-      ∙ judged_of-append s.setup.limits (gate_of s.setup s.awaits) n (s.rest ++ a) b e
-      ∙ (λ i. joined j.requests j.pong (judged_of s.setup.limits (gate_step s.setup s.awaits n (s.rest ++ a) e i) (count i) (j.rest ++ b)))
+      ap (judged_of s.setup.limits (awaited_ping s.setup s.awaits) n) (sym (append_assoc s.rest a b))
+      ∙ judged_of-append s.setup.limits (awaited_ping s.setup s.awaits) n (s.rest ++ a) b e
+      ∙ (λ i. joined j.requests j.pong (judged_of s.setup.limits (awaited_step s.setup s.awaits n (s.rest ++ a) e i) (count i) (j.rest ++ b)))
 
   by_fault : (f : Bool) → is_some j.fault ≡ f
       → cond f (source_hears s a) (source_hears (source_hears s a) b) ≡ source_hears s (a ++ b)
@@ -47,7 +47,7 @@ module _ (s : LiveSource) (a b : List ℕ) where
   }
   by_fault false e =
       let whole = goes_on (none_from j.fault e) in
-      let more = judged_of s.setup.limits (gate_of s.setup j.awaits) (s.admitted + length (s.waiting ++ j.requests)) (j.rest ++ b) in
+      let more = judged_of s.setup.limits (awaited_ping s.setup j.awaits) (s.admitted + length (s.waiting ++ j.requests)) (j.rest ++ b) in
       (λ i. record {
         setup = s.setup;
         awaits = more.awaits;

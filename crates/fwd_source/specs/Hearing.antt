@@ -7,7 +7,7 @@ use Rattle.fwd_handshake.specs.declared.verdict.PingVerdict.{PingVerdict}
 use Rattle.fwd_handshake.specs.declared.verdict.PingVerdict.TheVariants.{Pass}
 use Rattle.fwd_source.specs.declared.fault.SourceFault.{SourceFault}
 use Rattle.fwd_source.specs.declared.fault.SourceFault.TheVariants.{Scan}
-use Rattle.fwd_source.specs.Judged.{Judged, Gate, failed, resting, greeted, joined, welcomed, asked, value_then, judged_of}
+use Rattle.fwd_source.specs.Judged.{Judged, AwaitedPing, failed, resting, greeted, joined, welcomed, asked, value_then, judged_of}
 use Rattle.fwd_source.specs.Live.{LiveSource}
 use Rattle.fwd_source.specs.declared.hearing.Heard.{Heard}
 use Rattle.fwd_source.specs.declared.hearing.Next.{Next}
@@ -38,19 +38,20 @@ abbrev pub kept_of : List ℕ → Option (List ℕ) → List ℕ
 kept_of all None = all
 kept_of all (Some apart) = apart
 
--- what comes next says what the bytes say, at any gate and however many requests came before
+-- what comes next says what the bytes say, whatever PING is awaited and however many requests came
+-- before
 abbrev pub IsNext : Limits → List ℕ → Next → Type 0
 IsNext limits bytes (next.Value value behind) =
     (length behind.now < length bytes)
     × IsEndOf behind.now bytes
-    × ((gate : Gate) (n : ℕ)
-    → judged_of limits gate n bytes
-    ≡ value_then limits.depth gate n (bytes_of value) (λ g k.
+    × ((awaited : AwaitedPing) (n : ℕ)
+    → judged_of limits awaited n bytes
+    ≡ value_then limits.depth awaited n (bytes_of value) (λ g k.
     judged_of limits g k behind.now))
 IsNext limits bytes next.Unfinished =
-    (gate : Gate) (n : ℕ) → judged_of limits gate n bytes ≡ resting gate bytes
+    (awaited : AwaitedPing) (n : ℕ) → judged_of limits awaited n bytes ≡ resting awaited bytes
 IsNext limits bytes (next.Fault fault) =
-    (gate : Gate) (n : ℕ) → judged_of limits gate n bytes ≡ failed (Scan fault)
+    (awaited : AwaitedPing) (n : ℕ) → judged_of limits awaited n bytes ≡ failed (Scan fault)
 
 -- what the value and all that follows say, with the requests before it
 abbrev pub TakesIn : List Request → List Request → ℕ → Reading → Option SourceFault

@@ -9,7 +9,7 @@ use Rattle.fwd_handshake.specs.Verdicts.{ping_verdict}
 use Rattle.fwd_source.specs.declared.fault.SourceFault.{SourceFault}
 use Rattle.fwd_source.specs.declared.piece.Piece.{Piece}
 use Rattle.fwd_source.specs.declared.piece.Piece.TheVariants as piece
-use Rattle.fwd_source.specs.Judged.{Judged, Gate, judged_of}
+use Rattle.fwd_source.specs.Judged.{Judged, AwaitedPing, judged_of}
 
 -- what a connection is accepted with: its id, what it has to prove, the random bytes of its
 -- handshake, and how long and deep a value may be
@@ -20,8 +20,8 @@ pub record Setup : Type 0 where
   pub limits : Limits
 
 -- where a shared key is set, the first value has to be a PING
-abbrev pub gate_of : Setup → Bool → Gate
-gate_of setup awaits = if awaits then Some (ping_verdict setup.security setup.nonces) else None
+abbrev pub awaited_ping : Setup → Bool → AwaitedPing
+awaited_ping setup awaits = if awaits then Some (ping_verdict setup.security setup.nonces) else None
 
 -- a shared key is set, so that a connection begins with a handshake
 abbrev pub is_guarded : Setup → Bool
@@ -57,7 +57,7 @@ opened setup = record {
 
 -- what all bytes heard say
 abbrev pub judged : SourceHistory → Judged
-judged s = judged_of s.setup.limits (gate_of s.setup (is_guarded s.setup)) 0 s.heard
+judged s = judged_of s.setup.limits (awaited_ping s.setup (is_guarded s.setup)) 0 s.heard
 
 -- no further piece is taken
 abbrev pub is_closed : SourceHistory → Bool

@@ -22,20 +22,20 @@ pub record Judged : Type 0 where
   pub fault : Option SourceFault
 
 -- what a connection has to pass before its requests count: nothing, or a PING with its verdict
-abbrev pub Gate : Type 0
-Gate = Option (List ℕ → PingVerdict)
+abbrev pub AwaitedPing : Type 0
+AwaitedPing = Option (List ℕ → PingVerdict)
 
 -- nothing but a fault
 abbrev pub failed : SourceFault → Judged
 failed f = record { requests = []; rest = []; pong = []; awaits = false; fault = Some f }
 
 -- nothing but the bytes of an unfinished value
-abbrev pub resting : Gate → List ℕ → Judged
-resting gate rest = record {
+abbrev pub resting : AwaitedPing → List ℕ → Judged
+resting awaited rest = record {
   requests = [];
   rest = rest;
   pong = [];
-  awaits = is_some gate;
+  awaits = is_some awaited;
   fault = None;
 }
 
@@ -92,25 +92,27 @@ asked count reading others =
 
 -- a value, and what comes after it. Where a PING is awaited,
 -- nil is skipped, and the first other value has to be one
-abbrev pub value_then : ℕ → Gate → ℕ → List ℕ → (Gate → ℕ → Judged) → Judged
+abbrev pub value_then : ℕ → AwaitedPing → ℕ → List ℕ → (AwaitedPing → ℕ → Judged) → Judged
 value_then deep None count v others = asked count (request_of deep v) (others None)
 value_then deep (Some verdict) count v others =
     if is_nil v then others (Some verdict) count else welcomed (verdict v) (others None count)
 
--- what the values of a stream say at this gate, of whose connection so many requests came before
-abbrev pub judge : ℕ → Gate → ℕ → List (List ℕ) → (Gate → Judged) → Judged
-judge deep gate count [] end = end gate
-judge deep gate count (v ∷ vs) end = value_then deep gate count v (λ g k. judge deep g k vs end)
+-- what the values of a stream say where this PING is awaited, or none, and so many requests came
+-- before on the connection
+abbrev pub judge : ℕ → AwaitedPing → ℕ → List (List ℕ) → (AwaitedPing → Judged) → Judged
+judge deep awaited count [] end = end awaited
+judge deep awaited count (v ∷ vs) end =
+    value_then deep awaited count v (λ g k. judge deep g k vs end)
 
 -- a stream's values one after the other, and then what is behind them: an unfinished value, or
 -- the fault
-abbrev pub judge_stream : ℕ → Gate → ℕ → Split → Judged
-judge_stream deep gate count (Open values rest) =
-    judge deep gate count values (λ g. resting g rest)
-judge_stream deep gate count (Broken values fault) =
-    judge deep gate count values (λ g. failed (Scan fault))
+abbrev pub judge_stream : ℕ → AwaitedPing → ℕ → Split → Judged
+judge_stream deep awaited count (Open values rest) =
+    judge deep awaited count values (λ g. resting g rest)
+judge_stream deep awaited count (Broken values fault) =
+    judge deep awaited count values (λ g. failed (Scan fault))
 
 -- what bytes say
-unfoldable pub judged_of : Limits → Gate → ℕ → List ℕ → Judged
-judged_of limits gate count bytes =
-    judge_stream limits.depth gate count (split_of limits.bytes limits.depth bytes)
+unfoldable pub judged_of : Limits → AwaitedPing → ℕ → List ℕ → Judged
+judged_of limits awaited count bytes =
+    judge_stream limits.depth awaited count (split_of limits.bytes limits.depth bytes)

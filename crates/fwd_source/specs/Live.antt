@@ -6,7 +6,7 @@ use Rattle.fwd_source.specs.declared.origin.Origin.{Origin}
 use Rattle.fwd_source.specs.declared.piece.Piece.{Piece}
 use Rattle.fwd_source.specs.declared.piece.Piece.TheVariants as piece
 use Rattle.fwd_source.specs.Judged.{Judged, judged_of}
-use Rattle.fwd_source.specs.History.{Setup, gate_of, is_guarded, opening_text, SourceHistory, judged, is_closed, waiting, unsent, told}
+use Rattle.fwd_source.specs.History.{Setup, awaited_ping, is_guarded, opening_text, SourceHistory, judged, is_closed, waiting, unsent, told}
 
 -- whether a PING is awaited, the bytes after the last whole value, the
 -- requests that wait, how many were admitted, the bytes that wait to be
@@ -52,7 +52,7 @@ opened_source setup = record {
 -- what bytes say behind all that was heard but the bytes of the unfinished value
 abbrev pub judged_behind : LiveSource → List ℕ → Judged
 judged_behind s bytes =
-    judged_of s.setup.limits (gate_of s.setup s.awaits) (s.admitted + length s.waiting) bytes
+    judged_of s.setup.limits (awaited_ping s.setup s.awaits) (s.admitted + length s.waiting) bytes
 
 -- what the bytes that are kept say
 abbrev pub judged_kept : LiveSource → Judged
@@ -119,9 +119,9 @@ first_waiting s [] = None
 first_waiting s (r ∷ rs) = Some (record { conn = s.setup.conn; request = s.admitted + 1 }, r)
 
 -- the source once its first waiting request was taken, if there is one
-abbrev pub live_next : LiveSource → List Request → LiveSource
-live_next s [] = s
-live_next s (r ∷ rs) = source_gives s
+abbrev pub source_gives_first : LiveSource → List Request → LiveSource
+source_gives_first s [] = s
+source_gives_first s (r ∷ rs) = source_gives s
 
 -- bytes are put behind those that wait to be sent
 abbrev pub source_appends : LiveSource → List ℕ → LiveSource

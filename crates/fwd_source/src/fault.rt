@@ -15,7 +15,8 @@ pub enum SourceFault {
     NotPing,
     /// Its PING was denied.
     Denied,
-    /// A fault came before, or the connection was shut, or no number is left for one more request.
+    /// No number is left for one more request. A piece behind a fault or once shut is told
+    /// `Piece::Closed`, and has no fault.
     Closed,
 }
 

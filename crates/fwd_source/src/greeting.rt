@@ -7,8 +7,9 @@ ghost use Rattle.fwd_source.specs.Hearing.{shown, IsEndOf, EndsIn, Greets, Welco
 
 use crate::fault::SourceFault;
 use crate::hearing::{Heard, Next, failed, hear, next_of};
+use fwd_base::Bytes;
 use fwd_handshake::{Nonces, PingVerdict, Security, judge_ping};
-use fwd_msgpack::{Bytes, Limits};
+use fwd_msgpack::Limits;
 use std::alloc::{AllocError, Global};
 
 /// What became of a greeting.

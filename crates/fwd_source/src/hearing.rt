@@ -9,8 +9,9 @@ ghost use Rattle.fwd_source.specs.Hearing.{shown, IsEndOf, IsNext, TakesIn};
 
 use crate::fault::SourceFault;
 use crate::laws::judged_by_front;
+use fwd_base::Bytes;
 use fwd_modes::{Batch, Reading, read_request};
-use fwd_msgpack::{Bytes, Cut, Limits, ScanFault, Value, cut};
+use fwd_msgpack::{Cut, Limits, ScanFault, Value, cut};
 use std::alloc::{AllocError, Global};
 
 /// What was heard. The bytes of an unfinished value are the last of those that were judged.

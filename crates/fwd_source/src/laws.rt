@@ -10,27 +10,28 @@ ghost use Rattle.fwd_modes.specs.Requests.{Request};
 ghost use Rattle.fwd_source.specs.declared.fault.SourceFault.{SourceFault};
 ghost use Rattle.fwd_source.specs.declared.fault.SourceFault.TheVariants.{Scan};
 ghost use Rattle.fwd_source.specs.declared.piece.Piece.TheVariants.{Fault, Closed};
-ghost use Rattle.fwd_source.specs.Judged.{Gate, judged_of, value_then, resting, failed};
+ghost use Rattle.fwd_source.specs.Judged.{AwaitedPing, judged_of, value_then, resting, failed};
 ghost use Rattle.fwd_source.specs.History.{Setup, SourceHistory, IsSane, opened, is_closed, waiting, unsent, new_pong, hears, piece_next, piece_answer, gives, appends, drains, shuts};
 ghost use Rattle.fwd_source.specs.Live.{LiveSource, live_source, opened_source, judged_piece, source_hears, source_gives, source_appends, source_drains, source_shuts, live_piece_next, live_piece_answer, live_pieces_next};
 
 use crate::source::Source;
-use fwd_msgpack::Bytes;
+use fwd_base::Bytes;
 
 /// What bytes say, by what stands at their front: a value, less than one, or a fault.
 pub fn judged_by_front()
-    ensures whole { (limits : ValueLimits) (gate : Gate) (n : ℕ) (bytes : List ℕ) (used : ℕ)
+    ensures whole { (limits : ValueLimits) (awaited : AwaitedPing) (n : ℕ) (bytes : List ℕ)
+        (used : ℕ)
         → first_of limits.bytes limits.depth bytes ≡ Whole used
-        → judged_of limits gate n bytes
-        ≡ value_then limits.depth gate n (take used bytes)
+        → judged_of limits awaited n bytes
+        ≡ value_then limits.depth awaited n (take used bytes)
         (λ g k. judged_of limits g k (drop used bytes)) }
-    ensures short { (limits : ValueLimits) (gate : Gate) (n : ℕ) (bytes : List ℕ)
+    ensures short { (limits : ValueLimits) (awaited : AwaitedPing) (n : ℕ) (bytes : List ℕ)
         → first_of limits.bytes limits.depth bytes ≡ Short
-        → judged_of limits gate n bytes ≡ resting gate bytes }
-    ensures bad { (limits : ValueLimits) (gate : Gate) (n : ℕ) (bytes : List ℕ)
+        → judged_of limits awaited n bytes ≡ resting awaited bytes }
+    ensures bad { (limits : ValueLimits) (awaited : AwaitedPing) (n : ℕ) (bytes : List ℕ)
         (fault : ScanFault)
         → first_of limits.bytes limits.depth bytes ≡ Bad fault
-        → judged_of limits gate n bytes ≡ failed (Scan fault) }
+        → judged_of limits awaited n bytes ≡ failed (Scan fault) }
 {}
 
 /// However the bytes are cut, the same source is left.

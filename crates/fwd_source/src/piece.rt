@@ -1,5 +1,5 @@
 use crate::fault::SourceFault;
-use fwd_msgpack::Bytes;
+use fwd_base::Bytes;
 
 /// What a piece of a connection's bytes did.
 #[derive(Clone, Copy, Debug, PartialEq, Eq)]

@@ -25,7 +25,7 @@ ghost use Rattle.fwd_source.specs.Live.{
   live_piece_answer,
   live_piece_out,
   first_waiting,
-  live_next,
+  source_gives_first,
   source_appends,
   source_drains,
   source_shuts,
@@ -36,9 +36,10 @@ use crate::greeting::hear_greeting;
 use crate::hearing::{Heard, hear};
 use crate::origin::Origin;
 use crate::piece::{Piece, Told};
+use fwd_base::Bytes;
 use fwd_handshake::{Nonces, Security, write_helo};
 use fwd_modes::Batch;
-use fwd_msgpack::{Bytes, Limits};
+use fwd_msgpack::Limits;
 use std::alloc::{AllocError, AllocFailed, Global};
 use std::collections::VecDeque;
 use std::marker::Model;
@@ -264,7 +265,7 @@ impl Source {
     /// Takes the first request that waits, with its number.
     pub fn next(&mut self) -> Option<(Origin, Batch)>
         ensures value { result ≡ first_waiting self.old.live self.old.live.waiting }
-        ensures live { self.new.live ≡ live_next self.old.live self.old.live.waiting }
+        ensures live { self.new.live ≡ source_gives_first self.old.live self.old.live.waiting }
         ensures room { self.new.room ≡ self.old.room }
     {
         let batch = self.waiting.pop_front()?;
@@ -298,8 +299,8 @@ impl Source {
         }
     }
 
-    /// The bytes of an unfinished value in a room of their own, if others stand before them. A value
-    /// that comes in many pieces stays where it is, and is not copied at each.
+    /// The bytes of an unfinished value in a room of their own, if others stand before them. A
+    /// value that comes in many pieces stays where it is, and is not copied at each.
     fn apart(&self, alloc: Global, rest: &[u8]) -> Result<Option<Vec<u8>>, AllocError>
         requires { IsEndOf rest.now self.now.live.rest }
         ensures { IfOk result (λ apart.

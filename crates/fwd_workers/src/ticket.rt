@@ -2,9 +2,9 @@
 
 ghost use Rattle.std.specs.Prelude.{◌≡◌};
 
+use fwd_base::Seq;
 use fwd_chunks::Span;
 use fwd_modes::Batch;
-use fwd_msgpack::Seq;
 use fwd_source::Origin;
 use std::marker::Model;
 

@@ -7,10 +7,10 @@ use crate::link::{Clock, Gate, Hub, Link, Loss, News, Pass, Place};
 use crate::serve::{Served, serve_turn};
 use crate::shared::SharedOutput;
 use crate::tally::Tally;
-use fwd_chunks::Carried;
+use fwd_base::Bytes;
+use fwd_chunks::{Carried, FlushKind};
 use fwd_core::{EndKind, Leaving, OwnedSalt, leave};
 use fwd_handshake::{Login, draw_salt};
-use fwd_msgpack::Bytes;
 use fwd_session::{LoadFailed, Session};
 use rand_chacha::ChaCha20Rng;
 use std::alloc::{AllocError, Global};
@@ -240,8 +240,8 @@ impl Worker {
         }
     }
 
-    /// Takes chunks, sends them to servers and settles what they acknowledged, in so many turns, or
-    /// until the gate stops it. A session ends at a fault, where its link is closed or fails, where
+    /// Closes chunks that are due and takes them, sends them to servers and settles what they
+    /// acknowledged, in so many turns, or until the gate stops it. A session ends at a fault, where its link is closed or fails, where
     /// it is late, and for want of memory; a link that cannot be had is a loss of its server. At
     /// the end an accepted chunk is settled, and a taken or loaded one goes back.
     pub fn run<A: Tally, S: Tally, H: Hub, G: Gate, C: Clock, R: Wait>(
@@ -320,7 +320,7 @@ impl Worker {
         let Some(server) = out.choose(rt, self.number, now) else {
             return Stage::Idle;
         };
-        let Ok(Some(chunk)) = out.take(rt, self.alloc, seat, self.number, now) else {
+        let Some(chunk) = self.next_chunk(rt, out, seat, now) else {
             return Stage::Idle;
         };
         let link = match hub.connect(rt, server) {
@@ -337,6 +337,24 @@ impl Worker {
                 out.end(rt, seat, Some(chunk), None, false, now);
                 Stage::Idle
             }
+        }
+    }
+
+    /// The next chunk, if there is one. Only now are chunks closed that are due, so that entries go
+    /// on joining them while all workers are at work.
+    fn next_chunk<A: Tally, S: Tally, R: Wait>(
+        &self,
+        rt: &R,
+        out: &SharedOutput<A, S>,
+        seat: &mut S::Seat,
+        now: u64,
+    ) -> Option<Carried>
+        ensures { seat.new ≡ seat.old }
+    {
+        out.flush(rt, now, FlushKind::Due);
+        match out.take(rt, self.alloc, seat, self.number, now) {
+            Ok(chunk) => chunk,
+            Err(_) => None,
         }
     }
 
@@ -393,9 +411,9 @@ impl Worker {
         ensures count { S.count seat.old ≤ S.count seat.new }
         ensures parts { S.parts seat.new ≡ S.parts seat.old }
     {
-        match out.take(rt, self.alloc, seat, self.number, now) {
-            Ok(Some(chunk)) => Stage::Took(free, chunk),
-            _ => {
+        match self.next_chunk(rt, out, seat, now) {
+            Some(chunk) => Stage::Took(free, chunk),
+            None => {
                 let free = serve_free(rt, self.alloc, free, now);
                 self.stand(rt, out, seat, free, now)
             }

@@ -1,8 +1,9 @@
 //! What the words of a line stand for.
 
 use anyhow::{Result, bail};
+use fwd_base::{Bytes, Seq};
 use fwd_handshake::{Login, Nonces, Security, User};
-use fwd_msgpack::{Bytes, Cut, Limits, Seq, Value, cut};
+use fwd_msgpack::{Cut, Limits, Value, cut};
 use hex::FromHex;
 use std::alloc::Global;
 

@@ -11,7 +11,7 @@ use std::time::{Duration, Instant};
 
 /// A chunk has at most 8,000,000 bytes, as in the relay where no setting says more, and the buffer
 /// has no other limit.
-const LIMITS: BufferLimits = BufferLimits {
+pub const LIMITS: BufferLimits = BufferLimits {
     chunk: 8_000_000,
     total: u64::MAX,
     interval: 1000,
@@ -112,15 +112,15 @@ fn copy_all(copy: &mut Vec<u8>, batches: &Vec<Batch>, requests: u32) -> Result<(
 
 /// How long it took to take chunks and to give them up.
 #[derive(Clone, Copy, Debug, Default, PartialEq, Eq)]
-struct Rounds {
-    chunks: u64,
-    take: Duration,
-    give: Duration,
+pub struct Rounds {
+    pub chunks: u64,
+    pub take: Duration,
+    pub give: Duration,
 }
 
 impl Rounds {
     /// With one round more.
-    fn more(self, take: Duration, give: Duration) -> Rounds {
+    pub fn more(self, take: Duration, give: Duration) -> Rounds {
         Rounds {
             chunks: self.chunks.saturating_add(1),
             take: self.take.saturating_add(take),
@@ -146,7 +146,9 @@ enum Fate {
 /// The chunk is given up.
 fn give_up(buffer: &mut Buffer, carried: Carried, fate: Fate) {
     match fate {
-        Fate::Settled => buffer.settle(carried),
+        Fate::Settled => {
+            buffer.settle(carried);
+        }
         Fate::Lost => buffer.free(carried, Some(0)),
         Fate::Kept => buffer.free(carried, None),
     }

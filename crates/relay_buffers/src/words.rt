@@ -33,6 +33,8 @@ pub enum Mode {
     Count,
     /// All of it, and times are printed too.
     Speed,
+    /// The same through an output, which also keeps who is owed an answer.
+    Output,
 }
 
 /// What the program is asked to do.
@@ -47,11 +49,16 @@ pub struct Words {
 /// The program's words, or which of them is none that it knows.
 pub fn read_words<R: Runtime + AllocGlobal>(rt: &R) -> Result<Words> {
     let mut words = env::args(rt)?.skip(1);
-    let mode = match words.next().context("requests, count or speed?")?.as_str() {
+    let mode = match words
+        .next()
+        .context("requests, count, speed or output?")?
+        .as_str()
+    {
         "requests" => Mode::Requests,
         "count" => Mode::Count,
         "speed" => Mode::Speed,
-        _ => bail!("requests, count or speed?"),
+        "output" => Mode::Output,
+        _ => bail!("requests, count, speed or output?"),
     };
     let mut number = |what: &str| -> Result<u32> {
         let word = words.next().context(format_args!("how many {what}?"))?;

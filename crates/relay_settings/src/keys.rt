@@ -1,7 +1,8 @@
 //! What good settings set, a line a key.
 
 use anyhow::Result;
-use fwd_settings::{OutputSettings, RelaySettings, Settings, Text, UserSettings};
+use fwd_base::Text;
+use fwd_settings::{OutputSettings, RelaySettings, Settings, UserSettings};
 
 /// A text that may be absent.
 fn text_of(text: &Option<Text>) -> &str {

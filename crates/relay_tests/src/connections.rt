@@ -2,8 +2,8 @@
 
 ghost use Rattle.std.specs.Prelude.{◌≡◌, false, IfOk};
 
+use fwd_base::{Bytes, Seq};
 use fwd_handshake::{Nonces, Security};
-use fwd_msgpack::{Bytes, Seq};
 use fwd_source::{AnswerError, SOURCE_LIMITS, Source};
 use std::alloc::{AllocError, Global};
 use std::sync::Arc;

@@ -1,9 +1,9 @@
 //! The relay where many requests wait.
 
 use crate::relay::relay_of;
+use fwd_base::Bytes;
 use fwd_core::Relay;
 use fwd_model::{Answer, Event};
-use fwd_msgpack::Bytes;
 use std::alloc::{AllocError, Global};
 use std::test::Fail;
 

@@ -1,8 +1,12 @@
-//! Tests of what no contract says: each layer, and events through the relay's library. Scripts are
-//! replayed by the program `relay_scripts`, and MessagePack as others spell it is read by
-//! `relay_values`.
+//! Tests of what no contract says: each layer, whose calls that take memory are made once with ample
+//! memory, and events through the relay's library. Scripts are replayed by the program
+//! `relay_scripts`, and MessagePack as others spell it is read by `relay_values`.
 #![tactic(auto)]
 
+#[cfg(test)]
+mod book;
+#[cfg(test)]
+mod chunks;
 #[cfg(test)]
 mod connections;
 #[cfg(test)]
@@ -10,12 +14,18 @@ mod edges;
 #[cfg(test)]
 mod handshakes;
 #[cfg(test)]
+mod monitor;
+#[cfg(test)]
 mod program;
 #[cfg(test)]
 mod relay;
 #[cfg(test)]
 mod replays;
 #[cfg(test)]
+mod request;
+#[cfg(test)]
 mod requests;
+#[cfg(test)]
+mod session;
 #[cfg(test)]
 mod values;

@@ -1,6 +1,6 @@
+use fwd_base::{Bytes, Seq};
 use fwd_handshake::Login;
 use fwd_model::{Answer, BufferLimits, Config, OutputConfig};
-use fwd_msgpack::{Bytes, Seq};
 use fwd_script::{print_answer, read_config};
 use std::alloc::Global;
 use std::process::Abort;

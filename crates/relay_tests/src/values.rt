@@ -1,4 +1,5 @@
-use fwd_msgpack::*;
+use fwd_base::Bytes;
+use fwd_msgpack::write_text;
 use std::test::Fail;
 
 #[test]
@@ -19,5 +20,7 @@ fn lists(rt: HostRuntime) -> Result<(), Fail> {
     assert_eq!(rt; copy.as_slice(), [1, 2, 3].as_slice());
     assert_eq!(rt; copy.len(), 3);
     assert!(rt; Bytes::new(rt.alloc()).is_empty());
+    let joined = Bytes::joined(rt.alloc(), &[1], &[2, 3])?;
+    assert_eq!(rt; joined.as_slice(), [1, 2, 3].as_slice());
     Ok(())
 }

@@ -3,10 +3,11 @@
 ghost use Rattle.std.specs.Prelude.{◌≡◌, IfOk};
 
 use anyhow::{Result, bail};
+use fwd_base::Bytes;
 use fwd_core::{BufferLimits, OutputState};
 use fwd_handshake::Login;
 use fwd_modes::{Batch, Reading, read_request};
-use fwd_msgpack::{Bytes, Cut, Limits, cut};
+use fwd_msgpack::{Cut, Limits, cut};
 use std::alloc::Global;
 use std::sync::Arc;
 

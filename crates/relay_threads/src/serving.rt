@@ -5,8 +5,8 @@ ghost use Rattle.fwd_workers.specs.Links.{HasRead};
 
 use crate::batches::{ACK, MESSAGE, batch, login, output};
 use anyhow::{Result, bail};
+use fwd_base::Bytes;
 use fwd_core::{FlushKind, Origin, OutputState, OwnedSalt};
-use fwd_msgpack::Bytes;
 use fwd_session::{LoadFailed, Session};
 use fwd_workers::{Link, LinkFault, Read, Served, serve_turn};
 use std::alloc::Global;

@@ -2,8 +2,7 @@ use Rattle.std.proofs.Common.{◌≡◌, ◌∙◌, ap, false, sym}
 use Rattle.fwd_source.specs.Live.{source_appends}
 use Rattle.fwd_book.specs.History.{is_of}
 use Rattle.fwd_book.specs.Receipts.{receipts}
-use Rattle.fwd_book.specs.Live.{live_is_due, live_leaves}
-use Rattle.fwd_model.specs.Live.{with_live_book}
+use Rattle.fwd_book.specs.Live.{live_is_due}
 use Rattle.fwd_core.proofs.CollectLemmas.{told_is, source_is, lane_is}
 use Rattle.fwd_core.proofs.relay.tell_from.Goals as goal
 

@@ -15,5 +15,5 @@ returns-in-Whole c =
     rw (take_rest bytes used) (
       shorter,
       end_behind used bytes (omega (arith, c.in-Whole.ensures.extent)),
-      λ gate n. c.judged_by_front.ensures.whole limits gate n bytes used front ∙ ap (λ v. value_then limits.depth gate n v (λ g k. judged_of limits g k (drop used bytes))) (sym c.in-Whole.ensures.front),
+      λ awaited n. c.judged_by_front.ensures.whole limits awaited n bytes used front ∙ ap (λ v. value_then limits.depth awaited n v (λ g k. judged_of limits g k (drop used bytes))) (sym c.in-Whole.ensures.front),
     )

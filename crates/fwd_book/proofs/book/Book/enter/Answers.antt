@@ -13,11 +13,11 @@ use Rattle.fwd_book.proofs.book.Book.enter.Goals as goal
 
 pub use_all-requires-clause-room : goal.use_all-requires-clause-room
 use_all-requires-clause-room c =
-    let ready : c.self.inside.ready ≡ Some c.in-Some.stored = sym c.take.ensures.value ∙ c.in-Some.is in
-    let now : c.args.self.now.ready ≡ Some c.in-Some.stored = ap (λ (s : BookState). s.ready) (sym c.self.view_is) ∙ ready in
-    let cut : AreCutBy c.args.spans.items c.in-Some.stored.entries = subst (λ o. IfSome o (λ r. AreCutBy c.args.spans.items r.entries)) now c.requires.cut in
-    let room : length c.in-Some.stored.entries ≤ c.self.inside.numbers.room = (subst (λ o. HasRoom o c.self.inside.requests.room c.self.inside.numbers.room) ready c.self.invariant.2).1 in
-    let few : length c.args.spans.items ≤ length c.in-Some.stored.entries = cut-few c.args.spans.items c.in-Some.stored.entries cut in
+    let ready : c.self.inside.ready ≡ Some c.in-Some.request = sym c.take.ensures.value ∙ c.in-Some.is in
+    let now : c.args.self.now.ready ≡ Some c.in-Some.request = ap (λ (s : BookState). s.ready) (sym c.self.view_is) ∙ ready in
+    let cut : AreCutBy c.args.spans.items c.in-Some.request.entries = subst (λ o. IfSome o (λ r. AreCutBy c.args.spans.items r.entries)) now c.requires.cut in
+    let room : length c.in-Some.request.entries ≤ c.self.inside.numbers.room = (subst (λ o. HasRoom o c.self.inside.requests.room c.self.inside.numbers.room) ready c.self.invariant.2).1 in
+    let few : length c.args.spans.items ≤ length c.in-Some.request.entries = cut-few c.args.spans.items c.in-Some.request.entries cut in
     let same : length c.deref.result.now ≡ length c.args.spans.items = ap length c.deref.ensures.value in
     omega (arith, room, few, same)
 
@@ -34,10 +34,10 @@ invariant_of-self c =
     let qs : List Entered = c.self.inside.requests.items in
     let spans : List Span = c.args.spans.items in
     let setting : BookSetting = record { run = c.self.inside.run; output = c.self.inside.output } in
-    let q : Entered = entered_as c.in-Some.stored c.args.origin spans in
-    let ready : c.self.inside.ready ≡ Some c.in-Some.stored = sym c.take.ensures.value ∙ c.in-Some.is in
-    let now : c.args.self.now.ready ≡ Some c.in-Some.stored = ap (λ (s : BookState). s.ready) (sym c.self.view_is) ∙ ready in
-    let cut : AreCutBy spans c.in-Some.stored.entries = subst (λ o. IfSome o (λ r. AreCutBy spans r.entries)) now c.requires.cut in
+    let q : Entered = entered_as c.in-Some.request c.args.origin spans in
+    let ready : c.self.inside.ready ≡ Some c.in-Some.request = sym c.take.ensures.value ∙ c.in-Some.is in
+    let now : c.args.self.now.ready ≡ Some c.in-Some.request = ap (λ (s : BookState). s.ready) (sym c.self.view_is) ∙ ready in
+    let cut : AreCutBy spans c.in-Some.request.entries = subst (λ o. IfSome o (λ r. AreCutBy spans r.entries)) now c.requires.cut in
     let alone : request_at qs c.args.origin ≡ None = ap (λ (s : BookState). request_at s.live.requests c.args.origin) c.self.view_is ∙ c.requires.alone in
     let fresh : are_fresh (found_for (found_at notes) qs) spans ≡ true = ap (λ (s : BookState). are_fresh s.live.settled spans) c.self.view_is ∙ c.requires.fresh in
     let more : (n : ℕ) → note_at n new ≡ cond (list_any (λ s. s.number == n) spans) (Some (used_more (note_at n notes))) (note_at n notes) =
@@ -59,8 +59,8 @@ returns c =
     let qs : List Entered = c.self.inside.requests.items in
     let spans : List Span = c.args.spans.items in
     let setting : BookSetting = record { run = c.self.inside.run; output = c.self.inside.output } in
-    let q : Entered = entered_as c.in-Some.stored c.args.origin spans in
-    let ready : c.self.inside.ready ≡ Some c.in-Some.stored = sym c.take.ensures.value ∙ c.in-Some.is in
+    let q : Entered = entered_as c.in-Some.request c.args.origin spans in
+    let ready : c.self.inside.ready ≡ Some c.in-Some.request = sym c.take.ensures.value ∙ c.in-Some.is in
     let fresh : are_fresh (found_for (found_at notes) qs) spans ≡ true = ap (λ (s : BookState). are_fresh s.live.settled spans) c.self.view_is ∙ c.requires.fresh in
     let more : (n : ℕ) → note_at n new ≡ cond (list_any (λ s. s.number == n) spans) (Some (used_more (note_at n notes))) (note_at n notes) =
     λ n. c.use_all.ensures n ∙ ap (λ ss. cond (list_any (λ s. s.number == n) ss) (Some (used_more (note_at n notes))) (note_at n notes)) c.deref.ensures.value in

@@ -1,10 +1,9 @@
 use Rattle.std.proofs.Common.{refl, ◌≡◌, position, find, Some, None, sym, ap, ◌∙◌, subst, cond, true, false}
 use Rattle.std.specs.Prelude.{slice_set}
-use Rattle.fwd_chunks.specs.Live.{is_at, changed}
+use Rattle.fwd_chunks.specs.Live.{is_at, changed, is_open, is_closed}
 use Rattle.std.proofs.lemmas.Bool.{and_parts}
 use Rattle.fwd_chunks.specs.declared.stage.Stage.{Stage}
 use Rattle.fwd_chunks.specs.declared.stage.Stage.TheVariants.{Open, Closed, Taken}
-use Rattle.fwd_chunks.specs.Live.{is_open, is_closed}
 use Rattle.fwd_chunks.proofs.Numbers.{true_false}
 use Rattle.fwd_chunks.specs.Slots.{ready_key, due_key, end_of_wait, Held, is_slot, IsSlotted}
 use Rattle.fwd_chunks.specs.Filling.{joined_by, stage_last}

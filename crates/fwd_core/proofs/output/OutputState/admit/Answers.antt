@@ -1,6 +1,5 @@
-use Rattle.std.proofs.Common.{arith, ◌≡◌, List, true, Some, length, map, sym, ap, subst, ◌∙◌}
+use Rattle.std.proofs.Common.{arith, ◌≡◌, length, map, sym, ap, subst, ◌∙◌}
 use Rattle.std.specs.Prelude.{IfSome}
-use Rattle.fwd_chunks.specs.declared.span.Span.{Span}
 use Rattle.fwd_chunks.specs.Live.{live_enters, live_spans}
 use Rattle.fwd_chunks.specs.Spans.{AreCutBy, AreRising}
 use Rattle.fwd_chunks.proofs.Holding.{spans-cut, spans-rise}

@@ -1,6 +1,4 @@
-use Rattle.std.proofs.Common.{◌≡◌, sym, ap, subst, ◌∙◌, inl, inr}
-use Rattle.fwd_chunks.specs.Live.{LiveBuffer, live_looks, live_frees}
-use Rattle.fwd_book.specs.Live.{LiveBook}
+use Rattle.std.proofs.Common.{sym, subst}
 use Rattle.fwd_core.specs.declared.output.OutputState.TheInside.{Inside}
 use Rattle.fwd_core.specs.Coupling.{IsCoupled}
 use Rattle.fwd_core.proofs.CouplingLemmas.{looks-coupled, frees-coupled}

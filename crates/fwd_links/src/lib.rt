@@ -1,0 +1,17 @@
+//! What a worker's thread has: a link over TCP, how it waits and is called, and the board on which it
+//! tells the loop of itself. Nothing can be proved of what a socket gives or takes: what is proved
+//! here is that the code is safe, that its loops end, and that a link hands on just the bytes that
+//! its stream gave.
+#![tactic(auto)]
+
+mod board;
+mod fault;
+mod link;
+mod nap;
+mod told;
+mod wire;
+
+pub use board::{Board, Notice, Notices, Stop};
+pub use fault::StartFault;
+pub use link::{TcpHub, TcpLink};
+pub use nap::{Bell, Nap, SharedNap};

@@ -1,0 +1,37 @@
+use Rattle.std.proofs.Common.{◌∙◌, refl, sym, arith}
+use Rattle.std.specs.Int.{w8, w16, w32, w64}
+use Rattle.fwd_msgpack.specs.Heads.{row_of, named_rows, twos_complement}
+use Rattle.fwd_msgpack.proofs.Readings.{read_whole, read_short}
+use Rattle.fwd_msgpack.proofs.head.read_signed.Goals as goal
+
+pub returns-in-Some : goal.returns-in-Some
+unfolding row_of named_rows
+returns-in-Some c = rw (c.complement.ensures, c.from.ensures) (read_whole w8 (twos_complement 0x80) 0xd0 c.args.first c.args.rest.now c.in-Some.n refl c.in-208.is (sym c.in-Some.is ∙ c.u8_at.ensures))
+
+pub returns-in-None : goal.returns-in-None
+unfolding row_of named_rows
+returns-in-None c = read_short w8 (twos_complement 0x80) 0xd0 c.args.first c.args.rest.now refl c.in-208.is (sym c.in-None.is ∙ c.u8_at.ensures)
+
+pub returns-in-Some-u16_at : goal.returns-in-Some-u16_at
+unfolding row_of named_rows
+returns-in-Some-u16_at c = rw (c.complement-in-Some-u16_at.ensures, c.from-in-Some-u16_at.ensures) (read_whole w16 (twos_complement 0x8000) 0xd1 c.args.first c.args.rest.now c.in-Some-u16_at.n refl c.in-209.is (sym c.in-Some-u16_at.is ∙ c.u16_at.ensures))
+
+pub returns-in-None-u16_at : goal.returns-in-None-u16_at
+unfolding row_of named_rows
+returns-in-None-u16_at c = read_short w16 (twos_complement 0x8000) 0xd1 c.args.first c.args.rest.now refl c.in-209.is (sym c.in-None-u16_at.is ∙ c.u16_at.ensures)
+
+pub returns-in-Some-u32_at : goal.returns-in-Some-u32_at
+unfolding row_of named_rows
+returns-in-Some-u32_at c = rw (c.complement-in-Some-u32_at.ensures, c.from-in-Some-u32_at.ensures) (read_whole w32 (twos_complement 0x8000_0000) 0xd2 c.args.first c.args.rest.now c.in-Some-u32_at.n refl c.in-210.is (sym c.in-Some-u32_at.is ∙ c.u32_at.ensures))
+
+pub returns-in-None-u32_at : goal.returns-in-None-u32_at
+unfolding row_of named_rows
+returns-in-None-u32_at c = read_short w32 (twos_complement 0x8000_0000) 0xd2 c.args.first c.args.rest.now refl c.in-210.is (sym c.in-None-u32_at.is ∙ c.u32_at.ensures)
+
+pub returns-in-Some-u64_at : goal.returns-in-Some-u64_at
+unfolding row_of named_rows
+returns-in-Some-u64_at c = rw c.complement-in-Some-u64_at.ensures (read_whole w64 (twos_complement 0x8000_0000_0000_0000) 0xd3 c.args.first c.args.rest.now c.in-Some-u64_at.n refl (omega arith) (sym c.in-Some-u64_at.is ∙ c.u64_at.ensures))
+
+pub returns-in-None-u64_at : goal.returns-in-None-u64_at
+unfolding row_of named_rows
+returns-in-None-u64_at c = read_short w64 (twos_complement 0x8000_0000_0000_0000) 0xd3 c.args.first c.args.rest.now refl (omega arith) (sym c.in-None-u64_at.is ∙ c.u64_at.ensures)

@@ -1,0 +1,11 @@
+//! A source's connection over its stream, and what is told of connections. Nothing can be proved of
+//! what a socket gives or takes: what is proved here is what becomes of the source behind it.
+#![tactic(auto)]
+
+mod source_peer;
+mod stream;
+mod watch;
+
+pub use source_peer::SourcePeer;
+pub use stream::{Visit, fill, send};
+pub use watch::{Caller, Fact, SourceEnd, Want, Watch};

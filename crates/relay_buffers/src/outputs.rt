@@ -1,0 +1,178 @@
+//! The same through an output, which also keeps who is owed an answer.
+
+use crate::turns::{LIMITS, Rounds};
+use anyhow::{Context, Result, bail};
+use fwd_base::Bytes;
+use fwd_chunks::{Carried, FlushKind};
+use fwd_core::OutputState;
+use fwd_handshake::Login;
+use fwd_modes::Batch;
+use fwd_session::{LoadFailed, OwnedSalt, Session};
+use fwd_source::Origin;
+use std::alloc::{AllocError, Global};
+use std::rt::Runtime;
+use std::sync::Arc;
+use std::time::{Duration, Instant};
+
+/// The front of a reply before the chunk's name of 24 bytes (Forward Protocol Specification v1,
+/// "Response").
+const REPLY: &[u8] = b"\x81\xa3ack\xb8";
+
+/// How many requests are handed in at once.
+const HAND: usize = 100;
+
+/// How long each part took.
+#[derive(Clone, Copy, Debug, PartialEq, Eq)]
+pub struct OutputTimes {
+    pub admit: Duration,
+    /// The taking and the settling of the chunks.
+    pub rounds: Rounds,
+    pub collect: Duration,
+}
+
+/// A session without a login, which takes chunks at once.
+fn session(alloc: Global) -> Result<Session> {
+    let login = Login {
+        hostname: Bytes::new(alloc),
+        shared_key: None,
+        username: Bytes::new(alloc),
+        password: Bytes::new(alloc),
+    };
+    let Ok(login) = Arc::new(alloc, login) else {
+        bail!("no memory");
+    };
+    let salt = OwnedSalt::new(Bytes::from_slice(alloc, b"salt")?).context("no salt")?;
+    Ok(Session::up(alloc, 0, login, salt, 10_000, 0))
+}
+
+/// A server's reply to a chunk.
+fn reply_to(alloc: Global, chunk: &Carried) -> Result<Vec<u8>, AllocError> {
+    let mut reply = Vec::from_slice(alloc, REPLY)?;
+    reply.extend_from_slice(chunk.name())?;
+    Ok(reply)
+}
+
+/// The chunk goes through the session: it is sent whole, and its reply is heard.
+fn send(alloc: Global, session: &mut Session, chunk: Carried) -> Result<()> {
+    let reply = reply_to(alloc, &chunk);
+    if session.has_chunk() {
+        chunk.spend();
+        bail!("the session has a chunk");
+    }
+    if let Err(LoadFailed { chunk, error: _ }) = session.load(alloc, chunk, 0) {
+        chunk.spend();
+        bail!("not loaded");
+    }
+    session.wrote(session.out().len());
+    let _told = session.heard(alloc, &reply?)?;
+    Ok(())
+}
+
+/// Sends and settles a chunk, and answers how long the settling took.
+fn settle_one<R: Runtime + AllocGlobal>(
+    rt: &R,
+    output: &mut OutputState,
+    session: &mut Session,
+    chunk: Carried,
+) -> Result<Duration> {
+    send(rt.alloc(), session, chunk)?;
+    let Some((acked, chunk)) = session.acked() else {
+        bail!("not acknowledged");
+    };
+    let start = Instant::now(rt);
+    output.settle(acked, chunk);
+    Ok(start?.elapsed(rt)?)
+}
+
+/// Takes, sends and settles each chunk.
+#[inline(never)]
+fn settle_all<R: Runtime + AllocGlobal>(
+    rt: &R,
+    output: &mut OutputState,
+    session: &mut Session,
+) -> Result<Rounds> {
+    let mut rounds = Rounds::default();
+    for _ in 0..u64::MAX {
+        let start = Instant::now(rt)?;
+        let Some(chunk) = output.take(rt.alloc(), 0, 0)? else {
+            break;
+        };
+        let took = start.elapsed(rt);
+        let settled = settle_one(rt, output, session, chunk)?;
+        rounds = rounds.more(took?, settled);
+    }
+    Ok(rounds)
+}
+
+/// Admits the requests in turn, until there are so many entries.
+#[inline(never)]
+fn admit_all(
+    alloc: Global,
+    output: &mut OutputState,
+    batches: &Vec<Batch>,
+    origins: &[Origin],
+) -> Result<()> {
+    let mut place: usize = 0;
+    for origin in origins {
+        if let Some(batch) = batches.get(place) {
+            let _spans = output.admit(alloc, *origin, batch, 0)?;
+        }
+        place = place.saturating_add(1);
+        if place >= batches.len() {
+            place = 0;
+        }
+    }
+    Ok(())
+}
+
+/// Gathers the receipts of all requests, so many at a time, and has the requests forgotten.
+#[inline(never)]
+fn collect_all(alloc: Global, output: &mut OutputState, origins: &[Origin]) -> Result<u64> {
+    let mut told: u64 = 0;
+    for hand in origins.chunks(HAND) {
+        let receipts = output.gather(alloc, hand)?;
+        told = told.saturating_add(receipts.len() as u64);
+        output.forget(hand);
+    }
+    Ok(told)
+}
+
+/// The origins of so many requests of one connection.
+fn origins_of(alloc: Global, requests: u32) -> Result<Vec<Origin>, AllocError> {
+    let mut origins = Vec::new(alloc);
+    for number in 0..requests {
+        origins.push(Origin {
+            conn: 1,
+            request: u64::from(number),
+        })?;
+    }
+    Ok(origins)
+}
+
+/// Admits all, closes it, takes, sends and settles each chunk, and collects. Answers how many
+/// requests were told, and how long each part took.
+pub fn output_turn<R: Runtime + AllocGlobal>(
+    rt: &R,
+    batches: &Vec<Batch>,
+    requests: u32,
+) -> Result<(u64, OutputTimes)> {
+    let origins = origins_of(rt.alloc(), requests)?;
+    let mut output = OutputState::new(rt.alloc(), LIMITS, [0; 6], 0, &[false])?;
+    let start = Instant::now(rt)?;
+    admit_all(rt.alloc(), &mut output, batches, &origins)?;
+    let admit = start.elapsed(rt)?;
+    output.flush(0, FlushKind::All);
+    let mut session = session(rt.alloc())?;
+    let rounds = settle_all(rt, &mut output, &mut session);
+    session.spend();
+    let rounds = rounds?;
+    let start = Instant::now(rt)?;
+    let told = collect_all(rt.alloc(), &mut output, &origins)?;
+    let collect = start.elapsed(rt)?;
+    let times = OutputTimes {
+        admit,
+        rounds,
+        collect,
+    };
+    Ok((told, times))
+}

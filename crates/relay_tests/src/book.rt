@@ -1,0 +1,66 @@
+//! A request that needs no chunk.
+
+ghost use Rattle.std.specs.Prelude.{◌≡◌, []};
+
+use crate::request::batch;
+use fwd_book::{Book, Receipt};
+use fwd_modes::Batch;
+use fwd_source::Origin;
+use std::alloc::Global;
+use std::test::Fail;
+
+/// A Forward of the tag `a` without entries, whose acknowledgement is to carry `x`.
+const NOTHING: &[u8] = b"\x93\xa1a\x90\x81\xa5chunk\xa1x";
+
+const ORIGIN: Origin = Origin {
+    conn: 1,
+    request: 2,
+};
+
+/// Whether it is the receipt of the request above.
+fn is_whole(receipt: &Receipt) -> bool {
+    receipt.origin() == ORIGIN
+        && receipt.entries().is_empty()
+        && receipt.tag() == b"a".as_slice()
+        && receipt.chunk() == Some(b"\xa1x".as_slice())
+        && receipt.parts().is_empty()
+}
+
+/// How many receipts a book gives where the origin is asked twice, if they are all of the request
+/// above.
+fn given(alloc: Global, book: &Book) -> Option<usize> {
+    let Ok(receipts) = book.gather(alloc, &[ORIGIN, ORIGIN]) else {
+        return None;
+    };
+    for receipt in &receipts {
+        if !is_whole(receipt) {
+            return None;
+        }
+    }
+    Some(receipts.len())
+}
+
+/// What a book tells of a request without entries: how many receipts it gives, and how many
+/// requests leave as they are forgotten twice.
+fn told(alloc: Global, batch: &Batch) -> Option<(usize, usize)>
+    requires { batch.now.entries ≡ [] }
+{
+    let mut book = Book::new(alloc, [0; 6], 0);
+    let Ok(()) = book.prepare(alloc, batch) else {
+        return None;
+    };
+    book.enter(ORIGIN, Vec::new(alloc));
+    let receipts = given(alloc, &book);
+    let left = book.forget(&[ORIGIN, ORIGIN]);
+    Some((receipts?, left))
+}
+
+#[test]
+fn a_request_without_entries_has_its_receipt(rt: HostRuntime) -> Result<(), Fail> {
+    let batch = batch(rt.alloc(), NOTHING)?;
+    if !batch.is_empty() {
+        return Err(Fail::from("entries"));
+    }
+    assert_eq!(rt; told(rt.alloc(), &batch), Some((1, 1)));
+    Ok(())
+}
