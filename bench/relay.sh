@@ -15,6 +15,7 @@
 #     SECONDS_MOST=5      seconds after which a row sends no more, also where it has not sent all its entries
 #     TIMEOUT=60          seconds after which a row has failed
 #     WAYS="direct socat relay rsyslog"     which ways are measured
+#     MINUTES=0           so many minutes more, at the end, for which one relay is at work (QUICK: of two seconds each)
 #
 # The ways, each from bench/relay/generator.c to bench/relay/sink.c (for RELP relp_generator.c and relp_sink.c), which
 # say at their heads what they do:
@@ -45,18 +46,22 @@
 # fails where one that goes over several chunks is not acknowledged within 10 s.
 #
 # Pieces: one request of 4,000,000 bytes that comes in pieces of 1,448 bytes, as from a slow network, see pieces.py.
+#
+# Minutes: one relay hands on all that ten connections send, minute after minute, a line each: what a million entries
+# take is not to rise, nor is the memory.
 set -eu
 export LC_ALL=C
 
 if [ "${QUICK:-0}" = 1 ]; then
-    entries=${ENTRIES:-20000} idle_conns=100 idle_s=3 trips=300 long=1000000
+    entries=${ENTRIES:-20000} idle_conns=100 idle_s=3 trips=300 long=1000000 minute_s=2
 else
-    entries=${ENTRIES:-1000000} idle_conns=1000 idle_s=10 trips=3000 long=4000000
+    entries=${ENTRIES:-1000000} idle_conns=1000 idle_s=10 trips=3000 long=4000000 minute_s=60
 fi
 window=${WINDOW:-4}
 limit=${TIMEOUT:-60}
 seconds=${SECONDS_MOST:-5}
 ways=${WAYS:-direct socat relay rsyslog}
+minutes=${MINUTES:-0}
 tick=$(getconf CLK_TCK)
 
 [ -x "$(command -v socat)" ] && [ -x /usr/sbin/rsyslogd ] && ls /usr/lib/*/rsyslog/omrelp.so >/dev/null 2>&1 || {
@@ -366,6 +371,29 @@ pieces() {
     end_all
 }
 
+# a minute of the relay that is at work: its number
+one_minute() {
+    before=$(cpu_of "$middle")
+    if generate "$folder/generator" --connections 10 --entries 100 --total 10000000000 --window "$window" \
+        --seconds "$minute_s" --timeout $((minute_s + limit)) 127.0.0.1 "$port"; then
+        echo "$before $(cpu_of "$middle") $(field entries "$folder/generator.out")" \
+            "$(field entries/s "$folder/generator.out") $memory" | awk -v minute="$1" \
+            '{ printf "minute %2d: %9d entries/s, cpu s/M %.2f, MB %.1f\n", minute, $4, ($2 - $1) / $3 * 1e6, $5 }'
+    else
+        fail "minute $1: $(cat "$folder/generator.err")"
+    fi
+}
+
+# one relay at work, minute after minute
+steady() {
+    start_sink "$folder/sink"
+    start_middle
+    for minute in $(seq "$minutes"); do
+        one_minute "$minute"
+    done
+    end_all
+}
+
 # calls a function for each of the ways, with all settings of the relay
 each_way() {
     for way in $ways; do
@@ -400,5 +428,6 @@ each_way latency
 way=relay flush=0 workers=1
 pieces
 spans
+[ "$minutes" = 0 ] || { way=relay flush=0 workers=1 limit=60 window=${WINDOW:-4}; steady; }
 
 [ "$failures" = 0 ] || { echo "failed: $failures"; exit 1; }
