@@ -180,6 +180,12 @@ pub record Nonempty (bytes : List ℕ) (n : ℕ) : Type 0 where
   pub rest : IsRow (drop n bytes)
   pub values : row_of_values bytes ≡ take n bytes ∷ row_of_values (drop n bytes)
 
+-- a stream by the verdict on its front
+pub split_told : (limit deep : ℕ) (bytes : List ℕ)
+    → split_of limit deep bytes ≡ by_first limit deep [] bytes (first_of limit deep bytes)
+unfolding split_of
+split_told limit deep bytes = told_first limit deep [] bytes
+
 pub split_first : (limit deep : ℕ) (bytes : List ℕ) (n : ℕ)
     → first_of limit deep bytes ≡ Whole n
     → split_of limit deep bytes

@@ -1,4 +1,5 @@
--- To be believed: Heads, Scans, Cuts, Streams, Values and Texts, of which public clauses speak.
+-- To be believed: Heads, Scans, Cuts, Walks, Streams, Values and Texts, of which public clauses
+-- speak.
 -- Extents, Plain and Stacks only describe how the code scans a value.
 pub mod Cuts
 pub mod Extents
@@ -9,3 +10,4 @@ pub mod Stacks
 pub mod Streams
 pub mod Texts
 pub mod Values
+pub mod Walks

@@ -1,11 +1,11 @@
 -- The first value of a stream of bytes, or the first fault, as
 -- a fold over the bytes; and what a whole value consists of.
-use Rattle.std.specs.Prelude.{◌≡◌, ℤ, ℕ, zero, suc, ◌+◌, ◌-◌, ◌&&◌, Bool, if◌then◌else◌, nat_lt, nat_le, List, [], ◌∷◌, ◌++◌, length, drop, fold, sum, Option, Some, None, option_and_then}
+use Rattle.std.specs.Prelude.{◌≡◌, ℤ, ℕ, zero, suc, ◌+◌, ◌-◌, ◌&&◌, Bool, true, false, if◌then◌else◌, nat_lt, nat_le, List, [], ◌∷◌, ◌++◌, length, drop, fold, sum, Option, Some, None, option_and_then}
 use Rattle.std.specs.Option.{option_map}
 use Rattle.fwd_msgpack.specs.declared.fault.ScanFault.{ScanFault}
 use Rattle.fwd_msgpack.specs.declared.fault.ScanFault.TheVariants.{Reserved, TooDeep, TooLong}
 use Rattle.fwd_msgpack.specs.declared.head.Head.{Head}
-use Rattle.fwd_msgpack.specs.declared.head.Head.TheVariants.{Int, Str, Bin, Arr, Map, Ext}
+use Rattle.fwd_msgpack.specs.declared.head.Head.TheVariants.{Nil, Int, Str, Bin, Arr, Map, Ext}
 use Rattle.fwd_msgpack.specs.declared.head.HeadRead.{HeadRead}
 use Rattle.fwd_msgpack.specs.declared.head.HeadRead.TheVariants as read
 use Rattle.fwd_msgpack.specs.Heads.{reading_of, payload, members, opens}
@@ -234,6 +234,15 @@ integer_of bytes = option_and_then (λ parts. integer_in parts.0) (parts_of byte
 -- the head of a whole value
 abbrev pub head_of : List ℕ → Option Head
 head_of bytes = option_map (λ parts. parts.0) (parts_of bytes)
+
+-- the head of nil (MessagePack specification, "nil format")
+abbrev pub is_nil_head : Option Head → Bool
+is_nil_head (Some Nil) = true
+is_nil_head _ = false
+
+-- the value is nil
+abbrev pub is_nil : List ℕ → Bool
+is_nil bytes = is_nil_head (head_of bytes)
 
 -- how long the value is, if there is one
 abbrev pub whole_len : Verdict → Option ℕ

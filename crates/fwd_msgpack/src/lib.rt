@@ -10,6 +10,7 @@ mod members;
 mod plain;
 mod scan;
 mod stack;
+mod stream;
 mod value;
 mod writing;
 
@@ -22,5 +23,6 @@ pub use laws::{
 };
 pub use limits::Limits;
 pub use members::{Members, Pairs};
+pub use stream::{Next, next_value};
 pub use value::{Cut, Value};
 pub use writing::{write_head, write_text};

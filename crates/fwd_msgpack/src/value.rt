@@ -20,7 +20,7 @@ impl<'a> Value<'a> {
     ghost use Rattle.std.specs.Prelude.{Some, IfSome, ◌+◌, ◌<◌, ◌^◌, length};
     ghost use Rattle.std.specs.List.{concat};
     ghost use Rattle.std.specs.Option.{option_map};
-    ghost use Rattle.fwd_msgpack.specs.Scans.{parts_of, head_of, elements_of, pairs_of, text_of, ext_of, integer_of};
+    ghost use Rattle.fwd_msgpack.specs.Scans.{parts_of, head_of, is_nil, elements_of, pairs_of, text_of, ext_of, integer_of};
     ghost use Rattle.fwd_msgpack.specs.Texts.{is_text};
     ghost use Rattle.fwd_msgpack.specs.Values.{bytes_of, members_left, pairs_left, text_shown, ext_shown};
 
@@ -51,6 +51,13 @@ impl<'a> Value<'a> {
         ensures { head_of (bytes_of self.entry) ≡ Some result }
     {
         self.parts().0
+    }
+
+    /// Whether the value is nil.
+    pub fn is_nil(self) -> bool
+        ensures { result ≡ is_nil (bytes_of self.entry) }
+    {
+        matches!(self.head(), Head::Nil)
     }
 
     /// The members of an array, or nothing for another kind.
