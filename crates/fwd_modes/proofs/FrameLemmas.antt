@@ -6,14 +6,14 @@ use Rattle.std.proofs.lemmas.Bool.{le-leb}
 use Rattle.std.proofs.lemmas.List.{append-nil, length-append}
 use Rattle.fwd_msgpack.specs.declared.head.Head.TheVariants.{Int, Bin, Arr, Map}
 use Rattle.fwd_msgpack.specs.Heads.{head_bytes}
-use Rattle.fwd_msgpack.specs.Scans.{pair_up, most_bytes, head_of, elements_of, pairs_of, text_of}
+use Rattle.fwd_msgpack.specs.Scans.{pair_up, most_bytes, head_of, is_nil_head, elements_of, pairs_of, text_of}
 use Rattle.fwd_msgpack.specs.Values.{IsPlain, IsContainer, IsValue}
 use Rattle.fwd_msgpack.specs.Texts.{text, last_under}
 use Rattle.fwd_msgpack.proofs.Complete.{value_some}
 use Rattle.fwd_msgpack.proofs.Written.{values_split, values_row, written_head, written_text, written_elements, written_pairs, written_plain, written_container, text_plain, text_text, head_text, plain_value, container_value, in_a_row}
 use Rattle.fwd_modes.specs.Entries.{entries_of, values_to_the_end, packed_entries}
 use Rattle.fwd_modes.specs.Frames.{frame_option, chunk_frame, IsKept, Frame, IsFrame}
-use Rattle.fwd_modes.specs.Kinds.{is_nil_head, fitting_text}
+use Rattle.fwd_modes.specs.Kinds.{fitting_text}
 use Rattle.fwd_modes.specs.Options.{option_pairs, unless_nil, chunk_under, chunk_of, is_bad_chunk, are_bad_pairs, is_bad_option, is_compression, is_compressed}
 use Rattle.fwd_modes.specs.declared.fault.InputFault.TheVariants.{BadTag, BadOption, Compressed, BadEntry}
 use Rattle.fwd_modes.specs.Requests.{Request, Heartbeat, Asks, Parts, mode_by, with_option, parts_by, parts_in, tag_of, first_fault, asked, unless_fault, of_parts, request_of}

@@ -7,14 +7,14 @@ use Rattle.fwd_msgpack.specs.declared.head.Head.{Head}
 use Rattle.fwd_msgpack.specs.declared.head.Head.TheVariants.{Nil, Bool as Boolean, Int, Float, Str, Bin, Arr, Map, Ext}
 use Rattle.fwd_msgpack.specs.declared.head.HeadRead.TheVariants as read
 use Rattle.fwd_msgpack.specs.Heads.{head_bytes, reading_of, members, opens}
-use Rattle.fwd_msgpack.specs.Scans.{Split, Open, Broken, split_of, values_of, first_of, row_of_values, parts_read, parts_of, elements_in, elements_of, text_of, head_of, most_bytes, most_deep, IsWhole, whole_len}
+use Rattle.fwd_msgpack.specs.Scans.{Split, Open, Broken, split_of, values_of, first_of, row_of_values, parts_read, parts_of, elements_in, elements_of, text_of, head_of, is_nil, most_bytes, most_deep, IsWhole, whole_len}
 use Rattle.fwd_msgpack.specs.Values.{IsPlain, InARow, IsContainer, IsValue}
 use Rattle.fwd_msgpack.specs.Streams.{IsWithinLimits}
 use Rattle.fwd_msgpack.proofs.Bounds.{elements_bounded}
 use Rattle.fwd_msgpack.proofs.Complete.{head_more}
 use Rattle.fwd_msgpack.proofs.Splittings.{values_within, whole_value, elements_are}
 use Rattle.fwd_msgpack.proofs.Written.{first_value, values_row, written_elements, written_container, container_value, in_a_row}
-use Rattle.fwd_modes.specs.Kinds.{is_map, is_nil}
+use Rattle.fwd_modes.specs.Kinds.{is_map}
 use Rattle.fwd_modes.specs.Times.{is_time}
 use Rattle.fwd_modes.specs.Entries.{kept_entry, kept_if, entry_in, entry_of, before, entries_of, values_to_the_end, listed_entries, packed_entries}
 use Rattle.fwd_modes.specs.Frames.{IsKept}

@@ -1,22 +1,13 @@
 -- What a whole value is.
 use Rattle.std.specs.Prelude.{ℕ, Bool, true, false, List, length, Option, Some, None, nat_le, if◌then◌else◌}
 use Rattle.fwd_msgpack.specs.declared.head.Head.{Head}
-use Rattle.fwd_msgpack.specs.declared.head.Head.TheVariants.{Nil, Map}
+use Rattle.fwd_msgpack.specs.declared.head.Head.TheVariants.{Map}
 use Rattle.fwd_msgpack.specs.Scans.{text_of, head_of}
-
--- the head of nil (MessagePack specification, "nil format")
-abbrev pub is_nil_head : Option Head → Bool
-is_nil_head (Some Nil) = true
-is_nil_head _ = false
 
 -- the head of a map (MessagePack specification, "map format family")
 abbrev pub is_map_head : Option Head → Bool
 is_map_head (Some (Map n)) = true
 is_map_head _ = false
-
--- the value is nil
-abbrev pub is_nil : List ℕ → Bool
-is_nil bytes = is_nil_head (head_of bytes)
 
 -- the value is a map
 abbrev pub is_map : List ℕ → Bool

@@ -1,9 +1,9 @@
 -- The option of a request (Forward Protocol Specification v1,
 -- "Option"): its chunk, and its faults. Other keys say nothing.
 use Rattle.std.specs.Prelude.{ℕ, Bool, true, false, ◌||◌, List, [], Option, Some, None, is_none, codes, option_and_then, if◌then◌else◌}
-use Rattle.fwd_msgpack.specs.Scans.{pairs_of}
+use Rattle.fwd_msgpack.specs.Scans.{pairs_of, is_nil}
 use Rattle.fwd_msgpack.specs.Texts.{is_text, last_under}
-use Rattle.fwd_modes.specs.Kinds.{is_nil, text_within}
+use Rattle.fwd_modes.specs.Kinds.{text_within}
 
 -- The pairs of an option. One that is left out or nil has
 -- none, and what is neither a map nor nil is no option.

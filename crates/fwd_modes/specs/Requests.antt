@@ -3,10 +3,10 @@ use Rattle.std.specs.Prelude.{ℕ, Bool, List, [], ◌∷◌, Option, Some, None
 use Rattle.std.specs.Option.{option_map}
 use Rattle.fwd_msgpack.specs.declared.head.Head.{Head}
 use Rattle.fwd_msgpack.specs.declared.head.Head.TheVariants.{Int, Ext, Arr, Str, Bin}
-use Rattle.fwd_msgpack.specs.Scans.{elements_of, text_of, head_of}
+use Rattle.fwd_msgpack.specs.Scans.{elements_of, text_of, head_of, is_nil}
 use Rattle.fwd_modes.specs.declared.fault.InputFault.{InputFault}
 use Rattle.fwd_modes.specs.declared.fault.InputFault.TheVariants.{BadShape, BadTag, BadEntry, BadOption, Compressed}
-use Rattle.fwd_modes.specs.Kinds.{is_nil, text_within}
+use Rattle.fwd_modes.specs.Kinds.{text_within}
 use Rattle.fwd_modes.specs.Entries.{kept_if, listed_entries, packed_entries}
 use Rattle.fwd_modes.specs.Options.{is_bad_option, is_compressed, chunk_of}
 

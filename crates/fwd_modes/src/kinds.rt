@@ -3,7 +3,7 @@
 ghost use Rattle.std.specs.Prelude.{◌≡◌, ◌≤◌, ◌+◌, IfSome, length};
 ghost use Rattle.std.specs.Option.{option_copied};
 ghost use Rattle.fwd_msgpack.specs.Values.{bytes_of};
-ghost use Rattle.fwd_modes.specs.Kinds.{is_nil, is_map, text_within};
+ghost use Rattle.fwd_modes.specs.Kinds.{is_map, text_within};
 
 use fwd_msgpack::{Head, Value};
 
@@ -11,12 +11,6 @@ pub(crate) fn is_map(value: Value<'_>) -> bool
     ensures { result ≡ is_map (bytes_of value.entry) }
 {
     matches!(value.head(), Head::Map(_))
-}
-
-pub(crate) fn is_nil(value: Value<'_>) -> bool
-    ensures { result ≡ is_nil (bytes_of value.entry) }
-{
-    matches!(value.head(), Head::Nil)
 }
 
 /// The payload of a str or a bin of at most so many bytes. Its head has five bytes at most.

@@ -6,7 +6,7 @@ ghost use Rattle.fwd_msgpack.specs.Values.{bytes_of};
 ghost use Rattle.fwd_modes.specs.Options.{unless_nil, chunk_of, is_bad_chunk, is_bad_option, is_compression, is_compressed};
 
 use crate::fault::InputFault;
-use crate::kinds::{is_nil, text_within};
+use crate::kinds::text_within;
 use fwd_msgpack::Value;
 
 /// The most bytes of a chunk's text.
@@ -49,7 +49,7 @@ fn read_chunk<'a>(value: Option<Value<'a>>) -> Result<Option<&'a [u8]>, InputFau
     let Some(chunk) = value else {
         return Ok(None);
     };
-    if is_nil(chunk) {
+    if chunk.is_nil() {
         return Ok(None);
     }
     match text_within(chunk, CHUNK_LIMIT) {
@@ -73,7 +73,7 @@ pub(crate) fn read_option<'a>(option: Option<Value<'a>>) -> Result<Said<'a>, Inp
     let Some(option) = option else {
         return Ok(NOTHING);
     };
-    if is_nil(option) {
+    if option.is_nil() {
         return Ok(NOTHING);
     }
     let Some(pairs) = option.pairs() else {

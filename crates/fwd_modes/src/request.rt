@@ -13,7 +13,7 @@ use crate::batch::Batch;
 use crate::entry::Entry;
 use crate::fault::InputFault;
 use crate::kept::Kept;
-use crate::kinds::{is_nil, text_within};
+use crate::kinds::text_within;
 use crate::lists::{read_list, read_packed};
 use crate::options::read_option;
 use crate::parts::{Given, Parts};
@@ -111,7 +111,7 @@ pub fn read_request(alloc: Global, value: Value<'_>, limits: Limits) -> Result<R
         → request_of limits.depth (bytes_of value.entry) ≡ fails fault
         → result ≡ Ok (Reading.Fails fault) }
 {
-    if is_nil(value) {
+    if value.is_nil() {
         return Ok(Reading::Heartbeat);
     }
     let Some(parts) = Parts::of(value) else {

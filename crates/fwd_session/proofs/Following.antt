@@ -3,11 +3,10 @@ use Rattle.std.proofs.Common.{◌≡◌, ℕ, zero, suc, ◌+◌, ◌≤◌, Boo
 use Rattle.std.specs.Prelude.{option_map, is_some, not, ◌||◌}
 use Rattle.std.proofs.lemmas.Bool.Decides.{nat_tests}
 use Rattle.std.proofs.lemmas.List.{length-append, length-drop, drop-append-le, drop-drop, append_assoc}
-use Rattle.fwd_msgpack.specs.Scans.{Split, split_of, continued, with_front, values_of}
+use Rattle.fwd_msgpack.specs.Scans.{Split, split_of, continued, with_front, values_of, is_nil}
 use Rattle.fwd_msgpack.specs.Scans.Split.{Open, Broken}
 use Rattle.fwd_msgpack.proofs.Rows.{split_append}
 use Rattle.fwd_modes.specs.Acks.{ack_name}
-use Rattle.fwd_modes.specs.Kinds.{is_nil}
 use Rattle.std.specs.Str.{bytes_eq}
 use Rattle.fwd_handshake.specs.declared.credentials.Login.{Login}
 use Rattle.fwd_chunks.specs.History.{Load}

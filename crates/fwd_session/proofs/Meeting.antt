@@ -2,18 +2,16 @@
 use Rattle.std.proofs.Common.{◌≡◌, ℕ, suc, ◌+◌, ◌<◌, ◌≤◌, ◌^◌, Bool, true, false, cond, List, [], ◌∷◌, ◌++◌, length, Option, Some, None, lit≤, refl, sym, ap, subst, ◌∙◌, append_assoc, arith}
 use Rattle.std.specs.Prelude.{codes, map, replicate, is_some, option_and_then, unwrap_or}
 use Rattle.std.specs.List.{concat, AllByRecursion}
-use Rattle.std.specs.Str.{bytes_eq}
 use Rattle.std.proofs.lemmas.List.{append-nil, length-append, drop_all}
 use Rattle.fwd_msgpack.specs.declared.head.Head.TheVariants.{Bool as Boolean, Str, Bin, Arr, Map}
 use Rattle.fwd_msgpack.specs.Heads.{head_bytes, reading_of, row_of, named_rows}
-use Rattle.fwd_msgpack.specs.Scans.{Split, parts_of, text_of, elements_of, split_of, continued, with_front, values_of}
+use Rattle.fwd_msgpack.specs.Scans.{Split, parts_of, text_of, elements_of, split_of, continued, with_front, values_of, is_nil, is_nil_head}
 use Rattle.fwd_msgpack.specs.Scans.Split.{Open, Broken}
 use Rattle.fwd_msgpack.specs.declared.fault.ScanFault.{ScanFault}
 use Rattle.fwd_msgpack.specs.Texts.{text}
 use Rattle.fwd_msgpack.specs.Values.{IsPlain, IsValue}
 use Rattle.fwd_msgpack.proofs.Written.{values_split, values_row, written_head, written_elements, written_plain, written_container, text_plain, plain_value, container_value, in_a_row, text_text}
 use Rattle.fwd_msgpack.proofs.Rows.{split_append}
-use Rattle.fwd_modes.specs.Kinds.{is_nil, is_nil_head}
 use Rattle.fwd_handshake.specs.declared.credentials.User.{User}
 use Rattle.fwd_handshake.specs.declared.credentials.Security.{Security}
 use Rattle.fwd_handshake.specs.declared.credentials.Login.{Login}
@@ -229,10 +227,6 @@ ping_denied security nonces h s d u p denial lt cause =
     ap (λ (x : Option Ping). ping_judged security nonces x) (ping_said h s d u p lt)
     ∙ ap (λ (b : Bool). cond b ping.NotPing (ping_answer security nonces.nonce s (denial_of security nonces said))) (claimed security.users (record { username = u; digest = p }))
     ∙ ap (λ (x : Option Denial). ping_answer security nonces.nonce s x) cause
-
-source_not_nil : (body : List ℕ) → bytes_eq (head_bytes (Arr 6) ++ body) (0xc0 ∷ []) ≡ false
-unfolding head_bytes
-source_not_nil body = refl
 
 -- PONG
 
@@ -549,7 +543,7 @@ abbrev judged_to : LiveSource → Judged → LiveSource
 judged_to s j = record s { awaits = j.awaits; rest = j.rest; waiting = j.requests; unsent = j.pong; closed = is_some j.fault }
 
 judged_ping : (m : Meeting) (v : List ℕ) (verdict : PingVerdict)
-    → IsValue 1 v → bytes_eq v (0xc0 ∷ []) ≡ false
+    → IsValue 1 v → is_nil v ≡ false
     → length v ≤ m.server.limits.bytes → 0 < m.server.limits.depth
     → ping_verdict m.server.security m.server.nonces v ≡ verdict
     → live_piece_next (greeting (opened_source m.server)) v
@@ -636,7 +630,7 @@ module _ (m : Meeting) (key : List ℕ) (client : m.client.login.shared_key ≡ 
       let body : List ℕ = concat (map text (codes "PING" ∷ m.client.login.hostname ∷ m.client.salt ∷ digest ∷ username ∷ proof ∷ [])) in
       ap (λ (s : LiveSource). live_pieces_next s m.ping) source_greeting
       ∙ source_joined (greeting (opened_source m.server)) m.ping ping_sent (array_some (head_bytes (Arr 6)) body ping_sent ping_head ping_is_array) ping_is
-      ∙ judged_ping m ping_sent verdict (ping_value m.client.login.hostname m.client.salt digest username proof ping_short) (ap (λ (xs : List ℕ). bytes_eq xs (0xc0 ∷ [])) ping_is_array ∙ source_not_nil body) fits within.deep says
+      ∙ judged_ping m ping_sent verdict (ping_value m.client.login.hostname m.client.salt digest username proof ping_short) (ap is_nil ping_is_array ∙ array_not_nil 6 (lit≤ tt) body) fits within.deep says
 
   -- the session, by its verdict on the PONG
   module _ (passed : Bool) (r h d : List ℕ) (w : Word)

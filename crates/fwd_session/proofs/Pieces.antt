@@ -4,11 +4,10 @@ use Rattle.std.specs.Prelude.{option_map, is_some, ◌||◌}
 use Rattle.std.specs.List.{concat}
 use Rattle.std.specs.Str.{bytes_eq}
 use Rattle.std.proofs.lemmas.List.{append_assoc, append-nil}
-use Rattle.fwd_msgpack.specs.Scans.{Split, split_of, continued, with_front, values_of}
+use Rattle.fwd_msgpack.specs.Scans.{Split, split_of, continued, with_front, values_of, is_nil}
 use Rattle.fwd_msgpack.specs.Scans.Split.{Open, Broken}
 use Rattle.fwd_msgpack.proofs.Rows.{split_append}
 use Rattle.fwd_modes.specs.Acks.{ack_name}
-use Rattle.fwd_modes.specs.Kinds.{is_nil}
 use Rattle.fwd_handshake.specs.declared.credentials.Login.{Login}
 use Rattle.fwd_chunks.specs.History.{Load}
 use Rattle.fwd_session.specs.declared.fault.SessionFault.{SessionFault}

@@ -4,10 +4,13 @@ use Rattle.std.specs.Prelude.{option_map, slice_get}
 use Rattle.std.specs.Str.{bytes_eq}
 use Rattle.std.proofs.lemmas.Slice.Eq.{bytes_eq-Decides}
 use Rattle.fwd_msgpack.specs.declared.fault.ScanFault.{ScanFault}
-use Rattle.fwd_msgpack.specs.Scans.{Split, split_of, values_of, with_front, Whole, Short, Bad, first_of}
+use Rattle.fwd_msgpack.specs.Scans.{Split, split_of, values_of, with_front, is_nil, Whole, Short, Bad, first_of}
 use Rattle.fwd_msgpack.specs.Scans.Split.{Open, Broken}
+use Rattle.fwd_msgpack.specs.declared.stream.Next.{Next}
+use Rattle.fwd_msgpack.specs.declared.stream.Next.TheVariants as next
+use Rattle.fwd_msgpack.specs.Values.{bytes_of}
+use Rattle.fwd_msgpack.specs.Walks.{split_by}
 use Rattle.fwd_msgpack.proofs.Rows.{by_first, told_first, split_first}
-use Rattle.fwd_modes.specs.Kinds.{is_nil}
 use Rattle.fwd_modes.specs.Acks.{ack_name}
 use Rattle.fwd_handshake.specs.declared.credentials.Login.{Login}
 use Rattle.fwd_handshake.specs.declared.verdict.HeloAnswer.{HeloAnswer}
@@ -60,6 +63,37 @@ pub stream-bad : (bytes : List ℕ) (fault : ScanFault) → first_of 65536 64 by
     → reply_stream bytes ≡ Broken [] fault
 unfolding reply_stream split_of
 stream-bad bytes fault e = told_first 65536 64 [] bytes ∙ ap (by_first 65536 64 [] bytes) e
+
+-- what bytes say, by what comes next in them
+abbrev pub said_by : Login → (salt : List ℕ) → Handshake → Option (List ℕ) → Next → Said
+said_by login salt at awaited next.Unfinished = silence at
+said_by login salt at awaited (next.Fault broken) = failing fault.BadReply at
+said_by login salt at awaited (next.Value value behind) =
+    word_then at awaited (bytes_of value) (word_of login salt at awaited (bytes_of value))
+    (λ g name. said_in login salt g name (reply_stream behind.now))
+
+pub said_next : (login : Login) (salt : List ℕ) (at : Handshake) (awaited : Option (List ℕ))
+    (bytes : List ℕ) (what : Next) → split_of 65536 64 bytes ≡ split_by 65536 64 bytes what
+    → said_in login salt at awaited (reply_stream bytes) ≡ said_by login salt at awaited what
+unfolding reply_stream
+said_next login salt at awaited bytes next.Unfinished e = ap (said_in login salt at awaited) e
+said_next login salt at awaited bytes (next.Fault broken) e = ap (said_in login salt at awaited) e
+said_next login salt at awaited bytes (next.Value value behind) e =
+    ap (said_in login salt at awaited) e ∙ said-front login salt at awaited (bytes_of value) (split_of 65536 64 behind.now)
+
+-- the bytes of the unfinished value, by what comes next
+abbrev pub rest_by : List ℕ → Next → List ℕ
+rest_by bytes next.Unfinished = bytes
+rest_by bytes (next.Fault broken) = []
+rest_by bytes (next.Value value behind) = rest_of (reply_stream behind.now)
+
+pub rest_next : (bytes : List ℕ) (what : Next)
+    → split_of 65536 64 bytes ≡ split_by 65536 64 bytes what
+    → rest_of (reply_stream bytes) ≡ rest_by bytes what
+unfolding reply_stream
+rest_next bytes next.Unfinished e = ap rest_of e
+rest_next bytes (next.Fault broken) e = ap rest_of e
+rest_next bytes (next.Value value behind) e = ap rest_of e ∙ rest_of-front (bytes_of value ∷ []) (split_of 65536 64 behind.now)
 
 -- ---- by the name that is awaited
 

@@ -2,9 +2,8 @@
 -- v1, "Handshake Messages"), and then its acknowledgements ("Response").
 use Rattle.std.specs.Prelude.{ℕ, Bool, List, [], ◌∷◌, ◌++◌, drop, length, Option, Some, None, is_some, if◌then◌else◌}
 use Rattle.std.specs.Str.{bytes_eq}
-use Rattle.fwd_msgpack.specs.Scans.{Split, split_of, values_of}
+use Rattle.fwd_msgpack.specs.Scans.{Split, split_of, values_of, is_nil}
 use Rattle.fwd_msgpack.specs.Scans.Split.{Open, Broken}
-use Rattle.fwd_modes.specs.Kinds.{is_nil}
 use Rattle.fwd_modes.specs.Acks.{ack_name}
 use Rattle.fwd_handshake.specs.declared.credentials.Login.{Login}
 use Rattle.fwd_handshake.specs.declared.verdict.HeloAnswer.{HeloAnswer}

@@ -26,17 +26,22 @@ ghost use Rattle.fwd_session.specs.Said.{
 ghost use Rattle.fwd_handshake.specs.Verdicts.{helo_answer, pong_verdict};
 ghost use Rattle.fwd_modes.specs.Acks.{ack_name};
 ghost use Rattle.fwd_session.specs.History.{is_done};
-ghost use Rattle.fwd_session.specs.Hearing.{shown, is_greeting, IsNext};
+ghost use Rattle.fwd_session.specs.Hearing.{shown, is_greeting};
 
 use crate::fault::SessionFault;
 use crate::handshake::Handshake;
-use crate::laws::said_by_front;
 use crate::word::Word;
 use fwd_base::Bytes;
 use fwd_handshake::{HeloAnswer, Login, PongVerdict, Salt, answer_helo, judge_pong};
 use fwd_modes::read_ack;
-use fwd_msgpack::{Cut, Head, Limits, Value, cut};
+use fwd_msgpack::{Limits, Next, Value, next_value};
 use std::alloc::{AllocError, Global};
+
+/// How long and how deep a reply may be.
+pub const REPLY_LIMITS: Limits = Limits {
+    bytes: 65_536,
+    depth: 64,
+};
 
 /// What was heard from a server.
 #[derive(Drop)]
@@ -50,40 +55,6 @@ pub(crate) struct Hearing<'a> {
     pub(crate) fault: Option<SessionFault>,
     /// The bytes of an unfinished value.
     pub(crate) rest: &'a [u8],
-}
-
-/// What comes next in a server's bytes.
-#[derive(Clone, Copy)]
-enum Next<'a> {
-    /// A value, and the bytes behind it.
-    Value(Value<'a>, &'a [u8]),
-    /// Less than a value.
-    Unfinished,
-    /// No value within the limits.
-    Broken,
-}
-
-/// How long and how deep a reply may be.
-fn limits() -> Limits
-    ensures bytes { result.bytes ≡ 65536 }
-    ensures depth { result.depth ≡ 64 }
-{
-    Limits {
-        bytes: 65_536,
-        depth: 64,
-    }
-}
-
-/// What comes next in the bytes.
-fn next_of(bytes: &[u8]) -> Next<'_>
-    ensures { IsNext bytes.now result }
-{
-    said_by_front();
-    match cut(bytes, limits()) {
-        Cut::Whole(value, used) => Next::Value(value, &bytes[used..]),
-        Cut::Short => Next::Unfinished,
-        Cut::Bad(_) => Next::Broken,
-    }
 }
 
 /// What a value says where HELO is awaited.
@@ -153,7 +124,7 @@ fn word_of(
     ensures sure { is_done at.now ≡ true → IsOk result }
     ensures done { is_done at.now ≡ true → IfOk result (λ word. is_greeting word ≡ false) }
 {
-    if matches!(value.head(), Head::Nil) {
+    if value.is_nil() {
         return Ok(Word::Skipped);
     }
     match at {
@@ -199,9 +170,9 @@ pub(crate) fn hear<'a>(
     let mut reply = None;
     let mut rest = bytes;
     let fault = 'values: loop {
-        match next_of(rest) {
+        match next_value(rest, REPLY_LIMITS) {
             Next::Unfinished => break None,
-            Next::Broken => break Some(SessionFault::BadReply),
+            Next::Fault(_) => break Some(SessionFault::BadReply),
             Next::Value(value, behind) => {
                 let at = reached(&handshake, before);
                 match word_of(alloc, login, salt, at, awaited, value)? {

@@ -18,6 +18,7 @@ pub use acked::Acked;
 pub use fault::{NotUp, SessionFault};
 pub use frame::frame_of;
 pub use handshake::Handshake;
+pub use hearing::REPLY_LIMITS;
 pub use laws::{
     agreed_sides_meet, faults_put_down, live_follows, pieces_are_one, said_by_front, stays_sane,
 };

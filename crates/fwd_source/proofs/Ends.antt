@@ -1,13 +1,16 @@
 -- The last of some bytes, and the last of those.
-use Rattle.std.proofs.Common.{◌≡◌, ℕ, ◌+◌, ◌-◌, ◌≤◌, List, length, drop, sym, ap, ◌∙◌, arith}
-use Rattle.std.proofs.lemmas.List.{drop-drop, length-drop}
-use Rattle.fwd_source.specs.Hearing.{IsEndOf}
+use Rattle.std.proofs.Common.{◌≡◌, ℕ, ◌+◌, ◌-◌, List, ◌++◌, length, drop, sym, ap, ◌∙◌, arith}
+use Rattle.std.proofs.lemmas.List.{drop-drop, drop_at, length-append}
+use Rattle.fwd_source.specs.declared.greeting.Greeting.{Greeting}
+use Rattle.fwd_source.specs.declared.greeting.Greeting.TheVariants as greetings
+use Rattle.fwd_source.specs.Hearing.{IsEndOf, EndsIn}
 
--- what is behind the first of them
-pub end_behind : (n : ℕ) (bytes : List ℕ) → n ≤ length bytes → IsEndOf (drop n bytes) bytes
-end_behind n bytes e =
-    let count : length bytes - length (drop n bytes) ≡ n = omega (arith, length-drop n bytes, e) in
-    (omega (arith, length-drop n bytes), ap (λ k. drop k bytes) count)
+-- what is behind others
+pub end_behind : (front end bytes : List ℕ) → bytes ≡ front ++ end → IsEndOf end bytes
+end_behind front end bytes e =
+    let size : length bytes ≡ length front + length end = ap length e ∙ length-append front end in
+    let count : length front ≡ length bytes - length end = omega (arith, size) in
+    (omega (arith, size), ap (drop (length bytes - length end)) e ∙ drop_at front end (length bytes - length end) count)
 
 -- the end of an end
 pub end_of_end : (end middle bytes : List ℕ) → IsEndOf end middle → IsEndOf middle bytes
@@ -22,3 +25,9 @@ end_of_end end middle bytes e m =
           ∙ ap (drop more) m.1
           ∙ e.1,
     )
+
+-- the end of a greeting's end
+pub greeting_ends : (greeting : Greeting) (middle bytes : List ℕ) → EndsIn middle greeting
+    → IsEndOf middle bytes → EndsIn bytes greeting
+greeting_ends (greetings.Passed pong behind) middle bytes e m = end_of_end behind.now middle bytes e m
+greeting_ends (greetings.Ended heard) middle bytes e m = end_of_end heard.rest.now middle bytes e m

@@ -4,7 +4,7 @@ use Rattle.std.proofs.Common.{◌≡◌, ℕ, suc, ◌+◌, ◌^◌, Bool, true,
 use Rattle.std.specs.Prelude.{is_some}
 use Rattle.std.proofs.lemmas.List.{append_assoc}
 use Rattle.fwd_msgpack.specs.declared.limits.Limits.{Limits}
-use Rattle.fwd_msgpack.specs.Scans.{Split, split_of, Whole, Short, Bad, first_of, with_front, continued}
+use Rattle.fwd_msgpack.specs.Scans.{Split, split_of, is_nil, Whole, Short, Bad, first_of, with_front, continued}
 use Rattle.fwd_msgpack.specs.Scans.Split.{Open, Broken}
 use Rattle.fwd_modes.specs.Requests.{Reading, request_of}
 use Rattle.fwd_modes.specs.Requests.Reading.{Heartbeat, Asks, Fails}
@@ -12,8 +12,12 @@ use Rattle.fwd_handshake.specs.declared.verdict.PingVerdict.{PingVerdict}
 use Rattle.fwd_handshake.specs.declared.verdict.PingVerdict.TheVariants as ping
 use Rattle.fwd_source.specs.declared.fault.SourceFault.{SourceFault}
 use Rattle.fwd_source.specs.declared.fault.SourceFault.TheVariants.{Scan, Closed}
-use Rattle.fwd_source.specs.Judged.{Judged, AwaitedPing, failed, resting, ahead, greeted, joined, welcomed, is_nil, asked, value_then, judge, judge_stream, judged_of}
+use Rattle.fwd_source.specs.Judged.{Judged, AwaitedPing, failed, resting, ahead, greeted, joined, welcomed, asked, value_then, judge, judge_stream, judged_of}
 use Rattle.fwd_msgpack.specs.declared.fault.ScanFault.{ScanFault}
+use Rattle.fwd_msgpack.specs.declared.stream.Next.{Next}
+use Rattle.fwd_msgpack.specs.declared.stream.Next.TheVariants as next
+use Rattle.fwd_msgpack.specs.Values.{bytes_of}
+use Rattle.fwd_msgpack.specs.Walks.{split_by}
 use Rattle.fwd_msgpack.proofs.Rows.{by_first, told_first, split_first, split_append}
 
 -- the PING that is awaited behind what was judged
@@ -340,6 +344,22 @@ pub judged_of-bad : (limits : Limits) (awaited : AwaitedPing) (n : ℕ) (bytes :
     → judged_of limits awaited n bytes ≡ failed (Scan fault)
 unfolding judged_of split_of
 judged_of-bad limits awaited n bytes fault e = ap (judge_stream limits.depth awaited n) (told_first limits.bytes limits.depth [] bytes ∙ ap (by_first limits.bytes limits.depth [] bytes) e)
+
+-- what bytes say, by what comes next in them
+abbrev pub by_next : Limits → AwaitedPing → ℕ → List ℕ → Next → Judged
+by_next limits awaited n bytes next.Unfinished = resting awaited bytes
+by_next limits awaited n bytes (next.Fault fault) = failed (Scan fault)
+by_next limits awaited n bytes (next.Value value behind) =
+    value_then limits.depth awaited n (bytes_of value) (λ g k. judged_of limits g k behind.now)
+
+pub judged_next : (limits : Limits) (awaited : AwaitedPing) (n : ℕ) (bytes : List ℕ) (what : Next)
+    → split_of limits.bytes limits.depth bytes ≡ split_by limits.bytes limits.depth bytes what
+    → judged_of limits awaited n bytes ≡ by_next limits awaited n bytes what
+unfolding judged_of
+judged_next limits awaited n bytes next.Unfinished e = ap (judge_stream limits.depth awaited n) e
+judged_next limits awaited n bytes (next.Fault fault) e = ap (judge_stream limits.depth awaited n) e
+judged_next limits awaited n bytes (next.Value value behind) e =
+    ap (judge_stream limits.depth awaited n) e ∙ stream_front limits.depth awaited n (bytes_of value) (split_of limits.bytes limits.depth behind.now)
 
 -- where no PING is awaited, none is awaited behind it
 pub judged_of-open : (limits : Limits) (n : ℕ) (a : List ℕ)

@@ -1,17 +1,13 @@
 -- What the parts of a hearing show, in the words of the definitions.
-use Rattle.std.specs.Prelude.{◌≡◌, ℕ, ◌+◌, ◌-◌, ◌<◌, ◌≤◌, false, List, [], length, drop, Option, Some, None}
+use Rattle.std.specs.Prelude.{◌≡◌, ℕ, ◌+◌, ◌-◌, ◌≤◌, false, List, [], length, drop, Option, Some, None}
 use Rattle.fwd_msgpack.specs.declared.limits.Limits.{Limits}
-use Rattle.fwd_msgpack.specs.Values.{bytes_of}
 use Rattle.fwd_modes.specs.Requests.{Request, Reading}
 use Rattle.fwd_handshake.specs.declared.verdict.PingVerdict.{PingVerdict}
 use Rattle.fwd_handshake.specs.declared.verdict.PingVerdict.TheVariants.{Pass}
 use Rattle.fwd_source.specs.declared.fault.SourceFault.{SourceFault}
-use Rattle.fwd_source.specs.declared.fault.SourceFault.TheVariants.{Scan}
-use Rattle.fwd_source.specs.Judged.{Judged, AwaitedPing, failed, resting, greeted, joined, welcomed, asked, value_then, judged_of}
+use Rattle.fwd_source.specs.Judged.{Judged, greeted, joined, welcomed, asked, judged_of}
 use Rattle.fwd_source.specs.Live.{LiveSource}
 use Rattle.fwd_source.specs.declared.hearing.Heard.{Heard}
-use Rattle.fwd_source.specs.declared.hearing.Next.{Next}
-use Rattle.fwd_source.specs.declared.hearing.Next.TheVariants as next
 use Rattle.fwd_source.specs.declared.greeting.Greeting.{Greeting}
 use Rattle.fwd_source.specs.declared.greeting.Greeting.TheVariants as greeting
 
@@ -37,21 +33,6 @@ IsEndOf end bytes = (length end ≤ length bytes) × (drop (length bytes - lengt
 abbrev pub kept_of : List ℕ → Option (List ℕ) → List ℕ
 kept_of all None = all
 kept_of all (Some apart) = apart
-
--- what comes next says what the bytes say, whatever PING is awaited and however many requests came
--- before
-abbrev pub IsNext : Limits → List ℕ → Next → Type 0
-IsNext limits bytes (next.Value value behind) =
-    (length behind.now < length bytes)
-    × IsEndOf behind.now bytes
-    × ((awaited : AwaitedPing) (n : ℕ)
-    → judged_of limits awaited n bytes
-    ≡ value_then limits.depth awaited n (bytes_of value) (λ g k.
-    judged_of limits g k behind.now))
-IsNext limits bytes next.Unfinished =
-    (awaited : AwaitedPing) (n : ℕ) → judged_of limits awaited n bytes ≡ resting awaited bytes
-IsNext limits bytes (next.Fault fault) =
-    (awaited : AwaitedPing) (n : ℕ) → judged_of limits awaited n bytes ≡ failed (Scan fault)
 
 -- what the value and all that follows say, with the requests before it
 abbrev pub TakesIn : List Request → List Request → ℕ → Reading → Option SourceFault

@@ -1,8 +1,7 @@
 -- What a connection's bytes say.
 use Rattle.std.specs.Prelude.{ℕ, ◌+◌, ◌^◌, Bool, false, List, [], ◌∷◌, ◌++◌, Option, Some, None, is_some, nat_lt, if◌then◌else◌}
-use Rattle.std.specs.Str.{bytes_eq}
 use Rattle.fwd_msgpack.specs.declared.limits.Limits.{Limits}
-use Rattle.fwd_msgpack.specs.Scans.{Split, split_of}
+use Rattle.fwd_msgpack.specs.Scans.{Split, split_of, is_nil}
 use Rattle.fwd_msgpack.specs.Scans.Split.{Open, Broken}
 use Rattle.fwd_modes.specs.Requests.{Request, Reading, request_of}
 use Rattle.fwd_modes.specs.Requests.Reading.{Heartbeat, Asks, Fails}
@@ -74,10 +73,6 @@ abbrev pub welcomed : PingVerdict → Judged → Judged
 welcomed (ping.Pass pong) others = greeted pong others
 welcomed (ping.Deny pong denial) others = greeted pong (failed Denied)
 welcomed ping.NotPing others = failed NotPing
-
--- the value is nil (MessagePack specification, "nil format")
-abbrev pub is_nil : List ℕ → Bool
-is_nil v = bytes_eq v (0xc0 ∷ [])
 
 -- a request, read, and what comes after it: a heartbeat is
 -- skipped, and no request has a number past the last

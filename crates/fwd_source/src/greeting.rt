@@ -6,10 +6,10 @@ ghost use Rattle.fwd_source.specs.Judged.{judged_of};
 ghost use Rattle.fwd_source.specs.Hearing.{shown, IsEndOf, EndsIn, Greets, Welcomes};
 
 use crate::fault::SourceFault;
-use crate::hearing::{Heard, Next, failed, hear, next_of};
+use crate::hearing::{Heard, failed, hear};
 use fwd_base::Bytes;
 use fwd_handshake::{Nonces, PingVerdict, Security, judge_ping};
-use fwd_msgpack::Limits;
+use fwd_msgpack::{Limits, Next, next_value};
 use std::alloc::{AllocError, Global};
 
 /// What became of a greeting.
@@ -68,14 +68,14 @@ fn greet<'a>(
 {
     let mut rest = bytes;
     'values: loop {
-        match next_of(rest, limits) {
+        match next_value(rest, limits) {
             Next::Unfinished => return Ok(Greeting::Ended(unfinished(alloc, rest))),
             Next::Fault(fault) => {
                 let heard = failed(alloc, Vec::new(alloc), SourceFault::Scan(fault));
                 return Ok(Greeting::Ended(heard));
             }
             Next::Value(value, behind) => {
-                if value.bytes() != b"\xc0".as_slice() {
+                if !value.is_nil() {
                     let verdict = judge_ping(alloc, value, security, nonces)?;
                     return Ok(welcome(alloc, verdict, behind));
                 }

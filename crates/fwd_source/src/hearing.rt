@@ -5,13 +5,12 @@ ghost use Rattle.std.specs.Prelude.{◌≡◌, ◌+◌, ◌<◌, ◌^◌, [], No
 ghost use Rattle.fwd_msgpack.specs.Values.{bytes_of};
 ghost use Rattle.fwd_modes.specs.Requests.{request_of};
 ghost use Rattle.fwd_source.specs.Judged.{judged_of};
-ghost use Rattle.fwd_source.specs.Hearing.{shown, IsEndOf, IsNext, TakesIn};
+ghost use Rattle.fwd_source.specs.Hearing.{shown, IsEndOf, TakesIn};
 
 use crate::fault::SourceFault;
-use crate::laws::judged_by_front;
 use fwd_base::Bytes;
 use fwd_modes::{Batch, Reading, read_request};
-use fwd_msgpack::{Cut, Limits, ScanFault, Value, cut};
+use fwd_msgpack::{Limits, Next, Value, next_value};
 use std::alloc::{AllocError, Global};
 
 /// What was heard. The bytes of an unfinished value are the last of those that were judged.
@@ -22,29 +21,6 @@ pub struct Heard<'a> {
     pub pong: Bytes,
     pub awaits: bool,
     pub fault: Option<SourceFault>,
-}
-
-/// What comes next in a stream.
-#[derive(Clone, Copy)]
-pub enum Next<'a> {
-    /// A value, and the bytes behind it.
-    Value(Value<'a>, &'a [u8]),
-    /// Less than a value.
-    Unfinished,
-    /// No value within the limits.
-    Fault(ScanFault),
-}
-
-/// What comes next in the bytes.
-pub fn next_of(bytes: &[u8], limits: Limits) -> Next<'_>
-    ensures { IsNext limits bytes.now result }
-{
-    judged_by_front();
-    match cut(bytes, limits) {
-        Cut::Whole(value, used) => Next::Value(value, &bytes[used..]),
-        Cut::Short => Next::Unfinished,
-        Cut::Bad(fault) => Next::Fault(fault),
-    }
 }
 
 /// Adds what a value asks for, or answers what is wrong with it. On an error nothing has changed.
@@ -112,7 +88,7 @@ pub fn hear(
     let mut requests = Vec::new(alloc);
     let mut rest = bytes;
     'values: loop {
-        match next_of(rest, limits) {
+        match next_value(rest, limits) {
             Next::Unfinished => {
                 return Ok(Heard {
                     requests,
