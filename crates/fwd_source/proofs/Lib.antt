@@ -1,5 +1,6 @@
 pub mod Ends
 pub mod Judging
+pub mod Asking
 pub mod Following
 pub mod Pieces
 pub mod Examples

@@ -1,15 +1,16 @@
 //! Laws, each the contract of a function that does nothing,
 //! or no more than the calls of which it speaks.
 
-ghost use Rattle.std.specs.Prelude.{◌≡◌, ◌≤◌, ℕ, List, ◌∷◌, true, false, length, take, drop};
+ghost use Rattle.std.specs.Prelude.{◌≡◌, ◌≤◌, ◌<◌, ◌+◌, ◌^◌, ℕ, List, ◌∷◌, None, true, false, length, take, drop};
 ghost use Rattle.std.specs.List.{concat};
 ghost use Rattle.fwd_msgpack.specs.declared.fault.ScanFault.{ScanFault};
 ghost use Rattle.fwd_msgpack.specs.declared.limits.Limits.{Limits as ValueLimits};
-ghost use Rattle.fwd_msgpack.specs.Scans.{Whole, Short, Bad, first_of};
+ghost use Rattle.fwd_msgpack.specs.Scans.{Whole, Short, Bad, first_of, split_of, values_of};
 ghost use Rattle.fwd_modes.specs.Requests.{Request};
 ghost use Rattle.fwd_source.specs.declared.fault.SourceFault.{SourceFault};
 ghost use Rattle.fwd_source.specs.declared.fault.SourceFault.TheVariants.{Scan};
 ghost use Rattle.fwd_source.specs.declared.piece.Piece.TheVariants.{Fault, Closed};
+ghost use Rattle.fwd_source.specs.Asked.{requests_in, leftmost_fault};
 ghost use Rattle.fwd_source.specs.Judged.{AwaitedPing, judged_of, value_then, resting, failed};
 ghost use Rattle.fwd_source.specs.History.{Setup, SourceHistory, IsSane, opened, is_closed, waiting, unsent, new_pong, hears, piece_next, piece_answer, gives, appends, drains, shuts};
 ghost use Rattle.fwd_source.specs.Live.{LiveSource, live_source, opened_source, judged_piece, source_hears, source_gives, source_appends, source_drains, source_shuts, live_piece_next, live_piece_answer, live_pieces_next};
@@ -32,6 +33,20 @@ pub fn judged_by_front()
         (fault : ScanFault)
         → first_of limits.bytes limits.depth bytes ≡ Bad fault
         → judged_of limits awaited n bytes ≡ failed (Scan fault) }
+{}
+
+/// Where no PING is awaited, a connection's requests are those of its values before the leftmost
+/// fault, in order, nil left out: a value that is no request, or what begins no value behind them
+/// all. Asked is only that no request has a number past the last.
+pub fn requests_are_values()
+    ensures requests { (limits : ValueLimits) (n : ℕ) (bytes : List ℕ)
+        → n + length (values_of (split_of limits.bytes limits.depth bytes)) < 2 ^ 64
+        → (judged_of limits None n bytes).requests
+        ≡ requests_in limits.depth (split_of limits.bytes limits.depth bytes) }
+    ensures fault { (limits : ValueLimits) (n : ℕ) (bytes : List ℕ)
+        → n + length (values_of (split_of limits.bytes limits.depth bytes)) < 2 ^ 64
+        → (judged_of limits None n bytes).fault
+        ≡ leftmost_fault limits.depth (split_of limits.bytes limits.depth bytes) }
 {}
 
 /// However the bytes are cut, the same source is left.

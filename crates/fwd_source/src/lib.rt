@@ -13,7 +13,7 @@ mod source;
 pub use fault::SourceFault;
 pub use laws::{
     answers_fit, faults_close, judged_by_front, live_source_follows, pieces_are_one,
-    source_stays_sane,
+    requests_are_values, source_stays_sane,
 };
 pub use origin::Origin;
 pub use piece::{Piece, Told};
