@@ -54,6 +54,7 @@ impl<'a> Value<'a> {
     }
 
     /// Whether the value is nil.
+    #[inline(always)]
     pub fn is_nil(self) -> bool
         ensures { result ≡ is_nil (bytes_of self.entry) }
     {

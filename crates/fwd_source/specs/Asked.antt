@@ -27,7 +27,7 @@ is_good reading = is_none (wrong_with reading)
 -- the first fault of the values, or else what is behind them
 abbrev pub first_wrong : List Reading → Option SourceFault → Option SourceFault
 first_wrong [] behind = behind
-first_wrong (reading ∷ readings) behind = option_or (wrong_with reading) (first_wrong readings behind)
+first_wrong (reading ∷ others) behind = option_or (wrong_with reading) (first_wrong others behind)
 
 -- the fault behind the values of a stream, if there is one
 abbrev pub fault_behind : Split → Option SourceFault
