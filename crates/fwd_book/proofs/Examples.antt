@@ -58,7 +58,8 @@ second_first : receipts after_two.settled (untold after_two) (origin_at 1 ∷ or
 second_first = refl
 
 -- then both have their receipts, in the order that they are asked in, each once
-both_at_last : receipts after_both.settled (untold after_both) (origin_at 2 ∷ origin_at 1 ∷ origin_at 2 ∷ origin_at 3 ∷ [])
+both_at_last : receipts after_both.settled (untold after_both)
+    (origin_at 2 ∷ origin_at 1 ∷ origin_at 2 ∷ origin_at 3 ∷ [])
     ≡ record {
       origin = origin_at 2;
       tag = 97 ∷ [];
@@ -70,13 +71,19 @@ both_at_last : receipts after_both.settled (untold after_both) (origin_at 2 ∷ 
       tag = 97 ∷ [];
       entries = entry 1 ∷ entry 2 ∷ entry 3 ∷ [];
       chunk = Some (120 ∷ []);
-      parts = record { evidence = chunk_one; from = 0; count = 2 } ∷ record { evidence = chunk_two; from = 0; count = 1 } ∷ [];
+      parts = record { evidence = chunk_one; from = 0; count = 2 } ∷ record
+          { evidence = chunk_two; from = 0; count = 1 } ∷ [];
     } ∷ []
 both_at_last = refl
 
 -- what nobody is owed any more is not kept
 two_is_needed : live_book (tells after_both (origin_at 2 ∷ []))
-    ≡ record { setting = record { run = []; output = 0 }; requests = split_one ∷ []; settled = chunk_one ∷ chunk_two ∷ [] }
+    ≡ record {
+      setting = record { run = []; output = 0 };
+      requests = split_one ∷ [];
+      settled = chunk_one
+          ∷ chunk_two ∷ [];
+    }
 unfolding live_book leaves
 two_is_needed = refl
 
@@ -86,7 +93,8 @@ unfolding live_book leaves
 none_is_needed = refl
 
 -- a forgotten request is told no more
-forgotten : receipts after_both.settled (untold (forgets after_both (origin_at 1 ∷ []))) (origin_at 1 ∷ [])
+forgotten : receipts after_both.settled (untold (forgets after_both (origin_at 1 ∷ [])))
+    (origin_at 1 ∷ [])
     ≡ []
 unfolding leaves
 forgotten = refl

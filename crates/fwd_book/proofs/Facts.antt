@@ -56,10 +56,12 @@ is_not false e = refl
 is_not true e = absurd (apart e)
 
 -- what `==` says of runs
-pub span-Decides : (a b : Span) → Decides (nat_eq a.number b.number && (nat_eq a.from b.from && nat_eq a.count b.count)) (a ≡ b)
+pub span-Decides : (a b : Span)
+    → Decides (nat_eq a.number b.number && (nat_eq a.from b.from && nat_eq a.count b.count)) (a ≡ b)
 span-Decides a b = (λ all. alike all, λ same. sym (λ i. nat_eq a.number (same i).number && (nat_eq a.from (same i).from && nat_eq a.count (same i).count)) ∙ own)
   where
-    alike : (nat_eq a.number b.number && (nat_eq a.from b.from && nat_eq a.count b.count)) ≡ true → a ≡ b
+    alike : (nat_eq a.number b.number && (nat_eq a.from b.from && nat_eq a.count b.count)) ≡ true
+        → a ≡ b
     alike all =
         let rest = both_right (nat_eq a.number b.number) (nat_eq a.from b.from && nat_eq a.count b.count) all in
         let number : a.number ≡ b.number = eqb-true a.number b.number (both_left (nat_eq a.number b.number) (nat_eq a.from b.from && nat_eq a.count b.count) all) in

@@ -24,7 +24,8 @@ pub any-last : {X : Type 0} (p : X → Bool) (xs : List X) (x : X)
 any-last p [] x = or-false (p x)
 any-last p (y ∷ xs) x = by (p y) (any-last p xs x)
   where
-    by : (a : Bool) → list_any p (xs ++ x ∷ []) ≡ (list_any p xs || p x) → (a || list_any p (xs ++ x ∷ [])) ≡ ((a || list_any p xs) || p x)
+    by : (a : Bool) → list_any p (xs ++ x ∷ []) ≡ (list_any p xs || p x)
+        → (a || list_any p (xs ++ x ∷ [])) ≡ ((a || list_any p xs) || p x)
     by false e = e
     by true e = refl
 
@@ -33,7 +34,8 @@ pub any-filter : {X : Type 0} (p r : X → Bool) (xs : List X) → list_any r (f
 any-filter p r [] e = e
 any-filter p r (x ∷ xs) e = by (p x) (r x) refl (any-filter p r xs) e
   where
-    by : (a b : Bool) → r x ≡ b → (list_any r (filter p xs) ≡ true → list_any r xs ≡ true) → list_any r (cond a (x ∷ filter p xs) (filter p xs)) ≡ true → (b || list_any r xs) ≡ true
+    by : (a b : Bool) → r x ≡ b → (list_any r (filter p xs) ≡ true → list_any r xs ≡ true)
+        → list_any r (cond a (x ∷ filter p xs) (filter p xs)) ≡ true → (b || list_any r xs) ≡ true
     by a true f more e = refl
     by false false f more e = more e
     by true false f more e = more (sym (ap (λ k. k || list_any r (filter p xs)) f) ∙ e)
@@ -45,7 +47,9 @@ untold-enters b q =
     ap (map (λ a. a.request)) (filter-append (λ a. is_untold a.fate) b.admissions (record { request = q; fate = Untold } ∷ []))
     ∙ last (filter (λ a. is_untold a.fate) b.admissions)
   where
-    last : (xs : List Admission) → map (λ a. a.request) (xs ++ record { request = q; fate = Untold } ∷ []) ≡ map (λ a. a.request) xs ++ q ∷ []
+    last : (xs : List Admission)
+        → map (λ a. a.request) (xs ++ record { request = q; fate = Untold } ∷ []) ≡ map
+        (λ a. a.request) xs ++ q ∷ []
     last [] = refl
     last (a ∷ xs) = ap (λ qs. a.request ∷ qs) (last xs)
 
@@ -57,7 +61,9 @@ none-found [] settled fresh = refl
 none-found (s ∷ spans) settled fresh =
     ap (λ o. option_to_list o ++ found_under (evidence_of settled) spans) (first settled fresh) ∙ none-found spans settled (others settled fresh)
   where
-    first : (es : List Evidence) → list_any (λ e. list_any (λ t. t.number == e.number) (s ∷ spans)) es ≡ false → evidence_of es s.number ≡ None
+    first : (es : List Evidence)
+        → list_any (λ e. list_any (λ t. t.number == e.number) (s ∷ spans)) es ≡ false
+        → evidence_of es s.number ≡ None
     first [] none = refl
     first (e ∷ es) none =
         let here = neither_left (list_any (λ t. t.number == e.number) (s ∷ spans)) (list_any (λ d. list_any (λ t. t.number == d.number) (s ∷ spans)) es) none in
@@ -65,7 +71,9 @@ none-found (s ∷ spans) settled fresh =
         ap (λ k. cond k (Some e) (evidence_of es s.number)) (turned e.number s.number not_s)
         ∙ first es (neither_right (list_any (λ t. t.number == e.number) (s ∷ spans)) (list_any (λ d. list_any (λ t. t.number == d.number) (s ∷ spans)) es) none)
 
-    others : (es : List Evidence) → list_any (λ e. list_any (λ t. t.number == e.number) (s ∷ spans)) es ≡ false → list_any (λ e. list_any (λ t. t.number == e.number) spans) es ≡ false
+    others : (es : List Evidence)
+        → list_any (λ e. list_any (λ t. t.number == e.number) (s ∷ spans)) es ≡ false
+        → list_any (λ e. list_any (λ t. t.number == e.number) spans) es ≡ false
     others [] none = refl
     others (e ∷ es) none =
         let here = neither_left (list_any (λ t. t.number == e.number) (s ∷ spans)) (list_any (λ d. list_any (λ t. t.number == d.number) (s ∷ spans)) es) none in
@@ -135,7 +143,8 @@ untold-leaves fate b test gone left same = each b.admissions
     new a = becomes fate (is_untold a.fate && gone a) a
 
     two : (u m : Bool) (a : Admission) → is_untold a.fate ≡ u → (qs rs : List Entered) → qs ≡ rs
-        → cond (is_untold (becomes fate (u && m) a).fate) ((becomes fate (u && m) a).request ∷ qs) qs ≡ cond (u && not m) (a.request ∷ rs) rs
+        → cond (is_untold (becomes fate (u && m) a).fate)
+        ((becomes fate (u && m) a).request ∷ qs) qs ≡ cond (u && not m) (a.request ∷ rs) rs
     two true true a is_u qs rs more = ap (λ k. cond k (a.request ∷ qs) qs) left ∙ more
     two true false a is_u qs rs more = ap (λ k. cond k (a.request ∷ qs) qs) is_u ∙ ap (λ xs. a.request ∷ xs) more
     two false m a is_u qs rs more = ap (λ k. cond k (a.request ∷ qs) qs) is_u ∙ more
@@ -152,7 +161,8 @@ untold-leaves fate b test gone left same = each b.admissions
         ∙ sym (ap (filter stays) (push_map (λ x. x.request) (is_untold a.fate) a (filter (λ x. is_untold x.fate) xs)) ∙ push_filter stays (is_untold a.fate) a.request (map (λ x. x.request) (filter (λ x. is_untold x.fate) xs)))
 
 -- what leaves takes nothing from what is found for the others
-pub left-found : (f : ℕ → Option Evidence) (qs : List Entered) (stays : Entered → Bool) → IsNumbered f
+pub left-found : (f : ℕ → Option Evidence) (qs : List Entered) (stays : Entered → Bool)
+    → IsNumbered f
     → found_for f (filter stays qs) ≡ evidence_for (filter stays qs) (found_for f qs)
 left-found f qs stays numbers =
     for-alike f (evidence_of (found_for f qs)) (filter stays qs) (λ n used. sym (for-found f qs n numbers (any-filter stays (has_run n) qs used)))
@@ -219,7 +229,8 @@ tells-parted b origins can = each b.admissions can
         → is_settled b.settled a.request ≡ true)
         → filter (λ q. not (is_among origins q.origin && is_settled b.settled q))
         (map (λ a. a.request) (filter (λ a. is_untold a.fate) as'))
-        ≡ filter (λ q. not (is_among origins q.origin)) (map (λ a. a.request) (filter (λ a. is_untold a.fate) as'))
+        ≡ filter (λ q. not (is_among origins q.origin))
+        (map (λ a. a.request) (filter (λ a. is_untold a.fate) as'))
     each [] all = refl
     each (a ∷ as') all =
         let rest : List Entered = map (λ x. x.request) (filter (λ x. is_untold x.fate) as') in
@@ -242,11 +253,15 @@ pub follows-owed : (b : BookHistory) (origins : List Origin)
 unfolding live_book
 follows-owed b origins = each b.admissions
   where
-    counts : {X Y : Type 0} (k : Bool) (x : X) (y : Y) (xs : List X) (ys : List Y) → length xs ≡ length ys → length (cond k (x ∷ xs) xs) ≡ length (cond k (y ∷ ys) ys)
+    counts : {X Y : Type 0} (k : Bool) (x : X) (y : Y) (xs : List X) (ys : List Y)
+        → length xs ≡ length ys → length (cond k (x ∷ xs) xs) ≡ length (cond k (y ∷ ys) ys)
     counts true x y xs ys e = ap suc e
     counts false x y xs ys e = e
 
-    each : (xs : List Admission) → length (filter (is_owed origins) xs) ≡ length (filter (λ q. is_among origins q.origin) (map (λ a. a.request) (filter (λ a. is_untold a.fate) xs)))
+    each : (xs : List Admission)
+        → length (filter (is_owed origins) xs) ≡ length
+        (filter (λ q. is_among origins q.origin)
+        (map (λ a. a.request) (filter (λ a. is_untold a.fate) xs)))
     each [] = refl
     each (a ∷ xs) =
         let rest = map (λ (a : Admission). a.request) (filter (λ a. is_untold a.fate) xs) in
@@ -261,7 +276,8 @@ any-found : {X : Type 0} (p r : X → Bool) (xs : List X) (x : X) → find p xs 
 any-found p r [] x found is = absurd cc
 any-found p r (y ∷ xs) x found is = by (p y) (r y) refl found (any-found p r xs x)
   where
-    by : (a c : Bool) → r y ≡ c → cond a (Some y) (find p xs) ≡ Some x → (find p xs ≡ Some x → r x ≡ true → list_any r xs ≡ true) → (c || list_any r xs) ≡ true
+    by : (a c : Bool) → r y ≡ c → cond a (Some y) (find p xs) ≡ Some x
+        → (find p xs ≡ Some x → r x ≡ true → list_any r xs ≡ true) → (c || list_any r xs) ≡ true
     by a true f e more = refl
     by true false f e more = let same : y ≡ x = cc in absurd (apart (sym f ∙ ap r same ∙ is))
     by false false f e more = more e is
@@ -269,7 +285,9 @@ any-found p r (y ∷ xs) x found is = by (p y) (r y) refl found (any-found p r x
 -- where what was acknowledged under the runs' numbers is alike, so are the parts
 parts-alike : (xs ys : List Evidence) (spans : List Span)
     → ((n : ℕ) → list_any (λ s. s.number == n) spans ≡ true → evidence_of xs n ≡ evidence_of ys n)
-    → (parts_of xs spans ≡ parts_of ys spans) × (list_all (λ s. is_some (evidence_of xs s.number)) spans ≡ list_all (λ s. is_some (evidence_of ys s.number)) spans)
+    → (parts_of xs spans ≡ parts_of ys spans) ×
+    (list_all (λ s. is_some (evidence_of xs s.number)) spans
+    ≡ list_all (λ s. is_some (evidence_of ys s.number)) spans)
 parts-alike xs ys [] same = (refl, refl)
 parts-alike xs ys (s ∷ spans) same =
     let here = same s.number (true-or (s.number == s.number) (list_any (λ t. t.number == s.number) spans) (eq-eqb s.number s.number refl)) in
@@ -290,14 +308,16 @@ follows-receipts b origins = λ i. flat_map (λ origin. one origin i) (once orig
     kept : List Evidence
     kept = evidence_for qs b.settled
 
-    by : (origin : Origin) (o : Option Entered) → request_at qs origin ≡ o → receipt_if b.settled o ≡ receipt_if kept o
+    by : (origin : Origin) (o : Option Entered) → request_at qs origin ≡ o
+        → receipt_if b.settled o ≡ receipt_if kept o
     by origin None found = refl
     by origin (Some q) found =
         let alike = parts-alike b.settled kept q.spans (λ n some.
         sym (for-found (evidence_of b.settled) qs n (numbered b.settled) (any-found (λ r. is_origin origin r.origin) (has_run n) qs q found some))) in
         λ i. cond (alike.1 i) (record { origin = q.origin; tag = q.tag; entries = q.entries; chunk = q.chunk; parts = alike.0 i } ∷ []) []
 
-    one : (origin : Origin) → receipt_if b.settled (request_at qs origin) ≡ receipt_if kept (request_at qs origin)
+    one : (origin : Origin)
+        → receipt_if b.settled (request_at qs origin) ≡ receipt_if kept (request_at qs origin)
     one origin = by origin (request_at qs origin) refl
 
 -- ---- a connection's requests

@@ -19,7 +19,8 @@ pub numbered : (settled : List Evidence) → IsNumbered (evidence_of settled)
 numbered [] n e found = absurd (none_some found)
 numbered (d ∷ settled) n e found = by (d.number == n) refl found (numbered settled n e)
   where
-    by : (a : Bool) → (d.number == n) ≡ a → cond a (Some d) (evidence_of settled n) ≡ Some e → (evidence_of settled n ≡ Some e → e.number ≡ n) → e.number ≡ n
+    by : (a : Bool) → (d.number == n) ≡ a → cond a (Some d) (evidence_of settled n) ≡ Some e
+        → (evidence_of settled n ≡ Some e → e.number ≡ n) → e.number ≡ n
     by true same f more = sym (ap (λ (x : Evidence). x.number) (some_is f)) ∙ eqb-true d.number n same
     by false same f more = more f
 
@@ -58,7 +59,8 @@ under-none f (s ∷ spans) n numbers none =
     other : (e : Evidence) → f s.number ≡ Some e → (e.number == n) ≡ false
     other e found = ap (λ k. k == n) (numbers s.number e found) ∙ neither_left (s.number == n) (list_any (λ t. t.number == n) spans) none
 
-    first : (o : Option Evidence) → f s.number ≡ o → find (λ e. e.number == n) (option_to_list o) ≡ None
+    first : (o : Option Evidence) → f s.number ≡ o
+        → find (λ e. e.number == n) (option_to_list o) ≡ None
     first None found = refl
     first (Some e) found = ap (λ k. cond k (Some e) None) (other e found)
 
@@ -91,7 +93,8 @@ under-found f (s ∷ spans) n numbers some =
     rest : Option Evidence
     rest = evidence_of (found_under f spans) n
 
-    both : (a : Bool) → list_any (λ t. t.number == n) spans ≡ a → (list_any (λ t. t.number == n) spans ≡ true → rest ≡ f n) → (rest ≡ f n) ⊎ (rest ≡ None)
+    both : (a : Bool) → list_any (λ t. t.number == n) spans ≡ a
+        → (list_any (λ t. t.number == n) spans ≡ true → rest ≡ f n) → (rest ≡ f n) ⊎ (rest ≡ None)
     both true there more = inl (more there)
     both false there more = inr (under-none f spans n numbers there)
 
@@ -102,11 +105,13 @@ under-found f (s ∷ spans) n numbers some =
     other : (e : Evidence) → f s.number ≡ Some e → (s.number == n) ≡ false → (e.number == n) ≡ false
     other e found not_n = ap (λ k. k == n) (numbers s.number e found) ∙ not_n
 
-    first : (o : Option Evidence) → f s.number ≡ o → (s.number == n) ≡ false → find (λ e. e.number == n) (option_to_list o) ≡ None
+    first : (o : Option Evidence) → f s.number ≡ o → (s.number == n) ≡ false
+        → find (λ e. e.number == n) (option_to_list o) ≡ None
     first None found not_n = refl
     first (Some e) found not_n = ap (λ k. cond k (Some e) None) (other e found not_n)
 
-    by : (a b : Bool) → (s.number == n) ≡ a → list_any (λ t. t.number == n) spans ≡ b → (a || b) ≡ true
+    by : (a b : Bool) → (s.number == n) ≡ a → list_any (λ t. t.number == n) spans ≡ b
+        → (a || b) ≡ true
         → (list_any (λ t. t.number == n) spans ≡ true → rest ≡ f n)
         → option_or (evidence_of (option_to_list (f s.number)) n) rest ≡ f n
     by true b same there is more =
@@ -135,7 +140,8 @@ for-found f (q ∷ qs) n numbers some =
     rest : Option Evidence
     rest = evidence_of (found_for f qs) n
 
-    join : (b : Bool) → list_any (has_run n) qs ≡ b → (list_any (has_run n) qs ≡ true → rest ≡ f n) → option_or (f n) rest ≡ f n
+    join : (b : Bool) → list_any (has_run n) qs ≡ b → (list_any (has_run n) qs ≡ true → rest ≡ f n)
+        → option_or (f n) rest ≡ f n
     join true there more = ap (option_or (f n)) (more there) ∙ or_same (f n)
     join false there more = ap (option_or (f n)) (for-none f qs n numbers there) ∙ or_none (f n)
 
@@ -160,7 +166,8 @@ in_both [] ys i x e = inr (i, e)
 in_both (y ∷ xs) ys zero x e = inl (0, e)
 in_both (y ∷ xs) ys (suc i) x e = by (in_both xs ys i x e)
   where
-    by : ((j : ℕ) × (slice_get xs j ≡ Some x)) ⊎ ((j : ℕ) × (slice_get ys j ≡ Some x)) → ((j : ℕ) × (slice_get (y ∷ xs) j ≡ Some x)) ⊎ ((j : ℕ) × (slice_get ys j ≡ Some x))
+    by : ((j : ℕ) × (slice_get xs j ≡ Some x)) ⊎ ((j : ℕ) × (slice_get ys j ≡ Some x))
+        → ((j : ℕ) × (slice_get (y ∷ xs) j ≡ Some x)) ⊎ ((j : ℕ) × (slice_get ys j ≡ Some x))
     by (inl at) = inl (suc at.0, at.1)
     by (inr at) = inr at
 
@@ -174,13 +181,16 @@ comes_under : (f : ℕ → Option Evidence) (spans : List Span) (i : ℕ) (e : E
 comes_under f [] i e here = absurd (none_some here)
 comes_under f (s ∷ spans) i e here = by (in_both (option_to_list (f s.number)) (found_under f spans) i e here) (comes_under f spans)
   where
-    one : (o : Option Evidence) (j : ℕ) → f s.number ≡ o → slice_get (option_to_list o) j ≡ Some e → f s.number ≡ Some e
+    one : (o : Option Evidence) (j : ℕ) → f s.number ≡ o → slice_get (option_to_list o) j ≡ Some e
+        → f s.number ≡ Some e
     one None j found at = absurd (none_some at)
     one (Some d) zero found at = found ∙ at
     one (Some d) (suc j) found at = absurd (none_some at)
 
-    by : ((j : ℕ) × (slice_get (option_to_list (f s.number)) j ≡ Some e)) ⊎ ((j : ℕ) × (slice_get (found_under f spans) j ≡ Some e))
-        → ((j : ℕ) (d : Evidence) → slice_get (found_under f spans) j ≡ Some d → Under f spans d) → Under f (s ∷ spans) e
+    by : ((j : ℕ) × (slice_get (option_to_list (f s.number)) j ≡ Some e)) ⊎
+        ((j : ℕ) × (slice_get (found_under f spans) j ≡ Some e))
+        → ((j : ℕ) (d : Evidence) → slice_get (found_under f spans) j ≡ Some d → Under f spans d)
+        → Under f (s ∷ spans) e
     by (inl at) more = record {
       number = s.number;
       used = true-or (s.number == s.number) (list_any (λ t. t.number == s.number) spans) (eq-eqb s.number s.number refl);
@@ -197,8 +207,10 @@ pub comes : (f : ℕ → Option Evidence) (qs : List Entered) (i : ℕ) (e : Evi
 comes f [] i e here = absurd (none_some here)
 comes f (q ∷ qs) i e here = by (in_both (found_under f q.spans) (found_for f qs) i e here) (comes f qs)
   where
-    by : ((j : ℕ) × (slice_get (found_under f q.spans) j ≡ Some e)) ⊎ ((j : ℕ) × (slice_get (found_for f qs) j ≡ Some e))
-        → ((j : ℕ) (d : Evidence) → slice_get (found_for f qs) j ≡ Some d → Comes f qs d) → Comes f (q ∷ qs) e
+    by : ((j : ℕ) × (slice_get (found_under f q.spans) j ≡ Some e)) ⊎
+        ((j : ℕ) × (slice_get (found_for f qs) j ≡ Some e))
+        → ((j : ℕ) (d : Evidence) → slice_get (found_for f qs) j ≡ Some d → Comes f qs d)
+        → Comes f (q ∷ qs) e
     by (inl at) more = let u = comes_under f q.spans at.0 e at.1 in record {
       number = u.number;
       used = true-or (has_run u.number q) (list_any (has_run u.number) qs) u.used;
@@ -216,6 +228,8 @@ pub found_there : (settled : List Evidence) (n : ℕ) (e : Evidence) → evidenc
 found_there [] n e found = absurd (none_some found)
 found_there (d ∷ settled) n e found = by (d.number == n) found (found_there settled n e)
   where
-    by : (a : Bool) → cond a (Some d) (evidence_of settled n) ≡ Some e → (evidence_of settled n ≡ Some e → (i : ℕ) × (slice_get settled i ≡ Some e)) → (i : ℕ) × (slice_get (d ∷ settled) i ≡ Some e)
+    by : (a : Bool) → cond a (Some d) (evidence_of settled n) ≡ Some e
+        → (evidence_of settled n ≡ Some e → (i : ℕ) × (slice_get settled i ≡ Some e))
+        → (i : ℕ) × (slice_get (d ∷ settled) i ≡ Some e)
     by true f more = (0, f)
     by false f more = let at = more f in (suc at.0, at.1)

@@ -24,26 +24,33 @@ use Rattle.fwd_book.proofs.Following.{any-last, left-found, none-found, enters-f
 
 -- ---- counts
 
-some-many : {X : Type 0} (p : X → Bool) (xs : List X) → list_any p xs ≡ true → 0 < length (filter p xs)
+some-many : {X : Type 0} (p : X → Bool) (xs : List X) → list_any p xs ≡ true
+    → 0 < length (filter p xs)
 some-many p [] some = absurd (apart some)
 some-many p (x ∷ xs) some = by (p x) some (some-many p xs)
   where
-    by : (a : Bool) → (a || list_any p xs) ≡ true → (list_any p xs ≡ true → 0 < length (filter p xs)) → 0 < length (cond a (x ∷ filter p xs) (filter p xs))
+    by : (a : Bool) → (a || list_any p xs) ≡ true
+        → (list_any p xs ≡ true → 0 < length (filter p xs))
+        → 0 < length (cond a (x ∷ filter p xs) (filter p xs))
     by true e more = omega arith
     by false e more = more e
 
-none-nought : {X : Type 0} (p : X → Bool) (xs : List X) → list_any p xs ≡ false → length (filter p xs) ≡ 0
+none-nought : {X : Type 0} (p : X → Bool) (xs : List X) → list_any p xs ≡ false
+    → length (filter p xs) ≡ 0
 none-nought p [] none = refl
 none-nought p (x ∷ xs) none = by (p x) none (none-nought p xs)
   where
-    by : (a : Bool) → (a || list_any p xs) ≡ false → (list_any p xs ≡ false → length (filter p xs) ≡ 0) → length (cond a (x ∷ filter p xs) (filter p xs)) ≡ 0
+    by : (a : Bool) → (a || list_any p xs) ≡ false
+        → (list_any p xs ≡ false → length (filter p xs) ≡ 0)
+        → length (cond a (x ∷ filter p xs) (filter p xs)) ≡ 0
     by true e more = absurd (apart (sym e))
     by false e more = more e
 
 -- ---- room
 
 -- no more runs than entries
-pub cut-few : (spans : List Span) (own : List (List ℕ)) → AreCutBy spans own → length spans ≤ length own
+pub cut-few : (spans : List Span) (own : List (List ℕ)) → AreCutBy spans own
+    → length spans ≤ length own
 cut-few [] own cut = omega arith
 cut-few (s ∷ spans) own cut =
     let some = cut.0 in
@@ -56,7 +63,8 @@ pub filter-few : {X : Type 0} (p : X → Bool) (xs : List X) → length (filter 
 filter-few p [] = omega arith
 filter-few p (x ∷ xs) = by (p x) (filter-few p xs)
   where
-    by : (a : Bool) → length (filter p xs) ≤ length xs → length (cond a (x ∷ filter p xs) (filter p xs)) ≤ length (x ∷ xs)
+    by : (a : Bool) → length (filter p xs) ≤ length xs
+        → length (cond a (x ∷ filter p xs) (filter p xs)) ≤ length (x ∷ xs)
     by true more = omega (arith, more)
     by false more = omega (arith, more)
 
@@ -72,19 +80,22 @@ module _ (notes : List (ℕ × Note)) (qs : List Entered) (of : AreOf notes qs) 
   pub shown-found : (n : ℕ) → evidence_of (found_for (found_at notes) qs) n ≡ found_at notes n
   shown-found n = by (list_any (has_run n) qs) refl
     where
-      unused : (o : Option Note) → note_at n notes ≡ o → list_any (has_run n) qs ≡ false → found_in o ≡ None
+      unused : (o : Option Note) → note_at n notes ≡ o → list_any (has_run n) qs ≡ false
+          → found_in o ≡ None
       unused None is none = refl
       unused (Some note) is none =
           let uses : note.uses ≡ 0 = ap uses_in (sym is) ∙ of.uses n ∙ none-nought (has_run n) qs none in
           let used : 0 < note.uses = of.used n note is in
           absurd (omega (arith, uses, used))
 
-      by : (a : Bool) → list_any (has_run n) qs ≡ a → evidence_of (found_for (found_at notes) qs) n ≡ found_at notes n
+      by : (a : Bool) → list_any (has_run n) qs ≡ a
+          → evidence_of (found_for (found_at notes) qs) n ≡ found_at notes n
       by true some = for-found (found_at notes) qs n of.numbers some
       by false none = for-none (found_at notes) qs n of.numbers none ∙ sym (unused (note_at n notes) refl none)
 
   -- a number that some request has is noted
-  pub used-noted : (n : ℕ) → list_any (has_run n) qs ≡ true → (note : Note) × (note_at n notes ≡ Some note)
+  pub used-noted : (n : ℕ) → list_any (has_run n) qs ≡ true
+      → (note : Note) × (note_at n notes ≡ Some note)
   used-noted n some = by (note_at n notes) refl
     where
       by : (o : Option Note) → note_at n notes ≡ o → (note : Note) × (note_at n notes ≡ Some note)
@@ -102,15 +113,18 @@ module _ (notes new : List (ℕ × Note)) (qs : List Entered) (e : Evidence) (of
   put-uses None = refl
   put-uses (Some note) = refl
 
-  put-used : (o : Option Note) (note : Note) → put_in e o ≡ Some note → (m : Note) × (o ≡ Some m) × (note.uses ≡ m.uses)
+  put-used : (o : Option Note) (note : Note) → put_in e o ≡ Some note
+      → (m : Note) × (o ≡ Some m) × (note.uses ≡ m.uses)
   put-used None note is = absurd (none_some is)
   put-used (Some m) note is = (m, refl, ap (λ (k : Note). k.uses) (sym (some_is is)))
 
-  put-found : (o : Option Note) (d : Evidence) → found_in (put_in e o) ≡ Some d → (found_in o ≡ Some d → d.number ≡ e.number) → d.number ≡ e.number
+  put-found : (o : Option Note) (d : Evidence) → found_in (put_in e o) ≡ Some d
+      → (found_in o ≡ Some d → d.number ≡ e.number) → d.number ≡ e.number
   put-found None d is more = absurd (none_some is)
   put-found (Some m) d is more = by m.found is more
     where
-      by : (o : Option Evidence) → (if is_some o then o else Some e) ≡ Some d → (o ≡ Some d → d.number ≡ e.number) → d.number ≡ e.number
+      by : (o : Option Evidence) → (if is_some o then o else Some e) ≡ Some d
+          → (o ≡ Some d → d.number ≡ e.number) → d.number ≡ e.number
       by None f g = ap (λ (x : Evidence). x.number) (sym (some_is f))
       by (Some x) f g = g f
 
@@ -128,19 +142,25 @@ module _ (notes new : List (ℕ × Note)) (qs : List Entered) (e : Evidence) (of
       uses n false same =
           ap uses_in (put n ∙ ap (λ a. cond a (put_in e (note_at e.number notes)) (note_at n notes)) same) ∙ of.uses n
 
-      used : (n : ℕ) (note : Note) (a : Bool) → (e.number == n) ≡ a → cond (e.number == n) (put_in e (note_at e.number notes)) (note_at n notes) ≡ Some note → 0 < note.uses
+      used : (n : ℕ) (note : Note) (a : Bool) → (e.number == n) ≡ a
+          → cond (e.number == n) (put_in e (note_at e.number notes)) (note_at n notes) ≡ Some note
+          → 0 < note.uses
       used n note true same is =
           let was = put-used (note_at e.number notes) note (sym (ap (λ a. cond a (put_in e (note_at e.number notes)) (note_at n notes)) same) ∙ is) in
           subst (λ k. 0 < k) (sym was.2) (of.used e.number was.0 was.1)
       used n note false same is = of.used n note (sym (ap (λ a. cond a (put_in e (note_at e.number notes)) (note_at n notes)) same) ∙ is)
 
-      numbers : (n : ℕ) (d : Evidence) (a : Bool) → (e.number == n) ≡ a → found_in (cond (e.number == n) (put_in e (note_at e.number notes)) (note_at n notes)) ≡ Some d → d.number ≡ n
+      numbers : (n : ℕ) (d : Evidence) (a : Bool) → (e.number == n) ≡ a
+          → found_in
+          (cond (e.number == n) (put_in e (note_at e.number notes)) (note_at n notes)) ≡ Some d
+          → d.number ≡ n
       numbers n d true same is =
           put-found (note_at e.number notes) d (sym (ap (λ a. found_in (cond a (put_in e (note_at e.number notes)) (note_at n notes))) same) ∙ is) (of.numbers e.number d)
           ∙ eqb-true e.number n same
       numbers n d false same is = of.numbers n d (sym (ap (λ a. found_in (cond a (put_in e (note_at e.number notes)) (note_at n notes))) same) ∙ is)
 
-  pub put-shown : found_for (found_at new) qs ≡ evidence_for qs (found_for (found_at notes) qs ++ e ∷ [])
+  pub put-shown : found_for (found_at new) qs ≡ evidence_for qs
+      (found_for (found_at notes) qs ++ e ∷ [])
   put-shown = for-alike (found_at new) (evidence_of (found_for (found_at notes) qs ++ e ∷ [])) qs (λ n some. alike n some ∙ sym (kept-then (found_at notes) qs e n of.numbers some))
     where
       first : (note : Note) → found_in (put_in e (Some note)) ≡ option_or note.found (Some e)
@@ -154,10 +174,12 @@ module _ (notes new : List (ℕ × Note)) (qs : List Entered) (e : Evidence) (of
       or_none None = refl
       or_none (Some x) = refl
 
-      alike : (n : ℕ) → list_any (has_run n) qs ≡ true → found_at new n ≡ option_or (found_at notes n) (cond (e.number == n) (Some e) None)
+      alike : (n : ℕ) → list_any (has_run n) qs ≡ true
+          → found_at new n ≡ option_or (found_at notes n) (cond (e.number == n) (Some e) None)
       alike n some = by (e.number == n) refl (used-noted notes qs of n some)
         where
-          by : (a : Bool) → (e.number == n) ≡ a → (note : Note) × (note_at n notes ≡ Some note) → found_at new n ≡ option_or (found_at notes n) (cond (e.number == n) (Some e) None)
+          by : (a : Bool) → (e.number == n) ≡ a → (note : Note) × (note_at n notes ≡ Some note)
+              → found_at new n ≡ option_or (found_at notes n) (cond (e.number == n) (Some e) None)
           by true same (note, is) =
               ap found_in (put n ∙ ap (λ a. cond a (put_in e (note_at e.number notes)) (note_at n notes)) same ∙ ap (λ k. put_in e (note_at k notes)) (eqb-true e.number n same) ∙ ap (put_in e) is)
               ∙ first note
@@ -183,7 +205,9 @@ module _ (notes new : List (ℕ × Note)) (qs : List Entered) (q : Entered) (of 
   more-found : (n : ℕ) → found_at new n ≡ found_at notes n
   more-found n = ap found_in (more n) ∙ by (list_any (λ s. s.number == n) q.spans)
     where
-      by : (a : Bool) → found_in (cond a (Some (used_more (note_at n notes))) (note_at n notes)) ≡ found_in (note_at n notes)
+      by : (a : Bool)
+          → found_in (cond a (Some (used_more (note_at n notes))) (note_at n notes)) ≡ found_in
+          (note_at n notes)
       by true = found-more (note_at n notes)
       by false = refl
 
@@ -201,14 +225,18 @@ module _ (notes new : List (ℕ × Note)) (qs : List Entered) (q : Entered) (of 
     numbers = λ n d is. of.numbers n d (sym (more-found n) ∙ is);
   }
     where
-      uses : (n : ℕ) (a : Bool) → uses_in (cond a (Some (used_more (note_at n notes))) (note_at n notes)) ≡ uses_of n qs + (if a then 1 else 0)
+      uses : (n : ℕ) (a : Bool)
+          → uses_in (cond a (Some (used_more (note_at n notes))) (note_at n notes)) ≡ uses_of n qs +
+          (if a then 1 else 0)
       uses n true = more-uses (note_at n notes) ∙ ap (λ k. k + 1) (of.uses n)
       uses n false = of.uses n ∙ omega arith
 
       positive : (o : Option Note) (note : Note) → Some (used_more o) ≡ Some note → 0 < note.uses
       positive o note is = let many : note.uses ≡ uses_in o + 1 = ap uses_in (sym is) ∙ more-uses o in omega (arith, many)
 
-      used : (n : ℕ) (note : Note) (a : Bool) → cond a (Some (used_more (note_at n notes))) (note_at n notes) ≡ Some note → 0 < note.uses
+      used : (n : ℕ) (note : Note) (a : Bool)
+          → cond a (Some (used_more (note_at n notes))) (note_at n notes) ≡ Some note
+          → 0 < note.uses
       used n note true is = positive (note_at n notes) note is
       used n note false is = of.used n note is
 
@@ -235,20 +263,25 @@ alone-there qs o p same none = any_none (λ r. is_origin o r.origin) qs (find-as
 
 module _ (n : ℕ) (o : Origin) (q : Entered) where
   pub uses-left : (qs : List Entered) → AreApart qs → request_at qs o ≡ Some q
-      → uses_of n qs ≡ uses_of n (filter (λ r. not (is_origin o r.origin)) qs) + (if has_run n q then 1 else 0)
+      → uses_of n qs ≡ uses_of n (filter (λ r. not (is_origin o r.origin)) qs) +
+      (if has_run n q then 1 else 0)
   uses-left [] alone there = absurd (none_some there)
   uses-left (r ∷ qs) alone there = by (is_origin o r.origin) refl there (uses-left qs alone.1)
     where
       left : List Entered
       left = filter (λ x. not (is_origin o x.origin)) qs
 
-      front : (a : Bool) (xs : List Entered) → length (cond a (r ∷ xs) xs) ≡ length xs + (if a then 1 else 0)
+      front : (a : Bool) (xs : List Entered)
+          → length (cond a (r ∷ xs) xs) ≡ length xs + (if a then 1 else 0)
       front true xs = omega arith
       front false xs = omega arith
 
       by : (a : Bool) → is_origin o r.origin ≡ a → cond a (Some r) (request_at qs o) ≡ Some q
-          → (request_at qs o ≡ Some q → uses_of n qs ≡ uses_of n left + (if has_run n q then 1 else 0))
-          → uses_of n (r ∷ qs) ≡ uses_of n (cond (not a) (r ∷ left) left) + (if has_run n q then 1 else 0)
+          →
+          (request_at qs o ≡ Some q → uses_of n qs
+          ≡ uses_of n left + (if has_run n q then 1 else 0))
+          → uses_of n (r ∷ qs) ≡ uses_of n (cond (not a) (r ∷ left) left) +
+          (if has_run n q then 1 else 0)
       by true same is more =
           front (has_run n r) (filter (has_run n) qs)
           ∙ (λ i. length (filter (has_run n) (sym (filter_none (λ x. is_origin o x.origin) qs (alone-there qs o r.origin same alone.0)) i)) + (if has_run n (some_is is i) then 1 else 0))
@@ -264,7 +297,8 @@ module _ (notes new : List (ℕ × Note)) (qs : List Entered) (o : Origin) (q : 
   abbrev left : List Entered
   left = filter (λ r. not (is_origin o r.origin)) qs
 
-  less-some : (m : Note) (a : Bool) → nat_lt m.uses 2 ≡ a → used_less (Some m) ≡ cond a None (Some (record m { uses = m.uses - 1 }))
+  less-some : (m : Note) (a : Bool) → nat_lt m.uses 2 ≡ a
+      → used_less (Some m) ≡ cond a None (Some (record m { uses = m.uses - 1 }))
   less-some m a is = ap (λ b. cond b None (Some (record m { uses = m.uses - 1 }))) is
 
   less-uses : (k : Option Note) → uses_in (used_less k) ≡ uses_in k - 1
@@ -286,7 +320,8 @@ module _ (notes new : List (ℕ × Note)) (qs : List Entered) (o : Origin) (q : 
           let same : m.uses - 1 ≡ note.uses = ap uses_in (sym (less-some m false few) ∙ is) in
           omega (arith, many, same)
 
-  less-found : (k : Option Note) (d : Evidence) → found_in (used_less k) ≡ Some d → found_in k ≡ Some d
+  less-found : (k : Option Note) (d : Evidence) → found_in (used_less k) ≡ Some d
+      → found_in k ≡ Some d
   less-found None d is = is
   less-found (Some m) d is = by (nat_lt m.uses 2) refl
     where
@@ -306,18 +341,22 @@ module _ (notes new : List (ℕ × Note)) (qs : List Entered) (o : Origin) (q : 
       uses n true is = let one = less-uses (note_at n notes) in let all = of.uses n in omega (arith, one, all, is)
       uses n false is = let all = of.uses n in omega (arith, all, is)
 
-      used : (n : ℕ) (note : Note) (a : Bool) → cond a (used_less (note_at n notes)) (note_at n notes) ≡ Some note → 0 < note.uses
+      used : (n : ℕ) (note : Note) (a : Bool)
+          → cond a (used_less (note_at n notes)) (note_at n notes) ≡ Some note → 0 < note.uses
       used n note true is = less-used (note_at n notes) note is
       used n note false is = of.used n note is
 
-      numbers : (n : ℕ) (d : Evidence) (a : Bool) → found_in (cond a (used_less (note_at n notes)) (note_at n notes)) ≡ Some d → d.number ≡ n
+      numbers : (n : ℕ) (d : Evidence) (a : Bool)
+          → found_in (cond a (used_less (note_at n notes)) (note_at n notes)) ≡ Some d
+          → d.number ≡ n
       numbers n d true is = of.numbers n d (less-found (note_at n notes) d is)
       numbers n d false is = of.numbers n d is
 
   pub less-shown : found_for (found_at new) left ≡ evidence_for left (found_for (found_at notes) qs)
   less-shown = for-alike (found_at new) (evidence_of (found_for (found_at notes) qs)) left (λ n some. ap found_in (less n) ∙ alike n some (has_run n q) refl (used-noted notes qs of n (any-filter (λ r. not (is_origin o r.origin)) (has_run n) qs some)) ∙ sym (shown-found notes qs of n))
     where
-      alike : (n : ℕ) → list_any (has_run n) left ≡ true → (a : Bool) → has_run n q ≡ a → (m : Note) × (note_at n notes ≡ Some m)
+      alike : (n : ℕ) → list_any (has_run n) left ≡ true → (a : Bool) → has_run n q ≡ a
+          → (m : Note) × (note_at n notes ≡ Some m)
           → found_in (cond a (used_less (note_at n notes)) (note_at n notes)) ≡ found_at notes n
       alike n some true has (m, is) =
           let many : 0 < uses_of n left = some-many (has_run n) left some in
@@ -330,13 +369,16 @@ module _ (notes new : List (ℕ × Note)) (qs : List Entered) (o : Origin) (q : 
 -- ---- requests of one origin
 
 pub among-one : (qs : List Entered) (o : Origin)
-    → filter (λ q. not (is_among (o ∷ []) q.origin)) qs ≡ filter (λ q. not (is_origin o q.origin)) qs
+    → filter (λ q. not (is_among (o ∷ []) q.origin)) qs ≡ filter
+    (λ q. not (is_origin o q.origin)) qs
 among-one [] o = refl
 among-one (q ∷ qs) o = λ i. cond (not (or-false (is_origin o q.origin) i)) (q ∷ among-one qs o i) (among-one qs o i)
 
 -- where no request has the origin, nothing leaves
-pub none-leaves : (setting : BookSetting) (notes : List (ℕ × Note)) (qs : List Entered) (o : Origin) → AreOf notes qs
-    → request_at qs o ≡ None → live_of setting qs notes ≡ live_leaves (live_of setting qs notes) (o ∷ [])
+pub none-leaves : (setting : BookSetting) (notes : List (ℕ × Note)) (qs : List Entered) (o : Origin)
+    → AreOf notes qs
+    → request_at qs o ≡ None
+    → live_of setting qs notes ≡ live_leaves (live_of setting qs notes) (o ∷ [])
 none-leaves setting notes qs o of none =
     let stays : qs ≡ filter (λ q. not (is_among (o ∷ []) q.origin)) qs = sym (among-one qs o ∙ filter_none (λ q. is_origin o q.origin) qs (any_none (λ q. is_origin o q.origin) qs none)) in
     let settled : List Evidence = found_for (found_at notes) qs in
@@ -354,7 +396,10 @@ leaves-then b xs o =
     sym (left-found (evidence_of b.settled) first (λ q. not (is_among (o ∷ []) q.origin)) (numbered b.settled)) in
     λ i. record { setting = b.setting; requests = both i; settled = (same ∙ ap (λ qs. evidence_for qs b.settled) both) i }
   where
-    each : (qs : List Entered) → filter (λ q. not (is_among (o ∷ []) q.origin)) (filter (λ q. not (is_among xs q.origin)) qs) ≡ filter (λ q. not (is_among (xs ++ o ∷ []) q.origin)) qs
+    each : (qs : List Entered)
+        → filter (λ q. not (is_among (o ∷ []) q.origin))
+        (filter (λ q. not (is_among xs q.origin)) qs) ≡ filter
+        (λ q. not (is_among (xs ++ o ∷ []) q.origin)) qs
     each [] = refl
     each (q ∷ qs) = by (is_among xs q.origin) (each qs) (any-last (λ p. is_origin p q.origin) xs o)
       where
@@ -366,13 +411,15 @@ leaves-then b xs o =
 
         by : (a : Bool) → filter (λ r. not (is_among (o ∷ []) r.origin)) rest ≡ all
             → is_among (xs ++ o ∷ []) q.origin ≡ (a || is_origin o q.origin)
-            → filter (λ r. not (is_among (o ∷ []) r.origin)) (cond (not a) (q ∷ rest) rest) ≡ cond (not (is_among (xs ++ o ∷ []) q.origin)) (q ∷ all) all
+            → filter (λ r. not (is_among (o ∷ []) r.origin)) (cond (not a) (q ∷ rest) rest) ≡ cond
+            (not (is_among (xs ++ o ∷ []) q.origin)) (q ∷ all) all
         by true more is = more ∙ ap (λ d. cond (not d) (q ∷ all) all) (sym is)
         by false more is = λ i. cond (not ((or-false (is_origin o q.origin) ∙ sym is) i)) (q ∷ more i) (more i)
 
 pub owed-then : (qs : List Entered) (xs : List Origin) (o : Origin) → AreApart qs
     → length (filter (λ q. is_among (xs ++ o ∷ []) q.origin) qs)
-    ≡ length (filter (λ q. is_among xs q.origin) qs) + (if is_some (request_at (filter (λ q. not (is_among xs q.origin)) qs) o) then 1 else 0)
+    ≡ length (filter (λ q. is_among xs q.origin) qs) +
+    (if is_some (request_at (filter (λ q. not (is_among xs q.origin)) qs) o) then 1 else 0)
 owed-then [] xs o alone = refl
 owed-then (q ∷ qs) xs o alone = by (is_among xs q.origin) (is_origin o q.origin) refl refl (any-last (λ p. is_origin p q.origin) xs o) (owed-then qs xs o alone.1)
   where
@@ -391,16 +438,20 @@ owed-then (q ∷ qs) xs o alone = by (is_among xs q.origin) (is_origin o q.origi
     bit : Bool → ℕ
     bit d = if d then 1 else 0
 
-    step : (d : Bool) (p : Entered → Bool) → length (cond d (q ∷ filter p qs) (filter p qs)) ≡ length (filter p qs) + bit d
+    step : (d : Bool) (p : Entered → Bool)
+        → length (cond d (q ∷ filter p qs) (filter p qs)) ≡ length (filter p qs) + bit d
     step true p = omega arith
     step false p = omega arith
 
     gone : is_origin o q.origin ≡ true → request_at left o ≡ None
     gone same = find_left (λ r. is_origin o r.origin) (λ r. not (is_among xs r.origin)) qs (find_none (λ r. is_origin o r.origin) qs (alone-there qs o q.origin same alone.0))
 
-    by : (a c : Bool) → is_among xs q.origin ≡ a → is_origin o q.origin ≡ c → is_among (xs ++ o ∷ []) q.origin ≡ (is_among xs q.origin || is_origin o q.origin)
+    by : (a c : Bool) → is_among xs q.origin ≡ a → is_origin o q.origin ≡ c
+        → is_among (xs ++ o ∷ []) q.origin ≡ (is_among xs q.origin || is_origin o q.origin)
         → all ≡ count + one (request_at left o)
-        → length (filter (λ r. is_among (xs ++ o ∷ []) r.origin) (q ∷ qs)) ≡ length (filter (λ r. is_among xs r.origin) (q ∷ qs)) + one (request_at (filter (λ r. not (is_among xs r.origin)) (q ∷ qs)) o)
+        → length (filter (λ r. is_among (xs ++ o ∷ []) r.origin) (q ∷ qs)) ≡ length
+        (filter (λ r. is_among xs r.origin) (q ∷ qs)) + one
+        (request_at (filter (λ r. not (is_among xs r.origin)) (q ∷ qs)) o)
     by true c in_xs at_o is more =
         let whole = step (is_among (xs ++ o ∷ []) q.origin) (λ r. is_among (xs ++ o ∷ []) r.origin) in
         let here : bit (is_among (xs ++ o ∷ []) q.origin) ≡ 1 = ap bit (is ∙ ap (λ d. d || is_origin o q.origin) in_xs) in
@@ -425,7 +476,8 @@ owed-then (q ∷ qs) xs o alone = by (is_among xs q.origin) (is_origin o q.origi
         omega (arith, whole, here, part, there, rest, more)
 
 -- of no origins nothing leaves
-pub leaves-none : (b : LiveBook) → evidence_for b.requests b.settled ≡ b.settled → b ≡ live_leaves b []
+pub leaves-none : (b : LiveBook) → evidence_for b.requests b.settled ≡ b.settled
+    → b ≡ live_leaves b []
 leaves-none b kept =
     let same : b.requests ≡ live_left b [] = all b.requests in
     λ i. record { setting = b.setting; requests = same i; settled = (sym kept ∙ ap (λ qs. evidence_for qs b.settled) same) i }
@@ -441,30 +493,37 @@ owed-none (q ∷ qs) = owed-none qs
 -- ---- whether a request is settled
 
 pub settled-alike : (notes : List (ℕ × Note)) (qs : List Entered) (q : Entered) → AreOf notes qs
-    → list_all (λ s. is_some (found_at notes s.number)) q.spans ≡ is_settled (found_for (found_at notes) qs) q
+    → list_all (λ s. is_some (found_at notes s.number)) q.spans ≡ is_settled
+    (found_for (found_at notes) qs) q
 settled-alike notes qs q of = sym (λ i. list_all (λ s. is_some (shown-found notes qs of s.number i)) q.spans)
 
-pub parts-alike-noted : (notes : List (ℕ × Note)) (qs : List Entered) (spans : List Span) → AreOf notes qs
-    → flat_map (λ s. part_of (found_at notes s.number) s) spans ≡ parts_of (found_for (found_at notes) qs) spans
+pub parts-alike-noted : (notes : List (ℕ × Note)) (qs : List Entered) (spans : List Span)
+    → AreOf notes qs
+    → flat_map (λ s. part_of (found_at notes s.number) s) spans ≡ parts_of
+    (found_for (found_at notes) qs) spans
 parts-alike-noted notes qs spans of = sym (λ i. flat_map (λ s. part_of (shown-found notes qs of s.number i) s) spans)
 
 -- ---- origins once
 
 -- one origin more
-pub once-then : (xs : List Origin) (o : Origin) → once (xs ++ o ∷ []) ≡ once xs ++ (if is_among xs o then [] else o ∷ [])
+pub once-then : (xs : List Origin) (o : Origin)
+    → once (xs ++ o ∷ []) ≡ once xs ++ (if is_among xs o then [] else o ∷ [])
 once-then [] o = refl
 once-then (x ∷ xs) o =
     ap (λ os. x ∷ filter (λ p. not (is_origin x p)) os) (once-then xs o)
     ∙ ap (λ os. x ∷ os) (filter-append (λ p. not (is_origin x p)) (once xs) (if is_among xs o then [] else o ∷ []) ∙ ap (λ os. filter (λ p. not (is_origin x p)) (once xs) ++ os) (by (is_among xs o) (is_origin x o) refl))
   where
-    by : (a c : Bool) → is_origin x o ≡ c → filter (λ p. not (is_origin x p)) (if a then [] else o ∷ []) ≡ (if c || a then [] else o ∷ [])
+    by : (a c : Bool) → is_origin x o ≡ c
+        → filter (λ p. not (is_origin x p)) (if a then [] else o ∷ []) ≡
+        (if c || a then [] else o ∷ [])
     by true true is = refl
     by true false is = refl
     by false true is = ap (λ k. cond (not k) (o ∷ []) []) is
     by false false is = ap (λ k. cond (not k) (o ∷ []) []) is
 
 -- what is known is known once one more is
-pub known-then : (xs : List Origin) (o p : Origin) (a : Bool) → a ≡ cond (is_origin o p) true (is_among xs p)
+pub known-then : (xs : List Origin) (o p : Origin) (a : Bool)
+    → a ≡ cond (is_origin o p) true (is_among xs p)
     → a ≡ is_among (xs ++ o ∷ []) p
 known-then xs o p a is = is ∙ by (is_origin o p) (is_among xs p) ∙ sym (any-last (λ x. is_origin x p) xs o)
   where

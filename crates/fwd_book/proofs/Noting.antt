@@ -26,7 +26,8 @@ pub put_nowhere : (e : Evidence) (notes : List (ℕ × Note)) (n : ℕ) → note
     → note_at n notes ≡ cond (e.number == n) (put_in e (note_at e.number notes)) (note_at n notes)
 put_nowhere e notes n none = by (e.number == n) refl
   where
-    by : (a : Bool) → (e.number == n) ≡ a → note_at n notes ≡ cond a (put_in e (note_at e.number notes)) (note_at n notes)
+    by : (a : Bool) → (e.number == n) ≡ a
+        → note_at n notes ≡ cond a (put_in e (note_at e.number notes)) (note_at n notes)
     by true same = ap (λ k. note_at k notes) (sym (eqb-true e.number n same)) ∙ none ∙ ap (put_in e) (sym none)
     by false same = refl
 
@@ -40,7 +41,8 @@ put_again e notes n some = by (e.number == n) refl
     stays None is = refl
     stays (Some note) is = ap (λ k. Some (record note { found = cond k note.found (Some e) })) is
 
-    by : (a : Bool) → (e.number == n) ≡ a → note_at n notes ≡ cond a (put_in e (note_at e.number notes)) (note_at n notes)
+    by : (a : Bool) → (e.number == n) ≡ a
+        → note_at n notes ≡ cond a (put_in e (note_at e.number notes)) (note_at n notes)
     by true same = ap (λ k. note_at k notes) (sym (eqb-true e.number n same)) ∙ sym (stays (note_at e.number notes) some)
     by false same = refl
 

@@ -19,11 +19,13 @@ pub record Stands {X : Type 0} (p : X → Bool) (xs : List X) (x : X) : Type 0 w
   pub here : slice_get xs place ≡ Some x
   pub passes : p x ≡ true
 
-pub found_stands : {X : Type 0} (p : X → Bool) (xs : List X) (x : X) → find p xs ≡ Some x → Stands p xs x
+pub found_stands : {X : Type 0} (p : X → Bool) (xs : List X) (x : X) → find p xs ≡ Some x
+    → Stands p xs x
 found_stands p [] x found = absurd cc
 found_stands p (y ∷ xs) x found = by (p y) refl found (λ e. found_stands p xs x e)
   where
-    by : (a : Bool) → p y ≡ a → cond a (Some y) (find p xs) ≡ Some x → (find p xs ≡ Some x → Stands p xs x) → Stands p (y ∷ xs) x
+    by : (a : Bool) → p y ≡ a → cond a (Some y) (find p xs) ≡ Some x
+        → (find p xs ≡ Some x → Stands p xs x) → Stands p (y ∷ xs) x
     by true e f more = record { place = 0; here = f; passes = sym (ap p (some_is f)) ∙ e }
     by false e f more = let m = more f in record { place = suc m.place; here = m.here; passes = m.passes }
 
@@ -75,14 +77,17 @@ taken-within n f xs ys some fits same =
 parts_are : (settled : List Evidence) (spans : List Span) (own : List (List ℕ))
     → list_all (λ s. is_some (evidence_of settled s.number)) spans ≡ true
     → AreCutBy spans own
-    → ((j : ℕ) (e : Evidence) → slice_get settled j ≡ Some e → HasItsRuns e.number e.entries spans own)
+    →
+    ((j : ℕ) (e : Evidence) → slice_get settled j ≡ Some e
+    → HasItsRuns e.number e.entries spans own)
     → AreParts settled spans own (parts_of settled spans)
 parts_are settled [] own all cut runs = record { spans_are = refl; numbers_are = refl; shown_are = sym cut; from = λ i p e. absurd (none_some e); fits = λ i p e. absurd (none_some e) }
 parts_are settled (s ∷ spans) own all cut runs =
     by (evidence_of settled s.number) refl
     (parts_are settled spans (drop s.count own) (both_right (is_some (evidence_of settled s.number)) (list_all (λ t. is_some (evidence_of settled t.number)) spans) all) cut.2 (λ j e here. (runs j e here).1))
   where
-    by : (o : Option Evidence) → evidence_of settled s.number ≡ o → AreParts settled spans (drop s.count own) (parts_of settled spans)
+    by : (o : Option Evidence) → evidence_of settled s.number ≡ o
+        → AreParts settled spans (drop s.count own) (parts_of settled spans)
         → AreParts settled (s ∷ spans) own (part_of o s ++ parts_of settled spans)
     by None none more = absurd (apart (sym (ap is_some none) ∙ both_left (is_some (evidence_of settled s.number)) (list_all (λ t. is_some (evidence_of settled t.number)) spans) all))
     by (Some e) some more =
@@ -98,13 +103,21 @@ parts_are settled (s ∷ spans) own all cut runs =
       where
         fit : (e : Evidence) → s.from + s.count ≤ length e.entries
             → AreParts settled spans (drop s.count own) (parts_of settled spans)
-            → (i : ℕ) (p : Part) → slice_get (record { evidence = e; from = s.from; count = s.count } ∷ parts_of settled spans) i ≡ Some p
+            → (i : ℕ) (p : Part)
+            → slice_get
+            (record { evidence = e; from = s.from; count = s.count } ∷ parts_of settled spans) i
+            ≡ Some p
             → p.from + p.count ≤ length p.evidence.entries
         fit e own-fits more zero p same = subst (λ (k : Part). k.from + k.count ≤ length k.evidence.entries) (some_is same) own-fits
         fit e own-fits more (suc i) p same = more.fits i p same
 
-        among : (e : Evidence) (place : ℕ) → slice_get settled place ≡ Some e → list_any (λ t. t.number == e.number) (s ∷ spans) ≡ true → AreParts settled spans (drop s.count own) (parts_of settled spans)
-            → (i : ℕ) (p : Part) → slice_get (record { evidence = e; from = s.from; count = s.count } ∷ parts_of settled spans) i ≡ Some p
+        among : (e : Evidence) (place : ℕ) → slice_get settled place ≡ Some e
+            → list_any (λ t. t.number == e.number) (s ∷ spans) ≡ true
+            → AreParts settled spans (drop s.count own) (parts_of settled spans)
+            → (i : ℕ) (p : Part)
+            → slice_get
+            (record { evidence = e; from = s.from; count = s.count } ∷ parts_of settled spans) i
+            ≡ Some p
             → Stands (λ x. list_any (λ t. t.number == x.number) (s ∷ spans)) settled p.evidence
         among e place here is more zero p same = let one = ap (λ (k : Part). k.evidence) (some_is same) in record { place = place; here = here ∙ ap Some one; passes = sym (ap (λ (x : Evidence). list_any (λ t. t.number == x.number) (s ∷ spans)) one) ∙ is }
         among e place here is more (suc i) p same = let st = more.from i p same in record { place = st.place; here = st.here; passes = or-true (s.number == p.evidence.number) (list_any (λ t. t.number == p.evidence.number) spans) st.passes }
@@ -118,7 +131,8 @@ in_both [] ys i x e = inr (i, e)
 in_both (y ∷ xs) ys zero x e = inl (0, e)
 in_both (y ∷ xs) ys (suc i) x e = by (in_both xs ys i x e)
   where
-    by : ((j : ℕ) × (slice_get xs j ≡ Some x)) ⊎ ((j : ℕ) × (slice_get ys j ≡ Some x)) → ((j : ℕ) × (slice_get (y ∷ xs) j ≡ Some x)) ⊎ ((j : ℕ) × (slice_get ys j ≡ Some x))
+    by : ((j : ℕ) × (slice_get xs j ≡ Some x)) ⊎ ((j : ℕ) × (slice_get ys j ≡ Some x))
+        → ((j : ℕ) × (slice_get (y ∷ xs) j ≡ Some x)) ⊎ ((j : ℕ) × (slice_get ys j ≡ Some x))
     by (inl at) = inl (suc at.0, at.1)
     by (inr at) = inr at
 
@@ -127,8 +141,11 @@ in_flat : {X Y : Type 0} (f : X → List Y) (xs : List X) (i : ℕ) (y : Y)
 in_flat f [] i y e = absurd (none_some e)
 in_flat {X = X} {Y = Y} f (x ∷ xs) i y e = by (in_both (f x) (flat_map f xs) i y e) (in_flat f xs)
   where
-    by : ((j : ℕ) × (slice_get (f x) j ≡ Some y)) ⊎ ((j : ℕ) × (slice_get (flat_map f xs) j ≡ Some y))
-        → ((j : ℕ) (z : Y) → slice_get (flat_map f xs) j ≡ Some z → (w : X) × (k : ℕ) × (slice_get (f w) k ≡ Some z))
+    by : ((j : ℕ) × (slice_get (f x) j ≡ Some y)) ⊎
+        ((j : ℕ) × (slice_get (flat_map f xs) j ≡ Some y))
+        →
+        ((j : ℕ) (z : Y) → slice_get (flat_map f xs) j ≡ Some z → (w : X) × (k : ℕ)
+        × (slice_get (f w) k ≡ Some z))
         → (w : X) × (k : ℕ) × (slice_get (f w) k ≡ Some y)
     by (inl at) more = (x, at.0, at.1)
     by (inr at) more = more at.0 y at.1
@@ -136,7 +153,8 @@ in_flat {X = X} {Y = Y} f (x ∷ xs) i y e = by (in_both (f x) (flat_map f xs) i
 -- ---- a receipt
 
 -- the receipt of a request whose entries are all acknowledged is right
-pub good : (b : LiveBook) (q : Entered) (place : ℕ) → IsSound b → slice_get b.requests place ≡ Some q
+pub good : (b : LiveBook) (q : Entered) (place : ℕ) → IsSound b
+    → slice_get b.requests place ≡ Some q
     → is_settled b.settled q ≡ true → IsRightFor b.setting q (receipt_of b.settled q)
 good b q place sound here all =
     let parts = parts_are b.settled q.spans q.entries all (sound.cut place q here) (λ j e there. (sound.of place j q e here there).runs) in record {
@@ -160,7 +178,8 @@ right b origins i r sound here = at (in_flat (λ origin. receipt_if b.settled (r
     Result : Type 0
     Result = (q : Entered) × (request_at b.requests r.origin ≡ Some q) × IsRightFor b.setting q r
 
-    one : (origin : Origin) (q : Entered) (place j : ℕ) → slice_get b.requests place ≡ Some q → request_at b.requests origin ≡ Some q → is_origin origin q.origin ≡ true
+    one : (origin : Origin) (q : Entered) (place j : ℕ) → slice_get b.requests place ≡ Some q
+        → request_at b.requests origin ≡ Some q → is_origin origin q.origin ≡ true
         → (a : Bool) → is_settled b.settled q ≡ a
         → slice_get (cond a (receipt_of b.settled q ∷ []) []) j ≡ Some r → Result
     one origin q place j stands found is false all e = absurd (none_some e)
@@ -168,11 +187,14 @@ right b origins i r sound here = at (in_flat (λ origin. receipt_if b.settled (r
         (q, ap (λ (x : Receipt). request_at b.requests x.origin) (sym (some_is e)) ∙ ap (request_at b.requests) (origin-is origin q.origin is) ∙ found, subst (λ x. IsRightFor b.setting q x) (some_is e) (good b q place sound stands all))
     one origin q place (suc j) stands found is true all e = absurd (none_some e)
 
-    by : (origin : Origin) (o : Option Entered) (j : ℕ) → request_at b.requests origin ≡ o → slice_get (receipt_if b.settled o) j ≡ Some r → Result
+    by : (origin : Origin) (o : Option Entered) (j : ℕ) → request_at b.requests origin ≡ o
+        → slice_get (receipt_if b.settled o) j ≡ Some r → Result
     by origin None j found e = absurd (none_some e)
     by origin (Some q) j found e =
         let st = found_stands (λ x. is_origin origin x.origin) b.requests q found in
         one origin q st.place j st.here found st.passes (is_settled b.settled q) refl e
 
-    at : (origin : Origin) × (j : ℕ) × (slice_get (receipt_if b.settled (request_at b.requests origin)) j ≡ Some r) → Result
+    at : (origin : Origin) × (j : ℕ) ×
+        (slice_get (receipt_if b.settled (request_at b.requests origin)) j ≡ Some r)
+        → Result
     at found = by found.0 (request_at b.requests found.0) found.1 refl found.2

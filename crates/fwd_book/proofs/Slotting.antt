@@ -32,7 +32,8 @@ pub any_none : {X : Type 0} (p : X → Bool) (xs : List X) → find p xs ≡ Non
 any_none p [] none = refl
 any_none p (x ∷ xs) none = by (p x) none (any_none p xs)
   where
-    by : (a : Bool) → cond a (Some x) (find p xs) ≡ None → (find p xs ≡ None → list_any p xs ≡ false) → (a || list_any p xs) ≡ false
+    by : (a : Bool) → cond a (Some x) (find p xs) ≡ None
+        → (find p xs ≡ None → list_any p xs ≡ false) → (a || list_any p xs) ≡ false
     by true n more = absurd (none_some (sym n))
     by false n more = more n
 
@@ -50,7 +51,8 @@ none_there : (o : Origin) (k : ℕ × ℕ) (slots : List Slot) → is_key (key_o
 none_there o k [] same others keyed = refl
 none_there o k (e ∷ slots) same others keyed = by e.1 keyed.0 (none_there o k slots same others.1 keyed.1)
   where
-    by : (w : Option Entered) → IfSome w (λ q. e.0 ≡ key_of q.origin) → list_any (λ q. is_origin o q.origin) (present slots) ≡ false
+    by : (w : Option Entered) → IfSome w (λ q. e.0 ≡ key_of q.origin)
+        → list_any (λ q. is_origin o q.origin) (present slots) ≡ false
         → list_any (λ q. is_origin o q.origin) (option_to_list w ++ present slots) ≡ false
     by None at more = more
     by (Some q) at more =
@@ -62,15 +64,18 @@ abbrev pub held_in : Option (Option Entered) → Option Entered
 held_in None = None
 held_in (Some held) = held
 
-pub slot_found : (slots : List Slot) (o : Origin) → AreKeyed slots → IsDistinct is_key (keys_of slots)
+pub slot_found : (slots : List Slot) (o : Origin) → AreKeyed slots
+    → IsDistinct is_key (keys_of slots)
     → held_in (lookup (is_key (key_of o)) slots) ≡ request_at (present slots) o
 unfolding IsDistinct
 slot_found [] o keyed distinct = refl
 slot_found (e ∷ slots) o keyed distinct = by e.1 (is_key (key_of o) e.0) refl keyed.0 (slot_found slots o keyed.1 distinct.1)
   where
-    by : (w : Option Entered) (a : Bool) → is_key (key_of o) e.0 ≡ a → IfSome w (λ q. e.0 ≡ key_of q.origin)
+    by : (w : Option Entered) (a : Bool) → is_key (key_of o) e.0 ≡ a
+        → IfSome w (λ q. e.0 ≡ key_of q.origin)
         → held_in (lookup (is_key (key_of o)) slots) ≡ request_at (present slots) o
-        → held_in (cond a (Some w) (lookup (is_key (key_of o)) slots)) ≡ request_at (option_to_list w ++ present slots) o
+        → held_in (cond a (Some w) (lookup (is_key (key_of o)) slots)) ≡ request_at
+        (option_to_list w ++ present slots) o
     by (Some q) true same at more = sym (ap (λ b. cond b (Some q) (request_at (present slots) o)) (ap (is_key (key_of o)) (sym at) ∙ same))
     by None true same at more = sym (find_none (λ q. is_origin o q.origin) (present slots) (none_there o e.0 slots same distinct.0 keyed.1))
     by (Some q) false same at more = more ∙ sym (ap (λ b. cond b (Some q) (request_at (present slots) o)) (ap (is_key (key_of o)) (sym at) ∙ same))
@@ -79,7 +84,8 @@ slot_found (e ∷ slots) o keyed distinct = by e.1 (is_key (key_of o) e.0) refl 
 -- ---- a request leaves its slot
 
 pub emptied : (slots : List Slot) (o : Origin) → AreKeyed slots → IsDistinct is_key (keys_of slots)
-    → present (set_value (is_key (key_of o)) slots None) ≡ filter (λ q. not (is_origin o q.origin)) (present slots)
+    → present (set_value (is_key (key_of o)) slots None) ≡ filter (λ q. not (is_origin o q.origin))
+    (present slots)
 unfolding IsDistinct
 emptied [] o keyed distinct = refl
 emptied (e ∷ slots) o keyed distinct = by e.1 (is_key (key_of o) e.0) refl keyed.0 (emptied slots o keyed.1 distinct.1)
@@ -93,9 +99,11 @@ emptied (e ∷ slots) o keyed distinct = by e.1 (is_key (key_of o) e.0) refl key
     rest : List Slot
     rest = set_value (is_key (key_of o)) slots None
 
-    by : (w : Option Entered) (a : Bool) → is_key (key_of o) e.0 ≡ a → IfSome w (λ q. e.0 ≡ key_of q.origin)
+    by : (w : Option Entered) (a : Bool) → is_key (key_of o) e.0 ≡ a
+        → IfSome w (λ q. e.0 ≡ key_of q.origin)
         → present rest ≡ left
-        → present (cond a ((e.0, None) ∷ slots) ((e.0, w) ∷ rest)) ≡ filter (λ q. not (leaves q)) (option_to_list w ++ present slots)
+        → present (cond a ((e.0, None) ∷ slots) ((e.0, w) ∷ rest)) ≡ filter (λ q. not (leaves q))
+        (option_to_list w ++ present slots)
     by (Some q) true same at more =
         sym (filter_none leaves (present slots) (none_there o e.0 slots same distinct.0 keyed.1))
         ∙ sym (ap (λ b. cond (not b) (q ∷ left) left) (ap (is_key (key_of o)) (sym at) ∙ same))
@@ -109,13 +117,15 @@ pub keyed_emptied : (slots : List Slot) (test : ℕ × ℕ → Bool) → AreKeye
 keyed_emptied [] test keyed = tt
 keyed_emptied (e ∷ slots) test keyed = by (test e.0) (keyed_emptied slots test keyed.1)
   where
-    by : (a : Bool) → AreKeyed (set_value test slots None) → AreKeyed (cond a ((e.0, None) ∷ slots) (e ∷ set_value test slots None))
+    by : (a : Bool) → AreKeyed (set_value test slots None)
+        → AreKeyed (cond a ((e.0, None) ∷ slots) (e ∷ set_value test slots None))
     by true more = (tt, keyed.1)
     by false more = (keyed.0, more)
 
 -- ---- an empty slot leaves
 
-pub removed : (slots : List Slot) (o : Origin) → AreKeyed slots → request_at (present slots) o ≡ None
+pub removed : (slots : List Slot) (o : Origin) → AreKeyed slots
+    → request_at (present slots) o ≡ None
     → present (remove_entry (is_key (key_of o)) slots) ≡ present slots
 removed [] o keyed none = refl
 removed (e ∷ slots) o keyed none = by e.1 (is_key (key_of o) e.0) refl keyed.0 none (removed slots o keyed.1)
@@ -123,7 +133,8 @@ removed (e ∷ slots) o keyed none = by e.1 (is_key (key_of o) e.0) refl keyed.0
     rest : List Slot
     rest = remove_entry (is_key (key_of o)) slots
 
-    by : (w : Option Entered) (a : Bool) → is_key (key_of o) e.0 ≡ a → IfSome w (λ q. e.0 ≡ key_of q.origin)
+    by : (w : Option Entered) (a : Bool) → is_key (key_of o) e.0 ≡ a
+        → IfSome w (λ q. e.0 ≡ key_of q.origin)
         → request_at (option_to_list w ++ present slots) o ≡ None
         → (request_at (present slots) o ≡ None → present rest ≡ present slots)
         → present (cond a slots ((e.0, w) ∷ rest)) ≡ option_to_list w ++ present slots
@@ -139,7 +150,8 @@ pub keyed_removed : (slots : List Slot) (test : ℕ × ℕ → Bool) → AreKeye
 keyed_removed [] test keyed = tt
 keyed_removed (e ∷ slots) test keyed = by (test e.0) (keyed_removed slots test keyed.1)
   where
-    by : (a : Bool) → AreKeyed (remove_entry test slots) → AreKeyed (cond a slots (e ∷ remove_entry test slots))
+    by : (a : Bool) → AreKeyed (remove_entry test slots)
+        → AreKeyed (cond a slots (e ∷ remove_entry test slots))
     by true more = keyed.1
     by false more = (keyed.0, more)
 
@@ -161,7 +173,9 @@ kept_present [] = refl
 kept_present (e ∷ slots) = by e.1 (kept_present slots)
   where
     by : (w : Option Entered) → present (filter (λ d. is_some d.1) slots) ≡ present slots
-        → present (cond (is_some w) ((e.0, w) ∷ filter (λ d. is_some d.1) slots) (filter (λ d. is_some d.1) slots)) ≡ option_to_list w ++ present slots
+        → present
+        (cond (is_some w) ((e.0, w) ∷ filter (λ d. is_some d.1) slots)
+        (filter (λ d. is_some d.1) slots)) ≡ option_to_list w ++ present slots
     by None more = more
     by (Some q) more = ap (λ qs. q ∷ qs) more
 
@@ -169,7 +183,8 @@ pub keyed_kept : (slots : List Slot) → AreKeyed slots → AreKeyed (filter (λ
 keyed_kept [] keyed = tt
 keyed_kept (e ∷ slots) keyed = by (is_some e.1) (keyed_kept slots keyed.1)
   where
-    by : (a : Bool) → AreKeyed (filter (λ d. is_some d.1) slots) → AreKeyed (cond a (e ∷ filter (λ d. is_some d.1) slots) (filter (λ d. is_some d.1) slots))
+    by : (a : Bool) → AreKeyed (filter (λ d. is_some d.1) slots)
+        → AreKeyed (cond a (e ∷ filter (λ d. is_some d.1) slots) (filter (λ d. is_some d.1) slots))
     by true more = (keyed.0, more)
     by false more = more
 
@@ -179,7 +194,8 @@ pub few_present : (slots : List Slot) → length (present slots) ≤ length slot
 few_present [] = omega arith
 few_present (e ∷ slots) = by e.1 (few_present slots)
   where
-    by : (w : Option Entered) → length (present slots) ≤ length slots → length (option_to_list w ++ present slots) ≤ length (e ∷ slots)
+    by : (w : Option Entered) → length (present slots) ≤ length slots
+        → length (option_to_list w ++ present slots) ≤ length (e ∷ slots)
     by None more = omega (arith, more)
     by (Some q) more = omega (arith, more)
 
@@ -197,7 +213,8 @@ present-more (e ∷ slots) (suc i) =
 
 pub origins-more : (conn : ℕ) (slots : List Slot) (i n : ℕ) → n ≡ suc i
     → map (λ q. q.origin) (filter (is_of conn) (present (take n slots)))
-    ≡ map (λ q. q.origin) (filter (is_of conn) (present (take i slots))) ++ map (λ q. q.origin) (filter (is_of conn) (present (option_to_list (slice_get slots i))))
+    ≡ map (λ q. q.origin) (filter (is_of conn) (present (take i slots))) ++ map (λ q. q.origin)
+    (filter (is_of conn) (present (option_to_list (slice_get slots i))))
 origins-more conn slots i n next =
     ap (λ k. map (λ q. q.origin) (filter (is_of conn) (present (take k slots)))) next
     ∙ ap (λ qs. map (λ q. q.origin) (filter (is_of conn) qs)) (present-more slots i)

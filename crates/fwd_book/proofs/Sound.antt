@@ -35,7 +35,9 @@ pub find_left : {X : Type 0} (p q : X → Bool) (xs : List X) → find p xs ≡ 
 find_left p q [] none = refl
 find_left p q (x ∷ xs) none = by (p x) (q x) refl none (find_left p q xs)
   where
-    by : (a b : Bool) → p x ≡ a → cond a (Some x) (find p xs) ≡ None → (find p xs ≡ None → find p (filter q xs) ≡ None) → find p (cond b (x ∷ filter q xs) (filter q xs)) ≡ None
+    by : (a b : Bool) → p x ≡ a → cond a (Some x) (find p xs) ≡ None
+        → (find p xs ≡ None → find p (filter q xs) ≡ None)
+        → find p (cond b (x ∷ filter q xs) (filter q xs)) ≡ None
     by true b e n more = absurd (none_some (sym n))
     by false true e n more = ap (λ k. cond k (Some x) (find p (filter q xs))) e ∙ more n
     by false false e n more = more n
@@ -79,7 +81,8 @@ apart_behind (r ∷ qs) q alone new = by (is_origin q.origin r.origin) refl new 
     other : is_origin q.origin r.origin ≡ false → is_origin r.origin q.origin ≡ false
     other e = sym (one_way q.origin r.origin) ∙ e
 
-    by : (a : Bool) → is_origin q.origin r.origin ≡ a → cond a (Some r) (request_at qs q.origin) ≡ None
+    by : (a : Bool) → is_origin q.origin r.origin ≡ a
+        → cond a (Some r) (request_at qs q.origin) ≡ None
         → (request_at qs q.origin ≡ None → AreApart (qs ++ q ∷ [])) → AreApart (r ∷ qs ++ q ∷ [])
     by true same n more = absurd (none_some (sym n))
     by false same n more = (
@@ -97,7 +100,8 @@ apart_left p (q ∷ qs) alone = by (p q) (apart_left p qs alone.1)
     by true more = (find_left (λ (r : Entered). is_origin q.origin r.origin) p qs alone.0, more)
     by false more = more
 
-pub sound-enters : (b : LiveBook) (q : Entered) → IsSound b → request_at b.requests q.origin ≡ None → AreCutBy q.spans q.entries
+pub sound-enters : (b : LiveBook) (q : Entered) → IsSound b → request_at b.requests q.origin ≡ None
+    → AreCutBy q.spans q.entries
     → AreRising (map (λ s. s.number) q.spans) → is_fresh b.settled q ≡ true
     → IsSound (live_enters b q)
 sound-enters b q sound new cut rising fresh = record {
@@ -119,7 +123,8 @@ sound-enters b q sound new cut rising fresh = record {
     by_rising i r (inl at) = sound.rising at.0 r at.1
     by_rising i r (inr at) = subst (λ x. AreRising (map (λ s. s.number) x.spans)) (only q r at.0 at.1) rising
 
-    by_of : (i j : ℕ) (r : Entered) (e : Evidence) → Where r → slice_get b.settled j ≡ Some e → IsOf r e
+    by_of : (i j : ℕ) (r : Entered) (e : Evidence) → Where r → slice_get b.settled j ≡ Some e
+        → IsOf r e
     by_of i j r e (inl at) there = sound.of at.0 j r e at.1 there
     by_of i j r e (inr at) there =
         let none = none_passes (λ (x : Evidence). has_run x.number q) b.settled j e (is_not (list_any (λ x. has_run x.number q) b.settled) fresh) there in
@@ -143,7 +148,8 @@ sound-settles b e sound names of = record {
     Where : Evidence → Type 0
     Where d = ((j : ℕ) × (slice_get b.settled j ≡ Some d)) ⊎ ((j : ℕ) × (slice_get (e ∷ []) j ≡ Some d))
 
-    where_from : (j : ℕ) (d : Evidence) → slice_get (evidence_for b.requests (b.settled ++ e ∷ [])) j ≡ Some d → Where d
+    where_from : (j : ℕ) (d : Evidence)
+        → slice_get (evidence_for b.requests (b.settled ++ e ∷ [])) j ≡ Some d → Where d
     where_from j d there =
         let from = comes (evidence_of (b.settled ++ e ∷ [])) b.requests j d there in
         let at = found_there (b.settled ++ e ∷ []) from.number d from.found in
@@ -153,7 +159,8 @@ sound-settles b e sound names of = record {
     by_names d (inl at) = sound.names at.0 d at.1
     by_names d (inr at) = subst (λ x. ack_name x.reply ≡ Some (name_at b.setting x.number)) (only e d at.0 at.1) names
 
-    by_of : (i : ℕ) (q : Entered) (d : Evidence) → slice_get b.requests i ≡ Some q → Where d → IsOf q d
+    by_of : (i : ℕ) (q : Entered) (d : Evidence) → slice_get b.requests i ≡ Some q → Where d
+        → IsOf q d
     by_of i q d here (inl at) = sound.of i at.0 q d here at.1
     by_of i q d here (inr at) = subst (λ x. IsOf q x) (only e d at.0 at.1) (of i q here)
 

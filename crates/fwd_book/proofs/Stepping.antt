@@ -34,11 +34,15 @@ not_before (t ∷ spans) (suc i) s rising at =
     ap (λ a. a || list_any (λ r. r.number == s.number) (take i spans)) (smaller t.number s.number less) ∙ not_before spans i s tail at
 
 -- one run more
-pub stepped : (f : Option Note → Option Note) (old cur new : ℕ → Option Note) (spans : List Span) (i : ℕ) (d : Span)
+pub stepped : (f : Option Note → Option Note) (old cur new : ℕ → Option Note) (spans : List Span)
+    (i : ℕ) (d : Span)
     → i < length spans → AreRising (map (λ s. s.number) spans)
     → ((n : ℕ) → cur n ≡ cond (list_any (λ s. s.number == n) (take i spans)) (f (old n)) (old n))
-    → ((n : ℕ) → new n ≡ cond ((slice_index_or spans i d).number == n) (f (cur (slice_index_or spans i d).number)) (cur n))
-    → (n : ℕ) → new n ≡ cond (list_any (λ s. s.number == n) (take (i + 1) spans)) (f (old n)) (old n)
+    →
+    ((n : ℕ) → new n ≡ cond ((slice_index_or spans i d).number == n)
+    (f (cur (slice_index_or spans i d).number)) (cur n))
+    → (n : ℕ)
+    → new n ≡ cond (list_any (λ s. s.number == n) (take (i + 1) spans)) (f (old n)) (old n)
 stepped f old cur new spans i d within rising before now n = by (s.number == n) refl
   where
     s : Span
@@ -50,10 +54,12 @@ stepped f old cur new spans i d within rising before now n = by (s.number == n) 
     next : i + 1 ≡ suc i
     next = omega arith
 
-    more : list_any (λ t. t.number == n) (take (i + 1) spans) ≡ (list_any (λ t. t.number == n) (take i spans) || (s.number == n))
+    more : list_any (λ t. t.number == n) (take (i + 1) spans) ≡
+        (list_any (λ t. t.number == n) (take i spans) || (s.number == n))
     more = ap (λ k. list_any (λ t. t.number == n) (take k spans)) next ∙ ap (list_any (λ t. t.number == n)) (take-suc spans i d within) ∙ any-last (λ t. t.number == n) (take i spans) s
 
-    by : (a : Bool) → (s.number == n) ≡ a → new n ≡ cond (list_any (λ t. t.number == n) (take (i + 1) spans)) (f (old n)) (old n)
+    by : (a : Bool) → (s.number == n) ≡ a
+        → new n ≡ cond (list_any (λ t. t.number == n) (take (i + 1) spans)) (f (old n)) (old n)
     by true same =
         now n ∙ ap (λ a. cond a (f (cur s.number)) (cur n)) same ∙ ap f own ∙ ap (λ k. f (old k)) (eqb-true s.number n same)
         ∙ ap (λ a. cond a (f (old n)) (old n)) (sym (more ∙ or-true (list_any (λ t. t.number == n) (take i spans)) (s.number == n) same))
@@ -62,7 +68,8 @@ stepped f old cur new spans i d within rising before now n = by (s.number == n) 
         ∙ ap (λ a. cond a (f (old n)) (old n)) (sym (more ∙ ap (λ b. list_any (λ t. t.number == n) (take i spans) || b) same ∙ or-false (list_any (λ t. t.number == n) (take i spans))))
 
 -- the number of a run was not changed by those before it
-pub unchanged : (f : Option Note → Option Note) (old cur : ℕ → Option Note) (spans : List Span) (i : ℕ) (d : Span)
+pub unchanged : (f : Option Note → Option Note) (old cur : ℕ → Option Note) (spans : List Span)
+    (i : ℕ) (d : Span)
     → i < length spans → AreRising (map (λ s. s.number) spans)
     → ((n : ℕ) → cur n ≡ cond (list_any (λ s. s.number == n) (take i spans)) (f (old n)) (old n))
     → cur (slice_index_or spans i d).number ≡ old (slice_index_or spans i d).number

@@ -7,6 +7,7 @@ use Rattle.std.proofs.lemmas.Bool.Decides.{nat_tests}
 use Rattle.std.proofs.lemmas.Bool.{cases_lt, ltb-false, or_parts, and_parts, leb-false}
 use Rattle.std.proofs.lemmas.List.{append-nil, take-append-drop, length-append}
 use Rattle.std.proofs.lemmas.Slice.Eq.{bytes_eq-Decides}
+use Rattle.fwd_modes.specs.declared.limits.TheConstants.{TAG_LIMIT}
 use Rattle.fwd_chunks.specs.declared.chunk.Chunk.{Chunk}
 use Rattle.fwd_chunks.specs.declared.span.Span.{Span}
 use Rattle.fwd_chunks.specs.declared.stage.Stage.TheVariants.{Open, Closed, Taken}
@@ -42,7 +43,9 @@ count-is limit (e ∷ entries) lt = by (nat_le (0 + length e) limit) refl
     same : 0 + length e ≡ length e
     same = omega arith
 
-    by : (t : Bool) → nat_le (0 + length e) limit ≡ t → max (cond t (suc (fitting limit (0 + length e) entries)) 0) 1 ≡ suc (fitting limit (length e) entries)
+    by : (t : Bool) → nat_le (0 + length e) limit ≡ t
+        → max (cond t (suc (fitting limit (0 + length e) entries)) 0) 1 ≡ suc
+        (fitting limit (length e) entries)
     by true h = omega (arith, ap (λ n. fitting limit n entries) same)
     by false h = omega (arith, fitting-over limit (length e) entries (omega (arith, leb-false (0 + length e) limit h)))
 
@@ -65,7 +68,17 @@ needed-is limit tag since n (e ∷ entries) = (let one : length e + 0 ≡ length
 pub fresh-first : (limit : ℕ) (tag : List ℕ) (since n : ℕ) (entries : List (List ℕ))
     → 0 < length entries
     → fresh_of limit tag since n entries
-    ≡ record { number = n; tag = tag; entries = take (cut_count limit entries) entries; since = since; stage = stage_before (drop (cut_count limit entries) entries); losses = None } ∷ fresh_of limit tag since (n + 1) (drop (cut_count limit entries) entries)
+    ≡ record {
+      number = n;
+      tag = tag;
+      entries = take
+          (cut_count limit entries) entries;
+      since = since;
+      stage = stage_before
+          (drop (cut_count limit entries) entries);
+      losses = None;
+    } ∷ fresh_of limit tag since
+    (n + 1) (drop (cut_count limit entries) entries)
 fresh-first limit tag since n [] lt = absurd (omega arith)
 fresh-first limit tag since n (e ∷ entries) lt =
     let one : length e + 0 ≡ length e = omega arith in
@@ -103,7 +116,11 @@ unopened : (tag : List ℕ) (chunks : List Chunk) → find (is_open_of tag) chun
 unopened tag [] e = refl
 unopened tag (c ∷ chunks) e = by (unopened tag chunks) (is_open_of tag c) e
   where
-    by : (find (is_open_of tag) chunks ≡ None → changed (is_open_of tag) (staged Closed) chunks ≡ chunks) → (t : Bool) → cond t (Some c) (find (is_open_of tag) chunks) ≡ None → cond t (staged Closed c) c ∷ changed (is_open_of tag) (staged Closed) chunks ≡ c ∷ chunks
+    by :
+        (find (is_open_of tag) chunks ≡ None → changed (is_open_of tag) (staged Closed) chunks
+        ≡ chunks)
+        → (t : Bool) → cond t (Some c) (find (is_open_of tag) chunks) ≡ None
+        → cond t (staged Closed c) c ∷ changed (is_open_of tag) (staged Closed) chunks ≡ c ∷ chunks
     by rest true f = absurd (no_chunk f)
     by rest false f = ap (λ l. c ∷ l) (rest f)
 
@@ -119,14 +136,20 @@ open-number tag (d ∷ chunks) c h e = by (open-number tag chunks c h.1) (is_ope
     one : Some d ≡ Some c → d ≡ c
     one f = cc
 
-    by : (find (is_open_of tag) chunks ≡ Some c → AllByRecursion (λ x. is_open_of tag x ≡ (x.number == c.number)) chunks) → (t : Bool) → is_open_of tag d ≡ t → cond t (Some d) (find (is_open_of tag) chunks) ≡ Some c
-        → (is_open_of tag d ≡ (d.number == c.number)) × AllByRecursion (λ x. is_open_of tag x ≡ (x.number == c.number)) chunks
+    by :
+        (find (is_open_of tag) chunks ≡ Some c
+        → AllByRecursion (λ x. is_open_of tag x ≡ (x.number == c.number)) chunks)
+        → (t : Bool) → is_open_of tag d ≡ t
+        → cond t (Some d) (find (is_open_of tag) chunks) ≡ Some c
+        → (is_open_of tag d ≡ (d.number == c.number)) × AllByRecursion
+        (λ x. is_open_of tag x ≡ (x.number == c.number)) chunks
     by rest true f g = (f ∙ sym (ap (λ x. eqb d.number x.number) (sym (one g)) ∙ eq_same d.number), later chunks h.0)
       where
         parts : (is_open d.stage ≡ true) × (bytes_eq d.tag tag ≡ true)
         parts = and_parts (is_open d.stage) (bytes_eq d.tag tag) f
 
-        later : (xs : List Chunk) → AllByRecursion (IsBefore d) xs → AllByRecursion (λ x. is_open_of tag x ≡ (x.number == c.number)) xs
+        later : (xs : List Chunk) → AllByRecursion (IsBefore d) xs
+            → AllByRecursion (λ x. is_open_of tag x ≡ (x.number == c.number)) xs
         later [] all = tt
         later (x ∷ xs) all = (shut ∙ sym (not_from (x.number == c.number) (λ i. absurd (omega (arith, all.0.lower, eq_from x.number c.number i, ap (λ y. y.number) (one g))))), later xs all.1)
           where
@@ -139,7 +162,8 @@ open-number tag (d ∷ chunks) c h e = by (open-number tag chunks c h.1) (is_ope
 -- joined, and closed where others follow
 joined-open : (tag : List ℕ) (n : ℕ) (front : List (List ℕ)) (chunks : List Chunk)
     → AllByRecursion (λ d. is_open_of tag d ≡ (d.number == n)) chunks
-    → changed (is_at n) (with_entries front) chunks ≡ changed (is_at n) (joined_by front Open) chunks
+    → changed (is_at n) (with_entries front) chunks ≡ changed (is_at n)
+    (joined_by front Open) chunks
 joined-open tag n front [] all = refl
 joined-open tag n front (d ∷ chunks) all = λ i. one (d.number == n) refl i ∷ joined-open tag n front chunks all.1 i
   where
@@ -151,17 +175,23 @@ joined-open tag n front (d ∷ chunks) all = λ i. one (d.number == n) refl i �
         at Closed f = absurd cc
         at (Taken w) f = absurd cc
 
-    one : (t : Bool) → (d.number == n) ≡ t → cond t (with_entries front d) d ≡ cond t (joined_by front Open d) d
+    one : (t : Bool) → (d.number == n) ≡ t
+        → cond t (with_entries front d) d ≡ cond t (joined_by front Open d) d
     one true e = λ i. record d { entries = d.entries ++ front; stage = stage-open (all.0 ∙ e) i }
     one false e = refl
 
 joined-closed : (tag : List ℕ) (n : ℕ) (front : List (List ℕ)) (chunks : List Chunk)
     → AllByRecursion (λ d. is_open_of tag d ≡ (d.number == n)) chunks
-    → changed (is_open_of tag) (staged Closed) (changed (is_at n) (with_entries front) chunks) ≡ changed (is_at n) (joined_by front Closed) chunks
+    → changed (is_open_of tag) (staged Closed)
+    (changed (is_at n) (with_entries front) chunks) ≡ changed (is_at n)
+    (joined_by front Closed) chunks
 joined-closed tag n front [] all = refl
 joined-closed tag n front (d ∷ chunks) all = λ i. one (d.number == n) refl i ∷ joined-closed tag n front chunks all.1 i
   where
-    one : (t : Bool) → (d.number == n) ≡ t → cond (is_open_of tag (cond t (with_entries front d) d)) (staged Closed (cond t (with_entries front d) d)) (cond t (with_entries front d) d) ≡ cond t (joined_by front Closed d) d
+    one : (t : Bool) → (d.number == n) ≡ t
+        → cond (is_open_of tag (cond t (with_entries front d) d))
+        (staged Closed (cond t (with_entries front d) d)) (cond t (with_entries front d) d) ≡ cond t
+        (joined_by front Closed d) d
     one true e = ap (λ t. cond t (staged Closed (with_entries front d)) (with_entries front d)) (all.0 ∙ e)
     one false e = ap (λ t. cond t (staged Closed d) d) (all.0 ∙ e)
 
@@ -192,23 +222,34 @@ module _ (b : LiveBuffer) (tag : List ℕ) (c : Chunk) (order : AreInOrder b.chu
           unchanged [] = refl
           unchanged (d ∷ xs) = λ i. one d (is_at c.number d) i ∷ unchanged xs i
 
-      nothing : fitting b.setting.limits.chunk (size_of c.entries) entries ≡ 0 → live_adds_all b tag front ≡ joined b c.number front
+      nothing : fitting b.setting.limits.chunk (size_of c.entries) entries ≡ 0
+          → live_adds_all b tag front ≡ joined b c.number front
       nothing f = ap (λ k. live_adds_all b tag (take k entries)) f ∙ none ∙ ap (λ k. joined b c.number (take k entries)) (sym f)
 
-  below-joined : (xs : List (List ℕ)) → AllByRecursion (λ d. d.number < live_next_number b) (joined b c.number xs).chunks
+  below-joined : (xs : List (List ℕ))
+      → AllByRecursion (λ d. d.number < live_next_number b) (joined b c.number xs).chunks
   below-joined xs = all-map (λ d. d.number < live_next_number b) (λ d. d.number < live_next_number b) (λ d. cond (is_at c.number d) (with_entries xs d) d) (λ d lt. one d (is_at c.number d) lt) b.chunks below
     where
-      one : (d : Chunk) (t : Bool) → d.number < live_next_number b → (cond t (with_entries xs d) d).number < live_next_number b
+      one : (d : Chunk) (t : Bool) → d.number < live_next_number b
+          → (cond t (with_entries xs d) d).number < live_next_number b
       one d true lt = lt
       one d false lt = lt
 
-  shut_out : (x : List ℕ) (others : List (List ℕ)) → back ≡ x ∷ others → find (may_take (joined b c.number front) tag x) (joined b c.number front).chunks ≡ None
+  shut_out : (x : List ℕ) (others : List (List ℕ)) → back ≡ x ∷ others
+      → find (may_take (joined b c.number front) tag x) (joined b c.number front).chunks ≡ None
   shut_out x others f =
       may_not_join (joined b c.number front) tag (with_entries front c) (order-joined c.number front b.chunks order) (open-joined tag front b.chunks c e) x
       (omega (arith, size-append c.entries front, fitting-rest b.setting.limits.chunk (size_of c.entries) entries x others f))
 
   backs : (xs : List (List ℕ)) → back ≡ xs → live_adds_all (joined b c.number front) tag xs
-      ≡ record b { chunks = changed (is_at c.number) (joined_by front (stage_before xs)) b.chunks ++ fresh_of b.setting.limits.chunk tag b.moment (live_next_number b) xs; greatest = greatest_with b xs; accepted = b.accepted + (length front + length xs) }
+      ≡ record b {
+        chunks = changed (is_at c.number) (joined_by front (stage_before xs)) b.chunks
+            ++ fresh_of b.setting.limits.chunk tag b.moment
+            (live_next_number b) xs;
+        greatest = greatest_with b xs;
+        accepted = b.accepted +
+            (length front + length xs);
+      }
   backs [] f =
       let count : b.accepted + length front ≡ b.accepted + (length front + 0) = omega arith in
       λ i. record b { chunks = (joined-open tag c.number front b.chunks (open-number tag b.chunks c order e) ∙ sym (append-nil (changed (is_at c.number) (joined_by front Open) b.chunks))) i; accepted = count i }
@@ -221,22 +262,37 @@ module _ (b : LiveBuffer) (tag : List ℕ) (c : Chunk) (order : AreInOrder b.chu
         accepted = count i;
       })
 
-  pub open-filled : live_adds_all b tag entries ≡ record b { chunks = changed (is_at c.number) (joined_by front (stage_before back)) b.chunks ++ fresh_of b.setting.limits.chunk tag b.moment (live_next_number b) back; greatest = greatest_with b back; accepted = b.accepted + (length front + length back) }
+  pub open-filled : live_adds_all b tag entries ≡ record b {
+    chunks = changed (is_at c.number) (joined_by front (stage_before back)) b.chunks
+        ++ fresh_of b.setting.limits.chunk tag b.moment
+        (live_next_number b) back;
+    greatest = greatest_with b back;
+    accepted = b.accepted +
+        (length front + length back);
+  }
   open-filled =
       ap (live_adds_all b tag) (sym (take-append-drop (fitting b.setting.limits.chunk (size_of c.entries) entries) entries))
       ∙ adds_all-append front back b tag
       ∙ ap (λ x. live_adds_all x tag back) fronts
       ∙ backs back refl
 
-  back-runs : (xs : List (List ℕ)) → back ≡ xs → live_runs (joined b c.number front) tag xs ≡ map span_of (fresh_of b.setting.limits.chunk tag b.moment (live_next_number b) xs)
+  back-runs : (xs : List (List ℕ)) → back ≡ xs
+      → live_runs (joined b c.number front) tag xs ≡ map span_of
+      (fresh_of b.setting.limits.chunk tag b.moment (live_next_number b) xs)
   back-runs [] f = refl
   back-runs (x ∷ others) f = begun-runs (joined b c.number front) tag x others (below-joined front) (shut_out x others f)
 
-  before-fresh : (s : Span) (xs : List (List ℕ)) → s.number < live_next_number b → before_runs s (map span_of (fresh_of b.setting.limits.chunk tag b.moment (live_next_number b) xs)) ≡ s ∷ map span_of (fresh_of b.setting.limits.chunk tag b.moment (live_next_number b) xs)
+  before-fresh : (s : Span) (xs : List (List ℕ)) → s.number < live_next_number b
+      → before_runs s
+      (map span_of (fresh_of b.setting.limits.chunk tag b.moment (live_next_number b) xs)) ≡ s
+      ∷ map span_of
+      (fresh_of b.setting.limits.chunk tag b.moment (live_next_number b) xs)
   before-fresh s [] lt = refl
   before-fresh s (x ∷ others) lt = runs-fresh b.setting.limits.chunk tag b.moment (live_next_number b) (x ∷ []) others s lt
 
-  front-runs : (xs : List (List ℕ)) → front ≡ xs → live_runs b tag (xs ++ back) ≡ joined_span (Some c) xs ++ map span_of (fresh_of b.setting.limits.chunk tag b.moment (live_next_number b) back)
+  front-runs : (xs : List (List ℕ)) → front ≡ xs
+      → live_runs b tag (xs ++ back) ≡ joined_span (Some c) xs ++ map span_of
+      (fresh_of b.setting.limits.chunk tag b.moment (live_next_number b) back)
   front-runs [] f = ap (λ x. live_runs x tag back) (ap (live_adds_all b tag) (sym f) ∙ fronts) ∙ back-runs back refl
   front-runs (x ∷ others) f =
       let fits : size_of c.entries + (length x + size_of others) ≤ b.setting.limits.chunk = fit f in
@@ -245,7 +301,8 @@ module _ (b : LiveBuffer) (tag : List ℕ) (c : Chunk) (order : AreInOrder b.chu
       ∙ ap (before_runs (record { number = c.number; from = length c.entries; count = suc (length others) })) (back-runs back refl)
       ∙ before-fresh (record { number = c.number; from = length c.entries; count = suc (length others) }) back lower
     where
-      fit : front ≡ x ∷ others → size_of c.entries + (length x + size_of others) ≤ b.setting.limits.chunk
+      fit : front ≡ x ∷ others
+          → size_of c.entries + (length x + size_of others) ≤ b.setting.limits.chunk
       fit g = elim (cases_lt b.setting.limits.chunk (size_of c.entries)) [
         | inl lt ↦ absurd (no_list (sym (ap (λ k. take k entries) (sym (fitting-over b.setting.limits.chunk (size_of c.entries) entries lt))) ∙ g))
         | inr le ↦ omega (arith, ap size_of g, fitting-fits b.setting.limits.chunk (size_of c.entries) entries le)
@@ -254,7 +311,8 @@ module _ (b : LiveBuffer) (tag : List ℕ) (c : Chunk) (order : AreInOrder b.chu
           no_list : [] ≡ x ∷ others → ⊥
           no_list h = cc
 
-  pub open-spans : live_runs b tag entries ≡ joined_span (Some c) front ++ map span_of (fresh_of b.setting.limits.chunk tag b.moment (live_next_number b) back)
+  pub open-spans : live_runs b tag entries ≡ joined_span (Some c) front ++ map span_of
+      (fresh_of b.setting.limits.chunk tag b.moment (live_next_number b) back)
   open-spans = ap (live_runs b tag) (sym (take-append-drop (fitting b.setting.limits.chunk (size_of c.entries) entries) entries)) ∙ front-runs front refl
 
 -- ---- a request
@@ -264,7 +322,13 @@ module _ (b : LiveBuffer) (tag : List ℕ) (order : AreInOrder b.chunks) (below 
   joins_at o = joining_to b.setting.limits.chunk o entries
 
   no-filled : (xs : List (List ℕ)) → find (is_open_of tag) b.chunks ≡ None → live_adds_all b tag xs
-      ≡ record b { chunks = b.chunks ++ fresh_of b.setting.limits.chunk tag b.moment (live_next_number b) xs; greatest = greatest_with b xs; accepted = b.accepted + (0 + length xs) }
+      ≡ record b {
+        chunks = b.chunks ++ fresh_of b.setting.limits.chunk tag b.moment
+            (live_next_number b) xs;
+        greatest = greatest_with b xs;
+        accepted = b.accepted +
+            (0 + length xs);
+      }
   no-filled [] e = (let same : b.accepted ≡ b.accepted + (0 + 0) = omega arith in λ i. record b { chunks = sym (append-nil b.chunks) i; accepted = same i })
   no-filled (x ∷ others) e =
       let same : b.accepted + suc (length others) ≡ b.accepted + (0 + suc (length others)) = omega arith in
@@ -275,28 +339,42 @@ module _ (b : LiveBuffer) (tag : List ℕ) (order : AreInOrder b.chunks) (below 
         accepted = same i;
       })
 
-  no-spans : (xs : List (List ℕ)) → find (is_open_of tag) b.chunks ≡ None → live_runs b tag xs ≡ map span_of (fresh_of b.setting.limits.chunk tag b.moment (live_next_number b) xs)
+  no-spans : (xs : List (List ℕ)) → find (is_open_of tag) b.chunks ≡ None
+      → live_runs b tag xs ≡ map span_of
+      (fresh_of b.setting.limits.chunk tag b.moment (live_next_number b) xs)
   no-spans [] e = refl
   no-spans (x ∷ others) e = begun-runs b tag x others below (find-no_open tag (λ d. nat_le (size_of d.entries + length x) b.setting.limits.chunk) b.chunks e)
 
-  pub adds-filled : live_adds_all b tag entries ≡ filled b tag (take (joining_to b.setting.limits.chunk (find (is_open_of tag) b.chunks) entries) entries) (drop (joining_to b.setting.limits.chunk (find (is_open_of tag) b.chunks) entries) entries)
+  pub adds-filled : live_adds_all b tag entries ≡ filled b tag
+      (take (joining_to b.setting.limits.chunk (find (is_open_of tag) b.chunks) entries) entries)
+      (drop (joining_to b.setting.limits.chunk (find (is_open_of tag) b.chunks) entries) entries)
   adds-filled = by (find (is_open_of tag) b.chunks) refl
     where
       by : (o : Option Chunk) → find (is_open_of tag) b.chunks ≡ o
           → live_adds_all b tag entries
           ≡ record b {
-            chunks = joined_chunks o (take (joining_to b.setting.limits.chunk o entries) entries) (drop (joining_to b.setting.limits.chunk o entries) entries) b.chunks ++ fresh_of b.setting.limits.chunk tag b.moment (live_next_number b) (drop (joining_to b.setting.limits.chunk o entries) entries);
+            chunks = joined_chunks o (take (joining_to b.setting.limits.chunk o entries) entries)
+                (drop (joining_to b.setting.limits.chunk o entries) entries) b.chunks
+                ++ fresh_of b.setting.limits.chunk tag b.moment
+                (live_next_number b) (drop (joining_to b.setting.limits.chunk o entries) entries);
             greatest = greatest_with b (drop (joining_to b.setting.limits.chunk o entries) entries);
-            accepted = b.accepted + (length (take (joining_to b.setting.limits.chunk o entries) entries) + length (drop (joining_to b.setting.limits.chunk o entries) entries));
+            accepted = b.accepted +
+                (length (take (joining_to b.setting.limits.chunk o entries) entries) + length
+                (drop (joining_to b.setting.limits.chunk o entries) entries));
           }
       by None e = no-filled entries e
       by (Some c) e = open-filled b tag c order below e entries
 
-  pub runs-filled : live_runs b tag entries ≡ filled_spans b tag (take (joining_to b.setting.limits.chunk (find (is_open_of tag) b.chunks) entries) entries) (drop (joining_to b.setting.limits.chunk (find (is_open_of tag) b.chunks) entries) entries)
+  pub runs-filled : live_runs b tag entries ≡ filled_spans b tag
+      (take (joining_to b.setting.limits.chunk (find (is_open_of tag) b.chunks) entries) entries)
+      (drop (joining_to b.setting.limits.chunk (find (is_open_of tag) b.chunks) entries) entries)
   runs-filled = by (find (is_open_of tag) b.chunks) refl
     where
       by : (o : Option Chunk) → find (is_open_of tag) b.chunks ≡ o
-          → live_runs b tag entries ≡ joined_span o (take (joining_to b.setting.limits.chunk o entries) entries) ++ map span_of (fresh_of b.setting.limits.chunk tag b.moment (live_next_number b) (drop (joining_to b.setting.limits.chunk o entries) entries))
+          → live_runs b tag entries ≡ joined_span o
+          (take (joining_to b.setting.limits.chunk o entries) entries) ++ map span_of
+          (fresh_of b.setting.limits.chunk tag b.moment (live_next_number b)
+          (drop (joining_to b.setting.limits.chunk o entries) entries))
       by None e = no-spans entries e
       by (Some c) e = open-spans b tag c order below e entries
 
@@ -343,13 +421,14 @@ spent-filled b (x ∷ back) first = omega arith
 
 -- ---- what is stored
 
-adds-tags : (b : LiveBuffer) (tag entry : List ℕ) → length tag ≤ 1024
+adds-tags : (b : LiveBuffer) (tag entry : List ℕ) → length tag ≤ TAG_LIMIT
     → AllByRecursion TagFits b.chunks → AllByRecursion TagFits (live_adds b tag entry).chunks
 unfolding live_adds
 adds-tags b tag entry fits all = by (find (may_take b tag entry) b.chunks)
   where
-    same : (t : Bool) (c : Chunk) (f : Chunk → Chunk) → (f c).tag ≡ c.tag → TagFits c → TagFits (cond t (f c) c)
-    same true c f e h = subst (λ x. length x ≤ 1024) (sym e) h
+    same : (t : Bool) (c : Chunk) (f : Chunk → Chunk) → (f c).tag ≡ c.tag → TagFits c
+        → TagFits (cond t (f c) c)
+    same true c f e h = subst (λ x. length x ≤ TAG_LIMIT) (sym e) h
     same false c f e h = h
 
     by : (o : Option Chunk) → AllByRecursion TagFits (live_adds_to b tag entry o).chunks
@@ -357,13 +436,13 @@ adds-tags b tag entry fits all = by (find (may_take b tag entry) b.chunks)
     by None = all-push TagFits (changed (is_open_of tag) (staged Closed) b.chunks) (first_chunk b tag entry) (all-map TagFits TagFits (λ d. cond (is_open_of tag d) (staged Closed d) d) (λ d h. same (is_open_of tag d) d (staged Closed) refl h) b.chunks all) fits
 
 adds_all-tags : (entries : List (List ℕ)) (b : LiveBuffer) (tag : List ℕ)
-    → length tag ≤ 1024 → AllByRecursion TagFits b.chunks
+    → length tag ≤ TAG_LIMIT → AllByRecursion TagFits b.chunks
     → AllByRecursion TagFits (live_adds_all b tag entries).chunks
 adds_all-tags [] b tag fits all = all
 adds_all-tags (e ∷ entries) b tag fits all = adds_all-tags entries (live_adds b tag e) tag fits (adds-tags b tag e fits all)
 
 pub enters-stored : (b : LiveBuffer) (r : Request) (now size : ℕ) → IsStored b size
-    → length r.tag ≤ 1024 → live_refusal b r now ≡ None
+    → length r.tag ≤ TAG_LIMIT → live_refusal b r now ≡ None
     → IsStored (live_enters b r now) (size + size_of r.entries)
 enters-stored b r now size own fits e =
     let is = adds_all-added r.entries (live_looks b now) r.tag (sorted b now own.sound) in
@@ -383,10 +462,18 @@ last-fresh limit tag since n current [] last = (let same : n ≡ n + 0 = omega a
 last-fresh limit tag since n current (e ∷ entries) last =
     by (last-fresh limit tag since n (current ++ e ∷ []) entries last) (last-fresh limit tag since (n + 1) (e ∷ []) entries (Some n)) (nat_le (size_of current + length e) limit)
   where
-    by : last_of last (fresh_from limit tag since n (current ++ e ∷ []) entries) ≡ Some (n + extra limit (size_of (current ++ e ∷ [])) entries)
-        → last_of (Some n) (fresh_from limit tag since (n + 1) (e ∷ []) entries) ≡ Some (n + 1 + extra limit (size_of (e ∷ [])) entries)
-        → (b : Bool) → last_of last (cond b (fresh_from limit tag since n (current ++ e ∷ []) entries) (staged Closed (open_chunk tag since n current) ∷ fresh_from limit tag since (n + 1) (e ∷ []) entries))
-        ≡ Some (n + cond b (extra limit (size_of current + length e) entries) (suc (extra limit (length e) entries)))
+    by : last_of last (fresh_from limit tag since n (current ++ e ∷ []) entries) ≡ Some
+        (n + extra limit (size_of (current ++ e ∷ [])) entries)
+        → last_of (Some n) (fresh_from limit tag since (n + 1) (e ∷ []) entries) ≡ Some
+        (n + 1 + extra limit (size_of (e ∷ [])) entries)
+        → (b : Bool)
+        → last_of last
+        (cond b (fresh_from limit tag since n (current ++ e ∷ []) entries)
+        (staged Closed (open_chunk tag since n current)
+        ∷ fresh_from limit tag since (n + 1) (e ∷ []) entries))
+        ≡ Some
+        (n + cond b (extra limit (size_of current + length e) entries)
+        (suc (extra limit (length e) entries)))
     by one two true = one ∙ ap (λ k. Some (n + extra limit k entries)) (size_of-push current e)
     by one two false =
         let alone : size_of (e ∷ []) ≡ length e = omega arith in
@@ -400,8 +487,13 @@ above-from limit tag since n current [] last le = (le, tt)
 above-from limit tag since n current (e ∷ entries) last le =
     by (above-from limit tag since n (current ++ e ∷ []) entries last le) (above-from limit tag since (n + 1) (e ∷ []) entries (Some n) (omega arith)) (nat_le (size_of current + length e) limit)
   where
-    by : AreAbove last (fresh_from limit tag since n (current ++ e ∷ []) entries) → AreAbove (Some n) (fresh_from limit tag since (n + 1) (e ∷ []) entries)
-        → (b : Bool) → AreAbove last (cond b (fresh_from limit tag since n (current ++ e ∷ []) entries) (staged Closed (open_chunk tag since n current) ∷ fresh_from limit tag since (n + 1) (e ∷ []) entries))
+    by : AreAbove last (fresh_from limit tag since n (current ++ e ∷ []) entries)
+        → AreAbove (Some n) (fresh_from limit tag since (n + 1) (e ∷ []) entries)
+        → (b : Bool)
+        → AreAbove last
+        (cond b (fresh_from limit tag since n (current ++ e ∷ []) entries)
+        (staged Closed (open_chunk tag since n current)
+        ∷ fresh_from limit tag since (n + 1) (e ∷ []) entries))
     by one two true = one
     by one two false = (le, two)
 
@@ -419,7 +511,8 @@ fresh-above b tag since first (e ∷ back) next =
 
 pub fresh-last_number : (b : LiveBuffer) (tag : List ℕ) (since first : ℕ)
     (back : List (List ℕ)) → (0 < needed b.setting.limits.chunk back → first ≡ live_next_number b)
-    → last_of b.greatest (fresh_of b.setting.limits.chunk tag since first back) ≡ greatest_with b back
+    → last_of b.greatest
+    (fresh_of b.setting.limits.chunk tag since first back) ≡ greatest_with b back
 fresh-last_number b tag since first [] next = refl
 fresh-last_number b tag since first (e ∷ back) next =
     let alone : size_of (e ∷ []) ≡ length e = omega arith in
@@ -460,32 +553,54 @@ no_fault false true f = absurd (some f)
 no_fault false false f = (refl, refl)
 
 module _ (b : LiveBuffer) (r : Request) (now : ℕ) (p : Plan) (own : IsSound b) (is : IsPlan b r p) where
-  enters-filled : live_enters b r now ≡ filled (live_looks b now) r.tag (entries_in p.front) (entries_in p.back)
+  enters-filled : live_enters b r now ≡ filled (live_looks b now) r.tag (entries_in p.front)
+      (entries_in p.back)
   enters-filled = adds-filled (live_looks b now) r.tag own.in_order own.below r.entries ∙ (λ i. filled (live_looks b now) r.tag (sym is.front i) (sym is.back i))
 
   both-length : length (entries_in p.front) + length (entries_in p.back) ≡ length r.entries
   both-length = (λ i. length (is.front i) + length (is.back i)) ∙ length-cut (joining_to b.setting.limits.chunk (find (is_open_of r.tag) b.chunks) r.entries) r.entries
 
-  pub spent-plan : live_is_spent (live_enters b r now) ≡ (nat_lt (2 ^ 64) (live_next_number b + p.needed) || nat_le (2 ^ 64) (b.accepted + length r.entries))
+  pub spent-plan : live_is_spent (live_enters b r now) ≡
+      (nat_lt (2 ^ 64) (live_next_number b + p.needed) || nat_le (2 ^ 64)
+      (b.accepted + length r.entries))
   spent-plan =
       ap live_is_spent enters-filled
       ∙ (λ i. nat_lt (2 ^ 64) ((spent-filled (live_looks b now) (entries_in p.back) 0 ∙ ap (λ n. live_next_number b + n) (sym is.needs)) i) || nat_le (2 ^ 64) (b.accepted + both-length i))
 
-  pub unrefused : live_is_full b r ≡ false → (nat_lt (2 ^ 64) (live_next_number b + p.needed) || nat_le (2 ^ 64) (b.accepted + length r.entries)) ≡ false → live_refusal b r now ≡ None
+  pub unrefused : live_is_full b r ≡ false
+      →
+      (nat_lt (2 ^ 64) (live_next_number b + p.needed) || nat_le (2 ^ 64)
+      (b.accepted + length r.entries)) ≡ false
+      → live_refusal b r now ≡ None
   unrefused e f = λ i. cond (e i) (Some Full) (cond ((spent-plan ∙ f) i) (Some NumbersSpent) None)
 
-  pub refused-spent : live_is_full b r ≡ false → (nat_lt (2 ^ 64) (live_next_number b + p.needed) || nat_le (2 ^ 64) (b.accepted + length r.entries)) ≡ true → live_refusal b r now ≡ Some NumbersSpent
+  pub refused-spent : live_is_full b r ≡ false
+      →
+      (nat_lt (2 ^ 64) (live_next_number b + p.needed) || nat_le (2 ^ 64)
+      (b.accepted + length r.entries)) ≡ true
+      → live_refusal b r now ≡ Some NumbersSpent
   refused-spent e f = λ i. cond (e i) (Some Full) (cond ((spent-plan ∙ f) i) (Some NumbersSpent) None)
 
   -- what a request that is not refused leaves room for
-  pub room-left : live_refusal b r now ≡ None → (live_next_number b + p.needed ≤ 2 ^ 64) × (b.accepted + length r.entries < 2 ^ 64) × (bytes_in b.chunks + size_of r.entries ≤ b.setting.limits.total)
+  pub room-left : live_refusal b r now ≡ None
+      → (live_next_number b + p.needed ≤ 2 ^ 64) × (b.accepted + length r.entries < 2 ^ 64) ×
+      (bytes_in b.chunks + size_of r.entries ≤ b.setting.limits.total)
   room-left e =
       let free = no_fault (live_is_full b r) (live_is_spent (live_enters b r now)) e in
       let parts = or_parts (nat_lt (2 ^ 64) (live_next_number b + p.needed)) (nat_le (2 ^ 64) (b.accepted + length r.entries)) (sym spent-plan ∙ free.1) in
       (ltb-false (2 ^ 64) (live_next_number b + p.needed) parts.0, leb-false (2 ^ 64) (b.accepted + length r.entries) parts.1, ltb-false b.setting.limits.total (bytes_in b.chunks + size_of r.entries) free.0)
 
-  pub entered : (first : ℕ) (fresh : List Chunk) (count : ℕ) → fresh ≡ fresh_of b.setting.limits.chunk r.tag (max b.moment now) first (entries_in p.back) → (0 < p.needed → first ≡ live_next_number b) → count ≡ length r.entries
-      → record b { chunks = filled_in p.joins (entries_in p.front) (stage_last (length fresh == 0)) b.chunks ++ fresh; greatest = last_of b.greatest fresh; accepted = b.accepted + count; moment = max b.moment now } ≡ live_enters b r now
+  pub entered : (first : ℕ) (fresh : List Chunk) (count : ℕ)
+      → fresh ≡ fresh_of b.setting.limits.chunk r.tag (max b.moment now) first (entries_in p.back)
+      → (0 < p.needed → first ≡ live_next_number b) → count ≡ length r.entries
+      → record b {
+        chunks = filled_in p.joins (entries_in p.front) (stage_last (length fresh == 0)) b.chunks
+            ++ fresh;
+        greatest = last_of b.greatest fresh;
+        accepted = b.accepted + count;
+        moment = max b.moment now;
+      }
+      ≡ live_enters b r now
   entered first fresh count made next counted =
       let back = entries_in p.back in
       let front = entries_in p.front in
@@ -502,8 +617,12 @@ module _ (b : LiveBuffer) (r : Request) (now : ℕ) (p : Plan) (own : IsSound b)
       })
       ∙ sym enters-filled
 
-  pub entered-spans : (first : ℕ) (fresh : List Chunk) (spans : List Span) → fresh ≡ fresh_of b.setting.limits.chunk r.tag (max b.moment now) first (entries_in p.back) → (0 < p.needed → first ≡ live_next_number b)
-      → spans ≡ joined_span (find (is_open_of r.tag) b.chunks) (entries_in p.front) ++ map span_of fresh → spans ≡ live_spans b r now
+  pub entered-spans : (first : ℕ) (fresh : List Chunk) (spans : List Span)
+      → fresh ≡ fresh_of b.setting.limits.chunk r.tag (max b.moment now) first (entries_in p.back)
+      → (0 < p.needed → first ≡ live_next_number b)
+      → spans ≡ joined_span (find (is_open_of r.tag) b.chunks)
+      (entries_in p.front) ++ map span_of fresh
+      → spans ≡ live_spans b r now
   entered-spans first fresh spans made next e =
       let needs : 0 < needed b.setting.limits.chunk (entries_in p.back) → first ≡ live_next_number b = λ up. next (omega (arith, up, is.needs)) in
       e

@@ -1,6 +1,7 @@
 -- What the calls of a buffer leave is stored soundly.
 use Rattle.std.proofs.Common.{◌≡◌, ℕ, ◌+◌, ◌-◌, ◌≤◌, Bool, true, false, cond, length, Option, Some, None, refl, sym, ap, ◌∙◌, subst, max, arith}
 use Rattle.std.specs.Prelude.{filter, not, find, option_map, is_some}
+use Rattle.fwd_modes.specs.declared.limits.TheConstants.{TAG_LIMIT}
 use Rattle.fwd_chunks.specs.declared.chunk.Chunk.{Chunk}
 use Rattle.fwd_chunks.specs.declared.flush.FlushKind.{FlushKind}
 use Rattle.fwd_chunks.specs.declared.stage.Stage.TheVariants.{Closed}
@@ -32,10 +33,11 @@ looks-stored b moment size own = record {
 pub changed-stored : (b : LiveBuffer) (test : Chunk → Bool) (f : Chunk
     → Chunk) (moment size : ℕ) → ((c : Chunk) → (f c).number ≡ c.number)
     → ((c : Chunk) → (f c).tag ≡ c.tag) → ((c : Chunk) → (f c).entries ≡ c.entries)
-    → ((c : Chunk) → is_open (f c).stage ≡ false) → IsStored b size → IsStored (record b { chunks = changed test f b.chunks; moment = moment }) size
+    → ((c : Chunk) → is_open (f c).stage ≡ false) → IsStored b size
+    → IsStored (record b { chunks = changed test f b.chunks; moment = moment }) size
 changed-stored b test f moment size number tag entries shut own = record {
   sound = changed-sound b test f moment number tag entries shut own.sound;
-  tags = all-map TagFits TagFits (λ c. cond (test c) (f c) c) (λ c fits. subst (λ t. length t ≤ 1024) (sym (tags (test c) c)) fits) b.chunks own.tags;
+  tags = all-map TagFits TagFits (λ c. cond (test c) (f c) c) (λ c fits. subst (λ t. length t ≤ TAG_LIMIT) (sym (tags (test c) c)) fits) b.chunks own.tags;
   bytes = own.bytes ∙ bytes-total b.chunks ∙ sym (total-map (λ c. size_of c.entries) (λ c. cond (test c) (f c) c) (λ c. ap size_of (contents (test c) c)) b.chunks) ∙ sym (bytes-total (changed test f b.chunks));
 }
   where
@@ -105,7 +107,9 @@ settles-stored b n size c own e = record {
 -- the code's way to the same
 pub settles-is : (b : LiveBuffer) (n size : ℕ) (c : Chunk) → IsStored b size
     → find (is_at n) b.chunks ≡ Some c
-    → record b { chunks = filter (λ d. not (is_at n d)) b.chunks; settled = b.settled + length c.entries } ≡ live_settles b n
+    → record b
+    { chunks = filter (λ d. not (is_at n d)) b.chunks; settled = b.settled + length c.entries }
+    ≡ live_settles b n
 settles-is b n size c own e = λ j. record b { settled = b.settled + sym (count-found b n size c own e) j; chunks = filter (λ d. not (is_at n d)) b.chunks }
 
 -- where no chunk has the number

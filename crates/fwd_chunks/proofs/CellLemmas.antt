@@ -18,7 +18,9 @@ pub filter-push : {X : Type 0} (p : X → Bool) (xs : List X) (y : X)
 filter-push p [] y = refl
 filter-push p (x ∷ xs) y = by (filter-push p xs y) (p x)
   where
-    by : filter p (xs ++ y ∷ []) ≡ filter p xs ++ cond (p y) (y ∷ []) [] → (b : Bool) → cond b (x ∷ filter p (xs ++ y ∷ [])) (filter p (xs ++ y ∷ [])) ≡ cond b (x ∷ filter p xs) (filter p xs) ++ cond (p y) (y ∷ []) []
+    by : filter p (xs ++ y ∷ []) ≡ filter p xs ++ cond (p y) (y ∷ []) [] → (b : Bool)
+        → cond b (x ∷ filter p (xs ++ y ∷ [])) (filter p (xs ++ y ∷ [])) ≡ cond b (x ∷ filter p xs)
+        (filter p xs) ++ cond (p y) (y ∷ []) []
     by rest true = ap (λ l. x ∷ l) rest
     by rest false = rest
 
@@ -48,7 +50,8 @@ pub any-false : {X : Type 0} (p : X → Bool) (xs : List X) → list_any p xs �
 any-false p [] h = refl
 any-false p (x ∷ xs) h = by (any-false p xs) (p x) refl h
   where
-    by : (list_any p xs ≡ false → filter p xs ≡ []) → (b : Bool) → p x ≡ b → (b || list_any p xs) ≡ false → cond b (x ∷ filter p xs) (filter p xs) ≡ []
+    by : (list_any p xs ≡ false → filter p xs ≡ []) → (b : Bool) → p x ≡ b
+        → (b || list_any p xs) ≡ false → cond b (x ∷ filter p xs) (filter p xs) ≡ []
     by rest true e g = absurd cc
     by rest false e g = rest g
 
@@ -56,7 +59,8 @@ pub any-find : {X : Type 0} (p : X → Bool) (xs : List X) → list_any p xs ≡
 any-find p [] = refl
 any-find p (x ∷ xs) = by (any-find p xs) (p x)
   where
-    by : list_any p xs ≡ is_some (find p xs) → (b : Bool) → (b || list_any p xs) ≡ is_some (cond b (Some x) (find p xs))
+    by : list_any p xs ≡ is_some (find p xs) → (b : Bool)
+        → (b || list_any p xs) ≡ is_some (cond b (Some x) (find p xs))
     by rest true = refl
     by rest false = rest
 
@@ -70,10 +74,14 @@ pub numbers-has : (k : ℕ) (cells : List Cell)
 numbers-has k [] = refl
 numbers-has k (c ∷ cells) = by (numbers-has k cells) (c.number == k) refl
   where
-    others : has_number k (numbers_of cells) ≡ has_cell k cells → has_number k (filter (λ j. not (j == c.number)) (numbers_of cells)) ≡ (has_cell k cells && not (k == c.number))
+    others : has_number k (numbers_of cells) ≡ has_cell k cells
+        → has_number k (filter (λ j. not (j == c.number)) (numbers_of cells)) ≡
+        (has_cell k cells && not (k == c.number))
     others rest = has_number-filter k (λ j. not (j == c.number)) (numbers_of cells) ∙ ap (λ b. b && not (k == c.number)) rest
 
-    by : has_number k (numbers_of cells) ≡ has_cell k cells → (b : Bool) → (c.number == k) ≡ b → (b || has_number k (filter (λ j. not (j == c.number)) (numbers_of cells))) ≡ (b || has_cell k cells)
+    by : has_number k (numbers_of cells) ≡ has_cell k cells → (b : Bool) → (c.number == k) ≡ b
+        → (b || has_number k (filter (λ j. not (j == c.number)) (numbers_of cells))) ≡
+        (b || has_cell k cells)
     by rest true e = refl
     by rest false e = grind (arith, nat_tests, others rest, e)
 
@@ -91,8 +99,11 @@ pub numbers-push : (cells : List Cell) (d : Cell)
 numbers-push [] d = refl
 numbers-push (c ∷ cells) d = ap (λ ns. c.number ∷ filter (λ j. not (j == c.number)) ns) (numbers-push cells d) ∙ by (has_cell d.number cells) (c.number == d.number) refl
   where
-    by : (b e : Bool) → (c.number == d.number) ≡ e → c.number ∷ filter (λ j. not (j == c.number)) (cond b (numbers_of cells) (numbers_of cells ++ d.number ∷ []))
-        ≡ cond (e || b) (c.number ∷ filter (λ j. not (j == c.number)) (numbers_of cells)) ((c.number ∷ filter (λ j. not (j == c.number)) (numbers_of cells)) ++ d.number ∷ [])
+    by : (b e : Bool) → (c.number == d.number) ≡ e
+        → c.number ∷ filter (λ j. not (j == c.number))
+        (cond b (numbers_of cells) (numbers_of cells ++ d.number ∷ []))
+        ≡ cond (e || b) (c.number ∷ filter (λ j. not (j == c.number)) (numbers_of cells))
+        ((c.number ∷ filter (λ j. not (j == c.number)) (numbers_of cells)) ++ d.number ∷ [])
     by true true f = refl
     by true false f = refl
     by false true f = ap (λ l. c.number ∷ l) (filter-push_out (λ j. not (j == c.number)) (numbers_of cells) d.number (ap not (ap (λ x. eqb x c.number) (sym (eq_from c.number d.number f)) ∙ eq_same c.number)))
@@ -103,8 +114,11 @@ pub numbers-filter : (p : ℕ → Bool) (cells : List Cell)
 numbers-filter p [] = refl
 numbers-filter p (c ∷ cells) = by (numbers-filter p cells) (p c.number) refl
   where
-    by : numbers_of (filter (λ d. p d.number) cells) ≡ filter p (numbers_of cells) → (b : Bool) → p c.number ≡ b → numbers_of (cond b (c ∷ filter (λ d. p d.number) cells) (filter (λ d. p d.number) cells))
-        ≡ cond b (c.number ∷ filter p (filter (λ j. not (j == c.number)) (numbers_of cells))) (filter p (filter (λ j. not (j == c.number)) (numbers_of cells)))
+    by : numbers_of (filter (λ d. p d.number) cells) ≡ filter p (numbers_of cells) → (b : Bool)
+        → p c.number ≡ b
+        → numbers_of (cond b (c ∷ filter (λ d. p d.number) cells) (filter (λ d. p d.number) cells))
+        ≡ cond b (c.number ∷ filter p (filter (λ j. not (j == c.number)) (numbers_of cells)))
+        (filter p (filter (λ j. not (j == c.number)) (numbers_of cells)))
     by rest true e = ap (λ ns. c.number ∷ filter (λ j. not (j == c.number)) ns) rest ∙ ap (λ l. c.number ∷ l) (filter-filter (λ j. not (j == c.number)) p (numbers_of cells))
     by rest false e = rest ∙ sym (filter-within p (λ j. not (j == c.number)) apart (numbers_of cells))
       where
@@ -130,7 +144,9 @@ pub cells_at-some : (k : ℕ) (cells : List Cell) → has_cell k cells ≡ true
 cells_at-some k [] h = absurd cc
 cells_at-some k (c ∷ cells) h = by (cells_at-some k cells) (c.number == k) refl h
   where
-    by : (has_cell k cells ≡ true → 0 < length (cells_at k cells)) → (b : Bool) → (c.number == k) ≡ b → (b || has_cell k cells) ≡ true → 0 < length (cond b (c ∷ cells_at k cells) (cells_at k cells))
+    by : (has_cell k cells ≡ true → 0 < length (cells_at k cells)) → (b : Bool)
+        → (c.number == k) ≡ b → (b || has_cell k cells) ≡ true
+        → 0 < length (cond b (c ∷ cells_at k cells) (cells_at k cells))
     by rest true e g = omega arith
     by rest false e g = rest g
 
@@ -167,7 +183,8 @@ pub has_entry-cell : (tag : List ℕ) (k : ℕ) (cells : List Cell)
 has_entry-cell tag k [] h = h
 has_entry-cell tag k (c ∷ cells) h = by (has_entry-cell tag k cells) (c.number == k) (bytes_eq c.tag tag) h
   where
-    by : (has_entry tag k cells ≡ true → has_cell k cells ≡ true) → (a b : Bool) → ((a && b) || has_entry tag k cells) ≡ true → (a || has_cell k cells) ≡ true
+    by : (has_entry tag k cells ≡ true → has_cell k cells ≡ true) → (a b : Bool)
+        → ((a && b) || has_entry tag k cells) ≡ true → (a || has_cell k cells) ≡ true
     by rest true b g = refl
     by rest false b g = rest g
 
@@ -177,8 +194,12 @@ pub first_tag-entry : (k : ℕ) (cells : List Cell) → has_cell k cells ≡ tru
 first_tag-entry k [] h = absurd cc
 first_tag-entry k (c ∷ cells) h = by (first_tag-entry k cells) (c.number == k) refl h
   where
-    by : (has_cell k cells ≡ true → has_entry (first_tag (cells_at k cells)) k cells ≡ true) → (b : Bool) → (c.number == k) ≡ b → (b || has_cell k cells) ≡ true
-        → ((b && bytes_eq c.tag (first_tag (cond b (c ∷ cells_at k cells) (cells_at k cells)))) || has_entry (first_tag (cond b (c ∷ cells_at k cells) (cells_at k cells))) k cells) ≡ true
+    by : (has_cell k cells ≡ true → has_entry (first_tag (cells_at k cells)) k cells ≡ true)
+        → (b : Bool) → (c.number == k) ≡ b → (b || has_cell k cells) ≡ true
+        →
+        ((b && bytes_eq c.tag
+        (first_tag (cond b (c ∷ cells_at k cells) (cells_at k cells)))) || has_entry (first_tag
+        (cond b (c ∷ cells_at k cells) (cells_at k cells))) k cells) ≡ true
     by rest true e g = ap (λ b. b || has_entry c.tag k cells) ((bytes_eq-Decides c.tag c.tag).1 refl)
     by rest false e g = rest g
 
@@ -188,8 +209,11 @@ pub last_number-push : (tag : List ℕ) (cells : List Cell) (d : Cell)
 last_number-push tag [] d = refl
 last_number-push tag (c ∷ cells) d = ap (λ o. option_or o (cond (bytes_eq c.tag tag) (Some c.number) None)) (last_number-push tag cells d) ∙ by (bytes_eq d.tag tag)
   where
-    by : (b : Bool) → option_or (cond b (Some d.number) (last_number tag cells)) (cond (bytes_eq c.tag tag) (Some c.number) None)
-        ≡ cond b (Some d.number) (option_or (last_number tag cells) (cond (bytes_eq c.tag tag) (Some c.number) None))
+    by : (b : Bool)
+        → option_or (cond b (Some d.number) (last_number tag cells))
+        (cond (bytes_eq c.tag tag) (Some c.number) None)
+        ≡ cond b (Some d.number)
+        (option_or (last_number tag cells) (cond (bytes_eq c.tag tag) (Some c.number) None))
     by true = refl
     by false = refl
 
@@ -198,7 +222,10 @@ pub last_number-entry : (tag : List ℕ) (k : ℕ) (cells : List Cell)
 last_number-entry tag k [] e = absurd cc
 last_number-entry tag k (c ∷ cells) e = by (last_number-entry tag k cells) (last_number tag cells) refl (bytes_eq c.tag tag) refl e
   where
-    by : (last_number tag cells ≡ Some k → has_entry tag k cells ≡ true) → (o : Option ℕ) → last_number tag cells ≡ o → (b : Bool) → bytes_eq c.tag tag ≡ b → option_or o (cond b (Some c.number) None) ≡ Some k → (((c.number == k) && bytes_eq c.tag tag) || has_entry tag k cells) ≡ true
+    by : (last_number tag cells ≡ Some k → has_entry tag k cells ≡ true) → (o : Option ℕ)
+        → last_number tag cells ≡ o → (b : Bool) → bytes_eq c.tag tag ≡ b
+        → option_or o (cond b (Some c.number) None) ≡ Some k
+        → (((c.number == k) && bytes_eq c.tag tag) || has_entry tag k cells) ≡ true
     by rest (Some j) f b g h = right ((c.number == k) && bytes_eq c.tag tag) (rest (f ∙ h))
       where
         right : (a : Bool) → has_entry tag k cells ≡ true → (a || has_entry tag k cells) ≡ true
@@ -221,7 +248,9 @@ le-greater j k (c ∷ cells) h = by (le-greater c.number k cells) (c.number == k
         at None = omega arith
         at (Some m) = omega arith
 
-    by : (has_cell k cells ≡ true → k ≤ greater c.number (greatest cells)) → (b : Bool) → (c.number == k) ≡ b → (b || has_cell k cells) ≡ true → k ≤ max j (greater c.number (greatest cells))
+    by : (has_cell k cells ≡ true → k ≤ greater c.number (greatest cells)) → (b : Bool)
+        → (c.number == k) ≡ b → (b || has_cell k cells) ≡ true
+        → k ≤ max j (greater c.number (greatest cells))
     by rest true e g = let same : c.number ≡ k = eq_from c.number k e in omega (arith, same, first)
     by rest false e g = omega (arith, rest g)
 
@@ -237,7 +266,8 @@ below-next first k (c ∷ cells) h = by (c.number == k) refl h
         at None = omega arith
         at (Some m) = omega arith
 
-    by : (b : Bool) → (c.number == k) ≡ b → (b || has_cell k cells) ≡ true → k < greater c.number (greatest cells) + 1
+    by : (b : Bool) → (c.number == k) ≡ b → (b || has_cell k cells) ≡ true
+        → k < greater c.number (greatest cells) + 1
     by true e g = let same : c.number ≡ k = eq_from c.number k e in omega (arith, same, here)
     by false e g = omega (arith, le-greater c.number k cells g)
 
@@ -263,7 +293,8 @@ greatest-same k (c ∷ cells) h = ap Some (by (c.number == k) refl h)
         at None = omega arith
         at (Some m) = omega arith
 
-    by : (b : Bool) → (c.number == k) ≡ b → (b || has_cell k cells) ≡ true → max k (greater c.number (greatest cells)) ≡ greater c.number (greatest cells)
+    by : (b : Bool) → (c.number == k) ≡ b → (b || has_cell k cells) ≡ true
+        → max k (greater c.number (greatest cells)) ≡ greater c.number (greatest cells)
     by true e g = let same : c.number ≡ k = eq_from c.number k e in omega (arith, same, here)
     by false e g = omega (arith, le-greater c.number k cells g)
 
@@ -286,17 +317,22 @@ weigh_numbers w (c ∷ cells) = omega (arith, here, others, by (weigh_numbers w 
     here : weigh w (cells_at c.number (c ∷ cells)) ≡ w c + weigh w (cells_at c.number cells)
     here = ap (λ b. weigh w (cond b (c ∷ cells_at c.number cells) (cells_at c.number cells))) (eq_same c.number)
 
-    others : sum_over (λ k. weigh w (cells_at k (c ∷ cells))) (filter (λ j. not (j == c.number)) (numbers_of cells)) ≡ sum_over (λ k. weigh w (cells_at k cells)) (filter (λ j. not (j == c.number)) (numbers_of cells))
+    others : sum_over (λ k. weigh w (cells_at k (c ∷ cells)))
+        (filter (λ j. not (j == c.number)) (numbers_of cells)) ≡ sum_over
+        (λ k. weigh w (cells_at k cells)) (filter (λ j. not (j == c.number)) (numbers_of cells))
     others = sum_over-same (λ k. weigh w (cells_at k (c ∷ cells))) (λ k. weigh w (cells_at k cells)) (filter (λ j. not (j == c.number)) (numbers_of cells)) (λ k e. passed k (sym (has_number-filter k (λ j. not (j == c.number)) (numbers_of cells)) ∙ e))
       where
-        passed : (k : ℕ) → (has_number k (numbers_of cells) && not (k == c.number)) ≡ true → weigh w (cells_at k (c ∷ cells)) ≡ weigh w (cells_at k cells)
+        passed : (k : ℕ) → (has_number k (numbers_of cells) && not (k == c.number)) ≡ true
+            → weigh w (cells_at k (c ∷ cells)) ≡ weigh w (cells_at k cells)
         passed k e = ap (λ b. weigh w (cond b (c ∷ cells_at k cells) (cells_at k cells))) apart
           where
             apart : (c.number == k) ≡ false
             apart = grind (arith, nat_tests, e)
 
-    by : sum_over (λ k. weigh w (cells_at k cells)) (numbers_of cells) ≡ weigh w cells → (b : Bool) → has_number c.number (numbers_of cells) ≡ b
-        → weigh w (cells_at c.number cells) + sum_over (λ k. weigh w (cells_at k cells)) (filter (λ j. not (j == c.number)) (numbers_of cells)) ≡ weigh w cells
+    by : sum_over (λ k. weigh w (cells_at k cells)) (numbers_of cells) ≡ weigh w cells → (b : Bool)
+        → has_number c.number (numbers_of cells) ≡ b
+        → weigh w (cells_at c.number cells) + sum_over (λ k. weigh w (cells_at k cells))
+        (filter (λ j. not (j == c.number)) (numbers_of cells)) ≡ weigh w cells
     by rest true e = sum_over-split (λ k. weigh w (cells_at k cells)) c.number (numbers_of cells) (numbers-distinct cells) e ∙ rest
     by rest false e =
         let none : cells_at c.number cells ≡ [] = cells_at-none c.number cells (sym (numbers-has c.number cells) ∙ e) in
@@ -338,7 +374,12 @@ pub carry_at-push_same : (w k : ℕ) (cs : List Carry) → is_carried k cs ≡ f
 carry_at-push_same w k [] none = ap (λ b. cond b (Some (record { worker = w; number = k })) None) (eq_same k)
 carry_at-push_same w k (c ∷ cs) none = by (carry_at-push_same w k cs) (eqb c.number k) refl none
   where
-    by : (is_carried k cs ≡ false → carry_at k (cs ++ record { worker = w; number = k } ∷ []) ≡ Some (record { worker = w; number = k })) → (b : Bool) → eqb c.number k ≡ b → (b || is_carried k cs) ≡ false → cond b (Some c) (carry_at k (cs ++ record { worker = w; number = k } ∷ [])) ≡ Some (record { worker = w; number = k })
+    by :
+        (is_carried k cs ≡ false → carry_at k (cs ++ record { worker = w; number = k } ∷ [])
+        ≡ Some (record { worker = w; number = k }))
+        → (b : Bool) → eqb c.number k ≡ b → (b || is_carried k cs) ≡ false
+        → cond b (Some c) (carry_at k (cs ++ record { worker = w; number = k } ∷ [])) ≡ Some
+        (record { worker = w; number = k })
     by rest true e g = absurd cc
     by rest false e g = rest g
 

@@ -31,11 +31,14 @@ pub chunks-rise : (xs : List Slot) → NumbersRise xs → AllByRecursion IsOwn x
 chunks-rise [] rise own = tt
 chunks-rise (x ∷ xs) rise own = by x.chunk own.0 (above-all x.number xs rise.0 own.1) (chunks-rise xs rise.1 own.1)
   where
-    under : (c : Chunk) (ds : List Chunk) → c.number ≡ x.number → AllByRecursion (λ d. x.number < d.number) ds → AllByRecursion (IsUnder c) ds
+    under : (c : Chunk) (ds : List Chunk) → c.number ≡ x.number
+        → AllByRecursion (λ d. x.number < d.number) ds → AllByRecursion (IsUnder c) ds
     under c [] e all = tt
     under c (d ∷ ds) e all = (subst (λ k. k < d.number) (sym e) all.0, under c ds e all.1)
 
-    by : (o : Option Chunk) → AllByRecursion (λ c. c.number ≡ x.number) (option_to_list o) → AllByRecursion (λ d. x.number < d.number) (present xs) → ChunksRise (present xs) → ChunksRise (option_to_list o ++ present xs)
+    by : (o : Option Chunk) → AllByRecursion (λ c. c.number ≡ x.number) (option_to_list o)
+        → AllByRecursion (λ d. x.number < d.number) (present xs) → ChunksRise (present xs)
+        → ChunksRise (option_to_list o ++ present xs)
     by None same all rest = rest
     by (Some c) same all rest = (under c (present xs) same.0 all, rest)
 
@@ -58,11 +61,14 @@ found-in P p (x ∷ xs) c all e = by (found-in P p xs c all.1) (p x) refl
     by rest false t = rest (ap (λ d. cond d (Some x) (find p xs)) (sym t) ∙ e)
 
 module _ (p : Chunk → Bool) (f : Chunk → Chunk) (shut : (c : Chunk) → p (f c) ≡ false) where
-  pub closed-once : (xs : List Chunk) (c : Chunk) → ChunksRise xs → find p xs ≡ Some c → changed p f (changed (is_at c.number) f xs) ≡ changed p f xs
+  pub closed-once : (xs : List Chunk) (c : Chunk) → ChunksRise xs → find p xs ≡ Some c
+      → changed p f (changed (is_at c.number) f xs) ≡ changed p f xs
   closed-once [] c rise e = refl
   closed-once (x ∷ xs) c rise e = by (closed-once xs c rise.1) (p x) refl
     where
-      by : (find p xs ≡ Some c → changed p f (changed (is_at c.number) f xs) ≡ changed p f xs) → (b : Bool) → p x ≡ b → changed p f (changed (is_at c.number) f (x ∷ xs)) ≡ changed p f (x ∷ xs)
+      by : (find p xs ≡ Some c → changed p f (changed (is_at c.number) f xs) ≡ changed p f xs)
+          → (b : Bool) → p x ≡ b
+          → changed p f (changed (is_at c.number) f (x ∷ xs)) ≡ changed p f (x ∷ xs)
       by more true t =
           let is : x ≡ c = one_chunk (ap (λ d. cond d (Some x) (find p xs)) (sym t) ∙ e) in
           let here : is_at c.number x ≡ true = ap (λ y. eqb x.number y.number) (sym is) ∙ eq_same x.number in
@@ -77,11 +83,16 @@ module _ (p : Chunk → Bool) (f : Chunk → Chunk) (shut : (c : Chunk) → p (f
           (λ i. changed p f (cond (apart i) (f x) x ∷ changed (is_at c.number) f xs))
           ∙ ap (λ l. cond (p x) (f x) x ∷ l) (more rest)
 
-  pub closed-count : (xs : List Chunk) (c : Chunk) → ChunksRise xs → find p xs ≡ Some c → length (filter p (changed (is_at c.number) f xs)) + 1 ≡ length (filter p xs)
+  pub closed-count : (xs : List Chunk) (c : Chunk) → ChunksRise xs → find p xs ≡ Some c
+      → length (filter p (changed (is_at c.number) f xs)) + 1 ≡ length (filter p xs)
   closed-count [] c rise e = absurd (none_some e)
   closed-count (x ∷ xs) c rise e = by (closed-count xs c rise.1) (p x) refl
     where
-      by : (find p xs ≡ Some c → length (filter p (changed (is_at c.number) f xs)) + 1 ≡ length (filter p xs)) → (b : Bool) → p x ≡ b → length (filter p (changed (is_at c.number) f (x ∷ xs))) + 1 ≡ length (filter p (x ∷ xs))
+      by :
+          (find p xs ≡ Some c → length (filter p (changed (is_at c.number) f xs)) + 1
+          ≡ length (filter p xs))
+          → (b : Bool) → p x ≡ b
+          → length (filter p (changed (is_at c.number) f (x ∷ xs))) + 1 ≡ length (filter p (x ∷ xs))
       by more true t =
           let is : x ≡ c = one_chunk (ap (λ d. cond d (Some x) (find p xs)) (sym t) ∙ e) in
           let here : is_at c.number x ≡ true = ap (λ y. eqb x.number y.number) (sym is) ∙ eq_same x.number in
@@ -105,7 +116,8 @@ pub closed-all : (p : Chunk → Bool) (f : Chunk → Chunk) (xs : List Chunk) �
 closed-all p f [] e = refl
 closed-all p f (x ∷ xs) e = by (closed-all p f xs) (p x) refl
   where
-    by : (find p xs ≡ None → changed p f xs ≡ xs) → (b : Bool) → p x ≡ b → changed p f (x ∷ xs) ≡ x ∷ xs
+    by : (find p xs ≡ None → changed p f xs ≡ xs) → (b : Bool) → p x ≡ b
+        → changed p f (x ∷ xs) ≡ x ∷ xs
     by rest true t = absurd (none_some (sym (ap (λ d. cond d (Some x) (find p xs)) (sym t) ∙ e)))
     by rest false t =
         ap (λ d. cond d (f x) x ∷ changed p f xs) t
@@ -138,7 +150,8 @@ pub filter-short : {X : Type 0} (p : X → Bool) (xs : List X) → length (filte
 filter-short p [] = omega arith
 filter-short p (x ∷ xs) = by (p x) (filter-short p xs)
   where
-    by : (b : Bool) → length (filter p xs) ≤ length xs → length (cond b (x ∷ filter p xs) (filter p xs)) ≤ suc (length xs)
+    by : (b : Bool) → length (filter p xs) ≤ length xs
+        → length (cond b (x ∷ filter p xs) (filter p xs)) ≤ suc (length xs)
     by true rest = omega (arith, rest)
     by false rest = omega (arith, rest)
 
@@ -190,6 +203,7 @@ pub never-due : (interval moment : ℕ) → moment < interval → (c : Chunk)
     → is_due Due interval moment c ≡ false
 never-due interval moment lt c = by (is_open c.stage) (not_from (nat_le (c.since + interval) moment) (λ f. (let below = leb-true (c.since + interval) moment f in omega (arith, below, lt))))
   where
-    by : (b : Bool) → nat_le (c.since + interval) moment ≡ false → (b && nat_le (c.since + interval) moment) ≡ false
+    by : (b : Bool) → nat_le (c.since + interval) moment ≡ false
+        → (b && nat_le (c.since + interval) moment) ≡ false
     by true e = e
     by false e = refl

@@ -6,7 +6,7 @@ use Rattle.fwd_modes.specs.Requests.{Request}
 use Rattle.fwd_chunks.specs.declared.flush.FlushKind.TheVariants.{Due, All}
 use Rattle.fwd_chunks.specs.declared.fault.AdmitError.TheVariants.{Full, NumbersSpent}
 use Rattle.fwd_chunks.specs.declared.stage.Stage.TheVariants.{Closed}
-use Rattle.fwd_chunks.specs.Waits.{wait_after}
+use Rattle.fwd_retry.specs.Waits.{wait_after}
 use Rattle.fwd_chunks.specs.Cells.{contents}
 use Rattle.fwd_chunks.specs.History.{BufferSetting, BufferHistory, opening, adds, enters, refusal, spans_of, closing, flushes, given, looks, takes, settles, counts}
 use Rattle.fwd_chunks.specs.Events.{Enter, Flush, Take, Free, history_after}
@@ -166,7 +166,15 @@ unharmed = refl
 -- ---- what is kept
 
 kept : (live_buffer lost).chunks
-    ≡ record { number = 1; tag = 97 ∷ []; entries = three ∷ []; since = 0; stage = Closed; losses = Some (record { count = 1; last = 2000 }) } ∷ []
+    ≡ record {
+      number = 1;
+      tag = 97 ∷ [];
+      entries = three
+          ∷ [];
+      since = 0;
+      stage = Closed;
+      losses = Some (record { count = 1; last = 2000 });
+    } ∷ []
 unfolding adds wait_after live_buffer
 kept = refl
 

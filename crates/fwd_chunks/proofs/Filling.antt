@@ -58,12 +58,18 @@ open_here tag since n entries = (bytes_eq-Decides tag tag).1 refl
 -- ---- runs
 
 pub runs-merge : (n from other i j : ℕ) (runs : List Span)
-    → before_runs (record { number = n; from = from; count = i }) (before_runs (record { number = n; from = other; count = j }) runs) ≡ before_runs (record { number = n; from = from; count = i + j }) runs
+    → before_runs (record { number = n; from = from; count = i })
+    (before_runs (record { number = n; from = other; count = j }) runs) ≡ before_runs
+    (record { number = n; from = from; count = i + j }) runs
 runs-merge n from other i j [] = ap (λ t. cond t (record { number = n; from = from; count = i + j } ∷ []) (record { number = n; from = from; count = i } ∷ record { number = n; from = other; count = j } ∷ [])) (eq_same n)
 runs-merge n from other i j (s ∷ runs) = by (n == s.number)
   where
-    by : (t : Bool) → before_runs (record { number = n; from = from; count = i }) (cond t (record { number = n; from = other; count = j + s.count } ∷ runs) (record { number = n; from = other; count = j } ∷ s ∷ runs))
-        ≡ cond t (record { number = n; from = from; count = (i + j) + s.count } ∷ runs) (record { number = n; from = from; count = i + j } ∷ s ∷ runs)
+    by : (t : Bool)
+        → before_runs (record { number = n; from = from; count = i })
+        (cond t (record { number = n; from = other; count = j + s.count } ∷ runs)
+        (record { number = n; from = other; count = j } ∷ s ∷ runs))
+        ≡ cond t (record { number = n; from = from; count = (i + j) + s.count } ∷ runs)
+        (record { number = n; from = from; count = i + j } ∷ s ∷ runs)
     by true =
         let sum : i + (j + s.count) ≡ (i + j) + s.count = omega arith in
         ap (λ t. cond t (record { number = n; from = from; count = i + (j + s.count) } ∷ runs) (record { number = n; from = from; count = i } ∷ record { number = n; from = other; count = j + s.count } ∷ runs)) (eq_same n)
@@ -73,12 +79,23 @@ runs-merge n from other i j (s ∷ runs) = by (n == s.number)
 -- the runs of fresh chunks have other numbers
 pub runs-fresh : (limit : ℕ) (tag : List ℕ) (since n : ℕ) (current entries : List (List ℕ))
     (s : Span) → s.number < n
-    → before_runs s (map span_of (fresh_from limit tag since n current entries)) ≡ s ∷ map span_of (fresh_from limit tag since n current entries)
+    → before_runs s (map span_of (fresh_from limit tag since n current entries)) ≡ s ∷ map span_of
+    (fresh_from limit tag since n current entries)
 runs-fresh limit tag since n current [] s lt = ap (λ t. cond t (record { number = s.number; from = s.from; count = s.count + length current } ∷ []) (s ∷ record { number = n; from = 0; count = length current } ∷ [])) (not_from (s.number == n) (λ e. absurd (omega (arith, lt, eq_from s.number n e))))
 runs-fresh limit tag since n current (e ∷ entries) s lt = by (runs-fresh limit tag since n (current ++ e ∷ []) entries s lt) (nat_le (size_of current + length e) limit)
   where
-    by : before_runs s (map span_of (fresh_from limit tag since n (current ++ e ∷ []) entries)) ≡ s ∷ map span_of (fresh_from limit tag since n (current ++ e ∷ []) entries) → (t : Bool) → before_runs s (map span_of (cond t (fresh_from limit tag since n (current ++ e ∷ []) entries) (staged Closed (open_chunk tag since n current) ∷ fresh_from limit tag since (n + 1) (e ∷ []) entries)))
-        ≡ s ∷ map span_of (cond t (fresh_from limit tag since n (current ++ e ∷ []) entries) (staged Closed (open_chunk tag since n current) ∷ fresh_from limit tag since (n + 1) (e ∷ []) entries))
+    by : before_runs s
+        (map span_of (fresh_from limit tag since n (current ++ e ∷ []) entries)) ≡ s ∷ map span_of
+        (fresh_from limit tag since n (current ++ e ∷ []) entries)
+        → (t : Bool)
+        → before_runs s
+        (map span_of (cond t (fresh_from limit tag since n (current ++ e ∷ []) entries)
+        (staged Closed (open_chunk tag since n current)
+        ∷ fresh_from limit tag since (n + 1) (e ∷ []) entries)))
+        ≡ s ∷ map span_of
+        (cond t (fresh_from limit tag since n (current ++ e ∷ []) entries)
+        (staged Closed (open_chunk tag since n current)
+        ∷ fresh_from limit tag since (n + 1) (e ∷ []) entries))
     by rest true = rest
     by rest false = ap (λ t. cond t (record { number = s.number; from = s.from; count = s.count + length current } ∷ map span_of (fresh_from limit tag since (n + 1) (e ∷ []) entries))
         (s ∷ record { number = n; from = 0; count = length current } ∷ map span_of (fresh_from limit tag since (n + 1) (e ∷ []) entries))) (not_from (s.number == n) (λ f. absurd (omega (arith, lt, eq_from s.number n f))))
@@ -91,55 +108,93 @@ abbrev pub at_tail : LiveBuffer → List ℕ → List Chunk → ℕ → List (Li
 at_tail b tag xs n current accepted = record b { chunks = xs ++ open_chunk tag b.moment n current ∷ []; greatest = Some n; accepted = accepted }
 
 module _ (b : LiveBuffer) (tag : List ℕ) where
-  tail_found : (xs : List Chunk) (n : ℕ) (current : List (List ℕ)) (a : ℕ) (e : List ℕ) → AllByRecursion (IsPassed tag n) xs → (t : Bool) → nat_le (size_of current + length e) b.setting.limits.chunk ≡ t
-      → find (may_take (at_tail b tag xs n current a) tag e) (xs ++ open_chunk tag b.moment n current ∷ []) ≡ cond t (Some (open_chunk tag b.moment n current)) None
+  tail_found : (xs : List Chunk) (n : ℕ) (current : List (List ℕ)) (a : ℕ) (e : List ℕ)
+      → AllByRecursion (IsPassed tag n) xs → (t : Bool)
+      → nat_le (size_of current + length e) b.setting.limits.chunk ≡ t
+      → find (may_take (at_tail b tag xs n current a) tag e)
+      (xs ++ open_chunk tag b.moment n current ∷ []) ≡ cond t
+      (Some (open_chunk tag b.moment n current)) None
   tail_found xs n current a e all t h =
       find-passed tag n (λ c. nat_le (size_of c.entries + length e) b.setting.limits.chunk) xs (open_chunk tag b.moment n current ∷ []) all
       ∙ (λ i. cond (open_here tag b.moment n current i && h i) (Some (open_chunk tag b.moment n current)) None)
 
-  tail_joins : (xs : List Chunk) (n : ℕ) (current : List (List ℕ)) (a : ℕ) (e : List ℕ) → AllByRecursion (IsPassed tag n) xs
-      → live_adds_to (at_tail b tag xs n current a) tag e (Some (open_chunk tag b.moment n current)) ≡ at_tail b tag xs n (current ++ e ∷ []) (a + 1)
+  tail_joins : (xs : List Chunk) (n : ℕ) (current : List (List ℕ)) (a : ℕ) (e : List ℕ)
+      → AllByRecursion (IsPassed tag n) xs
+      → live_adds_to (at_tail b tag xs n current a) tag e
+      (Some (open_chunk tag b.moment n current)) ≡ at_tail b tag xs n (current ++ e ∷ []) (a + 1)
   tail_joins xs n current a e all =
       let c = open_chunk tag b.moment n current in
       let chunks : changed (is_at n) (λ d. record d { entries = d.entries ++ e ∷ [] }) (xs ++ open_chunk tag b.moment n current ∷ []) ≡ xs ++ open_chunk tag b.moment n (current ++ e ∷ []) ∷ [] =
       changed-passed tag n (λ d. record d { entries = d.entries ++ e ∷ [] }) xs (c ∷ []) all ∙ ap (λ t. xs ++ cond t (open_chunk tag b.moment n (current ++ e ∷ [])) c ∷ []) (eq_same n) in
       λ i. record b { chunks = chunks i; greatest = Some n; accepted = a + 1 }
 
-  tail_begins : (xs : List Chunk) (n : ℕ) (current : List (List ℕ)) (a : ℕ) (e : List ℕ) → AllByRecursion (IsPassed tag n) xs
-      → live_adds_to (at_tail b tag xs n current a) tag e None ≡ at_tail b tag (xs ++ staged Closed (open_chunk tag b.moment n current) ∷ []) (n + 1) (e ∷ []) (a + 1)
+  tail_begins : (xs : List Chunk) (n : ℕ) (current : List (List ℕ)) (a : ℕ) (e : List ℕ)
+      → AllByRecursion (IsPassed tag n) xs
+      → live_adds_to (at_tail b tag xs n current a) tag e None ≡ at_tail b tag
+      (xs ++ staged Closed (open_chunk tag b.moment n current) ∷ []) (n + 1) (e ∷ []) (a + 1)
   tail_begins xs n current a e all =
       let c = open_chunk tag b.moment n current in
       let chunks : changed (is_open_of tag) (staged Closed) (xs ++ open_chunk tag b.moment n current ∷ []) ≡ xs ++ staged Closed (open_chunk tag b.moment n current) ∷ [] =
       closed-passed tag n (staged Closed) xs (c ∷ []) all ∙ ap (λ t. xs ++ cond t (staged Closed c) c ∷ []) (open_here tag b.moment n current) in
       λ i. record b { chunks = chunks i ++ open_chunk tag b.moment (n + 1) (e ∷ []) ∷ []; greatest = Some (n + 1); accepted = a + 1 }
 
-  tail-adds : (xs : List Chunk) (n : ℕ) (current : List (List ℕ)) (a : ℕ) (e : List ℕ) → AllByRecursion (IsPassed tag n) xs → (t : Bool) → nat_le (size_of current + length e) b.setting.limits.chunk ≡ t
-      → live_adds (at_tail b tag xs n current a) tag e ≡ cond t (at_tail b tag xs n (current ++ e ∷ []) (a + 1)) (at_tail b tag (xs ++ staged Closed (open_chunk tag b.moment n current) ∷ []) (n + 1) (e ∷ []) (a + 1))
+  tail-adds : (xs : List Chunk) (n : ℕ) (current : List (List ℕ)) (a : ℕ) (e : List ℕ)
+      → AllByRecursion (IsPassed tag n) xs → (t : Bool)
+      → nat_le (size_of current + length e) b.setting.limits.chunk ≡ t
+      → live_adds (at_tail b tag xs n current a) tag e ≡ cond t
+      (at_tail b tag xs n (current ++ e ∷ []) (a + 1))
+      (at_tail b tag (xs ++ staged Closed (open_chunk tag b.moment n current) ∷ []) (n + 1) (e ∷ [])
+      (a + 1))
   unfolding live_adds
   tail-adds xs n current a e all true h = ap (live_adds_to (at_tail b tag xs n current a) tag e) (tail_found xs n current a e all true h) ∙ tail_joins xs n current a e all
   tail-adds xs n current a e all false h = ap (live_adds_to (at_tail b tag xs n current a) tag e) (tail_found xs n current a e all false h) ∙ tail_begins xs n current a e all
 
-  passed-closed : (xs : List Chunk) (n : ℕ) (current : List (List ℕ)) → AllByRecursion (IsPassed tag n) xs → AllByRecursion (IsPassed tag (n + 1)) (xs ++ staged Closed (open_chunk tag b.moment n current) ∷ [])
+  passed-closed : (xs : List Chunk) (n : ℕ) (current : List (List ℕ))
+      → AllByRecursion (IsPassed tag n) xs
+      → AllByRecursion (IsPassed tag (n + 1))
+      (xs ++ staged Closed (open_chunk tag b.moment n current) ∷ [])
   passed-closed xs n current all = passed-more tag n xs (staged Closed (open_chunk tag b.moment n current)) all (record { shut = refl; lower = omega arith })
 
   -- all entries, one after the other
-  pub tail-all : (entries : List (List ℕ)) (xs : List Chunk) (n : ℕ) (current : List (List ℕ)) (a : ℕ) → AllByRecursion (IsPassed tag n) xs
+  pub tail-all : (entries : List (List ℕ)) (xs : List Chunk) (n : ℕ) (current : List (List ℕ))
+      (a : ℕ)
+      → AllByRecursion (IsPassed tag n) xs
       → live_adds_all (at_tail b tag xs n current a) tag entries
-      ≡ record b { chunks = xs ++ fresh_from b.setting.limits.chunk tag b.moment n current entries; greatest = Some (n + extra b.setting.limits.chunk (size_of current) entries); accepted = a + length entries }
+      ≡ record b {
+        chunks = xs
+            ++ fresh_from b.setting.limits.chunk tag b.moment n current entries;
+        greatest = Some
+            (n + extra b.setting.limits.chunk (size_of current) entries);
+        accepted = a + length entries;
+      }
   tail-all [] xs n current a all = (let none : n ≡ n + 0 = omega arith in let same : a ≡ a + 0 = omega arith in λ i. record b { chunks = xs ++ open_chunk tag b.moment n current ∷ []; greatest = Some (none i); accepted = same i })
   tail-all (e ∷ entries) xs n current a all = by (λ ys m next k. tail-all entries ys m next k) (nat_le (size_of current + length e) b.setting.limits.chunk) refl
     where
       count : (a + 1) + length entries ≡ a + suc (length entries)
       count = omega arith
 
-      by : ((ys : List Chunk) (m : ℕ) (next : List (List ℕ)) (k : ℕ) → AllByRecursion (IsPassed tag m) ys
+      by :
+          ((ys : List Chunk) (m : ℕ) (next : List (List ℕ)) (k : ℕ)
+          → AllByRecursion (IsPassed tag m) ys
           → live_adds_all (at_tail b tag ys m next k) tag entries
-          ≡ record b { chunks = ys ++ fresh_from b.setting.limits.chunk tag b.moment m next entries; greatest = Some (m + extra b.setting.limits.chunk (size_of next) entries); accepted = k + length entries })
+          ≡ record b {
+            chunks = ys
+                ++ fresh_from b.setting.limits.chunk tag b.moment m next entries;
+            greatest = Some
+                (m + extra b.setting.limits.chunk
+                (size_of next) entries);
+            accepted = k + length entries;
+          })
           → (t : Bool) → nat_le (size_of current + length e) b.setting.limits.chunk ≡ t
           → live_adds_all (live_adds (at_tail b tag xs n current a) tag e) tag entries
           ≡ record b {
-            chunks = xs ++ cond t (fresh_from b.setting.limits.chunk tag b.moment n (current ++ e ∷ []) entries) (staged Closed (open_chunk tag b.moment n current) ∷ fresh_from b.setting.limits.chunk tag b.moment (n + 1) (e ∷ []) entries);
-            greatest = Some (n + cond t (extra b.setting.limits.chunk (size_of current + length e) entries) (suc (extra b.setting.limits.chunk (length e) entries)));
+            chunks = xs ++ cond t
+                (fresh_from b.setting.limits.chunk tag b.moment n (current ++ e ∷ []) entries)
+                (staged Closed (open_chunk tag b.moment n current)
+                ∷ fresh_from b.setting.limits.chunk tag b.moment (n + 1) (e ∷ []) entries);
+            greatest = Some
+                (n + cond t (extra b.setting.limits.chunk (size_of current + length e) entries)
+                (suc (extra b.setting.limits.chunk (length e) entries)));
             accepted = a + suc (length entries);
           }
       by rest true h =
@@ -161,16 +216,30 @@ module _ (b : LiveBuffer) (tag : List ℕ) where
             accepted = count i;
           })
 
-  pub tail-runs : (entries : List (List ℕ)) (xs : List Chunk) (n : ℕ) (current : List (List ℕ)) (a : ℕ) → AllByRecursion (IsPassed tag n) xs
-      → before_runs (record { number = n; from = 0; count = length current }) (live_runs (at_tail b tag xs n current a) tag entries) ≡ map span_of (fresh_from b.setting.limits.chunk tag b.moment n current entries)
+  pub tail-runs : (entries : List (List ℕ)) (xs : List Chunk) (n : ℕ) (current : List (List ℕ))
+      (a : ℕ)
+      → AllByRecursion (IsPassed tag n) xs
+      → before_runs (record { number = n; from = 0; count = length current })
+      (live_runs (at_tail b tag xs n current a) tag entries) ≡ map span_of
+      (fresh_from b.setting.limits.chunk tag b.moment n current entries)
   tail-runs [] xs n current a all = refl
   tail-runs (e ∷ entries) xs n current a all = by (λ ys m next k. tail-runs entries ys m next k) (nat_le (size_of current + length e) b.setting.limits.chunk) refl
     where
-      by : ((ys : List Chunk) (m : ℕ) (next : List (List ℕ)) (k : ℕ) → AllByRecursion (IsPassed tag m) ys
-          → before_runs (record { number = m; from = 0; count = length next }) (live_runs (at_tail b tag ys m next k) tag entries) ≡ map span_of (fresh_from b.setting.limits.chunk tag b.moment m next entries))
+      by :
+          ((ys : List Chunk) (m : ℕ) (next : List (List ℕ)) (k : ℕ)
+          → AllByRecursion (IsPassed tag m) ys
+          → before_runs (record { number = m; from = 0; count = length next })
+          (live_runs (at_tail b tag ys m next k) tag entries) ≡ map span_of
+          (fresh_from b.setting.limits.chunk tag b.moment m next entries))
           → (t : Bool) → nat_le (size_of current + length e) b.setting.limits.chunk ≡ t
-          → before_runs (record { number = n; from = 0; count = length current }) (before_runs (live_place (at_tail b tag xs n current a) (find (may_take (at_tail b tag xs n current a) tag e) (xs ++ open_chunk tag b.moment n current ∷ []))) (live_runs (live_adds (at_tail b tag xs n current a) tag e) tag entries))
-          ≡ map span_of (cond t (fresh_from b.setting.limits.chunk tag b.moment n (current ++ e ∷ []) entries) (staged Closed (open_chunk tag b.moment n current) ∷ fresh_from b.setting.limits.chunk tag b.moment (n + 1) (e ∷ []) entries))
+          → before_runs (record { number = n; from = 0; count = length current })
+          (before_runs (live_place (at_tail b tag xs n current a) (find
+          (may_take (at_tail b tag xs n current a) tag e) (xs ++ open_chunk tag b.moment n current
+          ∷ []))) (live_runs (live_adds (at_tail b tag xs n current a) tag e) tag entries))
+          ≡ map span_of
+          (cond t (fresh_from b.setting.limits.chunk tag b.moment n (current ++ e ∷ []) entries)
+          (staged Closed (open_chunk tag b.moment n current)
+          ∷ fresh_from b.setting.limits.chunk tag b.moment (n + 1) (e ∷ []) entries))
       by rest true h =
           (λ i. before_runs (record { number = n; from = 0; count = length current }) (before_runs (live_place (at_tail b tag xs n current a) (tail_found xs n current a e all true h i)) (live_runs (tail-adds xs n current a e all true h i) tag entries)))
           ∙ runs-merge n 0 (length current) (length current) 1 (live_runs (at_tail b tag xs n (current ++ e ∷ []) (a + 1)) tag entries)
@@ -189,11 +258,14 @@ pub begun-passed : (b : LiveBuffer) (tag : List ℕ)
     (changed (is_open_of tag) (staged Closed) b.chunks)
 begun-passed b tag all = at b.chunks all
   where
-    one : (c : Chunk) (t : Bool) → is_open_of tag c ≡ t → c.number < live_next_number b → IsPassed tag (live_next_number b) (cond t (staged Closed c) c)
+    one : (c : Chunk) (t : Bool) → is_open_of tag c ≡ t → c.number < live_next_number b
+        → IsPassed tag (live_next_number b) (cond t (staged Closed c) c)
     one c true e lt = record { shut = refl; lower = lt }
     one c false e lt = record { shut = e; lower = lt }
 
-    at : (chunks : List Chunk) → AllByRecursion (λ c. c.number < live_next_number b) chunks → AllByRecursion (IsPassed tag (live_next_number b)) (changed (is_open_of tag) (staged Closed) chunks)
+    at : (chunks : List Chunk) → AllByRecursion (λ c. c.number < live_next_number b) chunks
+        → AllByRecursion (IsPassed tag (live_next_number b))
+        (changed (is_open_of tag) (staged Closed) chunks)
     at [] h = tt
     at (c ∷ chunks) h = (one c (is_open_of tag c) refl h.0, at chunks h.1)
 
@@ -202,7 +274,9 @@ pub begun-all : (b : LiveBuffer) (tag e : List ℕ) (entries : List (List ℕ))
     → AllByRecursion (λ c. c.number < live_next_number b) b.chunks
     → find (may_take b tag e) b.chunks ≡ None
     → live_adds_all b tag (e ∷ entries) ≡ record b {
-      chunks = changed (is_open_of tag) (staged Closed) b.chunks ++ fresh_of b.setting.limits.chunk tag b.moment (live_next_number b) (e ∷ entries);
+      chunks = changed (is_open_of tag)
+          (staged Closed) b.chunks ++ fresh_of b.setting.limits.chunk tag b.moment (live_next_number b)
+          (e ∷ entries);
       greatest = Some (live_next_number b + extra b.setting.limits.chunk (length e) entries);
       accepted = b.accepted + suc (length entries);
     }
@@ -221,7 +295,8 @@ begun-all b tag e entries below none =
 pub begun-runs : (b : LiveBuffer) (tag e : List ℕ) (entries : List (List ℕ))
     → AllByRecursion (λ c. c.number < live_next_number b) b.chunks
     → find (may_take b tag e) b.chunks ≡ None
-    → live_runs b tag (e ∷ entries) ≡ map span_of (fresh_of b.setting.limits.chunk tag b.moment (live_next_number b) (e ∷ entries))
+    → live_runs b tag (e ∷ entries) ≡ map span_of
+    (fresh_of b.setting.limits.chunk tag b.moment (live_next_number b) (e ∷ entries))
 unfolding live_adds
 begun-runs b tag e entries below none =
     ap (λ o. before_runs (live_place b o) (live_runs (live_adds_to b tag e o) tag entries)) none
@@ -242,13 +317,20 @@ pub find-open : (tag : List ℕ) (q : Chunk → Bool) (chunks : List Chunk) (c :
 find-open tag q [] c h e = absurd (none_chunk e)
 find-open tag q (d ∷ chunks) c h e = by (find-open tag q chunks c h.1) (is_open_of tag d) refl e
   where
-    by : (find (is_open_of tag) chunks ≡ Some c → find (λ x. is_open_of tag x && q x) chunks ≡ cond (q c) (Some c) None) → (t : Bool) → is_open_of tag d ≡ t → cond t (Some d) (find (is_open_of tag) chunks) ≡ Some c → cond (t && q d) (Some d) (find (λ x. is_open_of tag x && q x) chunks) ≡ cond (q c) (Some c) None
+    by :
+        (find (is_open_of tag) chunks ≡ Some c → find (λ x. is_open_of tag x && q x) chunks
+        ≡ cond (q c) (Some c) None)
+        → (t : Bool) → is_open_of tag d ≡ t
+        → cond t (Some d) (find (is_open_of tag) chunks) ≡ Some c
+        → cond (t && q d) (Some d) (find (λ x. is_open_of tag x && q x) chunks) ≡ cond (q c)
+        (Some c) None
     by rest true f g = at (q d) ∙ ap (λ x. cond (q x) (Some x) None) (some_chunk g)
       where
         parts : (is_open d.stage ≡ true) × (bytes_eq d.tag tag ≡ true)
         parts = and_parts (is_open d.stage) (bytes_eq d.tag tag) f
 
-        none : (xs : List Chunk) → AllByRecursion (IsBefore d) xs → find (λ x. is_open_of tag x && q x) xs ≡ None
+        none : (xs : List Chunk) → AllByRecursion (IsBefore d) xs
+            → find (λ x. is_open_of tag x && q x) xs ≡ None
         none [] all = refl
         none (x ∷ xs) all = ap (λ t. cond (t && q x) (Some x) (find (λ y. is_open_of tag y && q y) xs)) shut ∙ none xs all.1
           where
@@ -257,7 +339,8 @@ find-open tag q (d ∷ chunks) c h e = by (find-open tag q chunks c h.1) (is_ope
                 let same : d.tag ≡ x.tag = (bytes_eq-Decides d.tag tag).0 parts.1 ∙ sym ((bytes_eq-Decides x.tag tag).0 (and_parts (is_open x.stage) (bytes_eq x.tag tag) i).1) in
                 true_false (is_open d.stage) parts.0 (all.0.shut ((bytes_eq-Decides d.tag x.tag).1 same)))
 
-        at : (t : Bool) → cond t (Some d) (find (λ x. is_open_of tag x && q x) chunks) ≡ cond t (Some d) None
+        at : (t : Bool)
+            → cond t (Some d) (find (λ x. is_open_of tag x && q x) chunks) ≡ cond t (Some d) None
         at true = refl
         at false = none chunks h.0
     by rest false f g = rest g
@@ -272,7 +355,9 @@ find-no_open tag q (d ∷ chunks) e = by (find-no_open tag q chunks) (is_open_of
     none_is : Some d ≡ None → ⊥
     none_is f = cc
 
-    by : (find (is_open_of tag) chunks ≡ None → find (λ x. is_open_of tag x && q x) chunks ≡ None) → (t : Bool) → is_open_of tag d ≡ t → cond t (Some d) (find (is_open_of tag) chunks) ≡ None → cond (t && q d) (Some d) (find (λ x. is_open_of tag x && q x) chunks) ≡ None
+    by : (find (is_open_of tag) chunks ≡ None → find (λ x. is_open_of tag x && q x) chunks ≡ None)
+        → (t : Bool) → is_open_of tag d ≡ t → cond t (Some d) (find (is_open_of tag) chunks) ≡ None
+        → cond (t && q d) (Some d) (find (λ x. is_open_of tag x && q x) chunks) ≡ None
     by rest true f g = absurd (none_is g)
     by rest false f g = rest g
 
@@ -284,11 +369,16 @@ abbrev pub joined : LiveBuffer → ℕ → List (List ℕ) → LiveBuffer
 joined b number entries = record b { chunks = changed (is_at number) (with_entries entries) b.chunks; accepted = b.accepted + length entries }
 
 changed-twice : (n : ℕ) (e : List ℕ) (entries : List (List ℕ)) (chunks : List Chunk)
-    → changed (is_at n) (with_entries entries) (changed (is_at n) (with_entries (e ∷ [])) chunks) ≡ changed (is_at n) (with_entries (e ∷ entries)) chunks
+    → changed (is_at n) (with_entries entries)
+    (changed (is_at n) (with_entries (e ∷ [])) chunks) ≡ changed (is_at n)
+    (with_entries (e ∷ entries)) chunks
 changed-twice n e entries [] = refl
 changed-twice n e entries (c ∷ chunks) = λ i. one (c.number == n) refl i ∷ changed-twice n e entries chunks i
   where
-    one : (t : Bool) → (c.number == n) ≡ t → cond (is_at n (cond t (with_entries (e ∷ []) c) c)) (with_entries entries (cond t (with_entries (e ∷ []) c) c)) (cond t (with_entries (e ∷ []) c) c) ≡ cond t (with_entries (e ∷ entries) c) c
+    one : (t : Bool) → (c.number == n) ≡ t
+        → cond (is_at n (cond t (with_entries (e ∷ []) c) c))
+        (with_entries entries (cond t (with_entries (e ∷ []) c) c))
+        (cond t (with_entries (e ∷ []) c) c) ≡ cond t (with_entries (e ∷ entries) c) c
     one true f = ap (λ t. cond t (with_entries entries (with_entries (e ∷ []) c)) (with_entries (e ∷ []) c)) f ∙ (λ i. record c { entries = append_assoc c.entries (e ∷ []) entries i })
     one false f = ap (λ t. cond t (with_entries entries c) c) f
 
@@ -314,7 +404,8 @@ order-joined n entries chunks h = order-map (λ c. cond (is_at n c) (with_entrie
     tag true c = refl
     tag false c = refl
 
-    shut : (t : Bool) (c : Chunk) → is_open c.stage ≡ false → is_open (cond t (with_entries entries c) c).stage ≡ false
+    shut : (t : Bool) (c : Chunk) → is_open c.stage ≡ false
+        → is_open (cond t (with_entries entries c) c).stage ≡ false
     shut true c s = s
     shut false c s = s
 
@@ -327,32 +418,39 @@ open-joined tag entries chunks c e =
     ∙ ap (option_map (λ d. cond (is_at c.number d) (with_entries entries d) d)) (same chunks ∙ e)
     ∙ ap (λ t. Some (cond t (with_entries entries c) c)) (eq_same c.number)
   where
-    test : (t : Bool) (d : Chunk) → is_open_of tag (cond t (with_entries entries d) d) ≡ is_open_of tag d
+    test : (t : Bool) (d : Chunk)
+        → is_open_of tag (cond t (with_entries entries d) d) ≡ is_open_of tag d
     test true d = refl
     test false d = refl
 
-    same : (xs : List Chunk) → find (λ d. is_open_of tag (cond (is_at c.number d) (with_entries entries d) d)) xs ≡ find (is_open_of tag) xs
+    same : (xs : List Chunk)
+        → find (λ d. is_open_of tag (cond (is_at c.number d) (with_entries entries d) d)) xs ≡ find
+        (is_open_of tag) xs
     same [] = refl
     same (d ∷ xs) = λ i. cond (test (is_at c.number d) d i) (Some d) (same xs i)
 
 module _ (b : LiveBuffer) (tag : List ℕ) (c : Chunk) (order : AreInOrder b.chunks) (e : find (is_open_of tag) b.chunks ≡ Some c) where
-  may_join : (entry : List ℕ) → size_of c.entries + length entry ≤ b.setting.limits.chunk → find (may_take b tag entry) b.chunks ≡ Some c
+  may_join : (entry : List ℕ) → size_of c.entries + length entry ≤ b.setting.limits.chunk
+      → find (may_take b tag entry) b.chunks ≡ Some c
   may_join entry le =
       find-open tag (λ d. nat_le (size_of d.entries + length entry) b.setting.limits.chunk) b.chunks c order e
       ∙ ap (λ t. cond t (Some c) None) (le-leb (size_of c.entries + length entry) b.setting.limits.chunk le)
 
-  pub may_not_join : (entry : List ℕ) → b.setting.limits.chunk < size_of c.entries + length entry → find (may_take b tag entry) b.chunks ≡ None
+  pub may_not_join : (entry : List ℕ) → b.setting.limits.chunk < size_of c.entries + length entry
+      → find (may_take b tag entry) b.chunks ≡ None
   may_not_join entry lt =
       find-open tag (λ d. nat_le (size_of d.entries + length entry) b.setting.limits.chunk) b.chunks c order e
       ∙ ap (λ t. cond t (Some c) None) (lt-leb (size_of c.entries + length entry) b.setting.limits.chunk lt)
 
-  join-one : (entry : List ℕ) → size_of c.entries + length entry ≤ b.setting.limits.chunk → live_adds b tag entry ≡ joined b c.number (entry ∷ [])
+  join-one : (entry : List ℕ) → size_of c.entries + length entry ≤ b.setting.limits.chunk
+      → live_adds b tag entry ≡ joined b c.number (entry ∷ [])
   unfolding live_adds
   join-one entry le = ap (live_adds_to b tag entry) (may_join entry le)
 
 pub join-all : (entries : List (List ℕ)) (b : LiveBuffer) (tag : List ℕ) (c : Chunk)
     → AreInOrder b.chunks → find (is_open_of tag) b.chunks ≡ Some c
-    → size_of c.entries + size_of entries ≤ b.setting.limits.chunk → live_adds_all b tag entries ≡ joined b c.number entries
+    → size_of c.entries + size_of entries ≤ b.setting.limits.chunk
+    → live_adds_all b tag entries ≡ joined b c.number entries
 join-all [] b tag c order e le = (let same : b.accepted ≡ b.accepted + 0 = omega arith in λ i. record b { chunks = changed-nothing c.number b.chunks i; accepted = same i })
 join-all (x ∷ entries) b tag c order e le =
     let one = join-one b tag c order e x (omega (arith, le)) in
@@ -366,7 +464,9 @@ pub join-runs : (entries : List (List ℕ)) (x : List ℕ) (others : List (List 
     (b : LiveBuffer) (tag : List ℕ) (c : Chunk) → AreInOrder b.chunks
     → find (is_open_of tag) b.chunks ≡ Some c
     → size_of c.entries + (length x + size_of entries) ≤ b.setting.limits.chunk
-    → live_runs b tag (x ∷ entries ++ others) ≡ before_runs (record { number = c.number; from = length c.entries; count = suc (length entries) }) (live_runs (joined b c.number (x ∷ entries)) tag others)
+    → live_runs b tag (x ∷ entries ++ others) ≡ before_runs
+    (record { number = c.number; from = length c.entries; count = suc (length entries) })
+    (live_runs (joined b c.number (x ∷ entries)) tag others)
 join-runs [] x others b tag c order e le =
     let fits : size_of c.entries + length x ≤ b.setting.limits.chunk = omega (arith, le) in
     (λ i. before_runs (live_place b (may_join b tag c order e x fits i)) (live_runs (join-one b tag c order e x fits i) tag others))
@@ -397,7 +497,8 @@ pub fitting-within : (limit used : ℕ) (entries : List (List ℕ))
 fitting-within limit used [] = omega arith
 fitting-within limit used (e ∷ entries) = by (fitting-within limit (used + length e) entries) (nat_le (used + length e) limit)
   where
-    by : fitting limit (used + length e) entries ≤ length entries → (t : Bool) → cond t (suc (fitting limit (used + length e) entries)) 0 ≤ suc (length entries)
+    by : fitting limit (used + length e) entries ≤ length entries → (t : Bool)
+        → cond t (suc (fitting limit (used + length e) entries)) 0 ≤ suc (length entries)
     by rest true = omega (arith, rest)
     by rest false = omega arith
 
@@ -406,7 +507,12 @@ pub fitting-fits : (limit used : ℕ) (entries : List (List ℕ)) → used ≤ l
 fitting-fits limit used [] le = omega (arith, le)
 fitting-fits limit used (e ∷ entries) le = by (fitting-fits limit (used + length e) entries) (nat_le (used + length e) limit) refl
   where
-    by : (used + length e ≤ limit → (used + length e) + size_of (take (fitting limit (used + length e) entries) entries) ≤ limit) → (t : Bool) → nat_le (used + length e) limit ≡ t → used + size_of (take (cond t (suc (fitting limit (used + length e) entries)) 0) (e ∷ entries)) ≤ limit
+    by :
+        (used + length e ≤ limit → (used + length e) + size_of
+        (take (fitting limit (used + length e) entries) entries) ≤ limit)
+        → (t : Bool) → nat_le (used + length e) limit ≡ t
+        → used + size_of
+        (take (cond t (suc (fitting limit (used + length e) entries)) 0) (e ∷ entries)) ≤ limit
     by rest true h = omega (arith, rest (leb-true (used + length e) limit h))
     by rest false h = omega (arith, le)
 
@@ -420,8 +526,14 @@ fitting-rest limit used [] e rest h = absurd (no_list h)
     no_list g = cc
 fitting-rest limit used (x ∷ entries) e rest h = by (fitting-rest limit (used + length x) entries e rest) (nat_le (used + length x) limit) refl h
   where
-    by : (drop (fitting limit (used + length x) entries) entries ≡ e ∷ rest → limit < (used + length x) + size_of (take (fitting limit (used + length x) entries) entries) + length e) → (t : Bool) → nat_le (used + length x) limit ≡ t → drop (cond t (suc (fitting limit (used + length x) entries)) 0) (x ∷ entries) ≡ e ∷ rest
-        → limit < used + size_of (take (cond t (suc (fitting limit (used + length x) entries)) 0) (x ∷ entries)) + length e
+    by :
+        (drop (fitting limit (used + length x) entries) entries ≡ e ∷ rest → limit <
+        (used + length x) + size_of
+        (take (fitting limit (used + length x) entries) entries) + length e)
+        → (t : Bool) → nat_le (used + length x) limit ≡ t
+        → drop (cond t (suc (fitting limit (used + length x) entries)) 0) (x ∷ entries) ≡ e ∷ rest
+        → limit < used + size_of
+        (take (cond t (suc (fitting limit (used + length x) entries)) 0) (x ∷ entries)) + length e
     by more true g i = omega (arith, more i)
     by more false g i = omega (arith, leb-false (used + length x) limit g, ap length (head i))
       where
@@ -431,17 +543,34 @@ fitting-rest limit used (x ∷ entries) e rest h = by (fitting-rest limit (used 
 -- the current chunk takes what fits, and the rest begins with a new one
 pub fresh-cut : (limit : ℕ) (tag : List ℕ) (since n : ℕ) (current entries : List (List ℕ))
     → fresh_from limit tag since n current entries
-    ≡ record (open_chunk tag since n (current ++ take (fitting limit (size_of current) entries) entries)) { stage = stage_before (drop (fitting limit (size_of current) entries) entries) }
+    ≡ record
+    (open_chunk tag since n (current ++ take (fitting limit (size_of current) entries) entries))
+    { stage = stage_before (drop (fitting limit (size_of current) entries) entries) }
     ∷ fresh_of limit tag since (n + 1) (drop (fitting limit (size_of current) entries) entries)
 fresh-cut limit tag since n current [] = (λ i. open_chunk tag since n (sym (append-nil current) i) ∷ [])
 fresh-cut limit tag since n current (e ∷ entries) = by (fresh-cut limit tag since n (current ++ e ∷ []) entries) (nat_le (size_of current + length e) limit)
   where
     by : fresh_from limit tag since n (current ++ e ∷ []) entries
-        ≡ record (open_chunk tag since n ((current ++ e ∷ []) ++ take (fitting limit (size_of (current ++ e ∷ [])) entries) entries)) { stage = stage_before (drop (fitting limit (size_of (current ++ e ∷ [])) entries) entries) }
-        ∷ fresh_of limit tag since (n + 1) (drop (fitting limit (size_of (current ++ e ∷ [])) entries) entries)
-        → (t : Bool) → cond t (fresh_from limit tag since n (current ++ e ∷ []) entries) (staged Closed (open_chunk tag since n current) ∷ fresh_from limit tag since (n + 1) (e ∷ []) entries)
-        ≡ record (open_chunk tag since n (current ++ take (cond t (suc (fitting limit (size_of current + length e) entries)) 0) (e ∷ entries))) { stage = stage_before (drop (cond t (suc (fitting limit (size_of current + length e) entries)) 0) (e ∷ entries)) }
-        ∷ fresh_of limit tag since (n + 1) (drop (cond t (suc (fitting limit (size_of current + length e) entries)) 0) (e ∷ entries))
+        ≡ record
+        (open_chunk tag since n ((current ++ e ∷ [])
+        ++ take (fitting limit (size_of (current ++ e ∷ [])) entries) entries)) {
+          stage = stage_before
+              (drop (fitting limit (size_of (current ++ e ∷ [])) entries) entries);
+        }
+        ∷ fresh_of limit tag since (n + 1)
+        (drop (fitting limit (size_of (current ++ e ∷ [])) entries) entries)
+        → (t : Bool)
+        → cond t (fresh_from limit tag since n (current ++ e ∷ []) entries)
+        (staged Closed (open_chunk tag since n current)
+        ∷ fresh_from limit tag since (n + 1) (e ∷ []) entries)
+        ≡ record
+        (open_chunk tag since n (current ++ take
+        (cond t (suc (fitting limit (size_of current + length e) entries)) 0) (e ∷ entries))) {
+          stage = stage_before
+              (drop (cond t (suc (fitting limit (size_of current + length e) entries)) 0) (e ∷ entries));
+        }
+        ∷ fresh_of limit tag since (n + 1)
+        (drop (cond t (suc (fitting limit (size_of current + length e) entries)) 0) (e ∷ entries))
     by rest true =
         rest
         ∙ ap (λ k. record (open_chunk tag since n ((current ++ e ∷ []) ++ take (fitting limit k entries) entries)) { stage = stage_before (drop (fitting limit k entries) entries) } ∷ fresh_of limit tag since (n + 1) (drop (fitting limit k entries) entries)) (size_of-push current e)
@@ -455,8 +584,17 @@ pub fresh-count : (limit : ℕ) (tag : List ℕ) (since n : ℕ) (current entrie
 fresh-count limit tag since n current [] = refl
 fresh-count limit tag since n current (e ∷ entries) = by (fresh-count limit tag since n (current ++ e ∷ []) entries) (fresh-count limit tag since (n + 1) (e ∷ []) entries) (nat_le (size_of current + length e) limit)
   where
-    by : length (fresh_from limit tag since n (current ++ e ∷ []) entries) ≡ suc (extra limit (size_of (current ++ e ∷ [])) entries)
-        → length (fresh_from limit tag since (n + 1) (e ∷ []) entries) ≡ suc (extra limit (length e + 0) entries) → (t : Bool) → length (cond t (fresh_from limit tag since n (current ++ e ∷ []) entries) (staged Closed (open_chunk tag since n current) ∷ fresh_from limit tag since (n + 1) (e ∷ []) entries))
-        ≡ suc (cond t (extra limit (size_of current + length e) entries) (suc (extra limit (length e) entries)))
+    by : length (fresh_from limit tag since n (current ++ e ∷ []) entries) ≡ suc
+        (extra limit (size_of (current ++ e ∷ [])) entries)
+        → length (fresh_from limit tag since (n + 1) (e ∷ []) entries) ≡ suc
+        (extra limit (length e + 0) entries)
+        → (t : Bool)
+        → length
+        (cond t (fresh_from limit tag since n (current ++ e ∷ []) entries)
+        (staged Closed (open_chunk tag since n current)
+        ∷ fresh_from limit tag since (n + 1) (e ∷ []) entries))
+        ≡ suc
+        (cond t (extra limit (size_of current + length e) entries)
+        (suc (extra limit (length e) entries)))
     by one two true = one ∙ ap (λ k. suc (extra limit k entries)) (size_of-push current e)
     by one two false = (let same : length e + 0 ≡ length e = omega arith in ap suc (two ∙ ap (λ k. suc (extra limit k entries)) same))

@@ -15,8 +15,9 @@ use Rattle.fwd_chunks.specs.declared.fault.AdmitError.TheVariants.{Full, Numbers
 use Rattle.fwd_chunks.specs.declared.stage.Stage.TheVariants.{Closed, Taken}
 use Rattle.fwd_chunks.specs.Cells.{Cell, Carry, size_of, entries_of, cells_at, contents, first_tag, first_moment, has_number, numbers_of, has_entry, greatest, is_carried, without, losses_of}
 use Rattle.fwd_chunks.specs.History.{BufferHistory, next_number, has_room, joins, adds, adds_all, looks, enters, unsettled, is_full, is_spent, refusal, before_runs, runs_after, spans_of, is_old, closes, closing, flushes, is_over, is_free, given, carry_more, takes, load_of, settles, frees, counts}
-use Rattle.fwd_chunks.specs.Live.{tally_of, stage_by, stage_of, live_chunk, live_buffer, is_open, is_closed, is_taken, staged, changed, is_at, held_in, bytes_in, is_open_of, may_take, first_chunk, live_adds_to, live_adds, live_adds_all, live_looks, live_enters, live_is_full, live_is_spent, live_refusal, live_place, live_runs, live_spans, live_closes, live_closing, live_flushes, live_is_over, live_is_free, live_given, live_carries_more, live_takes, live_load, live_carried, live_settles, tally_more, live_frees, live_counts}
-use Rattle.fwd_chunks.proofs.Doublings.{wait_settles}
+use Rattle.fwd_chunks.specs.Live.{stage_by, stage_of, live_chunk, live_buffer, is_open, is_closed, is_taken, staged, changed, is_at, held_in, bytes_in, is_open_of, may_take, first_chunk, live_adds_to, live_adds, live_adds_all, live_looks, live_enters, live_is_full, live_is_spent, live_refusal, live_place, live_runs, live_spans, live_closes, live_closing, live_flushes, live_is_free, live_given, live_carries_more, live_takes, live_load, live_carried, live_settles, live_frees, live_counts}
+use Rattle.fwd_retry.specs.Tallies.{tally_of, live_is_over, tally_more}
+use Rattle.fwd_retry.proofs.Doublings.{wait_settles}
 use Rattle.fwd_chunks.proofs.Numbers.{true_false, not_from, eq_from, eq_same, filter-within, filter-map, filter-same, find-map, find-same, find_only, find_no, map-map, map-same, has_number-push, has_number-filter, AreDistinct, least_first, sum_over, sum_over-same}
 use Rattle.fwd_chunks.proofs.CellLemmas.{filter-push_in, filter-push_out, any-false, any-find, last_number-entry, has_cell, numbers-has, numbers-distinct, numbers-push, numbers-filter, cells_at-here, cells_at-elsewhere, cells_at-none, cells_at-some, cells_at-unsettled, first_tag-push, first_moment-push, entries_of-push, first_tag-entry, greatest-push, greatest-same, greatest-next, weigh, weigh_numbers, weigh-length, weigh-size, carry_at, carry_at-without_same, carry_at-without_other, carry_at-push_other, carry_at-push_same, losses-here, losses-elsewhere}
 use Rattle.fwd_chunks.proofs.Sane.{IsSane, Joins, Begins, joins_or_begins, cell_at, adds_at, adds-at, IsFor, joins-for, next-for, next-fresh, adds-sane, looks-sane, Loose, free_parts, given-free}
@@ -43,7 +44,8 @@ record InLive (h : BufferHistory) (k : ℕ) : Type 0 where
 in_live : (h : BufferHistory) (k : ℕ) → has_number k (live_numbers h) ≡ true → InLive h k
 in_live h k e = by (has_cell k h.cells) refl (has_number k h.acknowledged) refl (sym (live_numbers-has h k) ∙ e)
   where
-    by : (a : Bool) → has_cell k h.cells ≡ a → (b : Bool) → has_number k h.acknowledged ≡ b → (a && not b) ≡ true → InLive h k
+    by : (a : Bool) → has_cell k h.cells ≡ a → (b : Bool) → has_number k h.acknowledged ≡ b
+        → (a && not b) ≡ true → InLive h k
     by true f false g e = record { has = f; unacked = g }
     by true f true g e = absurd cc
     by false f b g e = absurd cc
@@ -64,7 +66,8 @@ tag-entry : (h : BufferHistory) (tag : List ℕ) (k : ℕ) → IsSane h
     → bytes_eq (first_tag (cells_at k h.cells)) tag ≡ has_entry tag k h.cells
 tag-entry h tag k own has = by (has_entry tag k h.cells) refl
   where
-    by : (b : Bool) → has_entry tag k h.cells ≡ b → bytes_eq (first_tag (cells_at k h.cells)) tag ≡ b
+    by : (b : Bool) → has_entry tag k h.cells ≡ b
+        → bytes_eq (first_tag (cells_at k h.cells)) tag ≡ b
     by true e = (bytes_eq-Decides (first_tag (cells_at k h.cells)) tag).1 (own.one_tag k tag e)
     by false e = not_from (bytes_eq (first_tag (cells_at k h.cells)) tag) (λ f. true_false (has_entry tag k h.cells)
         (ap (λ t. has_entry t k h.cells) (sym ((bytes_eq-Decides (first_tag (cells_at k h.cells)) tag).0 f)) ∙ first_tag-entry k h.cells has) e)
@@ -86,7 +89,8 @@ uncarried-none k cs e = by (carry_at k cs) refl
 -- ---- an entry is added
 
 module _ (h : BufferHistory) (tag : List ℕ) (origin : Origin) (entry : List ℕ) (n : ℕ) (own : IsSane h) (fit : IsFor h tag n) where
-  unsettled-more : unsettled (adds_at h tag origin entry n) ≡ unsettled h ++ cell_at h tag origin entry n ∷ []
+  unsettled-more : unsettled
+      (adds_at h tag origin entry n) ≡ unsettled h ++ cell_at h tag origin entry n ∷ []
   unsettled-more = filter-push_in (λ c. not (has_number c.number h.acknowledged)) h.cells (cell_at h tag origin entry n) (ap not fit.unacked)
 
   has_unsettled : has_cell n (unsettled h) ≡ has_cell n h.cells
@@ -96,10 +100,13 @@ module _ (h : BufferHistory) (tag : List ℕ) (origin : Origin) (entry : List �
       and_true true = refl
       and_true false = refl
 
-  numbers-more : live_numbers (adds_at h tag origin entry n) ≡ cond (has_cell n h.cells) (live_numbers h) (live_numbers h ++ n ∷ [])
+  numbers-more : live_numbers (adds_at h tag origin entry n) ≡ cond (has_cell n h.cells)
+      (live_numbers h) (live_numbers h ++ n ∷ [])
   numbers-more = ap numbers_of unsettled-more ∙ numbers-push (unsettled h) (cell_at h tag origin entry n) ∙ ap (λ b. cond b (live_numbers h) (live_numbers h ++ n ∷ [])) has_unsettled
 
-  settled-more : filter (λ c. has_number c.number h.acknowledged) (h.cells ++ cell_at h tag origin entry n ∷ []) ≡ filter (λ c. has_number c.number h.acknowledged) h.cells
+  settled-more : filter (λ c. has_number c.number h.acknowledged)
+      (h.cells ++ cell_at h tag origin entry n ∷ []) ≡ filter
+      (λ c. has_number c.number h.acknowledged) h.cells
   settled-more = filter-push_out (λ c. has_number c.number h.acknowledged) h.cells (cell_at h tag origin entry n) fit.unacked
 
   length-more : length (h.cells ++ cell_at h tag origin entry n ∷ []) ≡ length h.cells + 1
@@ -107,7 +114,9 @@ module _ (h : BufferHistory) (tag : List ℕ) (origin : Origin) (entry : List �
 
   -- another number than the entry's
   chunk-elsewhere : (k : ℕ) → (n == k) ≡ false
-      → live_chunk (adds_at h tag origin entry n) k ≡ staged (stage_by (has_number k h.opened && not (has_entry tag k h.cells)) (carry_at k h.carried)) (live_chunk h k)
+      → live_chunk (adds_at h tag origin entry n) k ≡ staged
+      (stage_by (has_number k h.opened && not (has_entry tag k h.cells)) (carry_at k h.carried))
+      (live_chunk h k)
   chunk-elsewhere k e =
       let cells = cells_at-elsewhere k h.cells (cell_at h tag origin entry n) e in
       let stands : has_number k (n ∷ filter (λ j. not (has_entry tag j h.cells)) h.opened) ≡ (has_number k h.opened && not (has_entry tag k h.cells)) =
@@ -121,7 +130,8 @@ module _ (h : BufferHistory) (tag : List ℕ) (origin : Origin) (entry : List �
         losses = tally_of (losses_of k h.losses);
       }
 
-  open_here : (k : ℕ) → n ≡ k → has_number k (n ∷ filter (λ j. not (has_entry tag j h.cells)) h.opened) ≡ true
+  open_here : (k : ℕ) → n ≡ k
+      → has_number k (n ∷ filter (λ j. not (has_entry tag j h.cells)) h.opened) ≡ true
   open_here k same = ap (λ b. b || has_number k (filter (λ j. not (has_entry tag j h.cells)) h.opened)) (ap (λ x. eqb x k) same ∙ eq_same k)
 
 module _ (h : BufferHistory) (tag : List ℕ) (origin : Origin) (entry : List ℕ) (own : IsSane h) (j : Joins h tag entry) where
@@ -131,7 +141,8 @@ module _ (h : BufferHistory) (tag : List ℕ) (origin : Origin) (entry : List �
   joined_entry : has_entry tag j.number h.cells ≡ true
   joined_entry = by ((joins-for h tag entry own j).there) (has_entry tag j.number h.cells) refl
     where
-      by : (has_cell j.number h.cells ≡ true) ⊎ (j.number ≡ next_number h) → (b : Bool) → has_entry tag j.number h.cells ≡ b → b ≡ true
+      by : (has_cell j.number h.cells ≡ true) ⊎ (j.number ≡ next_number h) → (b : Bool)
+          → has_entry tag j.number h.cells ≡ b → b ≡ true
       by w true e = refl
       by w false e = absurd (true_false (has_entry tag j.number h.cells) (last_entry) e)
         where
@@ -139,7 +150,8 @@ module _ (h : BufferHistory) (tag : List ℕ) (origin : Origin) (entry : List �
           last_entry = last_number-entry tag j.number h.cells j.last
 
   -- the chunk that may take the entry is the one that it joins
-  joined_found : find (may_take (live_buffer h) tag entry) (live_buffer h).chunks ≡ Some (live_chunk h j.number)
+  joined_found : find (may_take (live_buffer h) tag entry) (live_buffer h).chunks ≡ Some
+      (live_chunk h j.number)
   unfolding live_buffer
   joined_found =
       find-map (may_take (live_buffer h) tag entry) (live_chunk h) (live_numbers h)
@@ -149,7 +161,8 @@ module _ (h : BufferHistory) (tag : List ℕ) (origin : Origin) (entry : List �
       (open_of-is h tag j.number own joined_has ∙ and_from (has_number j.number h.opened) (has_entry tag j.number h.cells) j.opened joined_entry) j.fits)
       only)
     where
-      only : (k : ℕ) → has_number k (live_numbers h) ≡ true → may_take (live_buffer h) tag entry (live_chunk h k) ≡ true → k ≡ j.number
+      only : (k : ℕ) → has_number k (live_numbers h) ≡ true
+          → may_take (live_buffer h) tag entry (live_chunk h k) ≡ true → k ≡ j.number
       only k e f =
           let in_it = in_live h k e in
           let here = and_parts (has_number k h.opened) (has_entry tag k h.cells) (sym (open_of-is h tag k own in_it.has) ∙ (and_parts (is_open_of tag (live_chunk h k)) (nat_le (size_of (contents k h.cells) + length entry) h.setting.limits.chunk) f).0) in
@@ -159,13 +172,18 @@ module _ (h : BufferHistory) (tag : List ℕ) (origin : Origin) (entry : List �
           same g = cc
 
   joined_chunk : (k : ℕ) → has_number k (live_numbers h) ≡ true
-      → cond (is_at j.number (live_chunk h k)) (record (live_chunk h k) { entries = contents k h.cells ++ entry ∷ [] }) (live_chunk h k) ≡ live_chunk (adds_at h tag origin entry j.number) k
+      → cond (is_at j.number (live_chunk h k))
+      (record (live_chunk h k) { entries = contents k h.cells ++ entry ∷ [] })
+      (live_chunk h k) ≡ live_chunk (adds_at h tag origin entry j.number) k
   joined_chunk k e = by (k == j.number) refl
     where
-      own_stage : (k == j.number) ≡ false → stage_by (has_number k h.opened) (carry_at k h.carried) ≡ stage_by (has_number k h.opened && not (has_entry tag k h.cells)) (carry_at k h.carried)
+      own_stage : (k == j.number) ≡ false
+          → stage_by (has_number k h.opened) (carry_at k h.carried) ≡ stage_by
+          (has_number k h.opened && not (has_entry tag k h.cells)) (carry_at k h.carried)
       own_stage f = ap (λ b. stage_by b (carry_at k h.carried)) (at (has_number k h.opened) refl (has_entry tag k h.cells) refl)
         where
-          at : (a : Bool) → has_number k h.opened ≡ a → (b : Bool) → has_entry tag k h.cells ≡ b → a ≡ (a && not b)
+          at : (a : Bool) → has_number k h.opened ≡ a → (b : Bool) → has_entry tag k h.cells ≡ b
+              → a ≡ (a && not b)
           at false g b i = refl
           at true g false i = refl
           at true g true i = absurd (true_false (k == j.number) (ap (λ x. eqb k x) (sym (same (sym (own.opened_last k tag g i) ∙ j.last))) ∙ eq_same k) f)
@@ -173,7 +191,9 @@ module _ (h : BufferHistory) (tag : List ℕ) (origin : Origin) (entry : List �
               same : Some k ≡ Some j.number → k ≡ j.number
               same i = cc
 
-      by : (b : Bool) → (k == j.number) ≡ b → cond b (record (live_chunk h k) { entries = contents k h.cells ++ entry ∷ [] }) (live_chunk h k) ≡ live_chunk (adds_at h tag origin entry j.number) k
+      by : (b : Bool) → (k == j.number) ≡ b
+          → cond b (record (live_chunk h k) { entries = contents k h.cells ++ entry ∷ [] })
+          (live_chunk h k) ≡ live_chunk (adds_at h tag origin entry j.number) k
       by true f =
           let same : j.number ≡ k = sym (eq_from k j.number f) in
           let here : (j.number == k) ≡ true = ap (λ x. eqb x k) same ∙ eq_same k in
@@ -192,7 +212,8 @@ module _ (h : BufferHistory) (tag : List ℕ) (origin : Origin) (entry : List �
           let differ : (j.number == k) ≡ false = not_from (j.number == k) (λ g. true_false (k == j.number) (ap (λ x. eqb k x) (eq_from j.number k g) ∙ eq_same k) f) in
           ap (λ s. staged s (live_chunk h k)) (own_stage f) ∙ sym (chunk-elsewhere h tag origin entry j.number own (joins-for h tag entry own j) k differ)
 
-  joins-live : live_buffer (adds_at h tag origin entry j.number) ≡ live_adds_to (live_buffer h) tag entry (Some (live_chunk h j.number))
+  joins-live : live_buffer (adds_at h tag origin entry j.number) ≡ live_adds_to
+      (live_buffer h) tag entry (Some (live_chunk h j.number))
   unfolding live_buffer
   joins-live =
       let fit = joins-for h tag entry own j in
@@ -218,7 +239,8 @@ module _ (h : BufferHistory) (tag : List ℕ) (origin : Origin) (entry : List �
       find-map (may_take (live_buffer h) tag entry) (live_chunk h) (live_numbers h)
       ∙ ap (option_map (live_chunk h)) (find_no (λ k. may_take (live_buffer h) tag entry (live_chunk h k)) (live_numbers h) none)
     where
-      none : (k : ℕ) → has_number k (live_numbers h) ≡ true → may_take (live_buffer h) tag entry (live_chunk h k) ≡ true → ⊥
+      none : (k : ℕ) → has_number k (live_numbers h) ≡ true
+          → may_take (live_buffer h) tag entry (live_chunk h k) ≡ true → ⊥
       none k e f =
           let in_it = in_live h k e in
           let parts = and_parts (is_open_of tag (live_chunk h k)) (nat_le (size_of (contents k h.cells) + length entry) h.setting.limits.chunk) f in
@@ -226,7 +248,8 @@ module _ (h : BufferHistory) (tag : List ℕ) (origin : Origin) (entry : List �
           true_false (has_room h entry k) (and_from (has_number k h.opened) (nat_le (size_of (contents k h.cells) + length entry) h.setting.limits.chunk) here.0 parts.1) (b.none k (own.opened_last k tag here.0 here.1))
 
   begun_chunk : (k : ℕ) → has_number k (live_numbers h) ≡ true
-      → cond (is_open_of tag (live_chunk h k)) (staged Closed (live_chunk h k)) (live_chunk h k) ≡ live_chunk (adds_at h tag origin entry (next_number h)) k
+      → cond (is_open_of tag (live_chunk h k)) (staged Closed (live_chunk h k))
+      (live_chunk h k) ≡ live_chunk (adds_at h tag origin entry (next_number h)) k
   begun_chunk k e =
       ap (λ t. cond t (staged Closed (live_chunk h k)) (live_chunk h k)) (open_of-is h tag k own (in_live h k e).has)
       ∙ by (has_number k h.opened) refl (has_entry tag k h.cells)
@@ -235,12 +258,16 @@ module _ (h : BufferHistory) (tag : List ℕ) (origin : Origin) (entry : List �
       differ : (next_number h == k) ≡ false
       differ = not_from (next_number h == k) (λ f. true_false (has_cell k h.cells) (in_live h k e).has (ap (λ x. has_cell x h.cells) (sym (eq_from (next_number h) k f)) ∙ next-fresh h))
 
-      by : (a : Bool) → has_number k h.opened ≡ a → (t : Bool) → cond (a && t) (staged Closed (live_chunk h k)) (staged (stage_by a (carry_at k h.carried)) (live_chunk h k)) ≡ staged (stage_by (a && not t) (carry_at k h.carried)) (live_chunk h k)
+      by : (a : Bool) → has_number k h.opened ≡ a → (t : Bool)
+          → cond (a && t) (staged Closed (live_chunk h k))
+          (staged (stage_by a (carry_at k h.carried)) (live_chunk h k)) ≡ staged
+          (stage_by (a && not t) (carry_at k h.carried)) (live_chunk h k)
       by true f true = ap (λ c. staged (stage_by false c) (live_chunk h k)) (sym (uncarried-none k h.carried (own.opened_uncarried k f)))
       by true f false = refl
       by false f t = refl
 
-  begun_first : live_chunk (adds_at h tag origin entry (next_number h)) (next_number h) ≡ first_chunk (live_buffer h) tag entry
+  begun_first : live_chunk (adds_at h tag origin entry (next_number h))
+      (next_number h) ≡ first_chunk (live_buffer h) tag entry
   unfolding live_buffer
   begun_first =
       let n = next_number h in
@@ -255,7 +282,8 @@ module _ (h : BufferHistory) (tag : List ℕ) (origin : Origin) (entry : List �
         losses = tally_of (own.lost_has n (next-fresh h) i);
       }
 
-  begins-live : live_buffer (adds_at h tag origin entry (next_number h)) ≡ live_adds_to (live_buffer h) tag entry None
+  begins-live : live_buffer (adds_at h tag origin entry (next_number h)) ≡ live_adds_to
+      (live_buffer h) tag entry None
   unfolding live_buffer
   begins-live =
       let n = next_number h in
@@ -368,7 +396,10 @@ added-cells (entry ∷ entries) h tag origin =
     added-cells entries (adds h tag origin entry) tag origin ∙ append_assoc h.cells (cell_at h tag origin entry (joins h tag entry) ∷ []) (added entries (adds h tag origin entry) tag origin)
 
 place-live : (h : BufferHistory) (tag : List ℕ) (origin : Origin) (entry : List ℕ) → IsSane h
-    → record { number = joins h tag entry; from = length (cells_at (joins h tag entry) h.cells); count = 1 } ≡ live_place (live_buffer h) (find (may_take (live_buffer h) tag entry) (live_buffer h).chunks)
+    → record
+    { number = joins h tag entry; from = length (cells_at (joins h tag entry) h.cells); count = 1 }
+    ≡ live_place
+    (live_buffer h) (find (may_take (live_buffer h) tag entry) (live_buffer h).chunks)
 unfolding live_buffer
 place-live h tag origin entry own = elim (joins_or_begins h tag entry) [
   | inl j ↦ ap (λ n. record { number = n; from = length (cells_at n h.cells); count = 1 }) j.is
@@ -405,7 +436,12 @@ old-live : (interval moment k : ℕ) (cells : List Cell) → has_cell k cells �
 old-live interval moment k [] e = absurd cc
 old-live interval moment k (c ∷ cells) e = by (old-live interval moment k cells) (c.number == k) e
   where
-    by : (has_cell k cells ≡ true → is_old interval moment (find (λ d. d.number == k) cells) ≡ nat_le (first_moment (cells_at k cells) + interval) moment) → (b : Bool) → (b || has_cell k cells) ≡ true → is_old interval moment (cond b (Some c) (find (λ d. d.number == k) cells)) ≡ nat_le (first_moment (cond b (c ∷ cells_at k cells) (cells_at k cells)) + interval) moment
+    by :
+        (has_cell k cells ≡ true → is_old interval moment (find (λ d. d.number == k) cells)
+        ≡ nat_le (first_moment (cells_at k cells) + interval) moment)
+        → (b : Bool) → (b || has_cell k cells) ≡ true
+        → is_old interval moment (cond b (Some c) (find (λ d. d.number == k) cells)) ≡ nat_le
+        (first_moment (cond b (c ∷ cells_at k cells) (cells_at k cells)) + interval) moment
     by rest true f = refl
     by rest false f = rest f
 
@@ -430,21 +466,30 @@ closing-live h now kind own =
     ∙ ap length (sym (filter-map (live_closes (live_buffer (looks h now)) kind) (live_chunk h) (live_numbers h)))
     ∙ last
   where
-    unacked : (k : ℕ) → (has_number k h.opened && closes (looks h now) kind k) ≡ true → not (has_number k h.acknowledged) ≡ true
+    unacked : (k : ℕ) → (has_number k h.opened && closes (looks h now) kind k) ≡ true
+        → not (has_number k h.acknowledged) ≡ true
     unacked k e = ap not (own.opened_unacked k (and_parts (has_number k h.opened) (closes (looks h now) kind k) e).0)
 
-    last : length (filter (live_closes (live_buffer (looks h now)) kind) (map (live_chunk h) (live_numbers h))) ≡ length (live_closing (live_buffer h) now kind)
+    last : length
+        (filter (live_closes (live_buffer (looks h now)) kind)
+        (map (live_chunk h) (live_numbers h))) ≡ length
+        (live_closing (live_buffer h) now kind)
     last = refl
 
 flushed-chunk : (h : BufferHistory) (kind : FlushKind) (moment k : ℕ) → IsSane h
     → has_cell k h.cells ≡ true
-    → cond (live_closes (live_buffer h) kind (live_chunk h k)) (staged Closed (live_chunk h k)) (live_chunk h k) ≡ live_chunk (record h { opened = filter (λ j. not (closes h kind j)) h.opened; moment = moment }) k
+    → cond (live_closes (live_buffer h) kind (live_chunk h k)) (staged Closed (live_chunk h k))
+    (live_chunk h k) ≡ live_chunk
+    (record h { opened = filter (λ j. not (closes h kind j)) h.opened; moment = moment }) k
 flushed-chunk h kind moment k own has =
     ap (λ t. cond t (staged Closed (live_chunk h k)) (live_chunk h k)) (closes-live h kind k has)
     ∙ by (has_number k h.opened) refl (closes h kind k)
     ∙ ap (λ b. staged (stage_by b (carry_at k h.carried)) (live_chunk h k)) (sym (has_number-filter k (λ j. not (closes h kind j)) h.opened))
   where
-    by : (a : Bool) → has_number k h.opened ≡ a → (t : Bool) → cond (a && t) (staged Closed (live_chunk h k)) (staged (stage_by a (carry_at k h.carried)) (live_chunk h k)) ≡ staged (stage_by (a && not t) (carry_at k h.carried)) (live_chunk h k)
+    by : (a : Bool) → has_number k h.opened ≡ a → (t : Bool)
+        → cond (a && t) (staged Closed (live_chunk h k))
+        (staged (stage_by a (carry_at k h.carried)) (live_chunk h k)) ≡ staged
+        (stage_by (a && not t) (carry_at k h.carried)) (live_chunk h k)
     by true f true = ap (λ c. staged (stage_by false c) (live_chunk h k)) (sym (uncarried-none k h.carried (own.opened_uncarried k f)))
     by true f false = refl
     by false f t = refl
@@ -487,7 +532,9 @@ free-live h k fits own e =
     ∙ by (has_number k h.opened) (carry_at k h.carried) refl (is_over h.setting.limits (losses_of k h.losses) h.moment)
     ∙ (λ i. sym (numbers-has k h.cells ∙ in_it.has) i && (not (has_number k h.opened) && (not (sym in_it.unacked i) && (not (is_carried k h.carried) && is_over h.setting.limits (losses_of k h.losses) h.moment))))
   where
-    by : (a : Bool) (o : Option Carry) → carry_at k h.carried ≡ o → (t : Bool) → (is_closed (stage_by a o) && t) ≡ (true && (not a && (not false && (not (is_carried k h.carried) && t))))
+    by : (a : Bool) (o : Option Carry) → carry_at k h.carried ≡ o → (t : Bool)
+        → (is_closed (stage_by a o) && t) ≡
+        (true && (not a && (not false && (not (is_carried k h.carried) && t))))
     by true o f t = refl
     by false None f t = ap (λ b. not b && t) (sym (any-find (λ c. c.number == k) h.carried ∙ ap is_some f))
     by false (Some c) f t = ap (λ b. not b && t) (sym (any-find (λ c. c.number == k) h.carried ∙ ap is_some f))
@@ -497,7 +544,8 @@ find-within : (p q : ℕ → Bool) → ((k : ℕ) → p k ≡ true → q k ≡ t
 find-within p q h [] = refl
 find-within p q h (n ∷ ns) = by (find-within p q h ns) (p n) refl (q n) refl
   where
-    by : find p (filter q ns) ≡ find p ns → (a : Bool) → p n ≡ a → (b : Bool) → q n ≡ b → find p (cond b (n ∷ filter q ns) (filter q ns)) ≡ cond a (Some n) (find p ns)
+    by : find p (filter q ns) ≡ find p ns → (a : Bool) → p n ≡ a → (b : Bool) → q n ≡ b
+        → find p (cond b (n ∷ filter q ns) (filter q ns)) ≡ cond a (Some n) (find p ns)
     by rest true e true f = ap (λ t. cond t (Some n) (find p (filter q ns))) e
     by rest true e false f = absurd (true_false (q n) (h n e) f)
     by rest false e true f = ap (λ t. cond t (Some n) (find p (filter q ns))) e ∙ rest
@@ -514,12 +562,14 @@ given-live h fits own =
     ∙ find-within (is_free h) (λ k. not (has_number k h.acknowledged)) (λ k e. ap not (free_parts h k e).unacked) (numbers_of h.cells)
     ∙ sym (least_first (is_free h) (numbers_of h.cells) own.rising))
   where
-    by_chunks : live_given (live_buffer h) ≡ option_map (live_chunk h) (find (λ k. live_is_free (live_buffer h) (live_chunk h k)) (live_numbers h))
+    by_chunks : live_given (live_buffer h) ≡ option_map (live_chunk h)
+        (find (λ k. live_is_free (live_buffer h) (live_chunk h k)) (live_numbers h))
     by_chunks = find-map (live_is_free (live_buffer h)) (live_chunk h) (live_numbers h)
 
 carries_more-live : (h : BufferHistory) (worker : ℕ) (o : Option ℕ)
     → ((k : ℕ) → o ≡ Some k → Loose h k)
-    → live_buffer (record h { carried = carry_more worker o h.carried }) ≡ live_carries_more worker (option_map (live_chunk h) o) (live_buffer h)
+    → live_buffer (record h { carried = carry_more worker o h.carried }) ≡ live_carries_more worker
+    (option_map (live_chunk h) o) (live_buffer h)
 unfolding live_buffer
 carries_more-live h worker None free = refl
 carries_more-live h worker (Some n) free =
@@ -539,7 +589,9 @@ carries_more-live h worker (Some n) free =
     is : Loose h n
     is = free n refl
 
-    at : (k : ℕ) (b : Bool) → (k == n) ≡ b → cond b (staged (Taken worker) (live_chunk h k)) (live_chunk h k) ≡ live_chunk (record h { carried = h.carried ++ record { worker = worker; number = n } ∷ [] }) k
+    at : (k : ℕ) (b : Bool) → (k == n) ≡ b
+        → cond b (staged (Taken worker) (live_chunk h k)) (live_chunk h k) ≡ live_chunk
+        (record h { carried = h.carried ++ record { worker = worker; number = n } ∷ [] }) k
     at k true e =
         let same : n ≡ k = sym (eq_from k n e) in
         let open_ : has_number k h.opened ≡ false = ap (λ x. has_number x h.opened) (sym same) ∙ is.closed in
@@ -566,14 +618,18 @@ pub carried-live : (h : BufferHistory) (k : ℕ) → IsSane h
 unfolding live_buffer
 carried-live h k own = by_chunks ∙ by (is_carried k h.carried) refl
   where
-    by_chunks : live_carried (live_buffer h) k ≡ option_map (load_of h) (find (λ j. (j == k) && is_taken (stage_of h j)) (live_numbers h))
+    by_chunks : live_carried (live_buffer h) k ≡ option_map (load_of h)
+        (find (λ j. (j == k) && is_taken (stage_of h j)) (live_numbers h))
     by_chunks = ap (option_map (live_load (live_buffer h))) (find-map (λ c. is_at k c && is_taken c.stage) (live_chunk h) (live_numbers h)) ∙ joined (find (λ j. (j == k) && is_taken (stage_of h j)) (live_numbers h))
       where
-        joined : (o : Option ℕ) → option_map (live_load (live_buffer h)) (option_map (live_chunk h) o) ≡ option_map (load_of h) o
+        joined : (o : Option ℕ)
+            → option_map (live_load (live_buffer h)) (option_map (live_chunk h) o) ≡ option_map
+            (load_of h) o
         joined None = refl
         joined (Some j) = refl
 
-    taken : (a b : Bool) (o : Option Carry) → is_some o ≡ b → a ≡ false → is_taken (stage_by a o) ≡ b
+    taken : (a b : Bool) (o : Option Carry) → is_some o ≡ b → a ≡ false
+        → is_taken (stage_by a o) ≡ b
     taken true b o e f = absurd cc
     taken false b None e f = e
     taken false b (Some c) e f = e
@@ -583,7 +639,10 @@ carried-live h k own = by_chunks ∙ by (is_carried k h.carried) refl
     untaken false None e = refl
     untaken false (Some c) e = absurd cc
 
-    by : (b : Bool) → is_carried k h.carried ≡ b → option_map (load_of h) (find (λ j. (j == k) && is_taken (stage_of h j)) (live_numbers h)) ≡ cond b (Some (load_of h k)) None
+    by : (b : Bool) → is_carried k h.carried ≡ b
+        → option_map (load_of h)
+        (find (λ j. (j == k) && is_taken (stage_of h j)) (live_numbers h)) ≡ cond b
+        (Some (load_of h k)) None
     by true e =
         let shut : has_number k h.opened ≡ false = not_from (has_number k h.opened) (λ f. true_false (is_carried k h.carried) e (own.opened_uncarried k f)) in
         ap (option_map (load_of h)) (find_only (λ j. (j == k) && is_taken (stage_of h j)) k (live_numbers h) (is_live h k (own.carried_has k e) (own.carried_unacked k e))
@@ -600,7 +659,9 @@ only_one : (k : ℕ) (ns : List ℕ) → AreDistinct ns → has_number k ns ≡ 
 only_one k [] d e = absurd cc
 only_one k (n ∷ ns) d e = by (only_one k ns d.1) (n == k) refl e
   where
-    by : (has_number k ns ≡ true → filter (λ j. j == k) ns ≡ k ∷ []) → (b : Bool) → (n == k) ≡ b → (b || has_number k ns) ≡ true → cond b (n ∷ filter (λ j. j == k) ns) (filter (λ j. j == k) ns) ≡ k ∷ []
+    by : (has_number k ns ≡ true → filter (λ j. j == k) ns ≡ k ∷ []) → (b : Bool) → (n == k) ≡ b
+        → (b || has_number k ns) ≡ true
+        → cond b (n ∷ filter (λ j. j == k) ns) (filter (λ j. j == k) ns) ≡ k ∷ []
     by rest true f g =
         let same : n ≡ k = eq_from n k f in
         λ i. same i ∷ none ns (ap (λ x. has_number x ns) (sym same) ∙ d.0) i
@@ -622,7 +683,8 @@ count-live h n own has =
     plus_zero m = omega arith
 
 settled-push : (n : ℕ) (acked : List ℕ) (cells : List Cell) → has_number n acked ≡ false
-    → length (filter (λ c. has_number c.number (acked ++ n ∷ [])) cells) ≡ length (filter (λ c. has_number c.number acked) cells) + length (cells_at n cells)
+    → length (filter (λ c. has_number c.number (acked ++ n ∷ [])) cells) ≡ length
+    (filter (λ c. has_number c.number acked) cells) + length (cells_at n cells)
 settled-push n acked [] e = refl
 settled-push n acked (c ∷ cells) e = grind (arith, nat_tests, settled-push n acked cells e, has_number-push c.number n acked, e)
 
@@ -652,7 +714,9 @@ settles-live h n own has =
       moment = h.moment;
     }
   where
-    one_more : (k : ℕ) → not (has_number k (h.acknowledged ++ n ∷ [])) ≡ (not (has_number k h.acknowledged) && not (k == n))
+    one_more : (k : ℕ)
+        → not (has_number k (h.acknowledged ++ n ∷ [])) ≡
+        (not (has_number k h.acknowledged) && not (k == n))
     one_more k = ap not (has_number-push k n h.acknowledged) ∙ at (has_number k h.acknowledged) (n == k) refl
       where
         at : (a b : Bool) → (n == k) ≡ b → not (a || b) ≡ (not a && not (k == n))
@@ -660,12 +724,20 @@ settles-live h n own has =
         at false true e = ap not (sym (ap (λ x. eqb k x) (eq_from n k e) ∙ eq_same k))
         at false false e = ap not (sym (not_from (k == n) (λ f. true_false (n == k) (ap (λ x. eqb x k) (sym (eq_from k n f)) ∙ eq_same k) e)))
 
-    both : (ns : List ℕ) → filter (λ k. not (has_number k h.acknowledged) && not (k == n)) ns ≡ filter (λ k. not (k == n)) (filter (λ k. not (has_number k h.acknowledged)) ns)
+    both : (ns : List ℕ)
+        → filter (λ k. not (has_number k h.acknowledged) && not (k == n)) ns ≡ filter
+        (λ k. not (k == n)) (filter (λ k. not (has_number k h.acknowledged)) ns)
     both [] = refl
     both (m ∷ ns) = at (both ns) (not (has_number m h.acknowledged)) (not (m == n)) refl
       where
-        at : filter (λ k. not (has_number k h.acknowledged) && not (k == n)) ns ≡ filter (λ k. not (k == n)) (filter (λ k. not (has_number k h.acknowledged)) ns) → (a b : Bool) → not (m == n) ≡ b → cond (a && b) (m ∷ filter (λ k. not (has_number k h.acknowledged) && not (k == n)) ns) (filter (λ k. not (has_number k h.acknowledged) && not (k == n)) ns)
-            ≡ filter (λ k. not (k == n)) (cond a (m ∷ filter (λ k. not (has_number k h.acknowledged)) ns) (filter (λ k. not (has_number k h.acknowledged)) ns))
+        at : filter (λ k. not (has_number k h.acknowledged) && not (k == n)) ns ≡ filter
+            (λ k. not (k == n)) (filter (λ k. not (has_number k h.acknowledged)) ns)
+            → (a b : Bool) → not (m == n) ≡ b
+            → cond (a && b) (m ∷ filter (λ k. not (has_number k h.acknowledged) && not (k == n)) ns)
+            (filter (λ k. not (has_number k h.acknowledged) && not (k == n)) ns)
+            ≡ filter (λ k. not (k == n))
+            (cond a (m ∷ filter (λ k. not (has_number k h.acknowledged)) ns)
+            (filter (λ k. not (has_number k h.acknowledged)) ns))
         at rest true b e = ap (λ l. cond b (m ∷ l) l) rest
             ∙ ap (λ t. cond t (m ∷ filter (λ k. not (k == n)) (filter (λ k. not (has_number k h.acknowledged)) ns)) (filter (λ k. not (k == n)) (filter (λ k. not (has_number k h.acknowledged)) ns))) (sym e)
         at rest false b e = rest
@@ -696,7 +768,8 @@ frees-live h n None own has =
       moment = h.moment;
     }
   where
-    at : (k : ℕ) (b : Bool) → (k == n) ≡ b → cond b (staged Closed (live_chunk h k)) (live_chunk h k) ≡ live_chunk (frees h n None) k
+    at : (k : ℕ) (b : Bool) → (k == n) ≡ b
+        → cond b (staged Closed (live_chunk h k)) (live_chunk h k) ≡ live_chunk (frees h n None) k
     at k true e =
         let same : n ≡ k = sym (eq_from k n e) in
         let shut : has_number k h.opened ≡ false = not_from (has_number k h.opened) (λ f. true_false (is_carried k h.carried) (ap (λ x. is_carried x h.carried) (sym same) ∙ has) (own.opened_uncarried k f)) in
@@ -719,7 +792,14 @@ frees-live h n (Some now) own has =
       moment = m;
     }
   where
-    at : (k : ℕ) (b : Bool) → (k == n) ≡ b → cond b (record (live_chunk h k) { stage = Closed; losses = Some (tally_more (tally_of (losses_of k h.losses)) (max h.moment now)) }) (live_chunk h k) ≡ live_chunk (frees h n (Some now)) k
+    at : (k : ℕ) (b : Bool) → (k == n) ≡ b
+        → cond b
+        (record (live_chunk h k) {
+          stage = Closed;
+          losses = Some
+              (tally_more (tally_of (losses_of k h.losses)) (max h.moment now));
+        })
+        (live_chunk h k) ≡ live_chunk (frees h n (Some now)) k
     at k true e =
         let same : n ≡ k = sym (eq_from k n e) in
         let shut : has_number k h.opened ≡ false = not_from (has_number k h.opened) (λ f. true_false (is_carried k h.carried) (ap (λ x. is_carried x h.carried) (sym same) ∙ has) (own.opened_uncarried k f)) in

@@ -41,7 +41,8 @@ over-set old new above place key over change made = record {
 }
   where
     by : (k : ℕ) → (k ≡ place / 2) ⊎ (k ≡ place / 2 → ⊥)
-        → key_at (set above (place / 2) key) k ≡ lesser (key_at new (2 * k)) (key_at new (2 * k + 1))
+        → key_at (set above (place / 2) key) k ≡ lesser (key_at new (2 * k))
+        (key_at new (2 * k + 1))
     by k (inl same) =
         let inside = half-inside old above place over change.inside in
         ap (key_at (set above (place / 2) key)) same

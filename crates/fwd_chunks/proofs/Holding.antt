@@ -14,7 +14,8 @@ use Rattle.fwd_chunks.specs.declared.stage.Stage.{Stage}
 use Rattle.fwd_chunks.specs.declared.stage.Stage.TheVariants.{Closed, Taken}
 use Rattle.fwd_chunks.specs.Cells.{size_of}
 use Rattle.fwd_chunks.specs.History.{Load, before_runs}
-use Rattle.fwd_chunks.specs.Live.{LiveBuffer, is_open, staged, is_at, live_next_number, is_open_of, may_take, first_chunk, live_adds_to, live_adds, live_adds_all, live_looks, live_enters, live_place, live_runs, live_spans, live_closes, live_flushes, live_given, live_carries_more, live_takes, live_load, live_carried, IsCarried, is_taken, tally_more, live_frees, live_settles}
+use Rattle.fwd_chunks.specs.Live.{LiveBuffer, is_open, staged, is_at, live_next_number, is_open_of, may_take, first_chunk, live_adds_to, live_adds, live_adds_all, live_looks, live_enters, live_place, live_runs, live_spans, live_closes, live_flushes, live_given, live_carries_more, live_takes, live_load, live_carried, IsCarried, is_taken, live_frees, live_settles}
+use Rattle.fwd_retry.specs.Tallies.{tally_more}
 use Rattle.fwd_chunks.specs.Soundness.{IsBefore, AreInOrder, IsSound}
 use Rattle.fwd_chunks.specs.Spans.{run_in, AreRising, AreCutBy, IsHeld, AreHeld, IsGone}
 use Rattle.fwd_chunks.proofs.Numbers.{true_false, not_from, eq_from, eq_same}
@@ -363,7 +364,11 @@ module _ (chunks : List Chunk) (tag entry : List ℕ) (es : List (List ℕ)) (n 
   }
   one-more (h ∷ runs) ran begins = by (n == h.number) refl begins
     where
-      by : (t : Bool) → (n == h.number) ≡ t → Follows n f h → Ran chunks tag (cond t (record { number = n; from = f; count = 1 + h.count } ∷ runs) (record { number = n; from = f; count = 1 } ∷ h ∷ runs)) (entry ∷ es)
+      by : (t : Bool) → (n == h.number) ≡ t → Follows n f h
+          → Ran chunks tag
+          (cond t (record { number = n; from = f; count = 1 + h.count } ∷ runs)
+          (record { number = n; from = f; count = 1 } ∷ h ∷ runs))
+          (entry ∷ es)
       by true e (inl goes) = joined h runs ran goes.0 goes.1
       by true e (inr lt) = absurd (omega (arith, lt, eq_from n h.number e))
       by false e (inl goes) = absurd (true_false (n == h.number) (ap (λ k. n == k) goes.0 ∙ eq_same n) e)
@@ -427,7 +432,10 @@ runs-begin b tag entry (e ∷ es) own =
     headed p [] h = h
     headed p (s ∷ runs) h = by (p.number == s.number)
       where
-        by : (t : Bool) → Begins (place b tag entry own).number (place b tag entry own).from (cond t (record { number = p.number; from = p.from; count = p.count + s.count } ∷ runs) (p ∷ s ∷ runs))
+        by : (t : Bool)
+            → Begins (place b tag entry own).number (place b tag entry own).from
+            (cond t (record { number = p.number; from = p.from; count = p.count + s.count } ∷ runs)
+            (p ∷ s ∷ runs))
         by true = h
         by false = h
 
@@ -443,7 +451,9 @@ runs-ran (entry ∷ es) b tag own =
     (one-more (live_adds_all b tag (entry ∷ es)).chunks tag entry es (place b tag entry own).number (place b tag entry own).from is.chunk is.front
     (tag_is is.chunk is.opened) is.entries is.from grown (live_runs (live_adds b tag entry) tag es) (runs-ran es (live_adds b tag entry) tag more) (runs-begin b tag entry es own))
   where
-    counted : (o : Option Chunk) → live_place b o ≡ record { number = (live_place b o).number; from = (live_place b o).from; count = 1 }
+    counted : (o : Option Chunk)
+        → live_place b o ≡ record
+        { number = (live_place b o).number; from = (live_place b o).from; count = 1 }
     counted None = refl
     counted (Some c) = refl
 

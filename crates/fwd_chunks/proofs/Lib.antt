@@ -1,7 +1,6 @@
 mod Examples
 pub mod Numbers
 pub mod CellLemmas
-pub mod Doublings
 pub mod Packing
 pub mod Sane
 pub mod News

@@ -128,7 +128,10 @@ pub of_number : (p : ℕ → Bool) (k : ℕ) (cells : List Cell)
 of_number p k [] all h = absurd cc
 of_number p k (c ∷ cells) all h = by (λ a g. of_number p k cells a g) (c.number == k) refl (p c.number) refl all h
   where
-    by : (list_all (λ c. p c.number) cells ≡ true → has_cell k cells ≡ true → p k ≡ true) → (b : Bool) → (c.number == k) ≡ b → (a : Bool) → p c.number ≡ a → (a && list_all (λ c. p c.number) cells) ≡ true → (b || has_cell k cells) ≡ true → p k ≡ true
+    by : (list_all (λ c. p c.number) cells ≡ true → has_cell k cells ≡ true → p k ≡ true)
+        → (b : Bool) → (c.number == k) ≡ b → (a : Bool) → p c.number ≡ a
+        → (a && list_all (λ c. p c.number) cells) ≡ true → (b || has_cell k cells) ≡ true
+        → p k ≡ true
     by rest b e false f all h = absurd cc
     by rest true e true f all h = ap p (sym (eq_from c.number k e)) ∙ f
     by rest false e true f all h = rest all h
@@ -175,7 +178,11 @@ before-all p s (t ∷ runs) = by (s.number == t.number) refl
     twice true b = refl
     twice false b = refl
 
-    by : (b : Bool) → (s.number == t.number) ≡ b → list_all (λ t. p t.number) (cond b (record { number = s.number; from = s.from; count = s.count + t.count } ∷ runs) (s ∷ t ∷ runs)) ≡ (p s.number && (p t.number && list_all (λ t. p t.number) runs))
+    by : (b : Bool) → (s.number == t.number) ≡ b
+        → list_all (λ t. p t.number)
+        (cond b (record { number = s.number; from = s.from; count = s.count + t.count } ∷ runs) (s
+        ∷ t ∷ runs)) ≡
+        (p s.number && (p t.number && list_all (λ t. p t.number) runs))
     by true e = twice (p s.number) (list_all (λ t. p t.number) runs) ∙ ap (λ n. p s.number && (p n && list_all (λ t. p t.number) runs)) (eq_from s.number t.number e)
     by false e = refl
 

@@ -27,7 +27,9 @@ pub filter-filter : {X : Type 0} (p q : X → Bool) (xs : List X)
 filter-filter p q [] = refl
 filter-filter p q (x ∷ xs) = by (filter-filter p q xs) (p x) (q x) refl refl
   where
-    by : filter p (filter q xs) ≡ filter q (filter p xs) → (a b : Bool) → p x ≡ a → q x ≡ b → filter p (cond b (x ∷ filter q xs) (filter q xs)) ≡ filter q (cond a (x ∷ filter p xs) (filter p xs))
+    by : filter p (filter q xs) ≡ filter q (filter p xs) → (a b : Bool) → p x ≡ a → q x ≡ b
+        → filter p (cond b (x ∷ filter q xs) (filter q xs)) ≡ filter q
+        (cond a (x ∷ filter p xs) (filter p xs))
     by rest true true e f = ap (λ t. cond t (x ∷ filter p (filter q xs)) (filter p (filter q xs))) e ∙ ap (λ l. x ∷ l) rest ∙ sym (ap (λ t. cond t (x ∷ filter q (filter p xs)) (filter q (filter p xs))) f)
     by rest true false e f = rest ∙ sym (ap (λ t. cond t (x ∷ filter q (filter p xs)) (filter q (filter p xs))) f)
     by rest false true e f = ap (λ t. cond t (x ∷ filter p (filter q xs)) (filter p (filter q xs))) e ∙ rest
@@ -39,7 +41,8 @@ pub filter-within : {X : Type 0} (p q : X → Bool) → ((x : X) → p x ≡ tru
 filter-within p q h [] = refl
 filter-within p q h (x ∷ xs) = by (filter-within p q h xs) (p x) (q x) refl refl
   where
-    by : filter p (filter q xs) ≡ filter p xs → (a b : Bool) → p x ≡ a → q x ≡ b → filter p (cond b (x ∷ filter q xs) (filter q xs)) ≡ cond a (x ∷ filter p xs) (filter p xs)
+    by : filter p (filter q xs) ≡ filter p xs → (a b : Bool) → p x ≡ a → q x ≡ b
+        → filter p (cond b (x ∷ filter q xs) (filter q xs)) ≡ cond a (x ∷ filter p xs) (filter p xs)
     by rest true true e f = ap (λ t. cond t (x ∷ filter p (filter q xs)) (filter p (filter q xs))) e ∙ ap (λ l. x ∷ l) rest
     by rest true false e f = absurd (true_false (q x) (h x e) f)
     by rest false true e f = ap (λ t. cond t (x ∷ filter p (filter q xs)) (filter p (filter q xs))) e ∙ rest
@@ -50,7 +53,9 @@ pub filter-map : {X Y : Type 0} (p : Y → Bool) (f : X → Y) (xs : List X)
 filter-map p f [] = refl
 filter-map p f (x ∷ xs) = by (filter-map p f xs) (p (f x))
   where
-    by : filter p (map f xs) ≡ map f (filter (λ y. p (f y)) xs) → (a : Bool) → cond a (f x ∷ filter p (map f xs)) (filter p (map f xs)) ≡ map f (cond a (x ∷ filter (λ y. p (f y)) xs) (filter (λ y. p (f y)) xs))
+    by : filter p (map f xs) ≡ map f (filter (λ y. p (f y)) xs) → (a : Bool)
+        → cond a (f x ∷ filter p (map f xs)) (filter p (map f xs)) ≡ map f
+        (cond a (x ∷ filter (λ y. p (f y)) xs) (filter (λ y. p (f y)) xs))
     by rest true = ap (λ l. f x ∷ l) rest
     by rest false = rest
 
@@ -59,7 +64,9 @@ pub find-map : {X Y : Type 0} (p : Y → Bool) (f : X → Y) (xs : List X)
 find-map p f [] = refl
 find-map p f (x ∷ xs) = by (find-map p f xs) (p (f x))
   where
-    by : find p (map f xs) ≡ option_map f (find (λ y. p (f y)) xs) → (a : Bool) → cond a (Some (f x)) (find p (map f xs)) ≡ option_map f (cond a (Some x) (find (λ y. p (f y)) xs))
+    by : find p (map f xs) ≡ option_map f (find (λ y. p (f y)) xs) → (a : Bool)
+        → cond a (Some (f x)) (find p (map f xs)) ≡ option_map f
+        (cond a (Some x) (find (λ y. p (f y)) xs))
     by rest true = refl
     by rest false = rest
 
@@ -80,7 +87,10 @@ pub has_number-filter : (k : ℕ) (p : ℕ → Bool) (ns : List ℕ)
 has_number-filter k p [] = refl
 has_number-filter k p (n ∷ ns) = by (has_number-filter k p ns) (p n) refl (n == k) refl
   where
-    by : has_number k (filter p ns) ≡ (has_number k ns && p k) → (a : Bool) → p n ≡ a → (e : Bool) → (n == k) ≡ e → has_number k (cond a (n ∷ filter p ns) (filter p ns)) ≡ (((n == k) || has_number k ns) && p k)
+    by : has_number k (filter p ns) ≡ (has_number k ns && p k) → (a : Bool) → p n ≡ a → (e : Bool)
+        → (n == k) ≡ e
+        → has_number k (cond a (n ∷ filter p ns) (filter p ns)) ≡
+        (((n == k) || has_number k ns) && p k)
     by rest true h true e = let here : p k ≡ true = ap p (sym (eq_from n k e)) ∙ h in grind (arith, nat_tests, here, e)
     by rest true h false e = grind (arith, nat_tests, rest, e)
     by rest false h true e = let here : p k ≡ false = ap p (sym (eq_from n k e)) ∙ h in grind (arith, nat_tests, here, rest)
@@ -116,7 +126,8 @@ pub find_number : (k : ℕ) (ns : List ℕ) → has_number k ns ≡ true
 find_number k [] h = absurd cc
 find_number k (n ∷ ns) h = by (find_number k ns) (n == k) refl h
   where
-    by : (has_number k ns ≡ true → find (λ j. j == k) ns ≡ Some k) → (e : Bool) → (n == k) ≡ e → (e || has_number k ns) ≡ true → cond e (Some n) (find (λ j. j == k) ns) ≡ Some k
+    by : (has_number k ns ≡ true → find (λ j. j == k) ns ≡ Some k) → (e : Bool) → (n == k) ≡ e
+        → (e || has_number k ns) ≡ true → cond e (Some n) (find (λ j. j == k) ns) ≡ Some k
     by rest true e g = ap Some (eq_from n k e)
     by rest false e g = rest g
 
@@ -149,7 +160,9 @@ pub found : (p : ℕ → Bool) (k : ℕ) (ns : List ℕ) → find p ns ≡ Some 
 found p k [] e = absurd cc
 found p k (n ∷ ns) e = by (found p k ns) (p n) refl e
   where
-    by : (find p ns ≡ Some k → (has_number k ns ≡ true) × (p k ≡ true)) → (b : Bool) → p n ≡ b → cond b (Some n) (find p ns) ≡ Some k → ((eqb n k || has_number k ns) ≡ true) × (p k ≡ true)
+    by : (find p ns ≡ Some k → (has_number k ns ≡ true) × (p k ≡ true)) → (b : Bool) → p n ≡ b
+        → cond b (Some n) (find p ns) ≡ Some k
+        → ((eqb n k || has_number k ns) ≡ true) × (p k ≡ true)
     by rest true h f = let same : n ≡ k = cc in (ap (λ b. b || has_number k ns) (ap (λ x. eqb x k) same ∙ eq_same k), ap p (sym same) ∙ h)
     by rest false h f = let there = rest f in (right (eqb n k) there.0, there.1)
       where
@@ -162,7 +175,8 @@ pub found_none : (p : ℕ → Bool) (k : ℕ) (ns : List ℕ) → find p ns ≡ 
 found_none p k [] e h = absurd cc
 found_none p k (n ∷ ns) e h = by (found_none p k ns) (p n) refl e
   where
-    by : (find p ns ≡ None → has_number k ns ≡ true → p k ≡ false) → (b : Bool) → p n ≡ b → cond b (Some n) (find p ns) ≡ None → p k ≡ false
+    by : (find p ns ≡ None → has_number k ns ≡ true → p k ≡ false) → (b : Bool) → p n ≡ b
+        → cond b (Some n) (find p ns) ≡ None → p k ≡ false
     by rest true g f = absurd cc
     by rest false g f = at (n == k) refl h
       where
@@ -227,7 +241,8 @@ least_up n (m ∷ ns) h = ap Some (at (least ns) refl)
             least_in k [] e = absurd cc
             least_in k (j ∷ ks) e = by (least ks) refl (λ l f. least_in l ks f) e
               where
-                by : (o : Option ℕ) → least ks ≡ o → ((l : ℕ) → o ≡ Some l → has_number l ks ≡ true) → Some (lesser j o) ≡ Some k → (eqb j k || has_number k ks) ≡ true
+                by : (o : Option ℕ) → least ks ≡ o → ((l : ℕ) → o ≡ Some l → has_number l ks ≡ true)
+                    → Some (lesser j o) ≡ Some k → (eqb j k || has_number k ks) ≡ true
                 by None f rec g = let same : j ≡ k = cc in grind (arith, nat_tests, same)
                 by (Some l) f rec g = let same : min j l ≡ k = cc in grind (arith, nat_tests, same, rec l refl)
 
@@ -236,7 +251,8 @@ pub least_first : (p : ℕ → Bool) (ns : List ℕ) → AreRising ns
 least_first p [] h = refl
 least_first p (n ∷ ns) h = by (least_first p ns h.1) (p n) refl
   where
-    by : least (filter p ns) ≡ find p ns → (b : Bool) → p n ≡ b → least (cond b (n ∷ filter p ns) (filter p ns)) ≡ cond b (Some n) (find p ns)
+    by : least (filter p ns) ≡ find p ns → (b : Bool) → p n ≡ b
+        → least (cond b (n ∷ filter p ns) (filter p ns)) ≡ cond b (Some n) (find p ns)
     by rest true e = least_up n (filter p ns) (λ k f. h.0 k (left (has_number k ns) (p k) (sym (has_number-filter k p ns) ∙ f)))
       where
         left : (a b : Bool) → (a && b) ≡ true → a ≡ true
@@ -268,7 +284,8 @@ pub distinct-filter : (p : ℕ → Bool) (ns : List ℕ) → AreDistinct ns
 distinct-filter p [] h = tt
 distinct-filter p (n ∷ ns) h = by (distinct-filter p ns h.1) (p n)
   where
-    by : AreDistinct (filter p ns) → (b : Bool) → AreDistinct (cond b (n ∷ filter p ns) (filter p ns))
+    by : AreDistinct (filter p ns) → (b : Bool)
+        → AreDistinct (cond b (n ∷ filter p ns) (filter p ns))
     by rest true = (has_number-filter n p ns ∙ ap (λ b. b && p n) h.0, rest)
     by rest false = rest
 
@@ -278,7 +295,9 @@ pub filter_absent : (m : ℕ) (ns : List ℕ) → has_number m ns ≡ false
 filter_absent m [] h = refl
 filter_absent m (n ∷ ns) h = by (filter_absent m ns) (n == m) refl h
   where
-    by : (has_number m ns ≡ false → filter (λ k. not (k == m)) ns ≡ ns) → (b : Bool) → (n == m) ≡ b → (b || has_number m ns) ≡ false → cond (not b) (n ∷ filter (λ k. not (k == m)) ns) (filter (λ k. not (k == m)) ns) ≡ n ∷ ns
+    by : (has_number m ns ≡ false → filter (λ k. not (k == m)) ns ≡ ns) → (b : Bool) → (n == m) ≡ b
+        → (b || has_number m ns) ≡ false
+        → cond (not b) (n ∷ filter (λ k. not (k == m)) ns) (filter (λ k. not (k == m)) ns) ≡ n ∷ ns
     by rest true e g = absurd cc
     by rest false e g = ap (λ l. n ∷ l) (rest g)
 
@@ -289,7 +308,11 @@ pub sum_over-split : (f : ℕ → ℕ) (m : ℕ) (ns : List ℕ) → AreDistinct
 sum_over-split f m [] d h = absurd cc
 sum_over-split f m (n ∷ ns) d h = by (sum_over-split f m ns d.1) (n == m) refl h
   where
-    by : (has_number m ns ≡ true → f m + sum_over f (filter (λ k. not (k == m)) ns) ≡ sum_over f ns) → (b : Bool) → (n == m) ≡ b → (b || has_number m ns) ≡ true → f m + sum_over f (cond (not b) (n ∷ filter (λ k. not (k == m)) ns) (filter (λ k. not (k == m)) ns)) ≡ f n + sum_over f ns
+    by : (has_number m ns ≡ true → f m + sum_over f (filter (λ k. not (k == m)) ns) ≡ sum_over f ns)
+        → (b : Bool) → (n == m) ≡ b → (b || has_number m ns) ≡ true
+        → f m + sum_over f
+        (cond (not b) (n ∷ filter (λ k. not (k == m)) ns) (filter (λ k. not (k == m)) ns))
+        ≡ f n + sum_over f ns
     by rest true e g =
         let same : n ≡ m = eq_from n m e in
         let back : m ≡ n = sym same in let gone = filter_absent m ns (ap (λ k. has_number k ns) back ∙ d.0) in λ i. f (back i) + sum_over f (gone i)

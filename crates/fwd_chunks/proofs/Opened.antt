@@ -41,7 +41,8 @@ pub all-kept : (P Q : Chunk → Type 0) (p : Chunk → Bool) (xs : List Chunk)
 all-kept P Q p [] h all = tt
 all-kept P Q p (x ∷ xs) h all = by (all-kept P Q p xs h all.1) (p x) refl
   where
-    by : AllByRecursion Q (filter p xs) → (b : Bool) → p x ≡ b → AllByRecursion Q (cond b (x ∷ filter p xs) (filter p xs))
+    by : AllByRecursion Q (filter p xs) → (b : Bool) → p x ≡ b
+        → AllByRecursion Q (cond b (x ∷ filter p xs) (filter p xs))
     by rest true e = (h x e all.0, rest)
     by rest false e = rest
 
@@ -67,7 +68,8 @@ pub found-same : (p : Chunk → Bool) (xs : List Chunk) (e : Chunk) → AreInOrd
 found-same p [] e h f = f
 found-same p (x ∷ xs) e h f = by (p x) refl (found-same p xs e h.1)
   where
-    by : (b : Bool) → p x ≡ b → (find p xs ≡ Some e → find (is_at e.number) xs ≡ Some e) → find (is_at e.number) (x ∷ xs) ≡ Some e
+    by : (b : Bool) → p x ≡ b → (find p xs ≡ Some e → find (is_at e.number) xs ≡ Some e)
+        → find (is_at e.number) (x ∷ xs) ≡ Some e
     by true t rest =
         let is : x ≡ e = one_chunk (ap (λ d. cond d (Some x) (find p xs)) (sym t) ∙ f) in
         let here : is_at e.number x ≡ true = ap (λ y. x.number == y.number) (sym is) ∙ eq_same x.number in
@@ -103,8 +105,10 @@ pub open-told : (numbers : List (List ℕ × ℕ)) (xs : List Chunk) (tag : List
 open-told numbers [] tag n all order e = refl
 open-told numbers (x ∷ xs) tag n all order e = by (is_open_of tag x) (is_at n x) refl refl (open-told numbers xs tag n all.1 order.1 e)
   where
-    by : (b d : Bool) → is_open_of tag x ≡ b → is_at n x ≡ d → find (is_open_of tag) xs ≡ if_open tag (find (is_at n) xs)
-        → find (is_open_of tag) (x ∷ xs) ≡ if_open tag (cond (is_at n x) (Some x) (find (is_at n) xs))
+    by : (b d : Bool) → is_open_of tag x ≡ b → is_at n x ≡ d
+        → find (is_open_of tag) xs ≡ if_open tag (find (is_at n) xs)
+        → find (is_open_of tag) (x ∷ xs) ≡ if_open tag
+        (cond (is_at n x) (Some x) (find (is_at n) xs))
     by true true t at rest =
         ap (λ b. cond b (Some x) (find (is_open_of tag) xs)) t
         ∙ ap (λ b. cond b (Some x) None) (sym t)
@@ -163,23 +167,44 @@ fresh-all limit tag since n current [] last e = ((refl, λ now. omega arith), tt
 fresh-all limit tag since n current (x ∷ entries) last e =
     by (λ f. fresh-all limit tag since n (current ++ x ∷ []) entries last f) (λ f. fresh-all limit tag since (n + 1) (x ∷ []) entries last f) (nat_le (size_of current + length x) limit) e
   where
-    by : (last ≡ n + extra limit (size_of (current ++ x ∷ [])) entries → AllByRecursion (IsFresh tag last) (fresh_from limit tag since n (current ++ x ∷ []) entries))
-        → (last ≡ n + 1 + extra limit (size_of (x ∷ [])) entries → AllByRecursion (IsFresh tag last) (fresh_from limit tag since (n + 1) (x ∷ []) entries))
-        → (b : Bool) → last ≡ n + cond b (extra limit (size_of current + length x) entries) (suc (extra limit (length x) entries))
-        → AllByRecursion (IsFresh tag last) (cond b (fresh_from limit tag since n (current ++ x ∷ []) entries) (staged Closed (open_chunk tag since n current) ∷ fresh_from limit tag since (n + 1) (x ∷ []) entries))
+    by :
+        (last ≡ n + extra limit (size_of (current ++ x ∷ [])) entries → AllByRecursion
+        (IsFresh tag last) (fresh_from limit tag since n (current ++ x ∷ []) entries))
+        →
+        (last ≡ n + 1 + extra limit (size_of (x ∷ [])) entries
+        → AllByRecursion (IsFresh tag last) (fresh_from limit tag since (n + 1) (x ∷ []) entries))
+        → (b : Bool)
+        → last ≡ n + cond b (extra limit (size_of current + length x) entries)
+        (suc (extra limit (length x) entries))
+        → AllByRecursion (IsFresh tag last)
+        (cond b (fresh_from limit tag since n (current ++ x ∷ []) entries)
+        (staged Closed (open_chunk tag since n current)
+        ∷ fresh_from limit tag since (n + 1) (x ∷ []) entries))
     by one two true f = one (f ∙ ap (λ k. n + extra limit k entries) (sym (size_of-push current x)))
     by one two false f =
         let alone : length x ≡ length x + 0 = omega arith in
         ((refl, λ now. absurd (true_false false now refl)), two (omega (arith, f, ap (λ k. extra limit k entries) alone)))
 
 fresh-open : (limit : ℕ) (tag : List ℕ) (since n : ℕ) (current entries : List (List ℕ))
-    → (d : Chunk) × (find (λ c. is_open c.stage) (fresh_from limit tag since n current entries) ≡ Some d)
+    → (d : Chunk) ×
+    (find (λ c. is_open c.stage) (fresh_from limit tag since n current entries) ≡ Some d)
 fresh-open limit tag since n current [] = (open_chunk tag since n current, refl)
 fresh-open limit tag since n current (x ∷ entries) = by (fresh-open limit tag since n (current ++ x ∷ []) entries) (fresh-open limit tag since (n + 1) (x ∷ []) entries) (nat_le (size_of current + length x) limit)
   where
-    by : ((d : Chunk) × (find (λ c. is_open c.stage) (fresh_from limit tag since n (current ++ x ∷ []) entries) ≡ Some d))
-        → ((d : Chunk) × (find (λ c. is_open c.stage) (fresh_from limit tag since (n + 1) (x ∷ []) entries) ≡ Some d)) → (b : Bool)
-        → (d : Chunk) × (find (λ c. is_open c.stage) (cond b (fresh_from limit tag since n (current ++ x ∷ []) entries) (staged Closed (open_chunk tag since n current) ∷ fresh_from limit tag since (n + 1) (x ∷ []) entries)) ≡ Some d)
+    by :
+        ((d : Chunk) ×
+        (find (λ c. is_open c.stage) (fresh_from limit tag since n (current ++ x ∷ []) entries)
+        ≡ Some d))
+        →
+        ((d : Chunk) ×
+        (find (λ c. is_open c.stage) (fresh_from limit tag since (n + 1) (x ∷ []) entries)
+        ≡ Some d))
+        → (b : Bool)
+        → (d : Chunk) ×
+        (find (λ c. is_open c.stage) (cond b
+        (fresh_from limit tag since n (current ++ x ∷ []) entries)
+        (staged Closed (open_chunk tag since n current)
+        ∷ fresh_from limit tag since (n + 1) (x ∷ []) entries)) ≡ Some d)
     by one two true = one
     by one two false = two
 
@@ -200,7 +225,9 @@ newest-joined numbers (x ∷ xs) tag c front b order all e = by (is_open_of tag 
     f : Chunk → Chunk
     f = joined_by front (stage_last b)
 
-    by : (t : Bool) → is_open_of tag x ≡ t → (find (is_open_of tag) xs ≡ Some c → AreNewest numbers (changed (is_at c.number) f xs)) → AreNewest numbers (changed (is_at c.number) f (x ∷ xs))
+    by : (t : Bool) → is_open_of tag x ≡ t
+        → (find (is_open_of tag) xs ≡ Some c → AreNewest numbers (changed (is_at c.number) f xs))
+        → AreNewest numbers (changed (is_at c.number) f (x ∷ xs))
     by true t rest =
         let is : x ≡ c = one_chunk (ap (λ d. cond d (Some x) (find (is_open_of tag) xs)) (sym t) ∙ e) in
         let here : is_at c.number x ≡ true = ap (λ y. x.number == y.number) (sym is) ∙ eq_same x.number in
@@ -219,7 +246,8 @@ newest-filled : (numbers : List (List ℕ × ℕ)) (items : List Chunk) (joins :
     → AreNewest numbers items → AreNewest numbers (filled_in joins front (stage_last b) items)
 newest-filled numbers items joins front tag b e order all = subst (λ o. AreNewest numbers (filled_in o front (stage_last b) items)) (sym e) (by (find (is_open_of tag) items) refl)
   where
-    by : (o : Option Chunk) → find (is_open_of tag) items ≡ o → AreNewest numbers (filled_in (option_map (λ c. c.number) o) front (stage_last b) items)
+    by : (o : Option Chunk) → find (is_open_of tag) items ≡ o
+        → AreNewest numbers (filled_in (option_map (λ c. c.number) o) front (stage_last b) items)
     by None f = all
     by (Some c) f = newest-joined numbers items tag c front b order all f
 
@@ -229,10 +257,15 @@ pub newest-entered : (numbers after : List (List ℕ × ℕ)) (items : List Chun
     → joins ≡ option_map (λ c. c.number) (find (is_open_of tag) items)
     → (0 < needed limit back → newest ≡ Some (first + (needed limit back - 1)))
     → (needed limit back ≤ 0 → newest ≡ None)
-    → IfSome newest (λ n. (t : List ℕ) → tag_number t after ≡ cond (bytes_eq tag t) (Some n) (tag_number t numbers))
+    → IfSome newest
+    (λ n. (t : List ℕ) → tag_number t after ≡ cond (bytes_eq tag t) (Some n) (tag_number t numbers))
     → IfNone newest (after ≡ numbers)
-    → AreInOrder (filled_in joins front (stage_last (length (fresh_of limit tag since first back) == 0)) items ++ fresh_of limit tag since first back)
-    → AreNewest after (filled_in joins front (stage_last (length (fresh_of limit tag since first back) == 0)) items ++ fresh_of limit tag since first back)
+    → AreInOrder
+    (filled_in joins front (stage_last (length (fresh_of limit tag since first back) == 0)) items
+    ++ fresh_of limit tag since first back)
+    → AreNewest after
+    (filled_in joins front (stage_last (length (fresh_of limit tag since first back) == 0)) items
+    ++ fresh_of limit tag since first back)
 newest-entered numbers after items joins front [] limit tag since first newest all sorted at some none put same order =
     let last : newest ≡ None = none (omega arith) in
     let equal : after ≡ numbers = subst (λ o. IfNone o (after ≡ numbers)) last same in

@@ -83,16 +83,20 @@ module _ (start : ℕ) (ends bytes : List ℕ) (cut : AreCut start ends bytes) (
   back-bytes : drop cut_size bytes ≡ concat (drop n (cut_at start ends bytes))
   back-bytes = ap (drop cut_size) (sym cut.joined) ∙ concat-drop n (cut_at start ends bytes)
 
-  pub front_cut : AreCut start (take n ends) (take (size_of (take n (cut_at start ends bytes))) bytes)
+  pub front_cut : AreCut start (take n ends)
+      (take (size_of (take n (cut_at start ends bytes))) bytes)
   front_cut = rw (front-ends, front-bytes) (AreCut-joined start (take n (cut_at start ends bytes)))
 
-  pub front_is : cut_at start (take n ends) (take (size_of (take n (cut_at start ends bytes))) bytes) ≡ take n (cut_at start ends bytes)
+  pub front_is : cut_at start (take n ends)
+      (take (size_of (take n (cut_at start ends bytes))) bytes) ≡ take n (cut_at start ends bytes)
   front_is = (λ i. cut_at start (front-ends i) (front-bytes i)) ∙ cut_joined start (take n (cut_at start ends bytes))
 
-  pub back_cut : AreCut (start + size_of (take n (cut_at start ends bytes))) (drop n ends) (drop (size_of (take n (cut_at start ends bytes))) bytes)
+  pub back_cut : AreCut (start + size_of (take n (cut_at start ends bytes))) (drop n ends)
+      (drop (size_of (take n (cut_at start ends bytes))) bytes)
   back_cut = rw (back-ends, back-bytes) (AreCut-joined (start + cut_size) (drop n (cut_at start ends bytes)))
 
-  pub back_is : cut_at (start + size_of (take n (cut_at start ends bytes))) (drop n ends) (drop (size_of (take n (cut_at start ends bytes))) bytes) ≡ drop n (cut_at start ends bytes)
+  pub back_is : cut_at (start + size_of (take n (cut_at start ends bytes))) (drop n ends)
+      (drop (size_of (take n (cut_at start ends bytes))) bytes) ≡ drop n (cut_at start ends bytes)
   back_is = (λ i. cut_at (start + cut_size) (back-ends i) (back-bytes i)) ∙ cut_joined (start + cut_size) (drop n (cut_at start ends bytes))
 
 size-take : (n : ℕ) (entries : List (List ℕ)) → size_of (take n entries) ≤ size_of entries
@@ -159,7 +163,8 @@ ends_fit base start most ends bytes cut lt =
 
 -- two in a row
 module _ (ends bytes : List ℕ) (cut : AreCut 0 ends bytes) (entries : List (List ℕ)) where
-  both-ends : ends ++ ends_from (length bytes) entries ≡ ends_from 0 (cut_at 0 ends bytes ++ entries)
+  both-ends : ends ++ ends_from (length bytes) entries ≡ ends_from 0
+      (cut_at 0 ends bytes ++ entries)
   both-ends =
       let base : length bytes ≡ 0 + size_of (cut_at 0 ends bytes) = omega (arith, joined_size 0 ends bytes cut) in
       (λ i. sym cut.ending i ++ ends_from (base i) entries) ∙ sym (ends-append 0 (cut_at 0 ends bytes) entries)
@@ -170,7 +175,8 @@ module _ (ends bytes : List ℕ) (cut : AreCut 0 ends bytes) (entries : List (Li
   pub both_cut : AreCut 0 (ends ++ ends_from (length bytes) entries) (bytes ++ concat entries)
   both_cut = rw (both-ends, both-bytes) (AreCut-joined 0 (cut_at 0 ends bytes ++ entries))
 
-  pub both_is : cut_at 0 (ends ++ ends_from (length bytes) entries) (bytes ++ concat entries) ≡ cut_at 0 ends bytes ++ entries
+  pub both_is : cut_at 0 (ends ++ ends_from (length bytes) entries)
+      (bytes ++ concat entries) ≡ cut_at 0 ends bytes ++ entries
   both_is = (λ i. cut_at 0 (both-ends i) (both-bytes i)) ∙ cut_joined 0 (cut_at 0 ends bytes ++ entries)
 
 -- the same entries have the same bytes and ends

@@ -35,7 +35,9 @@ pub filter-found : (n : ℕ) (chunks : List Chunk) (c : Chunk) → AreInOrder ch
 filter-found n [] c h e = absurd (none_some e)
 filter-found n (x ∷ chunks) c h e = by (is_at n x) refl (filter-found n chunks c h.1)
   where
-    by : (b : Bool) → is_at n x ≡ b → (find (is_at n) chunks ≡ Some c → filter (is_at n) chunks ≡ c ∷ []) → filter (is_at n) (x ∷ chunks) ≡ c ∷ []
+    by : (b : Bool) → is_at n x ≡ b
+        → (find (is_at n) chunks ≡ Some c → filter (is_at n) chunks ≡ c ∷ [])
+        → filter (is_at n) (x ∷ chunks) ≡ c ∷ []
     by true t rest =
         let same : x ≡ c = one_chunk (ap (λ d. cond d (Some x) (find (is_at n) chunks)) (sym t) ∙ e) in
         ap (λ b. cond b (x ∷ filter (is_at n) chunks) (filter (is_at n) chunks)) t
@@ -49,8 +51,12 @@ pub filter-gone : (n : ℕ) (chunks : List Chunk) → find (is_at n) chunks ≡ 
 filter-gone n [] e = (refl, refl)
 filter-gone n (x ∷ chunks) e = by (is_at n x) refl (filter-gone n chunks)
   where
-    by : (b : Bool) → is_at n x ≡ b → (find (is_at n) chunks ≡ None → (filter (is_at n) chunks ≡ []) × (filter (λ d. not (is_at n d)) chunks ≡ chunks))
-        → (filter (is_at n) (x ∷ chunks) ≡ []) × (filter (λ d. not (is_at n d)) (x ∷ chunks) ≡ x ∷ chunks)
+    by : (b : Bool) → is_at n x ≡ b
+        →
+        (find (is_at n) chunks ≡ None → (filter (is_at n) chunks ≡ [])
+        × (filter (λ d. not (is_at n d)) chunks ≡ chunks))
+        → (filter (is_at n) (x ∷ chunks) ≡ []) ×
+        (filter (λ d. not (is_at n d)) (x ∷ chunks) ≡ x ∷ chunks)
     by true t rest = absurd (none_some (sym (ap (λ d. cond d (Some x) (find (is_at n) chunks)) (sym t) ∙ e)))
     by false t rest =
         let more = rest (ap (λ d. cond d (Some x) (find (is_at n) chunks)) (sym t) ∙ e) in (
@@ -84,8 +90,10 @@ pub taken-found : (n : ℕ) (chunks : List Chunk) → AreInOrder chunks
 taken-found n [] h = refl
 taken-found n (x ∷ chunks) h = by (is_at n x) (is_taken x.stage) refl refl (taken-found n chunks h.1)
   where
-    by : (b t : Bool) → is_at n x ≡ b → is_taken x.stage ≡ t → find (λ d. is_at n d && is_taken d.stage) chunks ≡ if_taken (find (is_at n) chunks)
-        → find (λ d. is_at n d && is_taken d.stage) (x ∷ chunks) ≡ if_taken (find (is_at n) (x ∷ chunks))
+    by : (b t : Bool) → is_at n x ≡ b → is_taken x.stage ≡ t
+        → find (λ d. is_at n d && is_taken d.stage) chunks ≡ if_taken (find (is_at n) chunks)
+        → find (λ d. is_at n d && is_taken d.stage) (x ∷ chunks) ≡ if_taken
+        (find (is_at n) (x ∷ chunks))
     by true true at has rest =
         (λ i. cond (at i && has i) (Some x) (find (λ d. is_at n d && is_taken d.stage) chunks))
         ∙ ap (λ b. cond b (Some x) None) (sym has)
@@ -130,7 +138,8 @@ pub place-found : {X : Type 0} (p : X → Bool) (chunks : List X) (i : ℕ)
     → position p chunks ≡ Some i → find p chunks ≡ slice_get chunks i
 place-found p chunks i e = by (nat_lt (position_or_len p chunks) (length chunks)) refl
   where
-    by : (b : Bool) → nat_lt (position_or_len p chunks) (length chunks) ≡ b → find p chunks ≡ slice_get chunks i
+    by : (b : Bool) → nat_lt (position_or_len p chunks) (length chunks) ≡ b
+        → find p chunks ≡ slice_get chunks i
     by true f = find_at p chunks ∙ ap (slice_get chunks) (number (sym (place_by p chunks true f) ∙ e))
       where
         number : Some (position_or_len p chunks) ≡ Some i → position_or_len p chunks ≡ i
@@ -172,6 +181,7 @@ pub place-past : {X : Type 0} (p : X → Bool) (xs : List X) → position p xs �
     → length xs ≤ position_or_len p xs
 place-past p xs e = by (nat_lt (position_or_len p xs) (length xs)) refl
   where
-    by : (b : Bool) → nat_lt (position_or_len p xs) (length xs) ≡ b → length xs ≤ position_or_len p xs
+    by : (b : Bool) → nat_lt (position_or_len p xs) (length xs) ≡ b
+        → length xs ≤ position_or_len p xs
     by true f = absurd (none_some (sym e ∙ place_by p xs true f))
     by false f = ltb-false (position_or_len p xs) (length xs) f

@@ -37,7 +37,9 @@ pub next-live : (h : BufferHistory) (event : BufferEvent) → h.setting.limits.r
 next-live h (Enter origin r now) fits own =
     by (refusal h origin r now) ∙ (λ i. unless_refused (refusal-live h origin r now own i) (enters-live h origin r now own i) (live_buffer h))
   where
-    by : (o : Option AdmitError) → live_buffer (unless_refused o (enters h origin r now) h) ≡ unless_refused o (live_buffer (enters h origin r now)) (live_buffer h)
+    by : (o : Option AdmitError)
+        → live_buffer (unless_refused o (enters h origin r now) h) ≡ unless_refused o
+        (live_buffer (enters h origin r now)) (live_buffer h)
     by None = refl
     by (Some fault) = refl
 next-live h (Flush now kind) fits own = flushes-live h now kind own
@@ -45,13 +47,17 @@ next-live h (Take worker now) fits own = takes-live h worker now fits own
 next-live h (Settle number) fits own =
     by (is_carried number h.carried) refl ∙ ap (λ b. cond b (live_settles (live_buffer h) number) (live_buffer h)) (sym (ap is_some (carried-live h number own) ∙ some-carried (is_carried number h.carried) h number))
   where
-    by : (b : Bool) → is_carried number h.carried ≡ b → live_buffer (cond b (settles h number) h) ≡ cond b (live_settles (live_buffer h) number) (live_buffer h)
+    by : (b : Bool) → is_carried number h.carried ≡ b
+        → live_buffer (cond b (settles h number) h) ≡ cond b (live_settles (live_buffer h) number)
+        (live_buffer h)
     by true e = settles-live h number own e
     by false e = refl
 next-live h (Free number loss) fits own =
     by (is_carried number h.carried) refl ∙ ap (λ b. cond b (live_frees (live_buffer h) number loss) (live_buffer h)) (sym (ap is_some (carried-live h number own) ∙ some-carried (is_carried number h.carried) h number))
   where
-    by : (b : Bool) → is_carried number h.carried ≡ b → live_buffer (cond b (frees h number loss) h) ≡ cond b (live_frees (live_buffer h) number loss) (live_buffer h)
+    by : (b : Bool) → is_carried number h.carried ≡ b
+        → live_buffer (cond b (frees h number loss) h) ≡ cond b
+        (live_frees (live_buffer h) number loss) (live_buffer h)
     by true e = frees-live h number loss own e
     by false e = refl
 
@@ -126,8 +132,13 @@ least_is (n ∷ ns) k e = by (least ns) refl (λ l f. least_is ns l f) (same e)
     same : Some (lesser n (least ns)) ≡ Some k → lesser n (least ns) ≡ k
     same f = cc
 
-    by : (o : Option ℕ) → least ns ≡ o → ((l : ℕ) → o ≡ Some l → (has_number l ns ≡ true) × ((j : ℕ) → has_number j ns ≡ true → l ≤ j)) → lesser n o ≡ k
-        → ((eqb n k || has_number k ns) ≡ true) × ((j : ℕ) → (eqb n j || has_number j ns) ≡ true → k ≤ j)
+    by : (o : Option ℕ) → least ns ≡ o
+        →
+        ((l : ℕ) → o ≡ Some l → (has_number l ns ≡ true)
+        × ((j : ℕ) → has_number j ns ≡ true → l ≤ j))
+        → lesser n o ≡ k
+        → ((eqb n k || has_number k ns) ≡ true) ×
+        ((j : ℕ) → (eqb n j || has_number j ns) ≡ true → k ≤ j)
     by None f rec g = (
       ap (λ x. eqb n x || has_number x ns) (sym g) ∙ ap (λ b. b || has_number n ns) (eq_same n),
       λ j h. elim (or_cases (eqb n j) (has_number j ns) h) [
@@ -155,10 +166,12 @@ least_is (n ∷ ns) k e = by (least ns) refl (λ l f. least_is ns l f) (same e)
 pub given-is : (h : BufferHistory) → IsGiven h (given h)
 given-is h = by (given h) refl
   where
-    split : (k : ℕ) → has_number k (filter (is_free h) (numbers_of h.cells)) ≡ true → is_free h k ≡ true
+    split : (k : ℕ) → has_number k (filter (is_free h) (numbers_of h.cells)) ≡ true
+        → is_free h k ≡ true
     split k e = (and_parts (has_number k (numbers_of h.cells)) (is_free h k) (sym (has_number-filter k (is_free h) (numbers_of h.cells)) ∙ e)).1
 
-    join : (k : ℕ) → is_free h k ≡ true → has_number k (filter (is_free h) (numbers_of h.cells)) ≡ true
+    join : (k : ℕ) → is_free h k ≡ true
+        → has_number k (filter (is_free h) (numbers_of h.cells)) ≡ true
     join k e = has_number-filter k (is_free h) (numbers_of h.cells) ∙ both (has_number k (numbers_of h.cells)) (is_free h k) (free_parts h k e).has e
       where
         both : (a b : Bool) → a ≡ true → b ≡ true → (a && b) ≡ true
@@ -189,7 +202,9 @@ pub load-live : (h : BufferHistory) → h.setting.limits.retry_max < 2 ^ 64 → 
 unfolding live_buffer
 load-live h fits own = by (given h) ∙ ap (option_map (live_load (live_buffer h))) (sym (given-live h fits own))
   where
-    by : (o : Option ℕ) → option_map (load_of h) o ≡ option_map (live_load (live_buffer h)) (option_map (live_chunk h) o)
+    by : (o : Option ℕ)
+        → option_map (load_of h) o ≡ option_map (live_load (live_buffer h))
+        (option_map (live_chunk h) o)
     by None = refl
     by (Some k) = refl
 
@@ -212,11 +227,14 @@ rise-push (c ∷ cells) d h low = (
   rise-push cells d h.1 (λ k e. low k (right ((c.number == k) && bytes_eq c.tag d.tag) k e)),
 )
   where
-    right : (b : Bool) (k : ℕ) → has_entry d.tag k cells ≡ true → (b || has_entry d.tag k cells) ≡ true
+    right : (b : Bool) (k : ℕ) → has_entry d.tag k cells ≡ true
+        → (b || has_entry d.tag k cells) ≡ true
     right true k f = refl
     right false k f = f
 
-    at : (k : ℕ) → (has_entry c.tag k cells ≡ true) ⊎ (((d.number == k) && bytes_eq d.tag c.tag) ≡ true) → c.number ≤ k
+    at : (k : ℕ)
+        → (has_entry c.tag k cells ≡ true) ⊎ (((d.number == k) && bytes_eq d.tag c.tag) ≡ true)
+        → c.number ≤ k
     at k (inl e) = h.0 k e
     at k (inr e) =
         let parts = and_parts (d.number == k) (bytes_eq d.tag c.tag) e in
@@ -236,7 +254,9 @@ last_greatest (c ∷ cells) tag m k h e f = by (last_greatest cells tag m k h.1)
     one : {a b : ℕ} → Some a ≡ Some b → a ≡ b
     one g = cc
 
-    by : (last_number tag cells ≡ Some m → has_entry tag k cells ≡ true → k ≤ m) → (o : Option ℕ) → last_number tag cells ≡ o → (b : Bool) → bytes_eq c.tag tag ≡ b → option_or o (cond b (Some c.number) None) ≡ Some m
+    by : (last_number tag cells ≡ Some m → has_entry tag k cells ≡ true → k ≤ m) → (o : Option ℕ)
+        → last_number tag cells ≡ o → (b : Bool) → bytes_eq c.tag tag ≡ b
+        → option_or o (cond b (Some c.number) None) ≡ Some m
         → (((c.number == k) && bytes_eq c.tag tag) ≡ true) ⊎ (has_entry tag k cells ≡ true) → k ≤ m
     by rest (Some j) g b i p (inr q) = rest (g ∙ p) q
     by rest (Some j) g b i p (inl q) =
@@ -252,7 +272,9 @@ last_greatest (c ∷ cells) tag m k h e f = by (last_greatest cells tag m k h.1)
         lacks [] x y = cc
         lacks (d ∷ cs) x y = each (lacks cs) (last_number tag cs) refl (bytes_eq d.tag tag) refl x (or_cases ((d.number == k) && bytes_eq d.tag tag) (has_entry tag k cs) y)
           where
-            each : (last_number tag cs ≡ None → has_entry tag k cs ≡ true → ⊥) → (o : Option ℕ) → last_number tag cs ≡ o → (b : Bool) → bytes_eq d.tag tag ≡ b → option_or o (cond b (Some d.number) None) ≡ None
+            each : (last_number tag cs ≡ None → has_entry tag k cs ≡ true → ⊥) → (o : Option ℕ)
+                → last_number tag cs ≡ o → (b : Bool) → bytes_eq d.tag tag ≡ b
+                → option_or o (cond b (Some d.number) None) ≡ None
                 → (((d.number == k) && bytes_eq d.tag tag) ≡ true) ⊎ (has_entry tag k cs ≡ true) → ⊥
             each more (Some j) u b v w z = cc
             each more None u true v w z = cc
@@ -317,7 +339,8 @@ stands (c ∷ cells) zero d tag e same =
     one f = cc
 stands (c ∷ cells) (suc j) d tag e same = right ((c.number == d.number) && bytes_eq c.tag tag) (stands cells j d tag e same)
   where
-    right : (b : Bool) → has_entry tag d.number cells ≡ true → (b || has_entry tag d.number cells) ≡ true
+    right : (b : Bool) → has_entry tag d.number cells ≡ true
+        → (b || has_entry tag d.number cells) ≡ true
     right true f = refl
     right false f = f
 

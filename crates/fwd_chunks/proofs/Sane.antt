@@ -143,31 +143,39 @@ pub opened_was : (n k : ℕ) (p : ℕ → Bool) (opened : List ℕ)
     ⊎ (((n == k) ≡ false) × (has_number k opened ≡ true) × (p k ≡ false))
 opened_was n k p opened e = by (n == k) refl e
   where
-    by : (b : Bool) → (n == k) ≡ b → (b || has_number k (filter (λ j. not (p j)) opened)) ≡ true → (n ≡ k) ⊎ (((n == k) ≡ false) × (has_number k opened ≡ true) × (p k ≡ false))
+    by : (b : Bool) → (n == k) ≡ b → (b || has_number k (filter (λ j. not (p j)) opened)) ≡ true
+        → (n ≡ k) ⊎ (((n == k) ≡ false) × (has_number k opened ≡ true) × (p k ≡ false))
     by true f g = inl (eq_from n k f)
     by false f g =
         let parts = and_parts (has_number k opened) (not (p k)) (sym (has_number-filter k (λ j. not (p j)) opened) ∙ g) in
         inr (f, parts.0, not-true (p k) parts.1)
 
 module _ (h : BufferHistory) (tag : List ℕ) (origin : Origin) (entry : List ℕ) (n : ℕ) (own : IsSane h) (takes_it : IsFor h tag n) where
-  has_cell-more : (k : ℕ) → has_cell k (h.cells ++ cell_at h tag origin entry n ∷ []) ≡ (has_cell k h.cells || (n == k))
+  has_cell-more : (k : ℕ)
+      → has_cell k (h.cells ++ cell_at h tag origin entry n ∷ []) ≡ (has_cell k h.cells || (n == k))
   has_cell-more k = any-push (λ c. c.number == k) h.cells (cell_at h tag origin entry n)
 
-  has_entry-more : (t : List ℕ) (k : ℕ) → has_entry t k (h.cells ++ cell_at h tag origin entry n ∷ []) ≡ (has_entry t k h.cells || ((n == k) && bytes_eq tag t))
+  has_entry-more : (t : List ℕ) (k : ℕ)
+      → has_entry t k (h.cells ++ cell_at h tag origin entry n ∷ []) ≡
+      (has_entry t k h.cells || ((n == k) && bytes_eq tag t))
   has_entry-more t k = any-push (λ c. (c.number == k) && bytes_eq c.tag t) h.cells (cell_at h tag origin entry n)
 
-  stays : (k : ℕ) → has_cell k h.cells ≡ true → has_cell k (h.cells ++ cell_at h tag origin entry n ∷ []) ≡ true
+  stays : (k : ℕ) → has_cell k h.cells ≡ true
+      → has_cell k (h.cells ++ cell_at h tag origin entry n ∷ []) ≡ true
   stays k e = has_cell-more k ∙ or_left (has_cell k h.cells) (n == k) e
 
   rises : AreRising (numbers_of (h.cells ++ cell_at h tag origin entry n ∷ []))
   rises = subst AreRising (sym (numbers-push h.cells (cell_at h tag origin entry n))) (by (has_cell n h.cells) refl takes_it.there)
     where
-      by : (b : Bool) → has_cell n h.cells ≡ b → (has_cell n h.cells ≡ true) ⊎ (n ≡ next_number h) → AreRising (cond b (numbers_of h.cells) (numbers_of h.cells ++ n ∷ []))
+      by : (b : Bool) → has_cell n h.cells ≡ b → (has_cell n h.cells ≡ true) ⊎ (n ≡ next_number h)
+          → AreRising (cond b (numbers_of h.cells) (numbers_of h.cells ++ n ∷ []))
       by true e w = own.rising
       by false e (inl f) = absurd (true_false (has_cell n h.cells) f e)
       by false e (inr f) = rising-push n (numbers_of h.cells) own.rising (λ k g. subst (λ x. k < x) (sym f) (below-next h.setting.limits.first k h.cells (sym (numbers-has k h.cells) ∙ g)))
 
-  last_here : (k : ℕ) (t : List ℕ) → n ≡ k → (has_entry t k h.cells || ((n == k) && bytes_eq tag t)) ≡ true → (b : Bool) → bytes_eq tag t ≡ b → cond b (Some n) (last_number t h.cells) ≡ Some k
+  last_here : (k : ℕ) (t : List ℕ) → n ≡ k
+      → (has_entry t k h.cells || ((n == k) && bytes_eq tag t)) ≡ true → (b : Bool)
+      → bytes_eq tag t ≡ b → cond b (Some n) (last_number t h.cells) ≡ Some k
   last_here k t same e true f = ap Some same
   last_here k t same e false f =
       let here : has_entry t k h.cells ≡ true = old (has_entry t k h.cells) (n == k) (bytes_eq tag t) f e in
@@ -179,7 +187,9 @@ module _ (h : BufferHistory) (tag : List ℕ) (origin : Origin) (entry : List �
       old false true c g i = absurd cc
       old false false c g i = absurd cc
 
-  last_there : (k : ℕ) (t : List ℕ) → (n == k) ≡ false → has_number k h.opened ≡ true → has_entry tag k h.cells ≡ false → (has_entry t k h.cells || ((n == k) && bytes_eq tag t)) ≡ true
+  last_there : (k : ℕ) (t : List ℕ) → (n == k) ≡ false → has_number k h.opened ≡ true
+      → has_entry tag k h.cells ≡ false
+      → (has_entry t k h.cells || ((n == k) && bytes_eq tag t)) ≡ true
       → (b : Bool) → bytes_eq tag t ≡ b → cond b (Some n) (last_number t h.cells) ≡ Some k
   last_there k t differ open_ other e b f =
       let here : has_entry t k h.cells ≡ true = old (has_entry t k h.cells) (n == k) (bytes_eq tag t) differ e in at b f here
@@ -189,17 +199,22 @@ module _ (h : BufferHistory) (tag : List ℕ) (origin : Origin) (entry : List �
       old false true c g i = absurd cc
       old false false c g i = absurd cc
 
-      at : (b : Bool) → bytes_eq tag t ≡ b → has_entry t k h.cells ≡ true → cond b (Some n) (last_number t h.cells) ≡ Some k
+      at : (b : Bool) → bytes_eq tag t ≡ b → has_entry t k h.cells ≡ true
+          → cond b (Some n) (last_number t h.cells) ≡ Some k
       at true g here = absurd (true_false (has_entry tag k h.cells) (ap (λ x. has_entry x k h.cells) ((bytes_eq-Decides tag t).0 g) ∙ here) other)
       at false g here = own.opened_last k t open_ here
 
-  tag_here : (k : ℕ) (t : List ℕ) → (n == k) ≡ true → (has_entry t k h.cells || ((n == k) && bytes_eq tag t)) ≡ true → (b : Bool) → has_cell k h.cells ≡ b → first_tag (cells_at k h.cells ++ cell_at h tag origin entry n ∷ []) ≡ t
+  tag_here : (k : ℕ) (t : List ℕ) → (n == k) ≡ true
+      → (has_entry t k h.cells || ((n == k) && bytes_eq tag t)) ≡ true → (b : Bool)
+      → has_cell k h.cells ≡ b
+      → first_tag (cells_at k h.cells ++ cell_at h tag origin entry n ∷ []) ≡ t
   tag_here k t same e true f = first_tag-push (cells_at k h.cells) (cell_at h tag origin entry n) (cells_at-some k h.cells f) ∙ at (or_cases (has_entry t k h.cells) ((n == k) && bytes_eq tag t) e)
     where
       is_tag : first_tag (cells_at k h.cells) ≡ tag
       is_tag = takes_it.same_tag (first_tag (cells_at k h.cells)) (ap (λ x. has_entry (first_tag (cells_at k h.cells)) x h.cells) (eq_from n k same) ∙ first_tag-entry k h.cells f)
 
-      at : (has_entry t k h.cells ≡ true) ⊎ (((n == k) && bytes_eq tag t) ≡ true) → first_tag (cells_at k h.cells) ≡ t
+      at : (has_entry t k h.cells ≡ true) ⊎ (((n == k) && bytes_eq tag t) ≡ true)
+          → first_tag (cells_at k h.cells) ≡ t
       at (inl g) = own.one_tag k t g
       at (inr g) = is_tag ∙ (bytes_eq-Decides tag t).0 (and_parts (n == k) (bytes_eq tag t) g).1
   tag_here k t same e false f =
@@ -242,7 +257,9 @@ module _ (h : BufferHistory) (tag : List ℕ) (origin : Origin) (entry : List �
       left true b e = e
       left false b e = refl
 
-      by : (k : ℕ) (t : List ℕ) → has_entry t k (h.cells ++ cell_at h tag origin entry n ∷ []) ≡ true → (b : Bool) → (n == k) ≡ b → first_tag (cells_at k (h.cells ++ cell_at h tag origin entry n ∷ [])) ≡ t
+      by : (k : ℕ) (t : List ℕ)
+          → has_entry t k (h.cells ++ cell_at h tag origin entry n ∷ []) ≡ true → (b : Bool)
+          → (n == k) ≡ b → first_tag (cells_at k (h.cells ++ cell_at h tag origin entry n ∷ [])) ≡ t
       by k t e true f = ap first_tag (cells_at-here k h.cells (cell_at h tag origin entry n) f) ∙ tag_here k t f (sym (has_entry-more t k) ∙ e) (has_cell k h.cells) refl
       by k t e false f =
           ap first_tag (cells_at-elsewhere k h.cells (cell_at h tag origin entry n) f)
@@ -299,8 +316,13 @@ pub record Loose (h : BufferHistory) (k : ℕ) : Type 0 where
 pub free_parts : (h : BufferHistory) (k : ℕ) → is_free h k ≡ true → Loose h k
 free_parts h k e = by (has_number k (numbers_of h.cells)) refl (has_number k h.opened) refl (has_number k h.acknowledged) refl (is_carried k h.carried) refl e
   where
-    by : (a : Bool) → has_number k (numbers_of h.cells) ≡ a → (b : Bool) → has_number k h.opened ≡ b → (c : Bool) → has_number k h.acknowledged ≡ c → (d : Bool) → is_carried k h.carried ≡ d
-        → (a && (not b && (not c && (not d && is_over h.setting.limits (losses_of k h.losses) h.moment)))) ≡ true → Loose h k
+    by : (a : Bool) → has_number k (numbers_of h.cells) ≡ a → (b : Bool) → has_number k h.opened ≡ b
+        → (c : Bool) → has_number k h.acknowledged ≡ c → (d : Bool) → is_carried k h.carried ≡ d
+        →
+        (a &&
+        (not b && (not c && (not d && is_over h.setting.limits (losses_of k h.losses) h.moment))))
+        ≡ true
+        → Loose h k
     by true f false g false i false j e = record { has = f; closed = g; unacked = i; uncarried = j }
     by false f b g c i d j e = absurd cc
     by true f true g c i d j e = absurd cc
@@ -343,7 +365,8 @@ carried_more-sane h worker (Some n) own free =
       lost_has = own.lost_has;
     }
   where
-    split : (k : ℕ) → (is_carried k h.carried ≡ true) ⊎ ((n == k) ≡ true) → (is_carried k h.carried ≡ true) ⊎ (n ≡ k)
+    split : (k : ℕ) → (is_carried k h.carried ≡ true) ⊎ ((n == k) ≡ true)
+        → (is_carried k h.carried ≡ true) ⊎ (n ≡ k)
     split k (inl e) = inl e
     split k (inr e) = inr (eq_from n k e)
 

@@ -4,7 +4,7 @@ use Rattle.std.proofs.Math.ListN.{set}
 use Rattle.std.specs.Prelude.{filter, find, not, is_some, slice_get, option_to_list, position, replicate}
 use Rattle.std.proofs.lemmas.List.{length-set, length-append, length-map, length-replicate, set-get_or}
 use Rattle.fwd_chunks.specs.declared.chunk.Chunk.{Chunk}
-use Rattle.fwd_chunks.specs.declared.retry.Retry.{Retry}
+use Rattle.fwd_retry.specs.declared.retry.Retry.{Retry}
 use Rattle.fwd_chunks.specs.declared.slot.Slot.{Slot}
 use Rattle.fwd_chunks.specs.Cells.{number_after}
 use Rattle.fwd_chunks.specs.Live.{is_at, changed}
@@ -47,7 +47,10 @@ count-same [] i s c d e at = absurd (none_some e)
 count-same (x ∷ xs) zero s c d e at = ap (λ o. length (option_to_list o ++ present xs)) (ap (λ y. y.chunk) (one_slot e) ∙ at)
 count-same (x ∷ xs) (suc i) s c d e at = by x.chunk (count-same xs i s c d e at)
   where
-    by : (o : Option Chunk) → length (present xs) ≡ length (present (set xs i (record s { chunk = Some d }))) → length (option_to_list o ++ present xs) ≡ length (option_to_list o ++ present (set xs i (record s { chunk = Some d })))
+    by : (o : Option Chunk)
+        → length (present xs) ≡ length (present (set xs i (record s { chunk = Some d })))
+        → length (option_to_list o ++ present xs) ≡ length
+        (option_to_list o ++ present (set xs i (record s { chunk = Some d })))
     by None rest = rest
     by (Some b) rest = ap suc rest
 
@@ -71,7 +74,8 @@ module _ (xs : List Slot) (cap : ℕ) (keys : KeyLists) (held : ℕ) (last : Opt
   pub found-slot : find (is_at n) (present xs) ≡ s.chunk
   found-slot = ap (λ k. find (is_at k) (present xs)) (sym slot-number) ∙ find-slot xs i s own.rising own.own slot-at
 
-  pub changed-slotted : (c d : Chunk) → s.chunk ≡ Some c → d.number ≡ c.number → d.since ≡ c.since → IsSlotted (set xs i (record s { chunk = Some d })) cap (keyed keys i d) held last
+  pub changed-slotted : (c d : Chunk) → s.chunk ≡ Some c → d.number ≡ c.number → d.since ≡ c.since
+      → IsSlotted (set xs i (record s { chunk = Some d })) cap (keyed keys i d) held last
   changed-slotted c d full same began = record {
     rising = set-rising xs i s (Some d) own.rising slot-at;
     own = set-own xs i s (Some d) own.own (same ∙ own-at xs i s c own.own slot-at full, tt);
@@ -84,7 +88,9 @@ module _ (xs : List Slot) (cap : ℕ) (keys : KeyLists) (held : ℕ) (last : Opt
     counted = own.counted ∙ count-same xs i s c d slot-at full;
   }
 
-  pub changed-shown : (c d : Chunk) (f : Chunk → Chunk) → s.chunk ≡ Some c → d ≡ f c → shown (set xs i (record s { chunk = Some d })) (keyed keys i d) last ≡ record (shown xs keys last) { chunks = changed (is_at n) f (present xs) }
+  pub changed-shown : (c d : Chunk) (f : Chunk → Chunk) → s.chunk ≡ Some c → d ≡ f c
+      → shown (set xs i (record s { chunk = Some d })) (keyed keys i d) last ≡ record
+      (shown xs keys last) { chunks = changed (is_at n) f (present xs) }
   changed-shown c d f full e =
       let chunks : present (set xs i (record s { chunk = Some d })) ≡ changed (is_at n) f (present xs) =
       ap (λ b. present (set xs i (record s { chunk = Some b }))) e ∙ changed-slot xs i s c f own.rising own.own slot-at full ∙ ap (λ k. changed (is_at k) f (present xs)) slot-number in
@@ -96,27 +102,33 @@ module _ (xs : List Slot) (cap : ℕ) (keys : KeyLists) (held : ℕ) (last : Opt
       }
 
   -- the keys of a chunk that stays open as long as it was
-  pub kept-keys : (c d : Chunk) → s.chunk ≡ Some c → ready_key keys.retry d ≡ ready_key keys.retry c → due_key d ≡ due_key c → keyed keys i d ≡ keys
+  pub kept-keys : (c d : Chunk) → s.chunk ≡ Some c → ready_key keys.retry d ≡ ready_key keys.retry c
+      → due_key d ≡ due_key c → keyed keys i d ≡ keys
   kept-keys c d full ready due = λ j. record {
     retry = keys.retry;
     ready = keys-same (ready_key keys.retry) xs keys.ready i s (ready_key keys.retry d) own.ready slot-at (ready ∙ ap (key_by (ready_key keys.retry)) (sym full)) j;
     due = keys-same due_key xs keys.due i s (due_key d) own.due slot-at (due ∙ ap (key_by due_key) (sym full)) j;
   }
 
-  changed-none : (f : Chunk → Chunk) → s.chunk ≡ None → changed (is_at n) f (present xs) ≡ present xs
+  changed-none : (f : Chunk → Chunk) → s.chunk ≡ None
+      → changed (is_at n) f (present xs) ≡ present xs
   changed-none f empty = ap (λ k. changed (is_at k) f (present xs)) (sym slot-number) ∙ changed-empty xs i s f own.rising own.own slot-at empty
 
   -- an empty slot is written as it was
   written : set xs i s ≡ xs
   written = ap (set xs i) read ∙ set-get_or xs i s
 
-  pub unset-shown : (f : Chunk → Chunk) → s.chunk ≡ None → shown (set xs i s) keys last ≡ record (shown xs keys last) { chunks = changed (is_at n) f (present xs) }
+  pub unset-shown : (f : Chunk → Chunk) → s.chunk ≡ None
+      → shown (set xs i s) keys last ≡ record (shown xs keys last)
+      { chunks = changed (is_at n) f (present xs) }
   unset-shown f empty = ap (λ l. shown l keys last) written ∙ (λ j. record (shown xs keys last) { chunks = sym (changed-none f empty) j })
 
-  pub removed-held : (c : Chunk) → s.chunk ≡ Some c → held ≡ suc (length (present (set xs i (record s { chunk = None }))))
+  pub removed-held : (c : Chunk) → s.chunk ≡ Some c
+      → held ≡ suc (length (present (set xs i (record s { chunk = None }))))
   removed-held c full = own.counted ∙ removed-count xs i s c slot-at full
 
-  pub removed-slotted : (c : Chunk) → s.chunk ≡ Some c → IsSlotted (set xs i (record s { chunk = None })) cap (cleared keys i) (held - 1) last
+  pub removed-slotted : (c : Chunk) → s.chunk ≡ Some c
+      → IsSlotted (set xs i (record s { chunk = None })) cap (cleared keys i) (held - 1) last
   removed-slotted c full = record {
     rising = set-rising xs i s None own.rising slot-at;
     own = set-own xs i s None own.own tt;
@@ -129,10 +141,12 @@ module _ (xs : List Slot) (cap : ℕ) (keys : KeyLists) (held : ℕ) (last : Opt
     counted = omega (arith, removed-held c full);
   }
 
-  removed-chunks : present (set xs i (record s { chunk = None })) ≡ filter (λ c. not (is_at n c)) (present xs)
+  removed-chunks : present (set xs i (record s { chunk = None })) ≡ filter (λ c. not (is_at n c))
+      (present xs)
   removed-chunks = removed-slot xs i s own.rising own.own slot-at ∙ ap (λ k. filter (λ c. not (is_at k c)) (present xs)) slot-number
 
-  pub removed-shown : shown (set xs i (record s { chunk = None })) (cleared keys i) last ≡ record (shown xs keys last) { chunks = filter (λ c. not (is_at n c)) (present xs) }
+  pub removed-shown : shown (set xs i (record s { chunk = None })) (cleared keys i) last ≡ record
+      (shown xs keys last) { chunks = filter (λ c. not (is_at n c)) (present xs) }
   removed-shown = λ j. record {
     retry = keys.retry;
     chunks = removed-chunks j;
@@ -141,7 +155,9 @@ module _ (xs : List Slot) (cap : ℕ) (keys : KeyLists) (held : ℕ) (last : Opt
   }
 
   -- a slot that was empty stays so
-  pub emptied-shown : s.chunk ≡ None → shown (set xs i (record s { chunk = None })) keys last ≡ record (shown xs keys last) { chunks = filter (λ c. not (is_at n c)) (present xs) }
+  pub emptied-shown : s.chunk ≡ None
+      → shown (set xs i (record s { chunk = None })) keys last ≡ record (shown xs keys last)
+      { chunks = filter (λ c. not (is_at n c)) (present xs) }
   emptied-shown empty = λ j. record {
     retry = keys.retry;
     chunks = removed-chunks j;
@@ -159,12 +175,14 @@ pub present-short : (xs : List Slot) → length (present xs) ≤ length xs
 present-short [] = omega arith
 present-short (x ∷ xs) = by x.chunk (present-short xs)
   where
-    by : (o : Option Chunk) → length (present xs) ≤ length xs → length (option_to_list o ++ present xs) ≤ suc (length xs)
+    by : (o : Option Chunk) → length (present xs) ≤ length xs
+        → length (option_to_list o ++ present xs) ≤ suc (length xs)
     by None rest = omega (arith, rest)
     by (Some c) rest = omega (arith, rest)
 
 module _ (xs : List Slot) (cap : ℕ) (keys : KeyLists) (held : ℕ) (last : Option ℕ) (own : IsSlotted xs cap keys held last) (c : Chunk) (room : length xs < length keys.ready) (above : number_after 0 last ≤ c.number) (fits : c.since < 2 ^ 64) where
-  pub pushed-slotted : IsSlotted (xs ++ slot_of c ∷ []) cap (keyed keys (length xs) c) (held + 1) (Some c.number)
+  pub pushed-slotted : IsSlotted (xs ++ slot_of c ∷ []) cap (keyed keys (length xs) c) (held + 1)
+      (Some c.number)
   pushed-slotted = record {
     rising = rising-more xs (slot_of c) own.rising (all-imply (λ t. t.number < number_after 0 last) (λ t. t.number < c.number) (λ t lt. omega (arith, lt, above)) xs own.below);
     own = all-more IsOwn xs (slot_of c) own.own (refl, tt);
@@ -199,7 +217,9 @@ full-count : (xs : List Slot) → length (filter is_full xs) ≡ length (present
 full-count [] = refl
 full-count (x ∷ xs) = by x.chunk refl (full-count xs)
   where
-    by : (o : Option Chunk) → x.chunk ≡ o → length (filter is_full xs) ≡ length (present xs) → length (cond (is_some x.chunk) (x ∷ filter is_full xs) (filter is_full xs)) ≡ length (option_to_list x.chunk ++ present xs)
+    by : (o : Option Chunk) → x.chunk ≡ o → length (filter is_full xs) ≡ length (present xs)
+        → length (cond (is_some x.chunk) (x ∷ filter is_full xs) (filter is_full xs)) ≡ length
+        (option_to_list x.chunk ++ present xs)
     by None e rest = ap (λ o. length (cond (is_some o) (x ∷ filter is_full xs) (filter is_full xs))) e ∙ rest ∙ ap (λ o. length (option_to_list o ++ present xs)) (sym e)
     by (Some c) e rest = ap (λ o. length (cond (is_some o) (x ∷ filter is_full xs) (filter is_full xs))) e ∙ ap suc rest ∙ ap (λ o. length (option_to_list o ++ present xs)) (sym e)
 
@@ -224,7 +244,8 @@ module _ (xs : List Slot) (cap more : ℕ) (keys : KeyLists) (held : ℕ) (last 
   due-length : length (padded places (map due_key (present xs))) ≡ places
   due-length = padded-length places (map due_key (present xs)) (omega (arith, length-map (present xs) due_key, own.counted, few))
 
-  pub compact-slotted : IsSlotted (filter is_full xs) more (fresh_keys keys.retry xs places) held last
+  pub compact-slotted : IsSlotted (filter is_full xs) more
+      (fresh_keys keys.retry xs places) held last
   compact-slotted = record {
     rising = rising-full is_full xs own.rising;
     own = all-filter IsOwn is_full xs own.own;
@@ -237,5 +258,6 @@ module _ (xs : List Slot) (cap more : ℕ) (keys : KeyLists) (held : ℕ) (last 
     counted = own.counted ∙ ap length (sym (present-full xs));
   }
 
-  pub compact-room : length (padded places (map (ready_key keys.retry) (present xs))) - length (filter is_full xs) ≡ places - held
+  pub compact-room : length (padded places (map (ready_key keys.retry) (present xs))) - length
+      (filter is_full xs) ≡ places - held
   compact-room = omega (arith, ready-length, full-count xs, own.counted)

@@ -7,12 +7,14 @@ use Rattle.std.proofs.lemmas.List.{append-nil, take_more, map-append}
 use Rattle.std.proofs.lemmas.Bool.{ltb-false, leb-true, le-leb}
 use Rattle.fwd_chunks.specs.declared.chunk.Chunk.{Chunk}
 use Rattle.fwd_chunks.specs.declared.slot.Slot.{Slot}
-use Rattle.fwd_chunks.specs.declared.losses.Losses.{Losses}
-use Rattle.fwd_chunks.specs.declared.retry.Retry.{Retry}
-use Rattle.fwd_chunks.specs.Waits.{wait_after}
-use Rattle.fwd_chunks.specs.Live.{is_at, is_open, is_closed, live_is_over, changed}
+use Rattle.fwd_retry.specs.declared.losses.Losses.{Losses}
+use Rattle.fwd_retry.specs.declared.retry.Retry.{Retry}
+use Rattle.fwd_retry.specs.Waits.{wait_after}
+use Rattle.fwd_chunks.specs.Live.{is_at, is_open, is_closed, changed}
+use Rattle.fwd_retry.specs.Tallies.{live_is_over}
 use Rattle.fwd_chunks.specs.Earliest.{is_within}
-use Rattle.fwd_chunks.specs.Slots.{present, is_slot, is_full, ready_key, due_key, began_by, end_of_wait, key_by, IsNone, AreKeys, padded, IsLower, NumbersRise, IsOwn, IsTimed}
+use Rattle.fwd_chunks.specs.Slots.{present, is_slot, is_full, ready_key, due_key, began_by, key_by, IsNone, AreKeys, padded, IsLower, NumbersRise, IsOwn, IsTimed}
+use Rattle.fwd_retry.specs.Tallies.{end_of_wait}
 use Rattle.fwd_chunks.proofs.Numbers.{not_from, true_false, eq_from, eq_same}
 use Rattle.fwd_chunks.proofs.Sounding.{all-filter, found-passes}
 use Rattle.fwd_chunks.proofs.Places.{none_some, get-past, get-within, place-none, place-found, place-within, place-is, place-past}
@@ -42,7 +44,8 @@ pub present-full : (xs : List Slot) → present (filter is_full xs) ≡ present 
 present-full [] = refl
 present-full (x ∷ xs) = by x.chunk refl (present-full xs)
   where
-    by : (o : Option Chunk) → x.chunk ≡ o → present (filter is_full xs) ≡ present xs → present (filter is_full (x ∷ xs)) ≡ option_to_list x.chunk ++ present xs
+    by : (o : Option Chunk) → x.chunk ≡ o → present (filter is_full xs) ≡ present xs
+        → present (filter is_full (x ∷ xs)) ≡ option_to_list x.chunk ++ present xs
     by None e rest =
         ap (λ o. present (cond (is_some o) (x ∷ filter is_full xs) (filter is_full xs))) e
         ∙ rest ∙ ap (λ o. option_to_list o ++ present xs) (sym e)
@@ -104,7 +107,9 @@ apart-absent : (n : ℕ) (xs : List Slot) → find (is_slot n) xs ≡ None
 apart-absent n [] f = tt
 apart-absent n (y ∷ ys) f = by (is_slot n y) refl f (λ g. apart-absent n ys g)
   where
-    by : (b : Bool) → is_slot n y ≡ b → cond b (Some y) (find (is_slot n) ys) ≡ None → (find (is_slot n) ys ≡ None → AllByRecursion (λ s. s.number ≡ n → ⊥) ys) → AllByRecursion (λ s. s.number ≡ n → ⊥) (y ∷ ys)
+    by : (b : Bool) → is_slot n y ≡ b → cond b (Some y) (find (is_slot n) ys) ≡ None
+        → (find (is_slot n) ys ≡ None → AllByRecursion (λ s. s.number ≡ n → ⊥) ys)
+        → AllByRecursion (λ s. s.number ≡ n → ⊥) (y ∷ ys)
     by true at g rest = absurd (none_some (sym g))
     by false at g rest = ((λ same. true_false (is_slot n y) (ap (λ k. eqb k n) same ∙ eq_same n) at), rest g)
 
@@ -200,7 +205,8 @@ filter-here (Some d) n m rest own same stay =
 -- the slot's chunk leaves
 pub removed-slot : (xs : List Slot) (i : ℕ) (s : Slot)
     → NumbersRise xs → AllByRecursion IsOwn xs → slice_get xs i ≡ Some s
-    → present (set xs i (record s { chunk = None })) ≡ filter (λ c. not (is_at s.number c)) (present xs)
+    → present (set xs i (record s { chunk = None })) ≡ filter (λ c. not (is_at s.number c))
+    (present xs)
 removed-slot [] i s rise own e = absurd (none_some e)
 removed-slot (x ∷ xs) zero s rise own e =
     let same : x.number ≡ s.number = ap (λ y. y.number) (one_slot e) in
@@ -223,7 +229,10 @@ removed-count [] i s c e at = absurd (none_some e)
 removed-count (x ∷ xs) zero s c e at = ap (λ o. length (option_to_list o ++ present xs)) (ap (λ y. y.chunk) (one_slot e) ∙ at)
 removed-count (x ∷ xs) (suc i) s c e at = by x.chunk (removed-count xs i s c e at)
   where
-    by : (o : Option Chunk) → length (present xs) ≡ suc (length (present (set xs i (record s { chunk = None })))) → length (option_to_list o ++ present xs) ≡ suc (length (option_to_list o ++ present (set xs i (record s { chunk = None }))))
+    by : (o : Option Chunk)
+        → length (present xs) ≡ suc (length (present (set xs i (record s { chunk = None }))))
+        → length (option_to_list o ++ present xs) ≡ suc
+        (length (option_to_list o ++ present (set xs i (record s { chunk = None }))))
     by None rest = rest
     by (Some d) rest = ap suc rest
 
@@ -322,7 +331,8 @@ pub rising-full : (p : Slot → Bool) (xs : List Slot) → NumbersRise xs → Nu
 rising-full p [] rise = tt
 rising-full p (x ∷ xs) rise = by (p x) (rising-full p xs rise.1)
   where
-    by : (b : Bool) → NumbersRise (filter p xs) → NumbersRise (cond b (x ∷ filter p xs) (filter p xs))
+    by : (b : Bool) → NumbersRise (filter p xs)
+        → NumbersRise (cond b (x ∷ filter p xs) (filter p xs))
     by true rest = (all-filter (IsLower x) p xs rise.0, rest)
     by false rest = rest
 
@@ -369,7 +379,10 @@ keys-of : (key : Chunk → Option ℕ) (xs : List Slot) (rest : List (Option ℕ
 keys-of key [] rest all = all
 keys-of key (x ∷ xs) rest all = by x.chunk refl (keys-of key xs rest all)
   where
-    by : (o : Option Chunk) → x.chunk ≡ o → AreKeys key (filter is_full xs) (map key (present xs) ++ rest) → AreKeys key (cond (is_some x.chunk) (x ∷ filter is_full xs) (filter is_full xs)) (map key (option_to_list x.chunk ++ present xs) ++ rest)
+    by : (o : Option Chunk) → x.chunk ≡ o
+        → AreKeys key (filter is_full xs) (map key (present xs) ++ rest)
+        → AreKeys key (cond (is_some x.chunk) (x ∷ filter is_full xs) (filter is_full xs))
+        (map key (option_to_list x.chunk ++ present xs) ++ rest)
     by None e more = subst (λ o. AreKeys key (cond (is_some o) (x ∷ filter is_full xs) (filter is_full xs)) (map key (option_to_list o ++ present xs) ++ rest)) (sym e) more
     by (Some c) e more = subst (λ o. AreKeys key (cond (is_some o) (x ∷ filter is_full xs) (filter is_full xs)) (map key (option_to_list o ++ present xs) ++ rest)) (sym e) (ap (key_by key) (sym e), more)
 
@@ -395,20 +408,27 @@ chunk_in None = None
 chunk_in (Some s) = s.chunk
 
 module _ (key : Chunk → Option ℕ) (limit : ℕ) (test : Chunk → Bool) (agree : (c : Chunk) → is_within limit (key c) ≡ test c) where
-  in-by : (o : Option Chunk) (rest : List Chunk) → is_within limit (key_by key o) ≡ true → find test (option_to_list o ++ rest) ≡ o
+  in-by : (o : Option Chunk) (rest : List Chunk) → is_within limit (key_by key o) ≡ true
+      → find test (option_to_list o ++ rest) ≡ o
   in-by None rest e = absurd (true_false false e refl)
   in-by (Some c) rest e = ap (λ b. cond b (Some c) (find test rest)) (sym (agree c) ∙ e)
 
-  out-by : (o : Option Chunk) (rest : List Chunk) → is_within limit (key_by key o) ≡ false → find test (option_to_list o ++ rest) ≡ find test rest
+  out-by : (o : Option Chunk) (rest : List Chunk) → is_within limit (key_by key o) ≡ false
+      → find test (option_to_list o ++ rest) ≡ find test rest
   out-by None rest e = refl
   out-by (Some c) rest e = ap (λ b. cond b (Some c) (find test rest)) (sym (agree c) ∙ e)
 
-  pub first-key : (xs : List Slot) (ks : List (Option ℕ)) → AreKeys key xs ks → find test (present xs) ≡ chunk_in (slice_get xs (position_or_len (is_within limit) ks))
+  pub first-key : (xs : List Slot) (ks : List (Option ℕ)) → AreKeys key xs ks
+      → find test (present xs) ≡ chunk_in (slice_get xs (position_or_len (is_within limit) ks))
   first-key [] ks all = refl
   first-key (x ∷ xs) [] all = absurd all
   first-key (x ∷ xs) (k ∷ ks) all = by (is_within limit k) refl (first-key xs ks all.1)
     where
-      by : (b : Bool) → is_within limit k ≡ b → find test (present xs) ≡ chunk_in (slice_get xs (position_or_len (is_within limit) ks)) → find test (option_to_list x.chunk ++ present xs) ≡ chunk_in (slice_get (x ∷ xs) (cond (not (is_within limit k)) (1 + position_or_len (is_within limit) ks) 0))
+      by : (b : Bool) → is_within limit k ≡ b
+          → find test (present xs) ≡ chunk_in (slice_get xs (position_or_len (is_within limit) ks))
+          → find test (option_to_list x.chunk ++ present xs) ≡ chunk_in
+          (slice_get (x ∷ xs)
+          (cond (not (is_within limit k)) (1 + position_or_len (is_within limit) ks) 0))
       by true e rest = in-by x.chunk (present xs) (ap (is_within limit) (sym all.0) ∙ e) ∙ ap (λ b. chunk_in (slice_get (x ∷ xs) (cond (not b) (1 + position_or_len (is_within limit) ks) 0))) (sym e)
       by false e rest =
           let next : suc (position_or_len (is_within limit) ks) ≡ 1 + position_or_len (is_within limit) ks = omega arith in
@@ -427,7 +447,8 @@ at-slot : (key : Chunk → Option ℕ) (limit : ℕ) (xs : List Slot) (ks : List
     → i < length xs
 at-slot key limit [] ks i k all e w = absurd (nothing ks i all e)
   where
-    nothing : (js : List (Option ℕ)) (j : ℕ) → AllByRecursion IsNone js → slice_get js j ≡ Some k → ⊥
+    nothing : (js : List (Option ℕ)) (j : ℕ) → AllByRecursion IsNone js → slice_get js j ≡ Some k
+        → ⊥
     nothing [] j none f = none_some f
     nothing (l ∷ js) zero none f =
         let is : l ≡ k = cc in
@@ -452,7 +473,8 @@ module _ (key : Chunk → Option ℕ) (limit : ℕ) (test : Chunk → Bool) (agr
       let past : length xs ≤ position_or_len (is_within limit) ks = omega (arith, keys-long key xs ks all, place-past (is_within limit) ks e) in
       first-key key limit test agree xs ks all ∙ ap chunk_in (get-past xs (position_or_len (is_within limit) ks) past)
 
-  pub key-some : (i : ℕ) (s : Slot) → position (is_within limit) ks ≡ Some i → slice_get xs i ≡ Some s → find test (present xs) ≡ s.chunk
+  pub key-some : (i : ℕ) (s : Slot) → position (is_within limit) ks ≡ Some i
+      → slice_get xs i ≡ Some s → find test (present xs) ≡ s.chunk
   key-some i s e at = first-key key limit test agree xs ks all ∙ ap (λ n. chunk_in (slice_get xs n)) (place-is (is_within limit) ks i e) ∙ ap chunk_in at
 
 -- the number of the chunk of the first key within a limit
@@ -470,11 +492,13 @@ pub key-number : (key : Chunk → Option ℕ) (limit : ℕ) (xs : List Slot) (ks
     → Some s.number ≡ option_map (λ c. c.number) s.chunk
 key-number key limit xs ks i s all own place at = by (slice_get ks i) refl
   where
-    chunk : (o : Option Chunk) → s.chunk ≡ o → is_within limit (key_by key o) ≡ true → Some s.number ≡ option_map (λ c. c.number) o
+    chunk : (o : Option Chunk) → s.chunk ≡ o → is_within limit (key_by key o) ≡ true
+        → Some s.number ≡ option_map (λ c. c.number) o
     chunk None f w = absurd (true_false false w refl)
     chunk (Some c) f w = ap Some (sym (own-at xs i s c own at f))
 
-    by : (o : Option (Option ℕ)) → slice_get ks i ≡ o → Some s.number ≡ option_map (λ c. c.number) s.chunk
+    by : (o : Option (Option ℕ)) → slice_get ks i ≡ o
+        → Some s.number ≡ option_map (λ c. c.number) s.chunk
     by None f = absurd (get-within ks i (place-within (is_within limit) ks i place) f)
     by (Some k) f =
         chunk s.chunk refl (ap (is_within limit) (sym (key-there key xs ks i k s all f at))
@@ -502,7 +526,9 @@ pub ready-agrees : (retry : Retry) (moment : ℕ) → moment < 2 ^ 64 → (c : C
     ≡ (is_closed c.stage && live_is_over retry.wait retry.max c.losses moment)
 ready-agrees retry moment lt c = by (is_closed c.stage) c.losses
   where
-    by : (b : Bool) (l : Option Losses) → is_within moment (cond b (end_of_wait retry l) None) ≡ (b && live_is_over retry.wait retry.max l moment)
+    by : (b : Bool) (l : Option Losses)
+        → is_within moment (cond b (end_of_wait retry l) None) ≡
+        (b && live_is_over retry.wait retry.max l moment)
     by false l = refl
     by true None = at_least moment
       where

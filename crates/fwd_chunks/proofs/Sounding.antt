@@ -13,7 +13,8 @@ use Rattle.fwd_chunks.specs.declared.stage.Stage.TheVariants.{Closed, Taken}
 use Rattle.fwd_chunks.specs.Cells.{size_of}
 use Rattle.fwd_chunks.specs.History.{BufferSetting}
 use Rattle.fwd_chunks.specs.Events.{BufferEvent, Enter, Flush, Take, Settle, Free, unless_refused}
-use Rattle.fwd_chunks.specs.Live.{LiveBuffer, live_opening, is_open, staged, changed, is_at, held_in, bytes_in, live_next_number, is_open_of, may_take, first_chunk, live_adds_to, live_adds, live_adds_all, live_looks, live_enters, live_is_full, live_is_spent, live_refusal, live_closes, live_flushes, live_given, live_carries_more, live_takes, live_carried, live_settles, tally_more, live_frees, live_next}
+use Rattle.fwd_chunks.specs.Live.{LiveBuffer, live_opening, is_open, staged, changed, is_at, held_in, bytes_in, live_next_number, is_open_of, may_take, first_chunk, live_adds_to, live_adds, live_adds_all, live_looks, live_enters, live_is_full, live_is_spent, live_refusal, live_closes, live_flushes, live_given, live_carries_more, live_takes, live_carried, live_settles, live_frees, live_next}
+use Rattle.fwd_retry.specs.Tallies.{tally_more}
 use Rattle.fwd_chunks.specs.Soundness.{IsBefore, AreInOrder, IsWithin, IsSound}
 use Rattle.fwd_chunks.proofs.Numbers.{not_from, eq_from, eq_same}
 use Rattle.fwd_chunks.proofs.CellLemmas.{size_of-push}
@@ -31,7 +32,8 @@ pub all-filter : {X : Type 0} (P : X → Type 0) (p : X → Bool) (xs : List X)
 all-filter P p [] all = tt
 all-filter P p (x ∷ xs) all = by (all-filter P p xs all.1) (p x)
   where
-    by : AllByRecursion P (filter p xs) → (b : Bool) → AllByRecursion P (cond b (x ∷ filter p xs) (filter p xs))
+    by : AllByRecursion P (filter p xs) → (b : Bool)
+        → AllByRecursion P (cond b (x ∷ filter p xs) (filter p xs))
     by rest true = (all.0, rest)
     by rest false = rest
 
@@ -69,7 +71,8 @@ found-passes p [] x e = absurd (none e)
     none f = cc
 found-passes p (y ∷ xs) x e = by (found-passes p xs x) (p y) refl e
   where
-    by : (find p xs ≡ Some x → p x ≡ true) → (b : Bool) → p y ≡ b → cond b (Some y) (find p xs) ≡ Some x → p x ≡ true
+    by : (find p xs ≡ Some x → p x ≡ true) → (b : Bool) → p y ≡ b
+        → cond b (Some y) (find p xs) ≡ Some x → p x ≡ true
     by rest true g f = ap p (sym (same f)) ∙ g
       where
         same : Some y ≡ Some x → y ≡ x
@@ -96,7 +99,8 @@ pub order-filter : (p : Chunk → Bool) (chunks : List Chunk) → AreInOrder chu
 order-filter p [] h = tt
 order-filter p (c ∷ chunks) h = by (order-filter p chunks h.1) (p c)
   where
-    by : AreInOrder (filter p chunks) → (b : Bool) → AreInOrder (cond b (c ∷ filter p chunks) (filter p chunks))
+    by : AreInOrder (filter p chunks) → (b : Bool)
+        → AreInOrder (cond b (c ∷ filter p chunks) (filter p chunks))
     by rest true = (all-filter (IsBefore c) p chunks h.0, rest)
     by rest false = rest
 
@@ -112,13 +116,19 @@ pub found-only : (p : Chunk → Bool) (chunks : List Chunk) (c : Chunk) → AreI
 found-only p [] c h e = tt
 found-only p (d ∷ chunks) c h e = by (found-only p chunks c h.1) (p d) e
   where
-    by : (find p chunks ≡ Some c → AllByRecursion (λ x. (x.number == c.number) ≡ true → x ≡ c) chunks) → (b : Bool) → cond b (Some d) (find p chunks) ≡ Some c → ((d.number == c.number) ≡ true → d ≡ c) × AllByRecursion (λ x. (x.number == c.number) ≡ true → x ≡ c) chunks
+    by :
+        (find p chunks ≡ Some c
+        → AllByRecursion (λ x. (x.number == c.number) ≡ true → x ≡ c) chunks)
+        → (b : Bool) → cond b (Some d) (find p chunks) ≡ Some c
+        → ((d.number == c.number) ≡ true → d ≡ c) × AllByRecursion
+        (λ x. (x.number == c.number) ≡ true → x ≡ c) chunks
     by rest true f = (λ g. same f, later chunks h.0)
       where
         same : Some d ≡ Some c → d ≡ c
         same g = cc
 
-        later : (xs : List Chunk) → AllByRecursion (IsBefore d) xs → AllByRecursion (λ x. (x.number == c.number) ≡ true → x ≡ c) xs
+        later : (xs : List Chunk) → AllByRecursion (IsBefore d) xs
+            → AllByRecursion (λ x. (x.number == c.number) ≡ true → x ≡ c) xs
         later [] all = tt
         later (x ∷ xs) all = (λ g. absurd (omega (arith, all.0.lower, eq_from x.number c.number g, ap (λ y. y.number) (same f))), later xs all.1)
     by rest false f = (λ g. absurd (omega (arith, (found-all (IsBefore d) p chunks c f h.0).lower, eq_from d.number c.number g)), rest f)
@@ -153,7 +163,11 @@ pub total-filter : (w : Chunk → ℕ) (p : Chunk → Bool) (chunks : List Chunk
 total-filter w p [] = refl
 total-filter w p (c ∷ chunks) = by (total-filter w p chunks) (p c)
   where
-    by : total w (filter p chunks) + total w (filter (λ d. not (p d)) chunks) ≡ total w chunks → (b : Bool) → total w (cond b (c ∷ filter p chunks) (filter p chunks)) + total w (cond (not b) (c ∷ filter (λ d. not (p d)) chunks) (filter (λ d. not (p d)) chunks)) ≡ w c + total w chunks
+    by : total w (filter p chunks) + total w (filter (λ d. not (p d)) chunks) ≡ total w chunks
+        → (b : Bool)
+        → total w (cond b (c ∷ filter p chunks) (filter p chunks)) + total w
+        (cond (not b) (c ∷ filter (λ d. not (p d)) chunks) (filter (λ d. not (p d)) chunks))
+        ≡ w c + total w chunks
     by rest true = omega (arith, rest)
     by rest false = omega (arith, rest)
 
@@ -174,7 +188,14 @@ total-changed p f w [] c h e = absurd (none e)
     none g = cc
 total-changed p f w (d ∷ chunks) c h e = by (total-changed p f w chunks c h.1) (p d) e
   where
-    by : (find p chunks ≡ Some c → total w (changed (is_at c.number) f chunks) + w c ≡ total w chunks + w (f c)) → (b : Bool) → cond b (Some d) (find p chunks) ≡ Some c → (w (cond (d.number == c.number) (f d) d) + total w (changed (is_at c.number) f chunks)) + w c ≡ (w d + total w chunks) + w (f c)
+    by :
+        (find p chunks ≡ Some c → total w (changed (is_at c.number) f chunks) + w c
+        ≡ total w chunks + w (f c))
+        → (b : Bool) → cond b (Some d) (find p chunks) ≡ Some c
+        →
+        (w (cond (d.number == c.number) (f d) d) + total w
+        (changed (is_at c.number) f chunks)) + w c ≡
+        (w d + total w chunks) + w (f c)
     by rest true g =
         let same : d ≡ c = one g in
         let here : w (cond (d.number == c.number) (f d) d) ≡ w (f c) = ap (λ b. w (cond b (f d) d)) (ap (λ x. eqb d.number x.number) (sym same) ∙ eq_same d.number) ∙ ap (λ x. w (f x)) same in
@@ -183,7 +204,8 @@ total-changed p f w (d ∷ chunks) c h e = by (total-changed p f w chunks c h.1)
         one : Some d ≡ Some c → d ≡ c
         one i = cc
 
-        later : (xs : List Chunk) → AllByRecursion (IsBefore d) xs → AllByRecursion (λ x. (x.number == c.number) ≡ false) xs
+        later : (xs : List Chunk) → AllByRecursion (IsBefore d) xs
+            → AllByRecursion (λ x. (x.number == c.number) ≡ false) xs
         later [] all = tt
         later (x ∷ xs) all = (not_from (x.number == c.number) (λ i. absurd (omega (arith, all.0.lower, eq_from x.number c.number i, ap (λ y. y.number) (one g)))), later xs all.1)
     by rest false g =
@@ -203,18 +225,21 @@ abbrev pub with_entry : List ℕ → Chunk → Chunk
 with_entry entry d = record d { entries = d.entries ++ entry ∷ [] }
 
 module _ (b : LiveBuffer) (tag entry : List ℕ) (own : IsSorted b) where
-  room_of : (c : Chunk) → find (may_take b tag entry) b.chunks ≡ Some c → nat_le (size_of c.entries + length entry) b.setting.limits.chunk ≡ true
+  room_of : (c : Chunk) → find (may_take b tag entry) b.chunks ≡ Some c
+      → nat_le (size_of c.entries + length entry) b.setting.limits.chunk ≡ true
   room_of c e = (and_parts (is_open_of tag c) (nat_le (size_of c.entries + length entry) b.setting.limits.chunk) (found-passes (may_take b tag entry) b.chunks c e)).1
 
   length_one : (entries : List (List ℕ)) → length (entries ++ entry ∷ []) ≡ length entries + 1
   length_one [] = refl
   length_one (x ∷ entries) = omega (arith, length_one entries)
 
-  within-more : (c : Chunk) → find (may_take b tag entry) b.chunks ≡ Some c → (d : Chunk) → IsWithin b.setting.limits.chunk d × ((d.number == c.number) ≡ true → d ≡ c)
+  within-more : (c : Chunk) → find (may_take b tag entry) b.chunks ≡ Some c → (d : Chunk)
+      → IsWithin b.setting.limits.chunk d × ((d.number == c.number) ≡ true → d ≡ c)
       → IsWithin b.setting.limits.chunk (cond (is_at c.number d) (with_entry entry d) d)
   within-more c e d is = by (d.number == c.number) refl
     where
-      by : (t : Bool) → (d.number == c.number) ≡ t → IsWithin b.setting.limits.chunk (cond t (with_entry entry d) d)
+      by : (t : Bool) → (d.number == c.number) ≡ t
+          → IsWithin b.setting.limits.chunk (cond t (with_entry entry d) d)
       by true f = record {
         some = omega (arith, length_one d.entries);
         within = or_left (nat_le (size_of (d.entries ++ entry ∷ [])) b.setting.limits.chunk) (length (d.entries ++ entry ∷ []) == 1)
@@ -222,7 +247,8 @@ module _ (b : LiveBuffer) (tag entry : List ℕ) (own : IsSorted b) where
       }
       by false f = is.0
 
-  joins-sorted : (c : Chunk) → find (may_take b tag entry) b.chunks ≡ Some c → IsSorted (live_adds_to b tag entry (Some c))
+  joins-sorted : (c : Chunk) → find (may_take b tag entry) b.chunks ≡ Some c
+      → IsSorted (live_adds_to b tag entry (Some c))
   joins-sorted c e = record {
     in_order = order-map (λ d. cond (is_at c.number d) (with_entry entry d) d) (λ d. number (is_at c.number d) d) (λ d. tags (is_at c.number d) d) (λ d s. shut (is_at c.number d) d s) b.chunks own.in_order;
     below = all-map (λ d. d.number < live_next_number b) (λ d. d.number < live_next_number b) (λ d. cond (is_at c.number d) (with_entry entry d) d) (λ d lt. subst (λ n. n < live_next_number b) (sym (number (is_at c.number d) d)) lt) b.chunks own.below;
@@ -246,7 +272,8 @@ module _ (b : LiveBuffer) (tag entry : List ℕ) (own : IsSorted b) where
       tags true d = refl
       tags false d = refl
 
-      shut : (t : Bool) (d : Chunk) → is_open d.stage ≡ false → is_open (cond t (with_entry entry d) d).stage ≡ false
+      shut : (t : Bool) (d : Chunk) → is_open d.stage ≡ false
+          → is_open (cond t (with_entry entry d) d).stage ≡ false
       shut true d s = s
       shut false d s = s
 
@@ -284,7 +311,8 @@ module _ (b : LiveBuffer) (tag entry : List ℕ) (own : IsSorted b) where
   closed-first : (d : Chunk) → bytes_eq d.tag tag ≡ true → is_open (closing_one d).stage ≡ false
   closed-first d e = by (is_open d.stage) refl
     where
-      by : (t : Bool) → is_open d.stage ≡ t → is_open (cond (is_open d.stage && bytes_eq d.tag tag) (staged Closed d) d).stage ≡ false
+      by : (t : Bool) → is_open d.stage ≡ t
+          → is_open (cond (is_open d.stage && bytes_eq d.tag tag) (staged Closed d) d).stage ≡ false
       by true f = (λ i. is_open (cond (f i && e i) (staged Closed d) d).stage)
       by false f = (λ i. is_open (cond (f i && bytes_eq d.tag tag) (staged Closed d) d).stage) ∙ f
 
@@ -308,7 +336,8 @@ module _ (b : LiveBuffer) (tag entry : List ℕ) (own : IsSorted b) where
     );
   }
     where
-      keeps : (c d : Chunk) → c.entries ≡ d.entries → IsWithin b.setting.limits.chunk d → IsWithin b.setting.limits.chunk c
+      keeps : (c d : Chunk) → c.entries ≡ d.entries → IsWithin b.setting.limits.chunk d
+          → IsWithin b.setting.limits.chunk c
       keeps c d e is = record {
         some = subst (λ es. 0 < length es) (sym e) is.some;
         within = ap (λ es. nat_le (size_of es) b.setting.limits.chunk || (length es == 1)) e ∙ is.within;
@@ -322,7 +351,8 @@ module _ (b : LiveBuffer) (tag entry : List ℕ) (own : IsSorted b) where
   unfolding live_adds
   adds-sorted = by (find (may_take b tag entry) b.chunks) refl
     where
-      by : (o : Option Chunk) → find (may_take b tag entry) b.chunks ≡ o → IsSorted (live_adds_to b tag entry o)
+      by : (o : Option Chunk) → find (may_take b tag entry) b.chunks ≡ o
+          → IsSorted (live_adds_to b tag entry o)
       by None e = begins-sorted
       by (Some c) e = joins-sorted c e
 
@@ -330,7 +360,8 @@ module _ (b : LiveBuffer) (tag entry : List ℕ) (own : IsSorted b) where
   unfolding live_adds
   adds-bytes = by (find (may_take b tag entry) b.chunks) refl
     where
-      by : (o : Option Chunk) → find (may_take b tag entry) b.chunks ≡ o → bytes_in (live_adds_to b tag entry o).chunks ≡ bytes_in b.chunks + length entry
+      by : (o : Option Chunk) → find (may_take b tag entry) b.chunks ≡ o
+          → bytes_in (live_adds_to b tag entry o).chunks ≡ bytes_in b.chunks + length entry
       by None e = omega (
         arith,
         bytes-total b.chunks,
@@ -390,7 +421,8 @@ enters-sound b r now own e =
       numbers = ltb-false (2 ^ 64) (live_next_number after) unspent.0;
     }
   where
-    no_fault : (a c : Bool) → cond a (Some Full) (cond c (Some NumbersSpent) None) ≡ None → (a ≡ false) × (c ≡ false)
+    no_fault : (a c : Bool) → cond a (Some Full) (cond c (Some NumbersSpent) None) ≡ None
+        → (a ≡ false) × (c ≡ false)
     no_fault true c f = absurd (some f)
       where
         some : Some Full ≡ None → ⊥
@@ -407,7 +439,8 @@ enters-sound b r now own e =
 pub restaged-sound : (b : LiveBuffer) (f : Chunk → Chunk) (moment : ℕ)
     → ((c : Chunk) → (f c).number ≡ c.number) → ((c : Chunk) → (f c).tag ≡ c.tag)
     → ((c : Chunk) → (f c).entries ≡ c.entries)
-    → ((c : Chunk) → is_open c.stage ≡ false → is_open (f c).stage ≡ false) → IsSound b → IsSound (record b { chunks = map f b.chunks; moment = moment })
+    → ((c : Chunk) → is_open c.stage ≡ false → is_open (f c).stage ≡ false) → IsSound b
+    → IsSound (record b { chunks = map f b.chunks; moment = moment })
 restaged-sound b f moment number tag entries shut own = record {
   in_order = order-map f number tag shut b.chunks own.in_order;
   below = all-map (λ d. d.number < live_next_number b) (λ d. d.number < live_next_number b) f (λ d lt. subst (λ n. n < live_next_number b) (sym (number d)) lt) b.chunks own.below;
@@ -425,7 +458,8 @@ restaged-sound b f moment number tag entries shut own = record {
 pub changed-sound : (b : LiveBuffer) (test : Chunk → Bool) (f : Chunk → Chunk) (moment : ℕ)
     → ((c : Chunk) → (f c).number ≡ c.number) → ((c : Chunk) → (f c).tag ≡ c.tag)
     → ((c : Chunk) → (f c).entries ≡ c.entries)
-    → ((c : Chunk) → is_open (f c).stage ≡ false) → IsSound b → IsSound (record b { chunks = changed test f b.chunks; moment = moment })
+    → ((c : Chunk) → is_open (f c).stage ≡ false) → IsSound b
+    → IsSound (record b { chunks = changed test f b.chunks; moment = moment })
 changed-sound b test f moment number tag entries shut own =
     restaged-sound b (λ c. cond (test c) (f c) c) moment (λ c. numbers (test c) c) (λ c. tags (test c) c) (λ c. contents (test c) c) (λ c s. shuts (test c) c s) own
   where
@@ -441,7 +475,8 @@ changed-sound b test f moment number tag entries shut own =
     contents true c = entries c
     contents false c = refl
 
-    shuts : (t : Bool) (c : Chunk) → is_open c.stage ≡ false → is_open (cond t (f c) c).stage ≡ false
+    shuts : (t : Bool) (c : Chunk) → is_open c.stage ≡ false
+        → is_open (cond t (f c) c).stage ≡ false
     shuts true c s = shut c
     shuts false c s = s
 
@@ -494,7 +529,8 @@ pub next-sound : (b : LiveBuffer) (event : BufferEvent) → IsSound b
     → IsSound (live_next b event)
 next-sound b (Enter origin r now) own = by (live_refusal b r now) refl
   where
-    by : (o : Option AdmitError) → live_refusal b r now ≡ o → IsSound (unless_refused o (live_enters b r now) b)
+    by : (o : Option AdmitError) → live_refusal b r now ≡ o
+        → IsSound (unless_refused o (live_enters b r now) b)
     by None e = enters-sound b r now own e
     by (Some fault) e = own
 next-sound b (Flush now kind) own = flushes-sound b now kind own

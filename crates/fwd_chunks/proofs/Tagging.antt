@@ -31,11 +31,16 @@ bytes_self bs = (bytes_eq-Decides bs bs).1 refl
 
 -- what an update at a tag leaves at any tag
 pub seen-updates : {K S : Type 0} (m n : HashMap K ℕ S) (w : Option ℕ) (items : K → List ℕ)
-    (bs : List ℕ) → UpdatesBy (λ x y. bytes_eq (items x) (items y)) (λ k. bytes_eq bs (items k)) m n w
-    → (t : List ℕ) → tag_number t (seen n.entries items) ≡ cond (bytes_eq bs t) w (tag_number t (seen m.entries items))
+    (bs : List ℕ)
+    → UpdatesBy (λ x y. bytes_eq (items x) (items y)) (λ k. bytes_eq bs (items k)) m n w
+    → (t : List ℕ)
+    → tag_number t (seen n.entries items) ≡ cond (bytes_eq bs t) w
+    (tag_number t (seen m.entries items))
 seen-updates m n w items bs h t = tag_number-seen n.entries items t ∙ by (bytes_eq bs t) refl
   where
-    by : (b : Bool) → bytes_eq bs t ≡ b → lookup (λ k. bytes_eq t (items k)) n.entries ≡ cond b w (tag_number t (seen m.entries items))
+    by : (b : Bool) → bytes_eq bs t ≡ b
+        → lookup (λ k. bytes_eq t (items k)) n.entries ≡ cond b w
+        (tag_number t (seen m.entries items))
     by true e = ap (λ l. lookup (λ k. bytes_eq l (items k)) n.entries) (sym (same_bytes bs t e)) ∙ h.1
     by false e =
         others (λ x y. bytes_eq (items x) (items y)) (λ k. bytes_eq bs (items k)) m.entries n.entries h.3 (λ k. bytes_eq t (items k))

@@ -12,7 +12,8 @@ use Rattle.fwd_chunks.specs.declared.stage.Stage.{Stage}
 use Rattle.fwd_chunks.specs.declared.stage.Stage.TheVariants.{Open, Closed, Taken}
 use Rattle.fwd_chunks.specs.Cells.{size_of}
 use Rattle.fwd_chunks.specs.History.{Load}
-use Rattle.fwd_chunks.specs.Live.{LiveBuffer, is_open, is_closed, is_taken, staged, changed, is_at, is_open_of, may_take, first_chunk, live_adds_to, live_adds, live_adds_all, live_looks, live_enters, is_due, live_closes, live_flushes, live_is_over, live_is_free, live_given, live_carries_more, live_takes, live_load, live_carried, live_settles, tally_more, live_frees}
+use Rattle.fwd_chunks.specs.Live.{LiveBuffer, is_open, is_closed, is_taken, staged, changed, is_at, is_open_of, may_take, first_chunk, live_adds_to, live_adds, live_adds_all, live_looks, live_enters, is_due, live_closes, live_flushes, live_is_free, live_given, live_carries_more, live_takes, live_load, live_carried, live_settles, live_frees}
+use Rattle.fwd_retry.specs.Tallies.{live_is_over, tally_more}
 use Rattle.fwd_chunks.specs.Soundness.{IsBefore, AreInOrder, IsSound}
 use Rattle.fwd_chunks.proofs.Numbers.{not_from, eq_from, eq_same}
 use Rattle.fwd_chunks.proofs.Sounding.{found-all, found-passes, found-only, IsSorted, with_entry, adds-sorted, sorted}
@@ -59,7 +60,8 @@ find-changed : (q test : Chunk → Bool) (f : Chunk → Chunk) (chunks : List Ch
 find-changed q test f [] all = refl
 find-changed q test f (c ∷ chunks) all = by (find-changed q test f chunks all.1) (test c) refl
   where
-    by : find q (changed test f chunks) ≡ find q chunks → (t : Bool) → test c ≡ t → find q (cond t (f c) c ∷ changed test f chunks) ≡ find q (c ∷ chunks)
+    by : find q (changed test f chunks) ≡ find q chunks → (t : Bool) → test c ≡ t
+        → find q (cond t (f c) c ∷ changed test f chunks) ≡ find q (c ∷ chunks)
     by rest true e =
         let no = all.0 e in
         (λ i. cond (no.1 i) (Some (f c)) (rest i)) ∙ (λ i. cond (sym no.0 i) (Some c) (find q chunks))
@@ -86,7 +88,15 @@ find-taken p worker [] c h e = absurd (none e)
     none f = cc
 find-taken p worker (d ∷ chunks) c h e = by (find-taken p worker chunks c h.1) (p d) e
   where
-    by : (find p chunks ≡ Some c → find (has c.number) (changed (is_at c.number) (staged (Taken worker)) chunks) ≡ Some (staged (Taken worker) c)) → (t : Bool) → cond t (Some d) (find p chunks) ≡ Some c → find (has c.number) (cond (is_at c.number d) (staged (Taken worker) d) d ∷ changed (is_at c.number) (staged (Taken worker)) chunks) ≡ Some (staged (Taken worker) c)
+    by :
+        (find p chunks ≡ Some c
+        → find (has c.number) (changed (is_at c.number) (staged (Taken worker)) chunks)
+        ≡ Some (staged (Taken worker) c))
+        → (t : Bool) → cond t (Some d) (find p chunks) ≡ Some c
+        → find (has c.number)
+        (cond (is_at c.number d) (staged (Taken worker) d) d
+        ∷ changed (is_at c.number) (staged (Taken worker)) chunks) ≡ Some
+        (staged (Taken worker) c)
     by rest true g =
         let here : (d.number == c.number) ≡ true = ap (λ x. eqb d.number x.number) (sym (one g)) ∙ eq_same d.number in
         (λ i. find (has c.number) (cond (here i) (staged (Taken worker) d) d ∷ changed (is_at c.number) (staged (Taken worker)) chunks))
@@ -107,7 +117,8 @@ adds-carried : (b : LiveBuffer) (tag entry : List ℕ) (n : ℕ) → IsSorted b
 unfolding live_adds
 adds-carried b tag entry n own = by (find (may_take b tag entry) b.chunks) refl
   where
-    by : (o : Option Chunk) → find (may_take b tag entry) b.chunks ≡ o → live_carried (live_adds_to b tag entry o) n ≡ live_carried b n
+    by : (o : Option Chunk) → find (may_take b tag entry) b.chunks ≡ o
+        → live_carried (live_adds_to b tag entry o) n ≡ live_carried b n
     by (Some c) e =
         let may = found-passes (may_take b tag entry) b.chunks c e in
         let of = (and_parts (is_open_of tag c) (nat_le (size_of c.entries + length entry) b.setting.limits.chunk) may).0 in
@@ -162,7 +173,8 @@ given-free b now c own given =
     (all-mapped (λ d. (d.number == c.number) ≡ true → d ≡ c) (λ d. has c.number d ≡ false)
     (λ d only. at d only (is_at c.number d) refl) b.chunks (found-only (live_is_free (live_looks b now)) b.chunks c own.in_order given)))
   where
-    at : (d : Chunk) → ((d.number == c.number) ≡ true → d ≡ c) → (t : Bool) → is_at c.number d ≡ t → has c.number d ≡ false
+    at : (d : Chunk) → ((d.number == c.number) ≡ true → d ≡ c) → (t : Bool) → is_at c.number d ≡ t
+        → has c.number d ≡ false
     at d only true e = free-not c.number d (ap (λ x. is_taken x.stage) (only e) ∙ given-closed (live_looks b now) c given)
     at d only false e = ap (λ t. t && is_taken d.stage) e
 
@@ -171,7 +183,8 @@ pub carried-takes : (b : LiveBuffer) (worker now n : ℕ) (load : Load) → IsSo
     → live_carried b n ≡ Some load → live_carried (live_takes b worker now) n ≡ Some load
 carried-takes b worker now n load own carried = by (live_given (live_looks b now)) refl
   where
-    by : (o : Option Chunk) → live_given (live_looks b now) ≡ o → live_carried (live_carries_more worker o (live_looks b now)) n ≡ Some load
+    by : (o : Option Chunk) → live_given (live_looks b now) ≡ o
+        → live_carried (live_carries_more worker o (live_looks b now)) n ≡ Some load
     by None e = carried
     by (Some c) e =
         ap (option_map (live_load b)) (find-changed (has n) (is_at c.number) (staged (Taken worker)) b.chunks
@@ -202,7 +215,12 @@ find-settled : (k n : ℕ) → k ≢ n → (chunks : List Chunk)
 find-settled k n differ [] = refl
 find-settled k n differ (c ∷ chunks) = by (find-settled k n differ chunks) (is_at k c) refl
   where
-    by : find (has n) (filter (λ d. not (is_at k d)) chunks) ≡ find (has n) chunks → (t : Bool) → is_at k c ≡ t → find (has n) (cond (not t) (c ∷ filter (λ d. not (is_at k d)) chunks) (filter (λ d. not (is_at k d)) chunks)) ≡ find (has n) (c ∷ chunks)
+    by : find (has n) (filter (λ d. not (is_at k d)) chunks) ≡ find (has n) chunks → (t : Bool)
+        → is_at k c ≡ t
+        → find (has n)
+        (cond (not t) (c ∷ filter (λ d. not (is_at k d)) chunks)
+        (filter (λ d. not (is_at k d)) chunks)) ≡ find
+        (has n) (c ∷ chunks)
     by rest true e =
         let apart : is_at n c ≡ false = not_from (is_at n c) (λ f. differ (sym (eq_from c.number k e) ∙ eq_from c.number n f)) in
         rest ∙ (λ i. cond (sym apart i && is_taken c.stage) (Some c) (find (has n) chunks))

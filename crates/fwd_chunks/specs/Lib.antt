@@ -1,7 +1,6 @@
--- Definitions. A reader who asks what a buffer promises must believe these seven: the public calls
+-- Definitions. A reader who asks what a buffer promises must believe these six: the public calls
 -- and laws speak of them.
 pub mod Cells
-pub mod Waits
 pub mod History
 pub mod Events
 pub mod Live

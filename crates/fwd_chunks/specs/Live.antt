@@ -41,10 +41,10 @@ use Rattle.fwd_chunks.specs.declared.counts.Counts.{Counts}
 use Rattle.fwd_chunks.specs.declared.span.Span.{Span}
 use Rattle.fwd_chunks.specs.declared.fault.AdmitError.{AdmitError}
 use Rattle.fwd_chunks.specs.declared.fault.AdmitError.TheVariants.{Full, NumbersSpent}
-use Rattle.fwd_chunks.specs.declared.losses.Losses.{Losses}
+use Rattle.fwd_retry.specs.declared.losses.Losses.{Losses}
 use Rattle.fwd_chunks.specs.declared.stage.Stage.{Stage}
 use Rattle.fwd_chunks.specs.declared.stage.Stage.TheVariants.{Open, Closed, Taken}
-use Rattle.fwd_chunks.specs.Waits.{wait_after}
+use Rattle.fwd_retry.specs.Tallies.{tally_of, tally_more, live_is_over}
 use Rattle.fwd_chunks.specs.Cells.{
   Carry,
   size_of,
@@ -72,13 +72,6 @@ pub record LiveBuffer : Type 0 where
   pub accepted : ℕ
   pub settled : ℕ
   pub moment : ℕ
-
--- the count of losses, where 65 stands for every greater one, and the newest; nothing where there
--- is none
-abbrev pub tally_of : List ℕ → Option Losses
-tally_of [] = None
-tally_of (newest ∷ older) =
-    Some (record { count = min 65 (length (newest ∷ older)); last = newest })
 
 -- where a number stands, by whether it is open and by who has it
 abbrev pub stage_by : Bool → Option Carry → Stage
@@ -273,12 +266,6 @@ live_flushes b now kind =
       moment = max b.moment now;
     }
 
--- the wait after the newest loss is over
-abbrev pub live_is_over : ℕ → ℕ → Option Losses → ℕ → Bool
-live_is_over retry_wait retry_max None moment = true
-live_is_over retry_wait retry_max (Some l) moment =
-    nat_le (l.last + wait_after retry_wait retry_max l.count) moment
-
 -- the chunk is closed, no worker has it, and no loss holds it back
 abbrev pub live_is_free : LiveBuffer → Chunk → Bool
 live_is_free b c =
@@ -324,11 +311,6 @@ live_settles b number = record b {
   chunks = filter (λ c. not (is_at number c)) b.chunks;
   settled = b.settled + held_in (filter (is_at number) b.chunks);
 }
-
--- one loss more
-abbrev pub tally_more : Option Losses → ℕ → Losses
-tally_more None moment = record { count = 1; last = moment }
-tally_more (Some l) moment = record { count = min 65 (l.count + 1); last = moment }
 
 -- the chunk of a number is closed again, with a loss at a moment where one is handed in
 abbrev pub live_frees : LiveBuffer → ℕ → Option ℕ → LiveBuffer

@@ -28,10 +28,10 @@ use Rattle.std.specs.Prelude.{
 }
 use Rattle.std.specs.List.{AllByRecursion}
 use Rattle.fwd_chunks.specs.declared.chunk.Chunk.{Chunk}
-use Rattle.fwd_chunks.specs.declared.losses.Losses.{Losses}
-use Rattle.fwd_chunks.specs.declared.retry.Retry.{Retry}
+use Rattle.fwd_retry.specs.declared.losses.Losses.{Losses}
+use Rattle.fwd_retry.specs.declared.retry.Retry.{Retry}
 use Rattle.fwd_chunks.specs.declared.slot.Slot.{Slot}
-use Rattle.fwd_chunks.specs.Waits.{wait_after}
+use Rattle.fwd_retry.specs.Tallies.{end_of_wait}
 use Rattle.fwd_chunks.specs.Cells.{number_after}
 use Rattle.fwd_chunks.specs.Live.{is_open, is_closed}
 
@@ -60,15 +60,6 @@ is_slot number s = s.number == number
 -- the slot is not empty
 abbrev pub is_full : Slot → Bool
 is_full s = is_some s.chunk
-
--- a moment, if 64 bits hold it
-abbrev pub within_bits : ℕ → Option ℕ
-within_bits moment = if nat_lt moment (2 ^ 64) then Some moment else None
-
--- the end of the wait after losses
-abbrev pub end_of_wait : Retry → Option Losses → Option ℕ
-end_of_wait retry None = Some 0
-end_of_wait retry (Some l) = within_bits (l.last + wait_after retry.wait retry.max l.count)
 
 -- from when on a worker may have the chunk, if it waits for one
 abbrev pub ready_key : Retry → Chunk → Option ℕ

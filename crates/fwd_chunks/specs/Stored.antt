@@ -1,16 +1,18 @@
 -- What holds of the code's buffer.
 use Rattle.std.specs.Prelude.{◌≡◌, ◌≤◌, ℕ, List, Bool, true, false, Some, length}
 use Rattle.std.specs.List.{AllByRecursion}
+use Rattle.fwd_modes.specs.declared.limits.TheConstants.{TAG_LIMIT}
 use Rattle.fwd_chunks.specs.declared.chunk.Chunk.{Chunk}
-use Rattle.fwd_chunks.specs.declared.retry.Retry.{Retry}
+use Rattle.fwd_retry.specs.declared.retry.Retry.{Retry}
 use Rattle.fwd_chunks.specs.declared.stage.Stage.TheVariants.{Closed}
-use Rattle.fwd_chunks.specs.Live.{LiveBuffer, bytes_in, tally_more}
+use Rattle.fwd_chunks.specs.Live.{LiveBuffer, bytes_in}
+use Rattle.fwd_retry.specs.Tallies.{tally_more}
 use Rattle.fwd_chunks.specs.Soundness.{IsSound}
 use Rattle.fwd_chunks.specs.Newest.{AreNewest}
 
 -- the tag fits a frame
 abbrev pub TagFits : Chunk → Type 0
-TagFits c = length c.tag ≤ 1024
+TagFits c = length c.tag ≤ TAG_LIMIT
 
 -- the buffer is sound, its tags fit, and so many bytes are held
 pub record IsStored (b : LiveBuffer) (size : ℕ) : Type 0 where

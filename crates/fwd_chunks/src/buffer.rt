@@ -63,13 +63,13 @@ use crate::flush::FlushKind;
 use crate::limits::BufferLimits;
 use crate::part::Part;
 use crate::plan::Plan;
-use crate::retry::Retry;
 use crate::slots::Slots;
 use crate::span::Span;
 use crate::stage::Stage;
 use crate::tags::Tags;
 use fwd_base::Seq;
-use fwd_modes::{Batch, chunk_name};
+use fwd_modes::{Batch, TAG_LIMIT, chunk_name};
+use fwd_retry::Retry;
 use fwd_source::Origin;
 use std::alloc::{AllocError, Global};
 use std::marker::Model;
@@ -348,7 +348,7 @@ impl Buffer {
 
     /// What a worker has of the chunk.
     fn load_of(&self, alloc: Global, chunk: &Chunk) -> Result<Carried, AllocError>
-        requires { length chunk.now.tag ≤ 1024 }
+        requires { length chunk.now.tag ≤ TAG_LIMIT }
         ensures { IfOk result (λ load. load ≡ live_load self.now chunk.now) }
     {
         Ok(Carried::new(

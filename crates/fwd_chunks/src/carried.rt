@@ -5,6 +5,7 @@ ghost use Rattle.fwd_modes.specs.Entries.{ends_of};
 use crate::body::Body;
 use crate::chunk::Chunk;
 use fwd_base::Bytes;
+use fwd_modes::TAG_LIMIT;
 use std::marker::Model;
 
 /// A chunk that a worker has: its number, its tag, its entries and its name. It must be spent:
@@ -23,17 +24,18 @@ impl Model for Carried {
     ghost Value = { Load };
 
     ghost use Rattle.std.specs.Prelude.{◌≤◌, length};
+    ghost use Rattle.fwd_modes.specs.declared.limits.TheConstants.{TAG_LIMIT};
 
     ghost view = { λ c.
         record { number = c.number; tag = c.tag; entries = c.entries; name = c.name } };
 
-    ghost invariant = { λ c. (length c.tag ≤ 1024) };
+    ghost invariant = { λ c. (length c.tag ≤ TAG_LIMIT) };
 }
 
 impl Carried {
     /// A chunk of a buffer, which alone makes them.
     pub(crate) fn new(number: u64, tag: Bytes, entries: Body, name: [u8; 24]) -> Self
-        requires { length tag ≤ 1024 }
+        requires { length tag ≤ TAG_LIMIT }
         ensures { result ≡ record { number = number; tag = tag; entries = entries; name = name } }
     {
         Carried {
@@ -44,10 +46,10 @@ impl Carried {
         }
     }
 
-    /// The tag's bytes: at most 1,024.
+    /// The tag's bytes: at most `TAG_LIMIT`.
     pub fn tag(&self) -> &[u8]
         ensures value { result.now ≡ self.now.tag }
-        ensures bound { length result.now ≤ 1024 }
+        ensures bound { length result.now ≤ TAG_LIMIT }
     {
         self.tag.as_slice()
     }

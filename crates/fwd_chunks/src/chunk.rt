@@ -2,9 +2,9 @@ ghost use Rattle.std.specs.Prelude.{◌≡◌};
 ghost use Rattle.fwd_chunks.specs.Live.{is_taken, is_open_of};
 
 use crate::body::Body;
-use crate::losses::Losses;
 use crate::stage::Stage;
 use fwd_base::Bytes;
+use fwd_retry::Losses;
 
 /// A chunk that is not settled. Moments are in milliseconds.
 #[derive(Debug, Drop)]

@@ -6,9 +6,9 @@ ghost use Rattle.fwd_chunks.specs.Slots.{present, ready_key, due_key, key_by, pa
 
 use crate::chunk::Chunk;
 use crate::earliest::Earliest;
-use crate::retry::Retry;
 use crate::slot::Slot;
 use crate::stage::Stage;
+use fwd_retry::Retry;
 use std::alloc::{AllocError, Global};
 use std::marker::Model;
 

@@ -38,8 +38,8 @@ ghost use Rattle.fwd_chunks.specs.Live.{
   is_due,
   changed,
   staged,
-  live_is_over,
 };
+ghost use Rattle.fwd_retry.specs.Tallies.{live_is_over};
 ghost use Rattle.fwd_chunks.specs.Parts.{entries_in};
 ghost use Rattle.fwd_chunks.specs.Slots.{
   NumbersRise,
@@ -55,11 +55,10 @@ ghost use Rattle.fwd_chunks.specs.Stored.{put_back};
 use crate::chunk::Chunk;
 use crate::flush::FlushKind;
 use crate::keys::Keys;
-use crate::losses::Losses;
 use crate::part::Part;
-use crate::retry::Retry;
 use crate::slot::Slot;
 use crate::stage::{Stage, stage_of};
+use fwd_retry::{Losses, Retry};
 use std::alloc::{AllocError, Global};
 use std::marker::Model;
 

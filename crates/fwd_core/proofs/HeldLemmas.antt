@@ -35,7 +35,8 @@ held-idle b n = record {
   apart = λ v w x y c d e f has owns same. absurd (nothing v x c e has);
 }
   where
-    nothing : (w : ℕ) (x : Worker LiveSession) (c : Load) → slice_get (replicate n no_work) w ≡ Some x → x.chunk ≡ Some c → ⊥
+    nothing : (w : ℕ) (x : Worker LiveSession) (c : Load)
+        → slice_get (replicate n no_work) w ≡ Some x → x.chunk ≡ Some c → ⊥
     nothing w x c e has = none_some (ap (λ (k : Worker LiveSession). k.chunk) (idle n w x e) ∙ has)
 
 -- ---- another buffer
@@ -79,7 +80,8 @@ held-put b ws place x y own here same = record {
       let g = had w t d owns (was ws place w y t f) in own.apart v w h.worker g.worker c d h.here g.here h.chunk g.chunk n;
 }
   where
-    had : (v : ℕ) (z : Worker LiveSession) (c : Load) → z.chunk ≡ Some c → ((place ≡ v) × (y ≡ z)) ⊎ ((place ≢ v) × (slice_get ws v ≡ Some z)) → Had ws v c
+    had : (v : ℕ) (z : Worker LiveSession) (c : Load) → z.chunk ≡ Some c
+        → ((place ≡ v) × (y ≡ z)) ⊎ ((place ≢ v) × (slice_get ws v ≡ Some z)) → Had ws v c
     had v z c has (inl at) = record {
       worker = x;
       here = subst (λ k. slice_get ws k ≡ Some x) at.0 here;
@@ -107,23 +109,29 @@ held-takes b ws place worker now x y sound own here given = record {
     given_is : (c : Load) → y.chunk ≡ Some c → IsGiven b now c
     given_is c has = by (live_given (live_looks b now)) refl (sym given ∙ has)
       where
-        by : (o : Option Chunk) → live_given (live_looks b now) ≡ o → option_map (live_load b) o ≡ Some c → IsGiven b now c
+        by : (o : Option Chunk) → live_given (live_looks b now) ≡ o
+            → option_map (live_load b) o ≡ Some c → IsGiven b now c
         by None e f = absurd (none_some f)
         by (Some chunk) e f = record { chunk = chunk; is = e; load = some_is f }
 
-    one : (w : ℕ) (z : Worker LiveSession) (c : Load) → z.chunk ≡ Some c → ((place ≡ w) × (y ≡ z)) ⊎ ((place ≢ w) × (slice_get ws w ≡ Some z)) → live_carried (live_takes b worker now) c.number ≡ Some c
+    one : (w : ℕ) (z : Worker LiveSession) (c : Load) → z.chunk ≡ Some c
+        → ((place ≡ w) × (y ≡ z)) ⊎ ((place ≢ w) × (slice_get ws w ≡ Some z))
+        → live_carried (live_takes b worker now) c.number ≡ Some c
     one w z c has (inl at) =
         let g = given_is c (ap (λ (k : Worker LiveSession). k.chunk) at.1 ∙ has) in
         ap (λ (k : Load). live_carried (live_takes b worker now) k.number) (sym g.load) ∙ given-carried b worker now g.chunk sound g.is ∙ ap Some g.load
     one w z c has (inr at) = carried-takes b worker now c.number c sound (own.carried w z c at.1 has)
 
-    fresh : (c d : Load) (w : ℕ) (t : Worker LiveSession) → y.chunk ≡ Some c → slice_get ws w ≡ Some t → t.chunk ≡ Some d → c.number ≡ d.number → ⊥
+    fresh : (c d : Load) (w : ℕ) (t : Worker LiveSession) → y.chunk ≡ Some c
+        → slice_get ws w ≡ Some t → t.chunk ≡ Some d → c.number ≡ d.number → ⊥
     fresh c d w t has here owns n =
         let g = given_is c has in
         let free : live_carried b c.number ≡ None = ap (λ (k : Load). live_carried b k.number) (sym g.load) ∙ given-free b now g.chunk sound g.is in
         none_some (sym free ∙ ap (live_carried b) n ∙ own.carried w t d here owns)
 
-    two : (v w : ℕ) (z t : Worker LiveSession) (c d : Load) → z.chunk ≡ Some c → t.chunk ≡ Some d → c.number ≡ d.number → ((place ≡ v) × (y ≡ z)) ⊎ ((place ≢ v) × (slice_get ws v ≡ Some z)) → ((place ≡ w) × (y ≡ t)) ⊎ ((place ≢ w) × (slice_get ws w ≡ Some t)) → v ≡ w
+    two : (v w : ℕ) (z t : Worker LiveSession) (c d : Load) → z.chunk ≡ Some c → t.chunk ≡ Some d
+        → c.number ≡ d.number → ((place ≡ v) × (y ≡ z)) ⊎ ((place ≢ v) × (slice_get ws v ≡ Some z))
+        → ((place ≡ w) × (y ≡ t)) ⊎ ((place ≢ w) × (slice_get ws w ≡ Some t)) → v ≡ w
     two v w z t c d has owns n (inl at) (inl to) = sym at.0 ∙ to.0
     two v w z t c d has owns n (inl at) (inr to) = absurd (fresh c d w t (ap (λ (k : Worker LiveSession). k.chunk) at.1 ∙ has) to.1 owns n)
     two v w z t c d has owns n (inr at) (inl to) = absurd (fresh d c v z (ap (λ (k : Worker LiveSession). k.chunk) to.1 ∙ owns) at.1 has (sym n))
@@ -144,11 +152,15 @@ held-drops b d ws place x y a own here had none stays = record {
     nothing : (z : Worker LiveSession) (c : Load) → y ≡ z → z.chunk ≡ Some c → ⊥
     nothing z c same has = none_some (sym none ∙ ap (λ (k : Worker LiveSession). k.chunk) same ∙ has)
 
-    one : (w : ℕ) (z : Worker LiveSession) (c : Load) → z.chunk ≡ Some c → ((place ≡ w) × (y ≡ z)) ⊎ ((place ≢ w) × (slice_get ws w ≡ Some z)) → live_carried d c.number ≡ Some c
+    one : (w : ℕ) (z : Worker LiveSession) (c : Load) → z.chunk ≡ Some c
+        → ((place ≡ w) × (y ≡ z)) ⊎ ((place ≢ w) × (slice_get ws w ≡ Some z))
+        → live_carried d c.number ≡ Some c
     one w z c has (inl at) = absurd (nothing z c at.1 has)
     one w z c has (inr at) = stays c.number c (λ n. at.0 (own.apart place w x z a c here at.1 had has n)) (own.carried w z c at.1 has)
 
-    two : (v w : ℕ) (z t : Worker LiveSession) (c d : Load) → z.chunk ≡ Some c → t.chunk ≡ Some d → c.number ≡ d.number → ((place ≡ v) × (y ≡ z)) ⊎ ((place ≢ v) × (slice_get ws v ≡ Some z)) → ((place ≡ w) × (y ≡ t)) ⊎ ((place ≢ w) × (slice_get ws w ≡ Some t)) → v ≡ w
+    two : (v w : ℕ) (z t : Worker LiveSession) (c d : Load) → z.chunk ≡ Some c → t.chunk ≡ Some d
+        → c.number ≡ d.number → ((place ≡ v) × (y ≡ z)) ⊎ ((place ≢ v) × (slice_get ws v ≡ Some z))
+        → ((place ≡ w) × (y ≡ t)) ⊎ ((place ≢ w) × (slice_get ws w ≡ Some t)) → v ≡ w
     two v w z t c d has owns n (inl at) to = absurd (nothing z c at.1 has)
     two v w z t c d has owns n (inr at) (inl to) = absurd (nothing t d to.1 owns)
     two v w z t c d has owns n (inr at) (inr to) = own.apart v w z t c d at.1 to.1 has owns n
@@ -171,7 +183,8 @@ held-ends b ws place now x y lost own here none = by x.chunk refl
     looked : AreHeld (live_looks b now) ws
     looked = held_in b (live_looks b now) ws own (λ n c e. e)
 
-    by : (o : Option Load) → x.chunk ≡ o → AreHeld (live_gets_back (live_looks b now) (returned o lost) now) (set ws place y)
+    by : (o : Option Load) → x.chunk ≡ o
+        → AreHeld (live_gets_back (live_looks b now) (returned o lost) now) (set ws place y)
     by None e = held-put (live_looks b now) ws place x y looked here (none ∙ sym e)
     by (Some a) e = held-drops (live_looks b now) (live_frees (live_looks b now) a.number (moment_if lost now)) ws place x y a looked here e none (λ n c differ is. carried-frees (live_looks b now) a.number n (moment_if lost now) differ ∙ is)
 

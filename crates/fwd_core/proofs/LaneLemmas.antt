@@ -35,7 +35,8 @@ take_is l w now x here none =
 pub settle_is : (l : LiveLane) (w : ℕ) (x : Worker LiveSession) (s : LiveSession) (a : Load)
     → slice_get l.workers w ≡ Some x → x.session ≡ Some s → live_acked s ≡ Some a
     → settle lives l w
-    ≡ Goes (answer.Settled (live_count_at a.number l.output)) (lane_settles l w s (lives.evidence s a))
+    ≡ Goes (answer.Settled (live_count_at a.number l.output))
+    (lane_settles l w s (lives.evidence s a))
 settle_is l w x s a here session is =
     ap (λ y. found y NoSuch >>= λ z. found z.session NotNow >>= λ t. found (live_acked t) NotNow >>= λ c. Goes (answer.Settled (live_count_at c.number l.output)) (lane_settles l w t (lives.evidence t c))) here
     ∙ ap (λ y. found y NotNow >>= λ t. found (live_acked t) NotNow >>= λ c. Goes (answer.Settled (live_count_at c.number l.output)) (lane_settles l w t (lives.evidence t c))) session
@@ -63,7 +64,8 @@ pub end_is : (l : LiveLane) (w : ℕ) (kind : EndKind) (now : ℕ) (x : Worker L
     → has_acked lives x.session ≡ false
     → end lives l w kind now
     ≡ Goes (answer.Ended (option_map (λ c. c.number) x.chunk))
-    (lane_ends l w (returned x.chunk (has_loaded lives x.session)) (lost_server lives kind x.session) now)
+    (lane_ends l w (returned x.chunk (has_loaded lives x.session))
+    (lost_server lives kind x.session) now)
 end_is l w kind now x here busy none =
     ap (λ y. found y NoSuch >>= λ z. refuse_if (is_idle lives z) NotNow >> (refuse_if (has_acked lives z.session) NotNow >> ended z)) here
     ∙ ap (λ b. refuse_if b NotNow >> (refuse_if (has_acked lives x.session) NotNow >> ended x)) busy
@@ -90,7 +92,8 @@ settle_not l w x here none =
 -- a worker that is there is told a server
 pub choose_is : (l : LiveLane) (w now : ℕ) → w < length l.workers
     → choose lives l w now
-    ≡ Goes (answer.Chose (output_choice l.output w now)) (with_live_output l (output_looks l.output now))
+    ≡ Goes (answer.Chose (output_choice l.output w now))
+    (with_live_output l (output_looks l.output now))
 choose_is l w now below =
     ap (λ y. found y NoSuch >>= λ x. Goes (answer.Chose (output_choice l.output w now)) (with_live_output l (output_looks l.output now)))
     (slice_get-get_or l.workers w nobody below)

@@ -13,7 +13,9 @@ same_id a b e = grind (arith, nat_tests)
 pub place_here : (id : ℕ) (cs : List LiveConnection) (place : ℕ) (x : LiveConnection)
     → place < length cs → x ≡ get_or cs place x → x.id ≡ id
     → live_source_at id (drop place cs) ≡ live_source_at id cs
-    → ((s : LiveSource) → with_live_source id s cs ≡ take place cs ++ with_live_source id s (drop place cs))
+    →
+    ((s : LiveSource) → with_live_source id s cs ≡ take place cs
+    ++ with_live_source id s (drop place cs))
     → IsPlace id cs place
 place_here id cs place x lt is own found put =
     let split : drop place cs ≡ x ∷ drop (place + 1) cs = drop_more cs place x lt ∙ ap (λ y. y ∷ drop (place + 1) cs) (sym is) in

@@ -73,7 +73,8 @@ worker_told k l same w place at_w x here f =
 -- ---- as the relay's methods meet them
 
 module _ (R S : LiveRelay) (same : R ≡ S) where
-  pub lane_done : (o place : ℕ) → place ≡ o → (l new : LiveLane) → slice_get R.lanes place ≡ Some l → (f : LiveRelay → LiveLane → Outcome LiveLane)
+  pub lane_done : (o place : ℕ) → place ≡ o → (l new : LiveLane) → slice_get R.lanes place ≡ Some l
+      → (f : LiveRelay → LiveLane → Outcome LiveLane)
       → new ≡ state_of l (f R l) → with_live_lane place new R ≡ state_of S (at_lane lives S o (f S))
   lane_done o place at_o l new here f e =
       let here_o : slice_get R.lanes o ≡ Some l = subst (λ k. slice_get R.lanes k ≡ Some l) at_o here in
@@ -83,7 +84,8 @@ module _ (R S : LiveRelay) (same : R ≡ S) where
       ∙ ap (λ x. state_of x (at_lane lives x o (f x))) same
 
   -- what is answered at an output is what its part answers
-  pub lane_told : (o place : ℕ) → place ≡ o → (l : LiveLane) → slice_get R.lanes place ≡ Some l → (f : LiveRelay → LiveLane → Outcome LiveLane)
+  pub lane_told : (o place : ℕ) → place ≡ o → (l : LiveLane) → slice_get R.lanes place ≡ Some l
+      → (f : LiveRelay → LiveLane → Outcome LiveLane)
       → answer_of (f R l) ≡ answer_of (at_lane lives S o (f S))
   lane_told o place at_o l here f =
       let here_o : slice_get R.lanes o ≡ Some l = subst (λ k. slice_get R.lanes k ≡ Some l) at_o here in
@@ -91,8 +93,11 @@ module _ (R S : LiveRelay) (same : R ≡ S) where
       ∙ ap (λ x. answer_of (found x NoSuch >>= λ k. within (λ m. with_live_lane o m R) (f R k))) (sym here_o)
       ∙ ap (λ x. answer_of (at_lane lives x o (f x))) same
 
-  pub source_done : (id place : ℕ) (at : IsPlace id R.connections place) (s t : LiveSource) (c : LiveConnection) → at.source ≡ s → c ≡ record { id = id; source = t }
-      → (f : LiveSource → Outcome LiveSource) → t ≡ state_of s (f s) → with_source_at place c R ≡ state_of S (at_source lives S id f)
+  pub source_done : (id place : ℕ) (at : IsPlace id R.connections place) (s t : LiveSource)
+      (c : LiveConnection)
+      → at.source ≡ s → c ≡ record { id = id; source = t }
+      → (f : LiveSource → Outcome LiveSource) → t ≡ state_of s (f s)
+      → with_source_at place c R ≡ state_of S (at_source lives S id f)
   source_done id place at s t c own named f e =
       (λ i. with_source_at place (named i) R)
       ∙ (λ i. record { run = R.run; routes = R.routes; security = R.security; last = R.last; connections = sym (at.put t) i; lanes = R.lanes })
@@ -101,9 +106,12 @@ module _ (R S : LiveRelay) (same : R ≡ S) where
       ∙ ap (λ x. state_of R (found x NoSuch >>= λ k. within (λ m. with_live_connection id m R) (f k))) (sym at.found)
       ∙ ap (λ x. state_of x (at_source lives x id f)) same
 
-  pub both_done : (o lane_place : ℕ) → lane_place ≡ o → (l new : LiveLane) → slice_get R.lanes lane_place ≡ Some l
-      → (id place : ℕ) (at : IsPlace id R.connections place) (s t : LiveSource) (c : LiveConnection) → at.source ≡ s → c ≡ record { id = id; source = t }
-      → (f : LiveRelay → LiveSource → LiveLane → Outcome (LiveSource × LiveLane)) → t ≡ (state_of (s, l) (f R s l)).0 → new ≡ (state_of (s, l) (f R s l)).1
+  pub both_done : (o lane_place : ℕ) → lane_place ≡ o → (l new : LiveLane)
+      → slice_get R.lanes lane_place ≡ Some l
+      → (id place : ℕ) (at : IsPlace id R.connections place) (s t : LiveSource) (c : LiveConnection)
+      → at.source ≡ s → c ≡ record { id = id; source = t }
+      → (f : LiveRelay → LiveSource → LiveLane → Outcome (LiveSource × LiveLane))
+      → t ≡ (state_of (s, l) (f R s l)).0 → new ≡ (state_of (s, l) (f R s l)).1
       → with_both place c lane_place new R ≡ state_of S (at_both lives S id o (f S))
   both_done o lane_place at_o l new here id place at s t c own named f first second =
       let here_o : slice_get R.lanes o ≡ Some l = subst (λ k. slice_get R.lanes k ≡ Some l) at_o here in

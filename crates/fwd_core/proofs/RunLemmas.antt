@@ -75,8 +75,12 @@ pub record Ran (r s : LiveRelay) (es : List Event) (answers : List Answer) : Typ
 
 one_more : (r s t : LiveRelay) (es : List Event) (answers : List Answer) (e : Event) (a : Answer)
     → Ran r s es answers → (m : Bool) → is_memory a ≡ m
-    → (a ≢ Memory → a ≡ answer_of (step lives s e)) → (a ≢ Memory → t ≡ state_of s (step lives s e)) → (a ≡ Memory → t ≡ s)
-    → (told answers ++ cond (not m) (a ∷ []) [] ≡ answers_to lives r (kept es answers ++ cond m [] (e ∷ []))) × (t ≡ after lives r (kept es answers ++ cond m [] (e ∷ [])))
+    → (a ≢ Memory → a ≡ answer_of (step lives s e)) → (a ≢ Memory → t ≡ state_of s (step lives s e))
+    → (a ≡ Memory → t ≡ s)
+    →
+    (told answers ++ cond (not m) (a ∷ []) []
+    ≡ answers_to lives r (kept es answers ++ cond m [] (e ∷ []))) ×
+    (t ≡ after lives r (kept es answers ++ cond m [] (e ∷ [])))
 one_more r s t es answers e a ran true is f g h = (
   append-nil (told answers) ∙ ran.told_is ∙ ap (answers_to lives r) (sym (append-nil (kept es answers))),
   h (is_want a is) ∙ ran.state_is ∙ ap (after lives r) (sym (append-nil (kept es answers))),
@@ -93,7 +97,8 @@ told-push answers a = filter-append (λ x. not (is_memory x)) answers (a ∷ [])
 
 pub ran_more : (r s t : LiveRelay) (es : List Event) (answers : List Answer) (e : Event)
     (a : Answer) → Ran r s es answers
-    → (a ≢ Memory → a ≡ answer_of (step lives s e)) → (a ≢ Memory → t ≡ state_of s (step lives s e)) → (a ≡ Memory → t ≡ s) → Ran r t (es ++ e ∷ []) (answers ++ a ∷ [])
+    → (a ≢ Memory → a ≡ answer_of (step lives s e)) → (a ≢ Memory → t ≡ state_of s (step lives s e))
+    → (a ≡ Memory → t ≡ s) → Ran r t (es ++ e ∷ []) (answers ++ a ∷ [])
 ran_more r s t es answers e a ran f g h =
     let one = one_more r s t es answers e a ran (is_memory a) refl f g h in
     let kept_is = kept-push es answers e a ran.size in record {

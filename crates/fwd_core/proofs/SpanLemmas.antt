@@ -11,11 +11,16 @@ one_more : (s : Span) (runs : List Span) → length (before_runs s runs) ≤ suc
 one_more s [] = omega arith
 one_more s (t ∷ runs) = by (s.number == t.number)
   where
-    by : (a : Bool) → length (cond a (record { number = s.number; from = s.from; count = s.count + t.count } ∷ runs) (s ∷ t ∷ runs)) ≤ suc (suc (length runs))
+    by : (a : Bool)
+        → length
+        (cond a (record { number = s.number; from = s.from; count = s.count + t.count } ∷ runs) (s
+        ∷ t ∷ runs)) ≤ suc
+        (suc (length runs))
     by true = omega arith
     by false = omega arith
 
-few-runs : (b : LiveBuffer) (tag : List ℕ) (entries : List (List ℕ)) → length (live_runs b tag entries) ≤ length entries
+few-runs : (b : LiveBuffer) (tag : List ℕ) (entries : List (List ℕ))
+    → length (live_runs b tag entries) ≤ length entries
 few-runs b tag [] = omega arith
 few-runs b tag (entry ∷ entries) =
     let rest = few-runs (live_adds b tag entry) tag entries in
@@ -23,5 +28,6 @@ few-runs b tag (entry ∷ entries) =
     omega (arith, rest, more)
 
 -- a request's entries take no more runs than they are
-pub few-spans : (b : LiveBuffer) (r : Request) (now : ℕ) → length (live_spans b r now) ≤ length r.entries
+pub few-spans : (b : LiveBuffer) (r : Request) (now : ℕ)
+    → length (live_spans b r now) ≤ length r.entries
 few-spans b r now = few-runs (live_looks b now) r.tag r.entries

@@ -9,7 +9,8 @@ use Rattle.std.proofs.lemmas.List.{same_lists, get_or-map, length-map, length-se
 use Rattle.std.proofs.lemmas.List.FromFn.{length-enumerate_from, get_or-enumerate_from}
 use Rattle.fwd_failover.specs.History.{ServersSetting, Happening, Lost, Settled, ServersHistory, opening, looked, lost, settled, losses_of}
 use Rattle.fwd_failover.specs.Choices.{primaries, standbys}
-use Rattle.fwd_failover.specs.Live.{LiveServers, live_servers, tally_of, tally_more, with_losses, live_looked, live_lost, live_settled}
+use Rattle.fwd_failover.specs.Live.{LiveServers, live_servers, with_losses, live_looked, live_lost, live_settled}
+use Rattle.fwd_retry.specs.Tallies.{tally_of, tally_more}
 
 -- ---- a list with something for each server
 

@@ -1,5 +1,4 @@
 mod Examples
-pub mod Doublings
 pub mod Rounds
 pub mod Numbers
 pub mod Kept

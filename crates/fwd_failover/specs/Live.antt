@@ -2,17 +2,10 @@
 -- it was lost since it last settled, and when last.
 use Rattle.std.specs.Prelude.{ℕ, ◌+◌, List, [], ◌∷◌, length, map, find, Bool, true, nat_le, nat_lt, min, max, Option, Some, None, slice_index_or, slice_set, if◌then◌else◌}
 use Rattle.std.specs.List.{enumerate_from}
-use Rattle.fwd_failover.specs.declared.losses.Losses.{Losses}
-use Rattle.fwd_failover.specs.Waits.{wait_after}
+use Rattle.fwd_retry.specs.declared.losses.Losses.{Losses}
+use Rattle.fwd_retry.specs.Tallies.{tally_of, tally_more, live_is_over}
 use Rattle.fwd_failover.specs.History.{ServersSetting, ServersHistory, losses_of}
 use Rattle.fwd_failover.specs.Choices.{primaries, standbys, order_of}
-
--- their count, where 65 stands for every greater one, and
--- the moment of the newest; nothing where there is none
-abbrev pub tally_of : List ℕ → Option Losses
-tally_of [] = None
-tally_of (newest ∷ older) =
-    Some (record { count = min 65 (length (newest ∷ older)); last = newest })
 
 -- the servers as they are now: who is a primary and who a standby, the limits of the waits, each
 -- server's losses, and the greatest moment handed in
@@ -37,16 +30,10 @@ live_servers s h = record {
 
 -- ---- the same question, asked of what is kept
 
--- a server with this count and newest loss may be tried at a moment, as `is_over` says
-abbrev pub is_live_over : ℕ → ℕ → Option Losses → ℕ → Bool
-is_live_over retry_wait retry_max None moment = true
-is_live_over retry_wait retry_max (Some l) moment =
-    nat_le (l.last + wait_after retry_wait retry_max l.count) moment
-
 -- a server may be tried at a moment; one that is not in the file has no losses
 abbrev pub is_live_usable : LiveServers → ℕ → ℕ → Bool
 is_live_usable l moment server =
-    is_live_over l.retry_wait l.retry_max (slice_index_or l.losses server None) moment
+    live_is_over l.retry_wait l.retry_max (slice_index_or l.losses server None) moment
 
 -- the first in the worker's order that is usable, if there is one
 abbrev pub live_choice : LiveServers → ℕ → ℕ → Option ℕ
@@ -57,23 +44,11 @@ live_choice l worker moment =
 
 -- at a moment, and with these losses
 abbrev pub with_losses : LiveServers → List (Option Losses) → ℕ → LiveServers
-with_losses l losses moment = record {
-  primaries = l.primaries;
-  standbys = l.standbys;
-  retry_wait = l.retry_wait;
-  retry_max = l.retry_max;
-  losses = losses;
-  moment = moment;
-}
+with_losses l losses moment = record l { losses = losses; moment = moment }
 
 -- after a look at the servers at a moment
 abbrev pub live_looked : LiveServers → ℕ → LiveServers
 live_looked l now = with_losses l l.losses (max l.moment now)
-
--- one loss more
-abbrev pub tally_more : Option Losses → ℕ → Losses
-tally_more None moment = record { count = 1; last = moment }
-tally_more (Some l) moment = record { count = min 65 (l.count + 1); last = moment }
 
 -- after a loss of a server at a moment; an unknown server changes nothing
 abbrev pub live_lost : LiveServers → ℕ → ℕ → LiveServers

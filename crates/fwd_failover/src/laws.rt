@@ -1,7 +1,6 @@
 //! Laws over the definitions, each the contract of a function that does nothing.
 
 ghost use Rattle.std.specs.Prelude.{◌≡◌, ◌+◌, ◌%◌, ◌<◌, ◌≤◌, ◌^◌, ℕ, List, true, false, Some, None, length, slice_get, slice_index};
-ghost use Rattle.fwd_failover.specs.Waits.{wait_after};
 ghost use Rattle.fwd_failover.specs.History.{ServersSetting, Happening, ServersHistory, looked, lost, settled};
 ghost use Rattle.fwd_failover.specs.Choices.{primaries, standbys, order_of, is_usable, choice};
 ghost use Rattle.fwd_failover.specs.Live.{live_servers, live_choice, live_looked, live_lost, live_settled};
@@ -31,13 +30,6 @@ pub fn choice_is_usable()
         → slice_get s.standby server ≡ Some true → (primary : ℕ)
         → slice_get s.standby primary ≡ Some false
         → is_usable s happened moment primary ≡ false }
-{}
-
-/// From the 65th loss on the wait stays the same, whatever a limit of 64 bits is, so that 65 can
-/// stand for every greater count.
-pub fn wait_settles()
-    ensures { (retry_wait retry_max losses : ℕ) → retry_max < 2 ^ 64 → 65 ≤ losses
-        → wait_after retry_wait retry_max losses ≡ wait_after retry_wait retry_max 65 }
 {}
 
 /// What is kept is enough: the choice by it is the choice by all losses and settlings so far.

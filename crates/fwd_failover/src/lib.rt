@@ -5,11 +5,7 @@
 #![tactic(auto)]
 
 mod laws;
-mod losses;
-mod retry;
 mod servers;
 
-pub use laws::{
-    choice_by_live_part, choice_is_usable, live_follows, order_goes_round, wait_settles,
-};
+pub use laws::{choice_by_live_part, choice_is_usable, live_follows, order_goes_round};
 pub use servers::Servers;

@@ -11,7 +11,7 @@ ghost use Rattle.std.specs.Prelude.{
   All,
   find,
 };
-ghost use Rattle.fwd_failover.specs.Waits.{wait_after};
+ghost use Rattle.fwd_retry.specs.Waits.{wait_after};
 ghost use Rattle.fwd_failover.specs.History.{
   ServersSetting,
   ServersHistory,
@@ -30,8 +30,7 @@ ghost use Rattle.fwd_failover.specs.Live.{
   is_live_usable,
 };
 
-use crate::losses::Losses;
-use crate::retry::Retry;
+use fwd_retry::{Losses, Retry};
 use std::alloc::{AllocError, Global};
 use std::marker::Model;
 

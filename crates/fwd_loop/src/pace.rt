@@ -54,8 +54,8 @@ impl Pace {
         self.due
     }
 
-    /// Chunks were flushed at this moment, or are left to the workers to close, who do so before they
-    /// look for one. What was admitted after the last of these chunks may be open still.
+    /// Chunks were flushed at this moment, or are left to the workers to close, who do so before
+    /// they look for one. What was admitted after the last of these chunks may be open still.
     pub fn flushed(&mut self, now: u64) {
         let last = self.latest.saturating_add(self.interval);
         self.due = if last <= now {

@@ -85,7 +85,8 @@ one_step false false byte front part more e = ap (λ (b : Bool). b && list_all i
 
 -- a byte put before parts, of which there is always one
 parts_step : (byte : ℕ) (front : Front) (fields : List (List ℕ)) → 0 < length fields →
-    good_parts (one_further front byte) fields ≡ good_parts front (cond (is_dot byte) ([] ∷ fields) (onto_first byte fields))
+    good_parts (one_further front byte) fields ≡ good_parts front
+    (cond (is_dot byte) ([] ∷ fields) (onto_first byte fields))
 parts_step byte front [] some = absurd (omega arith)
 parts_step byte front (part ∷ more) some = one_step (is_dot byte) (is_asterisk byte) byte front part more refl
 
@@ -136,7 +137,8 @@ one_choice choice more texts =
     (λ (next : List ℕ). ap (all_fine more) (fold-append one_further Nothing text next))))
 
 fine_spelled : (choices : List (List (List ℕ))) (texts : List (List ℕ)) →
-    list_all (λ text. all_fine choices (further Nothing text)) texts ≡ list_all has_good_stars (spelled texts choices)
+    list_all (λ text. all_fine choices (further Nothing text)) texts ≡ list_all has_good_stars
+    (spelled texts choices)
 fine_spelled [] texts = same_all (λ (text : List ℕ). is_fine (further Nothing text)) has_good_stars texts (λ (text : List ℕ). sym (fine_word text))
 fine_spelled (choice ∷ more) texts = one_choice choice more texts ∙ fine_spelled more (each_with texts choice)
 
@@ -174,7 +176,8 @@ one_front a b t rest left right e = rw (e, pass_or a b t) (regrouped (not a || t
 
 -- both of two sets of fronts
 pub either : (f g : Fronts) (test : Front → Bool) →
-    each_front (record { nothing = f.nothing || g.nothing; star = f.star || g.star; stars = f.stars || g.stars; plain = f.plain || g.plain; bad = f.bad || g.bad }) test
+    each_front
+    (record { nothing = f.nothing || g.nothing; star = f.star || g.star; stars = f.stars || g.stars; plain = f.plain || g.plain; bad = f.bad || g.bad }) test
     ≡ (each_front f test && each_front g test)
 either f g test =
     one_front f.nothing g.nothing (test Nothing) _ _ _ (one_front f.star g.star (test Star) _ _ _

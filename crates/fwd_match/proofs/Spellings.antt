@@ -15,12 +15,14 @@ length_behind text (first ∷ more) = ap suc (length_behind text more)
 -- the texts of one front more
 pub each_more : (texts behind : List (List ℕ)) (i : ℕ) (front : List ℕ) → i < length texts
     →
-    each_with (take (i + 1) texts) behind ≡ each_with (take i texts) behind ++ map (λ more. get_or texts i front ++ more) behind
+    each_with (take (i + 1) texts) behind ≡ each_with (take i texts) behind ++ map
+    (λ more. get_or texts i front ++ more) behind
 each_more texts behind i front h =
     rw (take_more texts i front h) (flat_map-append (λ (text : List ℕ). map (λ more. text ++ more) behind) (take i texts) (get_or texts i front ∷ []) ∙ simp append-nil)
 
 pub length_each_more : (texts behind : List (List ℕ)) (i : ℕ) → i < length texts →
-    length (each_with (take (i + 1) texts) behind) ≡ length (each_with (take i texts) behind) + length behind
+    length (each_with (take (i + 1) texts) behind) ≡ length
+    (each_with (take i texts) behind) + length behind
 length_each_more texts behind i h =
     ap length (each_more texts behind i [] h) ∙ length-append (each_with (take i texts) behind) (map (λ more. get_or texts i [] ++ more) behind)
     ∙ ap (λ (n : ℕ). length (each_with (take i texts) behind) + n) (length_behind (get_or texts i []) behind)

@@ -1,4 +1,9 @@
 -- What the events so far did to each session, each number and each request that an output has.
+pub mod Sessions
+pub mod Settles
+pub mod Ends
+pub mod Admits
+pub mod Steps
 use Rattle.std.proofs.Common.{◌≡◌, ℕ, ◌+◌, ◌≤◌, Bool, true, false, eqb, List, [], ◌∷◌, ◌++◌, Option, Some, refl, sym, ap, subst, ◌∙◌, inl, inr, arith}
 use Rattle.std.specs.Prelude.{◌⊎◌, is_some, ◌&&◌, ◌==◌, slice_get, slice_set}
 use Rattle.std.specs.List.{list_all, list_any}
@@ -77,7 +82,8 @@ abbrev pub Quiet : Config → List Event → Event → ℕ → Type 0
 Quiet config es e o = (w : ℕ) → Stands config es e o w
 
 module _ (config : Config) (es : List Event) (e : Event) where
-  none_ended : (before later : List Event) (o w : ℕ) → es ≡ before ++ later → Stands config es e o w → NoneEnded config before later o w → NoneEnded config before (later ++ e ∷ []) o w
+  none_ended : (before later : List Event) (o w : ℕ) → es ≡ before ++ later → Stands config es e o w
+      → NoneEnded config before later o w → NoneEnded config before (later ++ e ∷ []) o w
   none_ended before later o w split quiet none between rest kind moment number at done = by (last_split later between (event.End o w kind moment) rest e at)
     where
       by : LastSplit later between (event.End o w kind moment) rest e → ⊥
@@ -87,10 +93,12 @@ module _ (config : Config) (es : List Event) (e : Event) where
       by (Before front same) = none between front kind moment number same done
 
   -- behind one event more
-  behind : (before : List Event) (x : Event) (later : List Event) → es ≡ before ++ x ∷ later → es ≡ (before ++ x ∷ []) ++ later
+  behind : (before : List Event) (x : Event) (later : List Event) → es ≡ before ++ x ∷ later
+      → es ≡ (before ++ x ∷ []) ++ later
   behind before x later split = split ∙ sym (append_assoc before (x ∷ []) later)
 
-  pub begun_still : (o w : ℕ) → Stands config es e o w → HasBegun config es o w → HasBegun config (es ++ e ∷ []) o w
+  pub begun_still : (o w : ℕ) → Stands config es e o w → HasBegun config es o w
+      → HasBegun config (es ++ e ∷ []) o w
   begun_still o w quiet b = record {
     before = b.before;
     server = b.server;
@@ -102,7 +110,8 @@ module _ (config : Config) (es : List Event) (e : Event) where
     kept = none_ended (b.before ++ event.Up o w b.server b.salt b.moment ∷ []) b.later o w (behind b.before (event.Up o w b.server b.salt b.moment) b.later b.split) quiet b.kept;
   }
 
-  pub loaded_still : (o w : ℕ) (frame : List ℕ) → Stands config es e o w → WasLoaded config es o w frame → WasLoaded config (es ++ e ∷ []) o w frame
+  pub loaded_still : (o w : ℕ) (frame : List ℕ) → Stands config es e o w
+      → WasLoaded config es o w frame → WasLoaded config (es ++ e ∷ []) o w frame
   loaded_still o w frame quiet l = record {
     before = l.before;
     moment = l.moment;
@@ -113,7 +122,8 @@ module _ (config : Config) (es : List Event) (e : Event) where
     begun = l.begun;
   }
 
-  pub sent_still : (o w : ℕ) (frame : List ℕ) → Stands config es e o w → WasSent config es o w frame → WasSent config (es ++ e ∷ []) o w frame
+  pub sent_still : (o w : ℕ) (frame : List ℕ) → Stands config es e o w → WasSent config es o w frame
+      → WasSent config (es ++ e ∷ []) o w frame
   sent_still o w frame quiet s = record {
     before = s.before;
     count = s.count;
@@ -127,7 +137,8 @@ module _ (config : Config) (es : List Event) (e : Event) where
     loaded = s.loaded;
   }
 
-  pub acked_still : (o w : ℕ) (frame name : List ℕ) → WasAcknowledged config es o w frame name → WasAcknowledged config (es ++ e ∷ []) o w frame name
+  pub acked_still : (o w : ℕ) (frame name : List ℕ) → WasAcknowledged config es o w frame name
+      → WasAcknowledged config (es ++ e ∷ []) o w frame name
   acked_still o w frame name a = record {
     before = a.before;
     bytes = a.bytes;
@@ -177,7 +188,8 @@ abbrev pub NumberStory : Config → List Event → ℕ → List Cell → ℕ →
 NumberStory config es o cells k = (w : ℕ) × WasAcknowledged config es o w (frame_at config o cells k) (chunk_name config.run o k)
 
 module _ (config : Config) (es : List Event) (e : Event) (o : ℕ) where
-  pub chunk_still : (w : ℕ) (s : SessionHistory) (c : Load) → Stands config es e o w → ChunkStory config es o w s c → ChunkStory config (es ++ e ∷ []) o w s c
+  pub chunk_still : (w : ℕ) (s : SessionHistory) (c : Load) → Stands config es e o w
+      → ChunkStory config es o w s c → ChunkStory config (es ++ e ∷ []) o w s c
   chunk_still w s c quiet t = record {
     was_loaded = loaded_still config es e o w (frame_of c) quiet t.was_loaded;
     front = t.front;
@@ -186,7 +198,8 @@ module _ (config : Config) (es : List Event) (e : Event) (o : ℕ) where
     was_acked = λ b. acked_still config es e o w (frame_of c) c.name (t.was_acked b);
   }
 
-  pub session_still : (w : ℕ) (s : SessionHistory) → Stands config es e o w → SessionStory config es o w s → SessionStory config (es ++ e ∷ []) o w s
+  pub session_still : (w : ℕ) (s : SessionHistory) → Stands config es e o w
+      → SessionStory config es o w s → SessionStory config (es ++ e ∷ []) o w s
   session_still w s quiet t = record {
     begun = begun_still config es e o w quiet t.begun;
     has_one = t.has_one;
@@ -194,7 +207,8 @@ module _ (config : Config) (es : List Event) (e : Event) (o : ℕ) where
     chunk = λ c h. chunk_still w s c quiet (t.chunk c h);
   }
 
-  pub number_still : (cells : List Cell) (k : ℕ) → NumberStory config es o cells k → NumberStory config (es ++ e ∷ []) o cells k
+  pub number_still : (cells : List Cell) (k : ℕ) → NumberStory config es o cells k
+      → NumberStory config (es ++ e ∷ []) o cells k
   number_still cells k n = (n.0, acked_still config es e o n.0 (frame_at config o cells k) (chunk_name config.run o k) n.1)
 
 -- ---- requests
@@ -292,7 +306,8 @@ pub extends_with : (id : ℕ) (s t : SourceHistory) (cs : List Connection)
     → ever_at id cs ≡ Some s → Grows s t → Extends cs (with_source id t cs)
 extends_with id s t cs here grows j u h = by_test (eqb id j) refl
   where
-    by_test : (b : Bool) → eqb id j ≡ b → (v : SourceHistory) × (ever_at j (with_source id t cs) ≡ Some v) × Grows u v
+    by_test : (b : Bool) → eqb id j ≡ b
+        → (v : SourceHistory) × (ever_at j (with_source id t cs) ≡ Some v) × Grows u v
     by_test true e =
         let same : id ≡ j = grind (arith, nat_tests, e) in
         let is : s ≡ u = some_is (sym here ∙ ap (λ x. ever_at x cs) same ∙ h) in
@@ -356,19 +371,24 @@ module _ (config : Config) (es : List Event) (e : Event) (t : Story config es (r
   abbrev pub Calm : Type 0
   Calm = (o : ℕ) → Quiet config es e o
 
-  pub still : (ds : List Connection) (o : ℕ) (l : Lane) → Extends h.connections ds → Quiet config es e o → slice_get h.lanes o ≡ Some l → LaneStory config (es ++ e ∷ []) ds o l
+  pub still : (ds : List Connection) (o : ℕ) (l : Lane) → Extends h.connections ds
+      → Quiet config es e o → slice_get h.lanes o ≡ Some l → LaneStory config (es ++ e ∷ []) ds o l
   still ds o l ext quiet here = lane_still config es e h.connections ds o l ext quiet (t.lanes o l here)
 
-  pub lanes_stay : (ds : List Connection) → Calm → Extends h.connections ds → Story config (es ++ e ∷ []) (with_parts h ds h.lanes)
+  pub lanes_stay : (ds : List Connection) → Calm → Extends h.connections ds
+      → Story config (es ++ e ∷ []) (with_parts h ds h.lanes)
   lanes_stay ds calm ext = record { run = t.run; routes = t.routes; lanes = λ o l here. still ds o l ext (calm o) here }
 
   pub all_stays : Calm → Story config (es ++ e ∷ []) h
   all_stays calm = lanes_stay h.connections calm (extends_same h.connections)
 
-  pub lane_put : (ds : List Connection) (o : ℕ) (m : Lane) → ((j : ℕ) → (o ≡ j → ⊥) → Quiet config es e j) → Extends h.connections ds → LaneStory config (es ++ e ∷ []) ds o m
+  pub lane_put : (ds : List Connection) (o : ℕ) (m : Lane)
+      → ((j : ℕ) → (o ≡ j → ⊥) → Quiet config es e j) → Extends h.connections ds
+      → LaneStory config (es ++ e ∷ []) ds o m
       → Story config (es ++ e ∷ []) (with_parts h ds (slice_set h.lanes o m))
   lane_put ds o m calm ext story = record { run = t.run; routes = t.routes; lanes = λ j l here. at j l (slice_get-set h.lanes o j m l here) }
     where
-      at : (j : ℕ) (l : Lane) → ((o ≡ j) × (m ≡ l)) ⊎ ((o ≡ j → ⊥) × (slice_get h.lanes j ≡ Some l)) → LaneStory config (es ++ e ∷ []) ds j l
+      at : (j : ℕ) (l : Lane) → ((o ≡ j) × (m ≡ l)) ⊎ ((o ≡ j → ⊥) × (slice_get h.lanes j ≡ Some l))
+          → LaneStory config (es ++ e ∷ []) ds j l
       at j l (inl x) = subst (λ k. LaneStory config (es ++ e ∷ []) ds k l) x.0 (subst (λ y. LaneStory config (es ++ e ∷ []) ds o y) x.1 story)
       at j l (inr x) = still ds j l ext (calm j x.0) x.1

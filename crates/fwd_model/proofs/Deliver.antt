@@ -29,7 +29,7 @@ use Rattle.fwd_model.specs.Delivered.{reached, cells_from, whole_frame, WasAckno
 use Rattle.fwd_model.proofs.Reached.{IsSaneLane, AllSane-at}
 use Rattle.fwd_model.proofs.Follows.{reached_sane}
 use Rattle.fwd_model.proofs.Chronicle.{ever_from, frame_at, RequestStory, AllTold, LaneStory, Story, by_last, after-push}
-use Rattle.fwd_model.proofs.ChronicleSteps.{goes_on}
+use Rattle.fwd_model.proofs.Chronicle.Steps.{goes_on}
 use Rattle.fwd_model.specs.declared.config.OutputConfig.{OutputConfig}
 
 -- ---- the chronicle of every run
@@ -89,7 +89,9 @@ found_by : (routes : List (List (List ℕ))) (cs : List Connection) (o id r : �
     (output : OutputHistory) (a : Admission) (rest : List Entered) (b c : Bool)
     → is_due id output.book.settled a ≡ b → eqb a.request.origin.request r ≡ c
     → RequestStory routes cs o output.buffer.cells a.request
-    → (has_number r (numbers_of rest) ≡ true → IsFound routes cs o id r output) → has_number r (numbers_of (cond b (a.request ∷ rest) rest)) ≡ true → IsFound routes cs o id r output
+    → (has_number r (numbers_of rest) ≡ true → IsFound routes cs o id r output)
+    → has_number r (numbers_of (cond b (a.request ∷ rest) rest)) ≡ true
+    → IsFound routes cs o id r output
 found_by routes cs o id r output a rest true true due_is same one later h =
     let parts = and_parts (is_owed_to id a) (is_settled output.book.settled a.request) due_is in
     let its = and_parts (is_untold a.fate) (is_of id a.request) parts.0 in
@@ -99,7 +101,11 @@ found_by routes cs o id r output a rest false c due_is same one later h = later 
 
 due_map : (id : ℕ) (output : OutputHistory) (a : Admission) (admissions : List Admission)
     (b : Bool)
-    → map (λ (x : Admission). x.request) (cond b (a ∷ filter (is_due id output.book.settled) admissions) (filter (is_due id output.book.settled) admissions)) ≡ cond b (a.request ∷ map (λ x. x.request) (filter (is_due id output.book.settled) admissions)) (map (λ x. x.request) (filter (is_due id output.book.settled) admissions))
+    → map (λ (x : Admission). x.request)
+    (cond b (a ∷ filter (is_due id output.book.settled) admissions)
+    (filter (is_due id output.book.settled) admissions)) ≡ cond b
+    (a.request ∷ map (λ x. x.request) (filter (is_due id output.book.settled) admissions))
+    (map (λ x. x.request) (filter (is_due id output.book.settled) admissions))
 due_map id output a admissions true = refl
 due_map id output a admissions false = refl
 
@@ -143,7 +149,8 @@ frame_is config o tag cells k e = ap (λ x. chunk_frame x (contents k cells) (ch
 
 module _ (config : Config) (es : List Event) (id r o : ℕ) (l : Lane) (here : slice_get (reached config es).lanes o ≡ Some l) (story : LaneStory config es (reached config es).connections o l) (f : IsFound config.routes (reached config es).connections o id r l.output) (sane : IsSaneLane l)
     (s : SourceHistory) (known : source_at id (reached config es).connections ≡ Some s) where
-  abbrev t : RequestStory config.routes (reached config es).connections o l.output.buffer.cells f.entered
+  abbrev t : RequestStory config.routes
+      (reached config es).connections o l.output.buffer.cells f.entered
   t = f.story
 
   own : cells_from id r l.output.buffer.cells ≡ t.mine
@@ -152,14 +159,17 @@ module _ (config : Config) (es : List Event) (id r o : ℕ) (l : Lane) (here : s
   tags : list_all (λ c. bytes_eq c.tag t.request.tag) (cells_from id r l.output.buffer.cells) ≡ true
   tags = ap (list_all (λ c. bytes_eq c.tag t.request.tag)) own ∙ tags_are t.request.tag f.entered.origin t.mine t.tags
 
-  has : (k : ℕ) → has_number k (cells.numbers_of (cells_from id r l.output.buffer.cells)) ≡ true → has_cell k (cells_from id r l.output.buffer.cells) ≡ true
+  has : (k : ℕ) → has_number k (cells.numbers_of (cells_from id r l.output.buffer.cells)) ≡ true
+      → has_cell k (cells_from id r l.output.buffer.cells) ≡ true
   has k h = sym (numbers-has k (cells_from id r l.output.buffer.cells)) ∙ h
 
-  acked : (k : ℕ) → has_number k (cells.numbers_of (cells_from id r l.output.buffer.cells)) ≡ true → has_number k l.output.buffer.acknowledged ≡ true
+  acked : (k : ℕ) → has_number k (cells.numbers_of (cells_from id r l.output.buffer.cells)) ≡ true
+      → has_number k l.output.buffer.acknowledged ≡ true
   acked k h =
       ap (has_number k) (sym sane.marks) ∙ sym (found-numbered k l.output.book.settled) ∙ t.runs (λ j. is_some (evidence_of l.output.book.settled j)) k f.settled (subst (λ cs. has_cell k cs ≡ true) own (has k h))
 
-  tag_of : (k : ℕ) → has_number k (cells.numbers_of (cells_from id r l.output.buffer.cells)) ≡ true → first_tag (cells_at k l.output.buffer.cells) ≡ t.request.tag
+  tag_of : (k : ℕ) → has_number k (cells.numbers_of (cells_from id r l.output.buffer.cells)) ≡ true
+      → first_tag (cells_at k l.output.buffer.cells) ≡ t.request.tag
   tag_of k h =
       sane.buffer.one_tag k t.request.tag (entry_in (λ c. (c.origin.conn == id) && (c.origin.request == r)) t.request.tag k l.output.buffer.cells (entry_of t.request.tag k (cells_from id r l.output.buffer.cells) tags (has k h)))
 
@@ -186,14 +196,22 @@ told_by : (config : Config) (es : List Event) (id r o : ℕ) (numbers out : List
     (s : Option SourceHistory) (l : Option Lane)
     → source_at id (reached config es).connections ≡ s
     → slice_get (reached config es).lanes o ≡ l → Story config es (reached config es)
-    → answer_of (sought s NoSuch >>= (λ x. sought l NoSuch >>= (λ y. within (λ two. with_lane o two.1 (with_connection id two.0 (reached config es))) (steps.collect histories id x y)))) ≡ answer.Told numbers out
+    → answer_of
+    (sought s NoSuch >>= (λ x. sought l NoSuch >>= (λ y. within
+    (λ two. with_lane o two.1 (with_connection id two.0 (reached config es)))
+    (steps.collect histories id x y)))) ≡ answer.Told numbers out
     → has_number r numbers ≡ true → IsDelivered config es id r o
 told_by config es id r o numbers out None l known here story told among = absurd cc
 told_by config es id r o numbers out (Some s) None known here story told among = absurd cc
 told_by config es id r o numbers out (Some s) (Some l) known here story told among = at s.shut told
   where
-    at : (b : Bool) → answer_of (within (λ (two : SourceHistory × Lane). with_lane o two.1 (with_connection id two.0 (reached config es))) (refuse_if b Closed
-        >> Goes (answer.Told (histories.due l id).numbers (histories.due l id).acks) (histories.appends s (histories.due l id).acks, histories.tells l id))) ≡ answer.Told numbers out → IsDelivered config es id r o
+    at : (b : Bool)
+        → answer_of
+        (within (λ (two : SourceHistory × Lane). with_lane o two.1
+        (with_connection id two.0 (reached config es))) (refuse_if b Closed
+        >> Goes (answer.Told (histories.due l id).numbers (histories.due l id).acks)
+        (histories.appends s (histories.due l id).acks, histories.tells l id)))
+        ≡ answer.Told numbers out → IsDelivered config es id r o
     at true e = absurd cc
     at false e =
         let same : (histories.due l id).numbers ≡ numbers = cc in

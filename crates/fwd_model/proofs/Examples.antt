@@ -15,8 +15,7 @@ use Rattle.fwd_model.specs.declared.event.Event.TheVariants as event
 use Rattle.fwd_chunks.specs.declared.flush.FlushKind.TheVariants.{All, Due}
 use Rattle.fwd_chunks.specs.declared.limits.BufferLimits.{BufferLimits}
 use Rattle.fwd_chunks.specs.History.{adds}
-use Rattle.fwd_chunks.specs.Waits.{wait_after}
-use Rattle.fwd_failover.specs.Waits.{wait_after as server_wait}
+use Rattle.fwd_retry.specs.Waits.{wait_after}
 use Rattle.fwd_model.specs.declared.fault.Refusal.TheVariants.{NoSuch, NotNow, NotUp, Closed}
 use Rattle.fwd_session.specs.declared.fault.SessionFault.TheVariants.{BadReply, WrongAck, EarlyAck}
 use Rattle.fwd_session.specs.Said.{reply_stream, word_of}
@@ -229,7 +228,9 @@ two_outputs = record {
 
 routed : answers histories (opening two_outputs) (
     event.Accept 1 (replicate 16 0) (replicate 16 0) ∷
-    event.Piece 1 (0x93 ∷ 0xa1 ∷ 0x61 ∷ 0x01 ∷ 0x80 ∷ 0x93 ∷ 0xa1 ∷ 0x62 ∷ 0x01 ∷ 0x80 ∷ 0x93 ∷ 0xa3 ∷ 0x61 ∷ 0x2e ∷ 0x62 ∷ 0x01 ∷ 0x80 ∷ 0x93 ∷ 0xa1 ∷ 0x61 ∷ 0x01 ∷ 0x80 ∷ []) ∷
+    event.Piece 1
+    (0x93 ∷ 0xa1 ∷ 0x61 ∷ 0x01 ∷ 0x80 ∷ 0x93 ∷ 0xa1 ∷ 0x62 ∷ 0x01 ∷ 0x80 ∷ 0x93 ∷ 0xa3 ∷ 0x61 ∷ 0x2e
+    ∷ 0x62 ∷ 0x01 ∷ 0x80 ∷ 0x93 ∷ 0xa1 ∷ 0x61 ∷ 0x01 ∷ 0x80 ∷ []) ∷
     event.Admit 1 0 0 ∷
     event.Admit 1 1 0 ∷
     event.Admit 1 1 0 ∷
@@ -335,8 +336,13 @@ told_after_both : answers histories (after histories (opening (limited 6 100000)
     ) ≡
     answer.Done ∷
     answer.Done ∷
-    answer.Frame (0x93 ∷ 0xa1 ∷ 0x61 ∷ 0xc4 ∷ 0x06 ∷ 0x92 ∷ 0x01 ∷ 0x80 ∷ 0x92 ∷ 0x01 ∷ 0x80 ∷ 0x82 ∷ 0xa4 ∷ 0x73 ∷ 0x69 ∷ 0x7a ∷ 0x65 ∷ 0x02 ∷ 0xa5 ∷ 0x63 ∷ 0x68 ∷ 0x75 ∷ 0x6e ∷ 0x6b ∷ 0xb8 ∷ codes "AAAAAAAAAAAAAAAAAAAAAQ==") ∷
-    answer.Frame (0x93 ∷ 0xa1 ∷ 0x61 ∷ 0xc4 ∷ 0x03 ∷ 0x92 ∷ 0x01 ∷ 0x80 ∷ 0x82 ∷ 0xa4 ∷ 0x73 ∷ 0x69 ∷ 0x7a ∷ 0x65 ∷ 0x01 ∷ 0xa5 ∷ 0x63 ∷ 0x68 ∷ 0x75 ∷ 0x6e ∷ 0x6b ∷ 0xb8 ∷ codes "AAAAAAAAAAAAAAAAAAAAAg==") ∷
+    answer.Frame
+    (0x93 ∷ 0xa1 ∷ 0x61 ∷ 0xc4 ∷ 0x06 ∷ 0x92 ∷ 0x01 ∷ 0x80 ∷ 0x92 ∷ 0x01 ∷ 0x80 ∷ 0x82 ∷ 0xa4 ∷ 0x73
+    ∷ 0x69 ∷ 0x7a ∷ 0x65 ∷ 0x02 ∷ 0xa5 ∷ 0x63 ∷ 0x68 ∷ 0x75 ∷ 0x6e ∷ 0x6b ∷ 0xb8
+    ∷ codes "AAAAAAAAAAAAAAAAAAAAAQ==") ∷
+    answer.Frame
+    (0x93 ∷ 0xa1 ∷ 0x61 ∷ 0xc4 ∷ 0x03 ∷ 0x92 ∷ 0x01 ∷ 0x80 ∷ 0x82 ∷ 0xa4 ∷ 0x73 ∷ 0x69 ∷ 0x7a ∷ 0x65
+    ∷ 0x01 ∷ 0xa5 ∷ 0x63 ∷ 0x68 ∷ 0x75 ∷ 0x6e ∷ 0x6b ∷ 0xb8 ∷ codes "AAAAAAAAAAAAAAAAAAAAAg==") ∷
     answer.Done ∷
     answer.Done ∷
     answer.Acked [] ∷
@@ -375,7 +381,10 @@ joined_in_one : answers histories (opening settings) (
     answer.Closed 1 ∷
     answer.Took 1 2 ∷
     answer.Done ∷
-    answer.Frame (0x93 ∷ 0xa1 ∷ 0x61 ∷ 0xc4 ∷ 0x06 ∷ 0x92 ∷ 0x01 ∷ 0x80 ∷ 0x92 ∷ 0x01 ∷ 0x80 ∷ 0x82 ∷ 0xa4 ∷ 0x73 ∷ 0x69 ∷ 0x7a ∷ 0x65 ∷ 0x02 ∷ 0xa5 ∷ 0x63 ∷ 0x68 ∷ 0x75 ∷ 0x6e ∷ 0x6b ∷ 0xb8 ∷ codes "AAAAAAAAAAAAAAAAAAAAAQ==") ∷
+    answer.Frame
+    (0x93 ∷ 0xa1 ∷ 0x61 ∷ 0xc4 ∷ 0x06 ∷ 0x92 ∷ 0x01 ∷ 0x80 ∷ 0x92 ∷ 0x01 ∷ 0x80 ∷ 0x82 ∷ 0xa4 ∷ 0x73
+    ∷ 0x69 ∷ 0x7a ∷ 0x65 ∷ 0x02 ∷ 0xa5 ∷ 0x63 ∷ 0x68 ∷ 0x75 ∷ 0x6e ∷ 0x6b ∷ 0xb8
+    ∷ codes "AAAAAAAAAAAAAAAAAAAAAQ==") ∷
     answer.Done ∷
     answer.Acked [] ∷
     answer.Settled 2 ∷
@@ -455,7 +464,7 @@ lying_server : answers histories (after histories (opening settings) until_sent)
     answer.TookNothing ∷
     answer.Chose (Some 0) ∷
     answer.Took 1 1 ∷ []
-unfolding opening route pattern_matches matches adds wait_after server_wait leaves chunk_frame chunk_name encode_symbols ack_text ack_name head_bytes reply_stream word_of judged_of request_of parts_of row_of_values split_of first_of fault_at item_begun payload_ended reading_of row_of named_rows
+unfolding opening route pattern_matches matches adds wait_after leaves chunk_frame chunk_name encode_symbols ack_text ack_name head_bytes reply_stream word_of judged_of request_of parts_of row_of_values split_of first_of fault_at item_begun payload_ended reading_of row_of named_rows
 lying_server = refl
 
 -- a session that waited too long is late and down; a chunk that was only taken goes back without a
@@ -476,7 +485,7 @@ late_server : answers histories (after histories (opening settings) until_sent) 
     answer.Took 1 1 ∷
     answer.Ended (Some 1) ∷
     answer.Took 1 1 ∷ []
-unfolding opening route pattern_matches matches adds wait_after server_wait leaves chunk_frame chunk_name encode_symbols ack_text ack_name head_bytes reply_stream word_of judged_of request_of parts_of row_of_values split_of first_of fault_at item_begun payload_ended reading_of row_of named_rows
+unfolding opening route pattern_matches matches adds wait_after leaves chunk_frame chunk_name encode_symbols ack_text ack_name head_bytes reply_stream word_of judged_of request_of parts_of row_of_values split_of first_of fault_at item_begun payload_ended reading_of row_of named_rows
 late_server = refl
 
 -- ---- in either order

@@ -1,5 +1,14 @@
 -- The live part follows the history at each event of a run, and over runs: each proof has the
 -- shape of its event.
+pub mod Sources
+pub mod Outputs
+pub mod Sessions
+pub mod Takes
+pub mod Admits
+pub mod Settles
+pub mod Ends
+pub mod Collects
+pub mod Workers
 use Rattle.std.proofs.Common.{◌≡◌, ℕ, zero, suc, ◌+◌, ◌≤◌, Bool, true, false, cond, List, [], ◌∷◌, ◌++◌, length, drop, Option, Some, None, refl, sym, ap, subst, ◌∙◌, arith}
 use Rattle.std.proofs.lemmas.Bool.Decides.{nat_tests}
 use Rattle.std.specs.Prelude.{map, option_map, is_some, not, ◌&&◌, nat_lt, slice_get, replicate}
@@ -41,17 +50,17 @@ use Rattle.fwd_model.specs.Live.{LiveLane, live, live_lane, lives, last_id, is_a
 use Rattle.fwd_model.proofs.Agree.{Agrees, Leads, stays, goes, checked, sought, inside}
 use Rattle.fwd_model.proofs.Places.{source_at-live, option_id}
 use Rattle.fwd_model.proofs.Reached.{IsSaneSession, IsSaneLane, AllSane, IsSane, AllSources-at, AllSane-at}
-use Rattle.fwd_model.proofs.FollowsSources.{accepts-live, accepts-sane, with_connection-live, with_connection-sane, drained-sane, leaves-live, leaves-sane}
-use Rattle.fwd_model.proofs.FollowsOutputs.{lane_at-live, with_lane-live, with_lane-sane, worker_at-live, flushes-live, flushes-sane, choice-same, watches-live, watches-sane}
-use Rattle.fwd_model.proofs.FollowsSessions.{with_session-live, with_session-sane, is_some-option_map, hears-loaded}
-use Rattle.fwd_model.proofs.FollowsEnds.{backs, ends-live, ends-sane}
-use Rattle.fwd_model.proofs.FollowsTakes.{given-same, takes-live, takes-sane}
-use Rattle.fwd_model.proofs.FollowsAdmits.{enters-live, enters-sane}
-use Rattle.fwd_model.proofs.FollowsSettles.{acked_is, count-same, settles-live, settles-sane}
+use Rattle.fwd_model.proofs.Follows.Sources.{accepts-live, accepts-sane, with_connection-live, with_connection-sane, drained-sane, leaves-live, leaves-sane}
+use Rattle.fwd_model.proofs.Follows.Outputs.{lane_at-live, with_lane-live, with_lane-sane, worker_at-live, flushes-live, flushes-sane, choice-same, watches-live, watches-sane}
+use Rattle.fwd_model.proofs.Follows.Sessions.{with_session-live, with_session-sane, is_some-option_map, hears-loaded}
+use Rattle.fwd_model.proofs.Follows.Ends.{backs, ends-live, ends-sane}
+use Rattle.fwd_model.proofs.Follows.Takes.{given-same, takes-live, takes-sane}
+use Rattle.fwd_model.proofs.Follows.Admits.{enters-live, enters-sane}
+use Rattle.fwd_model.proofs.Follows.Settles.{acked_is, count-same, settles-live, settles-sane}
 use Rattle.fwd_book.proofs.Following.{follows-due, follows-owed_of}
 use Rattle.fwd_model.specs.Books.{telling}
-use Rattle.fwd_model.proofs.FollowsCollects.{tells-live, tells-sane, forgets-live, forgets-sane}
-use Rattle.fwd_model.proofs.Workers.{worker_map, worker_seen, worker_is, session_here, none_carried, carried_is}
+use Rattle.fwd_model.proofs.Follows.Collects.{tells-live, tells-sane, forgets-live, forgets-sane}
+use Rattle.fwd_model.proofs.Follows.Workers.{worker_map, worker_seen, worker_is, session_here, none_carried, carried_is}
 
 -- ---- where it happens
 
@@ -62,17 +71,23 @@ module _ (h : History) (sane : IsSane h) where
   own_lane : (o : ℕ) (l : Lane) → slice_get h.lanes o ≡ Some l → IsSaneLane l
   own_lane o l e = AllSane-at h.lanes o l sane.lanes e
 
-  live_source_here : (id : ℕ) → live_source_at id (live h).connections ≡ option_map live_source (source_at id h.connections)
+  live_source_here : (id : ℕ)
+      → live_source_at id (live h).connections ≡ option_map live_source (source_at id h.connections)
   unfolding live
   live_source_here id = source_at-live id h.connections sane.once
 
-  at_source : (id : ℕ) (p : SourceHistory → Outcome SourceHistory) (q : LiveSource → Outcome LiveSource) → ((s : SourceHistory) → IsSaneSource s → Agrees live_source IsSaneSource (p s) (q (live_source s)))
+  at_source : (id : ℕ) (p : SourceHistory → Outcome SourceHistory)
+      (q : LiveSource → Outcome LiveSource)
+      →
+      ((s : SourceHistory) → IsSaneSource s
+      → Agrees live_source IsSaneSource (p s) (q (live_source s)))
       → Agrees live IsSane (steps.at_source histories h id p) (steps.at_source lives (live h) id q)
   at_source id p q agrees =
       sought _ _ (live_source_here id) (λ s e.
       inside _ _ (agrees s (own_source id s e)) (λ t own. (with_connection-live id t s h e, with_connection-sane id t h sane own)))
 
-  at_lane : (o : ℕ) (p : Lane → Outcome Lane) (q : LiveLane → Outcome LiveLane) → ((l : Lane) → IsSaneLane l → Agrees live_lane IsSaneLane (p l) (q (live_lane l)))
+  at_lane : (o : ℕ) (p : Lane → Outcome Lane) (q : LiveLane → Outcome LiveLane)
+      → ((l : Lane) → IsSaneLane l → Agrees live_lane IsSaneLane (p l) (q (live_lane l)))
       → Agrees live IsSane (steps.at_lane histories h o p) (steps.at_lane lives (live h) o q)
   at_lane o p q agrees =
       sought _ _ (lane_at-live o h) (λ l e.
@@ -92,7 +107,9 @@ both_lead a b = (λ i. (a.0 i, b.0 i), (a.1, b.1))
 at_both : (h : History) (sane : IsSane h) (id o : ℕ) (p : SourceHistory → Lane
     → Outcome (SourceHistory × Lane)) (q : LiveSource → LiveLane
     → Outcome (LiveSource × LiveLane))
-    → ((s : SourceHistory) (l : Lane) → IsSaneSource s → IsSaneLane l → Agrees both SaneBoth (p s l) (q (live_source s) (live_lane l)))
+    →
+    ((s : SourceHistory) (l : Lane) → IsSaneSource s → IsSaneLane l
+    → Agrees both SaneBoth (p s l) (q (live_source s) (live_lane l)))
     → Agrees live IsSane (steps.at_both histories h id o p) (steps.at_both lives (live h) id o q)
 at_both h sane id o p q agrees =
     sought _ _ (live_source_here h sane id) (λ s e.
@@ -114,7 +131,8 @@ worker_here w l = worker_at-live w l ∙ worker_seen l w (slice_get l.sessions w
 
 puts_leads : (l : Lane) (w : ℕ) (x : Worker SessionHistory) (s : SessionHistory) → IsSaneLane l
     → histories.worker_at l w ≡ Some x → IsSaneSession w l.output.buffer s
-    → Leads live_lane IsSaneLane (histories.puts_worker l w (with_session x s)) (with_live_worker (live_lane l) w (worker_map live_session (with_session x s)))
+    → Leads live_lane IsSaneLane (histories.puts_worker l w (with_session x s))
+    (with_live_worker (live_lane l) w (worker_map live_session (with_session x s)))
 puts_leads l w x s own e fits =
     let at = worker_is l w x e in (
       with_session-live w s l x.session ∙ ap (λ (y : Worker SessionHistory). with_live_worker (live_lane l) w (worker_map live_session (with_session y s))) at.is,
@@ -124,8 +142,11 @@ puts_leads l w x s own e fits =
 at_worker : (l : Lane) (w : ℕ) (p : Worker SessionHistory
     → Outcome (Worker SessionHistory)) (q : Worker LiveSession → Outcome (Worker LiveSession))
     → IsSaneLane l
-    → ((x : Worker SessionHistory) → histories.worker_at l w ≡ Some x → Agrees (worker_map live_session) (SaneWorker l w x) (p x) (q (worker_map live_session x)))
-    → Agrees live_lane IsSaneLane (steps.at_worker histories l w p) (steps.at_worker lives (live_lane l) w q)
+    →
+    ((x : Worker SessionHistory) → histories.worker_at l w ≡ Some x
+    → Agrees (worker_map live_session) (SaneWorker l w x) (p x) (q (worker_map live_session x)))
+    → Agrees live_lane IsSaneLane (steps.at_worker histories l w p)
+    (steps.at_worker lives (live_lane l) w q)
 at_worker l w p q own agrees =
     sought _ _ (worker_here w l) (λ x e.
     inside _ _ (agrees x e) (λ y fits.
@@ -133,14 +154,18 @@ at_worker l w p q own agrees =
 
 with_session-leads : (l : Lane) (w : ℕ) (x : Worker SessionHistory) (s : SessionHistory)
     (t : LiveSession) → Leads live_session (IsSaneSession w l.output.buffer) s t
-    → Leads (worker_map live_session) (SaneWorker l w x) (with_session x s) (with_session (worker_map live_session x) t)
+    → Leads (worker_map live_session) (SaneWorker l w x) (with_session x s)
+    (with_session (worker_map live_session x) t)
 with_session-leads l w x s t leads = (λ i. record { chunk = x.chunk; session = Some (leads.0 i) }, (s, refl, leads.1))
 
 at_session : (l : Lane) (w : ℕ) (x : Worker SessionHistory) (p : SessionHistory
     → Outcome SessionHistory) (q : LiveSession → Outcome LiveSession) → IsSaneLane l
     → histories.worker_at l w ≡ Some x
-    → ((s : SessionHistory) → IsSaneSession w l.output.buffer s → Agrees live_session (IsSaneSession w l.output.buffer) (p s) (q (live_session s)))
-    → Agrees (worker_map live_session) (SaneWorker l w x) (steps.at_session histories x p) (steps.at_session lives (worker_map live_session x) q)
+    →
+    ((s : SessionHistory) → IsSaneSession w l.output.buffer s
+    → Agrees live_session (IsSaneSession w l.output.buffer) (p s) (q (live_session s)))
+    → Agrees (worker_map live_session) (SaneWorker l w x) (steps.at_session histories x p)
+    (steps.at_session lives (worker_map live_session x) q)
 at_session l w x p q own e agrees =
     sought {g = live_session} _ _ refl (λ s f.
     inside _ _ (agrees s (own.sessions w s (session_here l w x s e f))) (λ t fits. with_session-leads l w x t (live_session t) (refl, fits)))
@@ -154,15 +179,21 @@ unfolding live_source
 piece s bytes sane = by (is_closed s) refl
   where
     at : (f : Option SourceFault) → is_closed s ≡ false → Agrees live_source IsSaneSource
-        (of_piece (told f (length (waiting (hears s bytes)))) (length (waiting (hears s bytes))) (new_pong s bytes) (hears s bytes))
-        (of_piece (told f (length (waiting (hears s bytes)))) (length (waiting (hears s bytes))) (new_pong s bytes) (source_hears (live_source s) bytes))
+        (of_piece (told f (length (waiting (hears s bytes)))) (length (waiting (hears s bytes)))
+        (new_pong s bytes) (hears s bytes))
+        (of_piece (told f (length (waiting (hears s bytes)))) (length (waiting (hears s bytes)))
+        (new_pong s bytes) (source_hears (live_source s) bytes))
     at None up = goes refl (hears-live s bytes sane up, hears-sane s bytes sane up)
     at (Some f) up = goes refl (hears-live s bytes sane up, hears-sane s bytes sane up)
 
     by : (b : Bool) → is_closed s ≡ b → Agrees live_source IsSaneSource
-        (of_piece (cond b verdict.Closed (told (judged (hears s bytes)).fault (length (waiting (hears s bytes))))) (length (waiting (hears s bytes))) (new_pong s bytes) (hears s bytes))
-        (of_piece (cond b verdict.Closed (told (judged_piece (live_source s) bytes).fault (length ((live_source s).waiting ++ (judged_piece (live_source s) bytes).requests))))
-        (length (source_hears (live_source s) bytes).waiting) (cond b [] (judged_piece (live_source s) bytes).pong) (source_hears (live_source s) bytes))
+        (of_piece (cond b verdict.Closed
+        (told (judged (hears s bytes)).fault (length (waiting (hears s bytes))))) (length
+        (waiting (hears s bytes))) (new_pong s bytes) (hears s bytes))
+        (of_piece (cond b verdict.Closed (told (judged_piece (live_source s) bytes).fault
+        (length ((live_source s).waiting ++ (judged_piece (live_source s) bytes).requests))))
+        (length (source_hears (live_source s) bytes).waiting)
+        (cond b [] (judged_piece (live_source s) bytes).pong) (source_hears (live_source s) bytes))
     by true up = stays
     by false up =
         let g = heard s bytes sane up in
@@ -192,7 +223,8 @@ refusal_here l origin q now own = sym (buffer.refusal-live l.output.buffer origi
 
 enter_unless : (fault : Option AdmitError) (s : SourceHistory) (q : Request) (origin : Origin)
     (l : Lane) (now : ℕ) → IsSaneSource s → IsSaneLane l → first_of (waiting s) ≡ Some q
-    → Agrees both SaneBoth (steps.enter_unless histories fault s q origin l now) (steps.enter_unless lives fault (live_source s) q origin (live_lane l) now)
+    → Agrees both SaneBoth (steps.enter_unless histories fault s q origin l now)
+    (steps.enter_unless lives fault (live_source s) q origin (live_lane l) now)
 enter_unless None s q origin l now sane own first = goes refl (both_lead (gives_leads s q (waiting s) refl first sane) (enters-live l origin q now own, enters-sane l origin q now own))
 enter_unless (Some Full) s q origin l now sane own first = goes refl (both_lead (shuts-live s, shuts-sane s sane) (refl, own))
 enter_unless (Some NumbersSpent) s q origin l now sane own first = goes refl (both_lead (shuts-live s, shuts-sane s sane) (refl, own))
@@ -200,7 +232,8 @@ enter_unless (Some Memory) s q origin l now sane own first = stays
 
 enter : (s : SourceHistory) (q : Request) (id : ℕ) (l : Lane) (now : ℕ) → IsSaneSource s
     → IsSaneLane l → first_of (waiting s) ≡ Some q
-    → Agrees both SaneBoth (steps.enter histories s q id l now) (steps.enter lives (live_source s) q id (live_lane l) now)
+    → Agrees both SaneBoth (steps.enter histories s q id l now)
+    (steps.enter lives (live_source s) q id (live_lane l) now)
 unfolding live_source
 enter s q id l now sane own first =
     let origin : Origin = record { conn = id; request = s.admitted + 1 } in
@@ -209,13 +242,15 @@ enter s q id l now sane own first =
 
 routed : (to : Option ℕ) (s : SourceHistory) (q : Request) (id o : ℕ) (l : Lane) (now : ℕ)
     → IsSaneSource s → IsSaneLane l → first_of (waiting s) ≡ Some q
-    → Agrees both SaneBoth (steps.routed histories to s q id o l now) (steps.routed lives to (live_source s) q id o (live_lane l) now)
+    → Agrees both SaneBoth (steps.routed histories to s q id o l now)
+    (steps.routed lives to (live_source s) q id o (live_lane l) now)
 routed None s q id o l now sane own first = goes refl (both_lead (shuts-live s, shuts-sane s sane) (refl, own))
 routed (Some to) s q id o l now sane own first = checked _ refl (λ here. enter s q id l now sane own first)
 
 admit : (patterns : List (List (List ℕ))) (id o now : ℕ) (s : SourceHistory) (l : Lane)
     → IsSaneSource s → IsSaneLane l
-    → Agrees both SaneBoth (steps.admit histories patterns id o now s l) (steps.admit lives patterns id o now (live_source s) (live_lane l))
+    → Agrees both SaneBoth (steps.admit histories patterns id o now s l)
+    (steps.admit lives patterns id o now (live_source s) (live_lane l))
 unfolding live_source
 admit patterns id o now s l sane own =
     sought {g = λ (q : Request). q} _ _ (option_id (first_of (waiting s))) (λ q e.
@@ -241,7 +276,8 @@ collect id s l sane own =
     (tells-live id l, tells-sane id l own)))
 
 forget : (l : Lane) (id : ℕ) → IsSaneLane l
-    → Agrees live_lane IsSaneLane (steps.forget histories l id) (steps.forget lives (live_lane l) id)
+    → Agrees live_lane IsSaneLane (steps.forget histories l id)
+    (steps.forget lives (live_lane l) id)
 forget l id own = goes (ap answer.Forgot (owed_here l id)) (forgets-live id l, forgets-sane id l own)
 
 -- ---- an output and its workers
@@ -265,7 +301,8 @@ choose l w now own =
 
 up : (l : Lane) (w : ℕ) (c : OutputConfig) (server : ℕ) (salt : List ℕ) (now : ℕ)
     (x : Worker SessionHistory)
-    → Agrees (worker_map live_session) (SaneWorker l w x) (steps.up histories c server salt now x) (steps.up lives c server salt now (worker_map live_session x))
+    → Agrees (worker_map live_session) (SaneWorker l w x) (steps.up histories c server salt now x)
+    (steps.up lives c server salt now (worker_map live_session x))
 up l w c server salt now x =
     let same : not (nat_lt server (length c.standby)) ≡ not (nat_lt server (length c.standby)) = refl in
     checked _ same (λ known.
@@ -303,7 +340,8 @@ and_left false b e = refl
 
 load : (now : ℕ) (l : Lane) (w : ℕ) (x : Worker SessionHistory)
     → IsSaneLane l → histories.worker_at l w ≡ Some x
-    → Agrees (worker_map live_session) (SaneWorker l w x) (steps.load histories now x) (steps.load lives now (worker_map live_session x))
+    → Agrees (worker_map live_session) (SaneWorker l w x) (steps.load histories now x)
+    (steps.load lives now (worker_map live_session x))
 load now l w x own e =
     sought {g = live_session} _ _ refl (λ s f.
     sought {g = λ (c : Load). c} _ _ (option_id x.chunk) (λ c g.
@@ -311,8 +349,10 @@ load now l w x own e =
     checked NotUp (ap not (sym (ready-live s))) (λ up.
     goes refl (with_session-leads l w x _ _ (leads s c (own.sessions w s (session_here l w x s e f)) g (and_left s.down (is_free_for (handshake_of s) s.has_acked) up)))))))
   where
-    leads : (s : SessionHistory) (c : Load) → IsSaneSession w l.output.buffer s → x.chunk ≡ Some c → s.down ≡ false
-        → Leads live_session (IsSaneSession w l.output.buffer) (loads s c now) (lives.loads (live_session s) c now)
+    leads : (s : SessionHistory) (c : Load) → IsSaneSession w l.output.buffer s → x.chunk ≡ Some c
+        → s.down ≡ false
+        → Leads live_session (IsSaneSession w l.output.buffer) (loads s c now)
+        (lives.loads (live_session s) c now)
     leads s c fits g up = (
       loads-live s c now fits.own up,
       record { own = loads-sane s c now fits.own; carries = λ d h. carried_is l w x (worker_is l w x e) ∙ g ∙ h },
@@ -349,7 +389,8 @@ heard-agrees b w heard_as.Acked out s t leads = goes refl leads
 heard-agrees b w (heard_as.Fault why) out s t leads = goes refl leads
 
 hear : (bytes : List ℕ) (b : BufferHistory) (w : ℕ) (s : SessionHistory) → IsSaneSession w b s
-    → Agrees live_session (IsSaneSession w b) (steps.heard histories bytes s) (steps.heard lives bytes (live_session s))
+    → Agrees live_session (IsSaneSession w b) (steps.heard histories bytes s)
+    (steps.heard lives bytes (live_session s))
 hear bytes b w s fits =
     let leads : Leads live_session (IsSaneSession w b) (hears_bytes s bytes) (session_hears (live_session s) bytes) =
     (hears_bytes-live s bytes fits.own, record { own = hears_bytes-sane s bytes fits.own; carries = λ c e. fits.carries c (sym (hears-loaded s bytes) ∙ e) }) in
@@ -358,7 +399,8 @@ hear bytes b w s fits =
     (heard-agrees b w (piece_told s bytes) (piece_out s bytes) (hears_bytes s bytes) (session_hears (live_session s) bytes) leads)
 
 late : (now : ℕ) (b : BufferHistory) (w : ℕ) (s : SessionHistory) → IsSaneSession w b s
-    → Agrees live_session (IsSaneSession w b) (steps.late histories now s) (steps.late lives now (live_session s))
+    → Agrees live_session (IsSaneSession w b) (steps.late histories now s)
+    (steps.late lives now (live_session s))
 late now b w s fits =
     checked NotUp (down_here s) (λ up.
     goes (ap answer.Late (late-live s now)) (looks-live s now up, record { own = looks-sane s now fits.own up; carries = fits.carries }))
@@ -508,7 +550,8 @@ pub record RunsAgree (h : History) (es : List Event) : Type 0 where
 
 state_kept : (h : History) (x : Outcome History) → IsSane h
     → (y : Outcome (Rattle.fwd_model.specs.Live.LiveRelay)) → Agrees live IsSane x y
-    → (answer_of x ≡ answer_of y) × (live (state_of h x) ≡ state_of (live h) y) × IsSane (state_of h x)
+    → (answer_of x ≡ answer_of y) × (live (state_of h x) ≡ state_of (live h) y) × IsSane
+    (state_of h x)
 state_kept h (Stays a) sane y agrees = (ap answer_of agrees.same, ap (state_of (live h)) agrees.same, sane)
 state_kept h (Goes a s) sane y agrees = (ap answer_of agrees.same, ap (state_of (live h)) agrees.same, agrees.kept)
 

@@ -87,82 +87,123 @@ module _ (config : Config) (es : List Event) (e : Event) (m : Marked config es (
   nothing : (k : History) → k.lanes ≡ h.lanes → On k
   nothing k same o l here i a at told = told_still config es e a.request.origin.conn a.request.origin.request o (m o l (subst (λ ls. slice_get ls o ≡ Some l) same here) i a at told)
 
-  put : (o : ℕ) (l : Lane) (k : History) → k.lanes ≡ h.lanes → AllMarked config (es ++ e ∷ []) o l.output.book.admissions → On (with_lane o l k)
+  put : (o : ℕ) (l : Lane) (k : History) → k.lanes ≡ h.lanes
+      → AllMarked config (es ++ e ∷ []) o l.output.book.admissions → On (with_lane o l k)
   put o l k same all j x here i a at told = by (slice_get-set k.lanes o j l x here)
     where
-      by : ((o ≡ j) × (l ≡ x)) ⊎ ((o ≢ j) × (slice_get k.lanes j ≡ Some x)) → IsTold config (es ++ e ∷ []) a.request.origin.conn a.request.origin.request j
+      by : ((o ≡ j) × (l ≡ x)) ⊎ ((o ≢ j) × (slice_get k.lanes j ≡ Some x))
+          → IsTold config (es ++ e ∷ []) a.request.origin.conn a.request.origin.request j
       by (inl s) =
           subst (λ n. IsTold config (es ++ e ∷ []) a.request.origin.conn a.request.origin.request n) s.0
           (all i a (subst (λ y. slice_get y.output.book.admissions i ≡ Some a) (sym s.1) at) told)
       by (inr d) = nothing k same j x d.1 i a at told
 
-  still : (o : ℕ) (l : Lane) (book : List Admission) → slice_get h.lanes o ≡ Some l → book ≡ l.output.book.admissions → AllMarked config (es ++ e ∷ []) o book
+  still : (o : ℕ) (l : Lane) (book : List Admission) → slice_get h.lanes o ≡ Some l
+      → book ≡ l.output.book.admissions → AllMarked config (es ++ e ∷ []) o book
   still o l book here same i a at told = told_still config es e a.request.origin.conn a.request.origin.request o (m o l here i a (subst (λ as'. slice_get as' i ≡ Some a) same at) told)
 
   -- an output whose requests stay
-  keeps : (o : ℕ) (l x : Lane) (k : History) → k.lanes ≡ h.lanes → slice_get h.lanes o ≡ Some l → x.output.book.admissions ≡ l.output.book.admissions → On (with_lane o x k)
+  keeps : (o : ℕ) (l x : Lane) (k : History) → k.lanes ≡ h.lanes → slice_get h.lanes o ≡ Some l
+      → x.output.book.admissions ≡ l.output.book.admissions → On (with_lane o x k)
   keeps o l x k lanes here same = put o x k lanes (still o l x.output.book.admissions here same)
 
-  enters_marks : (o : ℕ) (origin : Origin) (now : ℕ) (q : Request) (l : Lane) → slice_get h.lanes o ≡ Some l → AllMarked config (es ++ e ∷ []) o (output_history_enters l.output origin q now).book.admissions
+  enters_marks : (o : ℕ) (origin : Origin) (now : ℕ) (q : Request) (l : Lane)
+      → slice_get h.lanes o ≡ Some l
+      → AllMarked config (es ++ e ∷ []) o
+      (output_history_enters l.output origin q now).book.admissions
   enters_marks o origin now q l here i a at told = by (pushed l.output.book.admissions (record { request = entered_as q origin (spans_of l.output.buffer origin q now); fate = Untold }) a i at)
     where
-      by : (slice_get l.output.book.admissions i ≡ Some a) ⊎ (record { request = entered_as q origin (spans_of l.output.buffer origin q now); fate = Untold } ≡ a) → IsTold config (es ++ e ∷ []) a.request.origin.conn a.request.origin.request o
+      by : (slice_get l.output.book.admissions i ≡ Some a) ⊎
+          (record {
+            request = entered_as q origin
+                (spans_of l.output.buffer origin q now);
+            fate = Untold;
+          } ≡ a)
+          → IsTold config (es ++ e ∷ []) a.request.origin.conn a.request.origin.request o
       by (inl old) = still o l l.output.book.admissions here refl i a old told
       by (inr new) = let f : Untold ≡ Told = ap (λ (x : Admission). x.fate) new ∙ told in absurd cc
 
   -- ---- where it happens
 
-  at_source_on : (id : ℕ) (p : SourceHistory → Outcome SourceHistory) → Onward (λ a k. On k) (steps.at_source histories h id p)
+  at_source_on : (id : ℕ) (p : SourceHistory → Outcome SourceHistory)
+      → Onward (λ a k. On k) (steps.at_source histories h id p)
   at_source_on id p = source_on histories h id _ p (λ s here. each (p s))
     where
       each : (x : Outcome SourceHistory) → Onward (λ a u. On (with_connection id u h)) x
       each (Stays a) = record { holds = tt }
       each (Goes a u) = to (nothing (with_connection id u h) refl)
 
-  at_lane_on : (o : ℕ) (p : Lane → Outcome Lane) → ((l : Lane) → Onward (λ a x. x.output.book.admissions ≡ l.output.book.admissions) (p l)) → Onward (λ a k. On k) (steps.at_lane histories h o p)
+  at_lane_on : (o : ℕ) (p : Lane → Outcome Lane)
+      → ((l : Lane) → Onward (λ a x. x.output.book.admissions ≡ l.output.book.admissions) (p l))
+      → Onward (λ a k. On k) (steps.at_lane histories h o p)
   at_lane_on o p holds = lane_on histories h o _ p (λ l here. each l here (p l) (holds l))
     where
-      each : (l : Lane) → slice_get h.lanes o ≡ Some l → (x : Outcome Lane) → Onward (λ a y. y.output.book.admissions ≡ l.output.book.admissions) x → Onward (λ a y. On (with_lane o y h)) x
+      each : (l : Lane) → slice_get h.lanes o ≡ Some l → (x : Outcome Lane)
+          → Onward (λ a y. y.output.book.admissions ≡ l.output.book.admissions) x
+          → Onward (λ a y. On (with_lane o y h)) x
       each l here (Stays a) same = record { holds = tt }
       each l here (Goes a y) same = to (keeps o l y h refl here same.holds)
 
-  at_worker_on : (l : Lane) (w : ℕ) (p : Worker SessionHistory → Outcome (Worker SessionHistory)) → Onward (λ a x. x.output.book.admissions ≡ l.output.book.admissions) (steps.at_worker histories l w p)
+  at_worker_on : (l : Lane) (w : ℕ) (p : Worker SessionHistory → Outcome (Worker SessionHistory))
+      → Onward (λ a x. x.output.book.admissions ≡ l.output.book.admissions)
+      (steps.at_worker histories l w p)
   at_worker_on l w p = worker_on histories l w (λ a x. x.output.book.admissions ≡ l.output.book.admissions) p (λ x at. each (p x))
     where
-      each : (x : Outcome (Worker SessionHistory)) → Onward (λ a y. (histories.puts_worker l w y).output.book.admissions ≡ l.output.book.admissions) x
+      each : (x : Outcome (Worker SessionHistory))
+          → Onward
+          (λ a y. (histories.puts_worker l w y).output.book.admissions ≡ l.output.book.admissions) x
       each (Stays a) = record { holds = tt }
       each (Goes a y) = to refl
 
   -- ---- the events of an output
 
-  flushed_same : (l : Lane) (now : ℕ) (kind : FlushKind) → Onward (λ a x. x.output.book.admissions ≡ l.output.book.admissions) (steps.flush histories l now kind)
+  flushed_same : (l : Lane) (now : ℕ) (kind : FlushKind)
+      → Onward (λ a x. x.output.book.admissions ≡ l.output.book.admissions)
+      (steps.flush histories l now kind)
   flushed_same l now kind = to refl
 
-  taken_same : (l : Lane) (w now : ℕ) → Onward (λ a x. x.output.book.admissions ≡ l.output.book.admissions) (steps.take histories l w now)
+  taken_same : (l : Lane) (w now : ℕ)
+      → Onward (λ a x. x.output.book.admissions ≡ l.output.book.admissions)
+      (steps.take histories l w now)
   taken_same l w now = past_found NoSuch {x = histories.worker_at l w} (λ x at. past NotNow {b = is_some x.chunk} (λ none. to {a = chunk_answer (histories.given l now)} refl))
 
-  settled_same : (l : Lane) (w : ℕ) → Onward (λ a x. x.output.book.admissions ≡ l.output.book.admissions) (steps.settle histories l w)
+  settled_same : (l : Lane) (w : ℕ)
+      → Onward (λ a x. x.output.book.admissions ≡ l.output.book.admissions)
+      (steps.settle histories l w)
   settled_same l w = past_found NoSuch {x = histories.worker_at l w} (λ x at. past_found NotNow {x = x.session} (λ s f. past_found NotNow {x = histories.acked s} (λ c acked. to {a = answer.Settled (histories.entries_at l c.number)} refl)))
 
-  chosen_same : (l : Lane) (w now : ℕ) → Onward (λ a x. x.output.book.admissions ≡ l.output.book.admissions) (steps.choose histories l w now)
+  chosen_same : (l : Lane) (w now : ℕ)
+      → Onward (λ a x. x.output.book.admissions ≡ l.output.book.admissions)
+      (steps.choose histories l w now)
   chosen_same l w now = past_found NoSuch {x = histories.worker_at l w} (λ x at. to {a = answer.Chose (histories.chosen l w now)} refl)
 
-  ended_same : (l : Lane) (w : ℕ) (kind : EndKind) (now : ℕ) → Onward (λ a x. x.output.book.admissions ≡ l.output.book.admissions) (steps.end histories l w kind now)
+  ended_same : (l : Lane) (w : ℕ) (kind : EndKind) (now : ℕ)
+      → Onward (λ a x. x.output.book.admissions ≡ l.output.book.admissions)
+      (steps.end histories l w kind now)
   ended_same l w kind now = past_found NoSuch {x = histories.worker_at l w} (λ x at. past NotNow {b = steps.is_idle histories x} (λ some. past NotNow {b = steps.has_acked histories x.session} (λ none. to {a = answer.Ended (option_map (λ c. c.number) x.chunk)} refl)))
 
   -- ---- a connection and an output
 
-  admit_on : (id o now : ℕ) → Onward (λ a k. On k) (steps.at_both histories h id o (steps.admit histories h.routes id o now))
+  admit_on : (id o now : ℕ)
+      → Onward (λ a k. On k)
+      (steps.at_both histories h id o (steps.admit histories h.routes id o now))
   admit_on id o now =
       both_on histories h id o _ (steps.admit histories h.routes id o now) (λ s l here lane. past_found _ (λ q first. by s q l lane (route h.routes q.tag)))
     where
-      unless : (s : SourceHistory) (q : Request) (l : Lane) → slice_get h.lanes o ≡ Some l → (fault : Option AdmitError) → Onward (λ a two. On (with_lane o two.1 (with_connection id two.0 h))) (steps.enter_unless histories fault s q (record { conn = id; request = s.admitted + 1 }) l now)
+      unless : (s : SourceHistory) (q : Request) (l : Lane) → slice_get h.lanes o ≡ Some l
+          → (fault : Option AdmitError)
+          → Onward (λ a two. On (with_lane o two.1 (with_connection id two.0 h)))
+          (steps.enter_unless histories fault s q
+          (record { conn = id; request = s.admitted + 1 }) l now)
       unless s q l lane None = to (put o (with_output l (output_history_enters l.output (record { conn = id; request = s.admitted + 1 }) q now)) (with_connection id (source.gives s) h) refl (enters_marks o (record { conn = id; request = s.admitted + 1 }) now q l lane))
       unless s q l lane (Some Full) = to (keeps o l l (with_connection id (source.shuts s) h) refl lane refl)
       unless s q l lane (Some NumbersSpent) = to (keeps o l l (with_connection id (source.shuts s) h) refl lane refl)
       unless s q l lane (Some Memory) = record { holds = tt }
 
-      by : (s : SourceHistory) (q : Request) (l : Lane) → slice_get h.lanes o ≡ Some l → (first : Option ℕ) → Onward (λ a two. On (with_lane o two.1 (with_connection id two.0 h))) (steps.routed histories first s q id o l now)
+      by : (s : SourceHistory) (q : Request) (l : Lane) → slice_get h.lanes o ≡ Some l
+          → (first : Option ℕ)
+          → Onward (λ a two. On (with_lane o two.1 (with_connection id two.0 h)))
+          (steps.routed histories first s q id o l now)
       by s q l lane None = to (keeps o l l (with_connection id (source.shuts s) h) refl lane refl)
       by s q l lane (Some first) =
           past NotNow {b = not (first == o)} (λ this. unless s q l lane (histories.refusal l (record { conn = id; request = s.admitted + 1 }) q now))
@@ -211,7 +252,8 @@ module _ (config : Config) (es : List Event) (id o : ℕ) (m : Marked config es 
           subst (λ (y : Admission). IsTold config (es ++ asked ∷ []) y.request.origin.conn y.request.origin.request o) x.2
           (by_due x.0 x.1 (goes l x.0) refl marked)
 
-  collect_on : Onward (λ a k. Marked config (es ++ asked ∷ []) k) (steps.at_both histories (reached config es) id o (steps.collect histories id))
+  collect_on : Onward (λ a k. Marked config (es ++ asked ∷ []) k)
+      (steps.at_both histories (reached config es) id o (steps.collect histories id))
   collect_on =
       both_on histories (reached config es) id o _ (steps.collect histories id) (λ s l stands here. past _ (λ still_open. to (
       put config es asked m o (with_book l (tells_due l.output.book id)) (with_connection id (source.appends s (histories.due l id).acks) (reached config es)) refl (told_marks s l stands still_open here))))
@@ -219,7 +261,8 @@ module _ (config : Config) (es : List Event) (id o : ℕ) (m : Marked config es 
 -- what is forgotten is not marked as told
 forget_on : (config : Config) (es : List Event) (e : Event) (id o : ℕ)
     → Marked config es (reached config es)
-    → Onward (λ a k. Marked config (es ++ e ∷ []) k) (steps.at_lane histories (reached config es) o (λ l. steps.forget histories l id))
+    → Onward (λ a k. Marked config (es ++ e ∷ []) k)
+    (steps.at_lane histories (reached config es) o (λ l. steps.forget histories l id))
 unfolding moves
 forget_on config es e id o m = lane_on histories (reached config es) o _ (λ l. steps.forget histories l id) (λ l here. to (put config es e m o (with_book l (forgets_of l.output.book id)) (reached config es) refl (forgotten l here)))
   where
@@ -227,7 +270,10 @@ forget_on config es e id o m = lane_on histories (reached config es) o _ (λ l. 
         → AllMarked config (es ++ e ∷ []) o (forgets_of l.output.book id).admissions
     forgotten l here i b at told = by_source (mapped (λ a. becomes Forgotten (is_untold a.fate && is_owed_to id a) a) (slice_get l.output.book.admissions i) b (sym (slice_get-map (λ a. becomes Forgotten (is_untold a.fate && is_owed_to id a) a) l.output.book.admissions i) ∙ at))
       where
-        by_owed : (a : Admission) → slice_get l.output.book.admissions i ≡ Some a → (t : Bool) → (becomes Forgotten t a).fate ≡ Told → IsTold config (es ++ e ∷ []) (becomes Forgotten t a).request.origin.conn (becomes Forgotten t a).request.origin.request o
+        by_owed : (a : Admission) → slice_get l.output.book.admissions i ≡ Some a → (t : Bool)
+            → (becomes Forgotten t a).fate ≡ Told
+            → IsTold config (es ++ e ∷ []) (becomes Forgotten t a).request.origin.conn
+            (becomes Forgotten t a).request.origin.request o
         by_owed a old false marked = still config es e m o l l.output.book.admissions here refl i a old marked
         by_owed a old true marked = absurd cc
 

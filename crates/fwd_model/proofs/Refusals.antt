@@ -54,18 +54,22 @@ module _ (L : Layers) where
   drained_counts : (s : L.Source) (count : ℕ) → Onward Answered (steps.drained L s count)
   drained_counts s count = past NotNow {b = nat_lt (length (L.unsent s)) count} (λ few. to {a = answer.Done} refl)
 
-  enter_counts : (fault : Option AdmitError) (s : L.Source) (q : Request) (origin : Origin) (l : L.Lane) (now : ℕ) → Onward Answered (steps.enter_unless L fault s q origin l now)
+  enter_counts : (fault : Option AdmitError) (s : L.Source) (q : Request) (origin : Origin)
+      (l : L.Lane) (now : ℕ)
+      → Onward Answered (steps.enter_unless L fault s q origin l now)
   enter_counts None s q origin l now = to refl
   enter_counts (Some Full) s q origin l now = to refl
   enter_counts (Some NumbersSpent) s q origin l now = to refl
   enter_counts (Some Memory) s q origin l now = record { holds = tt }
 
-  routed_counts : (first : Option ℕ) (s : L.Source) (q : Request) (id o : ℕ) (l : L.Lane) (now : ℕ) → Onward Answered (steps.routed L first s q id o l now)
+  routed_counts : (first : Option ℕ) (s : L.Source) (q : Request) (id o : ℕ) (l : L.Lane) (now : ℕ)
+      → Onward Answered (steps.routed L first s q id o l now)
   routed_counts None s q id o l now = to refl
   routed_counts (Some first) s q id o l now =
       past NotNow {b = not (first == o)} (λ this. enter_counts (L.refusal l (record { conn = id; request = L.admitted s + 1 }) q now) s q (record { conn = id; request = L.admitted s + 1 }) l now)
 
-  admit_counts : (patterns : List (List (List ℕ))) (id o now : ℕ) (s : L.Source) (l : L.Lane) → Onward Answered (steps.admit L patterns id o now s l)
+  admit_counts : (patterns : List (List (List ℕ))) (id o now : ℕ) (s : L.Source) (l : L.Lane)
+      → Onward Answered (steps.admit L patterns id o now s l)
   admit_counts patterns id o now s l = past_found NotNow {x = first_of (L.waiting s)} (λ q first. routed_counts (route patterns q.tag) s q id o l now)
 
   collect_counts : (id : ℕ) (s : L.Source) (l : L.Lane) → Onward Answered (steps.collect L id s l)
@@ -74,7 +78,8 @@ module _ (L : Layers) where
   choose_counts : (l : L.Lane) (w now : ℕ) → Onward Answered (steps.choose L l w now)
   choose_counts l w now = past_found NoSuch {x = L.worker_at l w} (λ x at. to {a = answer.Chose (L.chosen l w now)} refl)
 
-  up_counts : (c : OutputConfig) (server : ℕ) (salt : List ℕ) (now : ℕ) (x : Worker L.Session) → Onward Answered (steps.up L c server salt now x)
+  up_counts : (c : OutputConfig) (server : ℕ) (salt : List ℕ) (now : ℕ) (x : Worker L.Session)
+      → Onward Answered (steps.up L c server salt now x)
   up_counts c server salt now x = past NoSuch {b = not (nat_lt server (length c.standby))} (λ known. past NotNow {b = is_some x.session} (λ none. to {a = answer.Done} refl))
 
   take_counts : (l : L.Lane) (w now : ℕ) → Onward Answered (steps.take L l w now)
@@ -90,7 +95,8 @@ module _ (L : Layers) where
   late_counts : (now : ℕ) (s : L.Session) → Onward Answered (steps.late L now s)
   late_counts now s = past NotUp {b = L.is_down s} (λ up. to {a = answer.Late (L.is_late s now)} refl)
 
-  end_counts : (l : L.Lane) (w : ℕ) (kind : EndKind) (now : ℕ) → Onward Answered (steps.end L l w kind now)
+  end_counts : (l : L.Lane) (w : ℕ) (kind : EndKind) (now : ℕ)
+      → Onward Answered (steps.end L l w kind now)
   end_counts l w kind now = past_found NoSuch {x = L.worker_at l w} (λ x at. past NotNow {b = steps.is_idle L x} (λ some. past NotNow {b = steps.has_acked L x.session} (λ none. to {a = answer.Ended (option_map (λ c. c.number) x.chunk)} refl)))
 
   settle_counts : (l : L.Lane) (w : ℕ) → Onward Answered (steps.settle L l w)

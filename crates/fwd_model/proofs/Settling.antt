@@ -30,7 +30,8 @@ pub record IsHis (b : BufferHistory) (w : ℕ) (c : Load) : Type 0 where
 pub his : (b : BufferHistory) (w : ℕ) (c : Load) → carried_by b w ≡ Some c → IsHis b w c
 his b w c e = by (carry_of w b.carried) refl e
   where
-    by : (d : Option Carry) → carry_of w b.carried ≡ d → option_map (λ d. load_of b d.number) d ≡ Some c → IsHis b w c
+    by : (d : Option Carry) → carry_of w b.carried ≡ d
+        → option_map (λ d. load_of b d.number) d ≡ Some c → IsHis b w c
     by None f g = absurd cc
     by (Some d) f g =
         let same : load_of b d.number ≡ c = cc in
@@ -54,7 +55,12 @@ pub carry_of-push_same : (w k : ℕ) (cs : List Carry) → carry_of w cs ≡ Non
 carry_of-push_same w k [] none = grind (arith, nat_tests)
 carry_of-push_same w k (c ∷ cs) none = at (eqb c.worker w) none (λ h. carry_of-push_same w k cs h)
   where
-    at : (b : Bool) → cond b (Some c) (carry_of w cs) ≡ None → (carry_of w cs ≡ None → carry_of w (cs ++ record { worker = w; number = k } ∷ []) ≡ Some (record { worker = w; number = k })) → cond b (Some c) (carry_of w (cs ++ record { worker = w; number = k } ∷ [])) ≡ Some (record { worker = w; number = k })
+    at : (b : Bool) → cond b (Some c) (carry_of w cs) ≡ None
+        →
+        (carry_of w cs ≡ None → carry_of w (cs ++ record { worker = w; number = k } ∷ [])
+        ≡ Some (record { worker = w; number = k }))
+        → cond b (Some c) (carry_of w (cs ++ record { worker = w; number = k } ∷ [])) ≡ Some
+        (record { worker = w; number = k })
     at true e rec = absurd cc
     at false e rec = rec e
 
@@ -108,7 +114,9 @@ pub carry_of-without_same : (w : ℕ) (c : Carry) (cs : List Carry) → AreApart
 carry_of-without_same w c [] apart h = absurd cc
 carry_of-without_same w c (d ∷ cs) apart h = by (carry_of-without_same w c cs apart.2) (eqb d.worker w) refl h
   where
-    by : (carry_of w cs ≡ Some c → carry_of w (without c.number cs) ≡ None) → (b : Bool) → eqb d.worker w ≡ b → cond b (Some d) (carry_of w cs) ≡ Some c → carry_of w (without c.number (d ∷ cs)) ≡ None
+    by : (carry_of w cs ≡ Some c → carry_of w (without c.number cs) ≡ None) → (b : Bool)
+        → eqb d.worker w ≡ b → cond b (Some d) (carry_of w cs) ≡ Some c
+        → carry_of w (without c.number (d ∷ cs)) ≡ None
     by rest true e h =
         let same : d ≡ c = cc in
         let numbers : d.number ≡ c.number = ap (λ x. x.number) same in
@@ -118,7 +126,8 @@ carry_of-without_same w c (d ∷ cs) apart h = by (carry_of-without_same w c cs 
         ap (λ b. carry_of w (cond (not b) (d ∷ without c.number cs) (without c.number cs))) number ∙ none-without w c.number cs none
     by rest false e h = at (eqb d.number c.number)
       where
-        at : (b : Bool) → carry_of w (cond (not b) (d ∷ without c.number cs) (without c.number cs)) ≡ None
+        at : (b : Bool)
+            → carry_of w (cond (not b) (d ∷ without c.number cs) (without c.number cs)) ≡ None
         at true = rest h
         at false = ap (λ b. cond b (Some d) (carry_of w (without c.number cs))) e ∙ rest h
 
@@ -139,7 +148,9 @@ pub carry_of-without_other : (w v : ℕ) (c : Carry) (cs : List Carry) → AreAp
 carry_of-without_other w v c [] apart h differ = refl
 carry_of-without_other w v c (d ∷ cs) apart h differ = by (λ g. carry_of-without_other w v c cs apart.2 g differ) (eqb d.worker w) refl h
   where
-    by : (carry_of w cs ≡ Some c → carry_of v (without c.number cs) ≡ carry_of v cs) → (b : Bool) → eqb d.worker w ≡ b → cond b (Some d) (carry_of w cs) ≡ Some c → carry_of v (without c.number (d ∷ cs)) ≡ carry_of v (d ∷ cs)
+    by : (carry_of w cs ≡ Some c → carry_of v (without c.number cs) ≡ carry_of v cs) → (b : Bool)
+        → eqb d.worker w ≡ b → cond b (Some d) (carry_of w cs) ≡ Some c
+        → carry_of v (without c.number (d ∷ cs)) ≡ carry_of v (d ∷ cs)
     by rest true e h =
         let same : d ≡ c = cc in
         let numbers : d.number ≡ c.number = ap (λ x. x.number) same in

@@ -43,14 +43,18 @@ settled_as h o w l s here at =
         → answer_of (within (λ n. with_lane o n h) (sought k NotNow >>=
         (λ c. Goes (answer.Settled (count_at c.number l.output))
         (histories.settles l w s (histories.evidence s c)))))
-        ≡ answer_of (sought k NotNow >>= (λ c. Goes (answer.Settled (count_at c.number l.output)) (histories.settles l w s (histories.evidence s c))))
+        ≡ answer_of
+        (sought k NotNow >>= (λ c. Goes (answer.Settled (count_at c.number l.output))
+        (histories.settles l w s (histories.evidence s c))))
     outside None = refl
     outside (Some k) = refl
 
 -- what hearing comes to there
 heard_at : (h : History) (o w : ℕ) (bytes : List ℕ) (l : Lane) (s : SessionHistory)
     → slice_get h.lanes o ≡ Some l → slice_get l.sessions w ≡ Some (Some s)
-    → step histories h (event.Heard o w bytes) ≡ within (λ n. with_lane o n h) (within (histories.puts_worker l w) (within (steps.with_session (history_worker l w (Some s))) (steps.heard histories bytes s)))
+    → step histories h (event.Heard o w bytes) ≡ within (λ n. with_lane o n h)
+    (within (histories.puts_worker l w)
+    (within (steps.with_session (history_worker l w (Some s))) (steps.heard histories bytes s)))
 heard_at h o w bytes l s here at =
     ap (λ x. sought x NoSuch >>= (λ m. within (λ n. with_lane o n h) (steps.at_worker histories m w (λ x. steps.at_session histories x (steps.heard histories bytes))))) here
     ∙ ap (λ x. within (λ n. with_lane o n h) (sought (option_map (history_worker l w) x) NoSuch >>= (λ y. within (histories.puts_worker l w) (steps.at_session histories y (steps.heard histories bytes))))) at
@@ -80,7 +84,9 @@ none_settled s l m w none = ap (λ b. answer_of (sought (cond b s.loaded None) N
 pub early-nothing : (h : History) (o w : ℕ) (bytes : List ℕ) (l : Lane) (s : SessionHistory)
     → slice_get h.lanes o ≡ Some l → slice_get l.sessions w ≡ Some (Some s)
     → is_some s.reply ≡ false → is_handed_on s ≡ false
-    → answer_of (step histories (state_of h (step histories h (event.Heard o w bytes))) (event.Settle o w)) ≡ answer.Refused NotNow
+    → answer_of
+    (step histories (state_of h (step histories h (event.Heard o w bytes))) (event.Settle o w))
+    ≡ answer.Refused NotNow
 early-nothing h o w bytes l s here at none early =
     ap (λ x. answer_of (step histories (state_of h x) (event.Settle o w))) (heard_at h o w bytes l s here at) ∙ by s.down refl
   where
@@ -99,10 +105,15 @@ early-nothing h o w bytes l s here at none early =
     unheard : answer_of (step histories h (event.Settle o w)) ≡ answer.Refused NotNow
     unheard = settled_as h o w l s here at ∙ none_settled s l l w none
 
-    after : answer_of (step histories (with_lane o (with_session w (listens s bytes said) l) h) (event.Settle o w)) ≡ answer.Refused NotNow
+    after : answer_of
+        (step histories (with_lane o (with_session w (listens s bytes said) l) h)
+        (event.Settle o w)) ≡ answer.Refused NotNow
     after = settled_after h o w l s (listens s bytes said) here at ∙ none_settled (listens s bytes said) l (with_session w (listens s bytes said) l) w still
 
-    told : (t : Heard) (out : List ℕ) → answer_of (step histories (state_of h (placed h o w l s (of_heard t out (listens s bytes said)))) (event.Settle o w)) ≡ answer.Refused NotNow
+    told : (t : Heard) (out : List ℕ)
+        → answer_of
+        (step histories (state_of h (placed h o w l s (of_heard t out (listens s bytes said))))
+        (event.Settle o w)) ≡ answer.Refused NotNow
     told heard_as.NotUp out = unheard
     told heard_as.Quiet out = after
     told heard_as.Ready out = after
@@ -110,7 +121,10 @@ early-nothing h o w bytes l s here at none early =
     told (heard_as.Fault f) out = after
 
     by : (b : Bool) → s.down ≡ b
-        → answer_of (step histories (state_of h (placed h o w l s (of_heard (cond b heard_as.NotUp (told_of (handshake_of s) said)) (cond b [] (out_of said)) (cond b s (listens s bytes said))))) (event.Settle o w)) ≡ answer.Refused NotNow
+        → answer_of
+        (step histories (state_of h (placed h o w l s (of_heard
+        (cond b heard_as.NotUp (told_of (handshake_of s) said)) (cond b [] (out_of said))
+        (cond b s (listens s bytes said))))) (event.Settle o w)) ≡ answer.Refused NotNow
     by true e = unheard
     by false e = told (told_of (handshake_of s) said) (out_of said)
 
@@ -118,7 +132,10 @@ pub before_fault-stands : (h : History) (o w : ℕ) (c : Load) (bytes : List ℕ
     (s : SessionHistory) (f : SessionFault) → slice_get h.lanes o ≡ Some l
     → slice_get l.sessions w ≡ Some (Some s) → s.down ≡ false → s.loaded ≡ Some c
     → is_some (says s bytes).reply ≡ true → (says s bytes).fault ≡ Some f
-    → (answer_of (step histories h (event.Heard o w bytes)) ≡ answer.SessionFaulted f) × (answer_of (step histories (state_of h (step histories h (event.Heard o w bytes))) (event.Settle o w)) ≡ answer.Settled (count_at c.number l.output))
+    → (answer_of (step histories h (event.Heard o w bytes)) ≡ answer.SessionFaulted f) ×
+    (answer_of
+    (step histories (state_of h (step histories h (event.Heard o w bytes))) (event.Settle o w))
+    ≡ answer.Settled (count_at c.number l.output))
 before_fault-stands h o w c bytes l s f here at up loaded accepted fault =
     let said = says s bytes in
     let u = listens s bytes said in
@@ -133,7 +150,8 @@ before_fault-stands h o w c bytes l s f here at up loaded accepted fault =
           ∙ (λ i. answer_of (sought (cond (has i) (loaded i) None) NotNow >>= (λ d. Goes (answer.Settled (count_at d.number l.output)) (histories.settles (with_session w u l) w u (histories.evidence u d))))),
     )
   where
-    replied : (r before : Option (List ℕ)) → is_some r ≡ true → is_some (cond (is_some r) r before) ≡ true
+    replied : (r before : Option (List ℕ)) → is_some r ≡ true
+        → is_some (cond (is_some r) r before) ≡ true
     replied None before e = absurd cc
     replied (Some value) before e = refl
 
@@ -141,7 +159,8 @@ before_fault-stands h o w c bytes l s f here at up loaded accepted fault =
 
 pub listed : (id : ℕ) (acked : List Evidence) (admissions : List Admission) (i : ℕ) (a : Admission)
     → slice_get admissions i ≡ Some a → is_due id acked a ≡ true
-    → has_number a.request.origin.request (numbers_of (map (λ x. x.request) (filter (is_due id acked) admissions))) ≡ true
+    → has_number a.request.origin.request
+    (numbers_of (map (λ x. x.request) (filter (is_due id acked) admissions))) ≡ true
 listed id acked [] i a h d = absurd cc
 listed id acked (b ∷ admissions) zero a h d =
     let same : b ≡ a = cc in
@@ -153,8 +172,13 @@ listed id acked (b ∷ admissions) zero a h d =
     first_listed n ns = grind (arith, nat_tests)
 listed id acked (b ∷ admissions) (suc i) a h d = later (is_due id acked b) (listed id acked admissions i a h d)
   where
-    later : (t : Bool) → has_number a.request.origin.request (numbers_of (map (λ y. y.request) (filter (is_due id acked) admissions))) ≡ true
-        → has_number a.request.origin.request (numbers_of (map (λ (y : Admission). y.request) (cond t (b ∷ filter (is_due id acked) admissions) (filter (is_due id acked) admissions)))) ≡ true
+    later : (t : Bool)
+        → has_number a.request.origin.request
+        (numbers_of (map (λ y. y.request) (filter (is_due id acked) admissions))) ≡ true
+        → has_number a.request.origin.request
+        (numbers_of (map (λ (y : Admission). y.request)
+        (cond t (b ∷ filter (is_due id acked) admissions) (filter (is_due id acked) admissions))))
+        ≡ true
     later true g = grind (arith, nat_tests, g)
     later false g = g
 
@@ -162,7 +186,8 @@ listed id acked (b ∷ admissions) (suc i) a h d = later (is_due id acked b) (li
 pub told_as : (h : History) (o id : ℕ) (s : SourceHistory) (l : Lane)
     → source_at id h.connections ≡ Some s → slice_get h.lanes o ≡ Some l
     → s.shut ≡ false
-    → answer_of (step histories h (event.Collect id o)) ≡ answer.Told (histories.due l id).numbers (histories.due l id).acks
+    → answer_of (step histories h (event.Collect id o)) ≡ answer.Told (histories.due l id).numbers
+    (histories.due l id).acks
 told_as h o id s l stands here still =
     (λ j. answer_of (sought (stands j) NoSuch >>= (λ x. sought (here j) NoSuch >>= (λ y. within (λ two. with_lane o two.1 (with_connection id two.0 h)) (steps.collect histories id x y)))))
     ∙ ap (λ b. answer_of (within (λ (two : SourceHistory × Lane). with_lane o two.1 (with_connection id two.0 h)) (refuse_if b Closed
@@ -172,7 +197,10 @@ pub without_entries-told : (h : History) (o i : ℕ) (s : SourceHistory) (l : La
     → source_at a.request.origin.conn h.connections ≡ Some s → s.shut ≡ false
     → slice_get h.lanes o ≡ Some l
     → slice_get l.output.book.admissions i ≡ Some a → a.fate ≡ Untold → a.request.spans ≡ []
-    → (numbers out : List ℕ) × (answer_of (step histories h (event.Collect a.request.origin.conn o)) ≡ answer.Told numbers out) × (has_number a.request.origin.request numbers ≡ true)
+    → (numbers out : List ℕ) ×
+    (answer_of (step histories h (event.Collect a.request.origin.conn o))
+    ≡ answer.Told numbers out) ×
+    (has_number a.request.origin.request numbers ≡ true)
 without_entries-told h o i s l a stands still here at untold none =
     let id = a.request.origin.conn in
     let is_its : is_of id a.request ≡ true = grind (arith, nat_tests) in

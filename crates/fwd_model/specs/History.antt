@@ -117,14 +117,14 @@ source_at id (c ∷ cs) =
 abbrev pub with_source : ℕ → SourceHistory → List Connection → List Connection
 with_source id s [] = []
 with_source id s (c ∷ cs) =
-    if c.id == id then record { id = c.id; source = s; gone = c.gone } ∷ cs
+    if c.id == id then record c { source = s } ∷ cs
     else c ∷ with_source id s cs
 
 -- the connection of an id is known no more
 abbrev pub with_gone : ℕ → List Connection → List Connection
 with_gone id [] = []
 with_gone id (c ∷ cs) =
-    if c.id == id then record { id = c.id; source = c.source; gone = true } ∷ cs
+    if c.id == id then record c { gone = true } ∷ cs
     else c ∷ with_gone id cs
 
 -- the id is above every earlier one

@@ -1,18 +1,11 @@
 -- What a connection is accepted with, and what a session and an output begin with.
 use Rattle.std.specs.Prelude.{ℕ, List}
-use Rattle.std.proofs.Math.Nat.{le_refl}
-use Rattle.fwd_msgpack.specs.declared.limits.Limits.{Limits}
 use Rattle.fwd_handshake.specs.declared.credentials.Security.{Security}
-use Rattle.fwd_source.specs.History.{Setup}
+use Rattle.fwd_source.specs.History.{Setup, source_limits}
 use Rattle.fwd_chunks.specs.History.{BufferSetting}
 use Rattle.fwd_failover.specs.History.{ServersSetting}
 use Rattle.fwd_session.specs.History as session
 use Rattle.fwd_model.specs.declared.config.OutputConfig.{OutputConfig}
-
--- how long and how deep a value of a source may be: 16,777,216 bytes, and 64 arrays and maps one
--- in another
-abbrev pub source_limits : Limits
-source_limits = record { bytes = 16777216; depth = 64; shallow = le_refl 64 }
 
 -- what a connection is accepted with
 abbrev pub setup_of : Security → ℕ → (nonce auth : List ℕ) → Setup

@@ -11,6 +11,7 @@ use Rattle.fwd_msgpack.specs.Values.{IsPlain, IsContainer, IsValue}
 use Rattle.fwd_msgpack.specs.Texts.{text, last_under}
 use Rattle.fwd_msgpack.proofs.Complete.{value_some}
 use Rattle.fwd_msgpack.proofs.Written.{values_split, values_row, written_head, written_text, written_elements, written_pairs, written_plain, written_container, text_plain, text_text, head_text, plain_value, container_value, in_a_row}
+use Rattle.fwd_modes.specs.declared.limits.TheConstants.{CHUNK_LIMIT, TAG_LIMIT}
 use Rattle.fwd_modes.specs.Entries.{entries_of, values_to_the_end, packed_entries}
 use Rattle.fwd_modes.specs.Frames.{frame_option, chunk_frame, IsKept, Frame, IsFrame}
 use Rattle.fwd_modes.specs.Kinds.{fitting_text}
@@ -25,7 +26,7 @@ five_parts a b c d e =
 
 -- ---- the option
 
-module _ (count : ℕ) (name : List ℕ) (small : count < 2 ^ 64) (short : length name ≤ 256)
+module _ (count : ℕ) (name : List ℕ) (small : count < 2 ^ 64) (short : length name ≤ CHUNK_LIMIT)
     (sized : length (frame_option count name) ≤ most_bytes) where
   fits : length name < 2 ^ 32
   fits = omega (arith, short)
@@ -85,8 +86,8 @@ module _ (count : ℕ) (name : List ℕ) (small : count < 2 ^ 64) (short : lengt
 
   pub option_good : is_bad_option (Some (frame_option count name)) ≡ false
   option_good =
-      ap are_bad_pairs option_pairs_are ∙ ap is_bad_chunk chunk_is ∙ ap (λ t. is_none (fitting_text 256 t)) (text_text name fits)
-      ∙ ap (λ b. is_none (cond b (Some name) None)) (le-leb (length name) 256 short)
+      ap are_bad_pairs option_pairs_are ∙ ap is_bad_chunk chunk_is ∙ ap (λ t. is_none (fitting_text CHUNK_LIMIT t)) (text_text name fits)
+      ∙ ap (λ b. is_none (cond b (Some name) None)) (le-leb (length name) CHUNK_LIMIT short)
 
   pub option_plain : is_compressed (Some (frame_option count name)) ≡ false
   option_plain = ap (λ p. is_compression (option_and_then (last_under (codes "compressed")) p)) option_pairs_are ∙ ap is_compression compressed_last
@@ -127,7 +128,7 @@ asks_if parts a b c d =
     ∙ ap (λ t. unless_fault (first_fault ((false, BadTag) ∷ (false, BadOption) ∷ (false, Compressed) ∷ (t, BadEntry) ∷ [])) parts) d
 
 module _ (deep : ℕ) (tag : List ℕ) (entries : List (List ℕ)) (name : List ℕ)
-    (tag_short : length tag ≤ 1024) (name_short : length name ≤ 256)
+    (tag_short : length tag ≤ TAG_LIMIT) (name_short : length name ≤ CHUNK_LIMIT)
     (each : AllByRecursion (IsKept deep) entries)
     (sized : length (chunk_frame tag entries name) ≤ most_bytes) where
   abbrev packed : List ℕ
@@ -202,7 +203,7 @@ module _ (deep : ℕ) (tag : List ℕ) (entries : List (List ℕ)) (name : List 
       ∙ ap (λ es. with_option (text tag) es (option ∷ [])) (packed_back deep entries each sizes.of_packed)
 
   tag_good : is_none (tag_of (text tag)) ≡ false
-  tag_good = ap (λ t. is_none (fitting_text 1024 t)) (text_text tag tag_fits) ∙ ap (λ b. is_none (cond b (Some tag) None)) (le-leb (length tag) 1024 tag_short)
+  tag_good = ap (λ t. is_none (fitting_text TAG_LIMIT t)) (text_text tag tag_fits) ∙ ap (λ b. is_none (cond b (Some tag) None)) (le-leb (length tag) TAG_LIMIT tag_short)
 
   frame_asked : asked frame_parts
       ≡ record { tag = tag; entries = entries; chunk = Some (text name) }
@@ -241,7 +242,7 @@ pub only : (deep : ℕ) (frame : Frame) (r : Request) (value : List ℕ) → IsF
 only deep frame r value is e same = asks_same r (asked_by frame) (sym e ∙ ap (request_of deep) same ∙ back deep frame is)
 
 -- the text of a name tells the name
-name_same : (name other : List ℕ) → length name ≤ 256 → length other ≤ 256
+name_same : (name other : List ℕ) → length name ≤ CHUNK_LIMIT → length other ≤ CHUNK_LIMIT
     → text name ≡ text other → name ≡ other
 name_same name other short small e = some_same name other (sym (text_text name (omega (arith, short))) ∙ ap text_of e ∙ text_text other (omega (arith, small)))
 

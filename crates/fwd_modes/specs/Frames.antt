@@ -10,6 +10,7 @@ use Rattle.fwd_msgpack.specs.declared.head.Head.TheVariants.{Int, Bin, Arr, Map}
 use Rattle.fwd_msgpack.specs.Heads.{head_bytes}
 use Rattle.fwd_msgpack.specs.Texts.{text}
 use Rattle.fwd_msgpack.specs.Values.{IsValue}
+use Rattle.fwd_modes.specs.declared.limits.TheConstants.{CHUNK_LIMIT, TAG_LIMIT}
 use Rattle.fwd_modes.specs.Entries.{entry_of}
 
 -- the name of a chunk: the Base64 of six bytes for the run,
@@ -45,10 +46,10 @@ pub record Frame : Type 0 where
   pub entries : List (List ℕ)
   pub name : List ℕ
 
--- The frame of a chunk within the limits of a request: a tag of at most 1,024 bytes and a name of
--- at most 256, kept entries, and less than 2^32 bytes in all.
+-- The frame of a chunk within the limits of a request: those of its tag and its name, kept entries,
+-- and less than 2^32 bytes in all.
 pub record IsFrame (deep : ℕ) (frame : Frame) : Type 0 where
-  pub tag : length frame.tag ≤ 1024
-  pub name : length frame.name ≤ 256
+  pub tag : length frame.tag ≤ TAG_LIMIT
+  pub name : length frame.name ≤ CHUNK_LIMIT
   pub entries : AllByRecursion (IsKept deep) frame.entries
   pub size : length (chunk_frame frame.tag frame.entries frame.name) < 2 ^ 32

@@ -3,6 +3,7 @@
 use Rattle.std.specs.Prelude.{ℕ, Bool, true, false, ◌||◌, List, [], Option, Some, None, is_none, codes, option_and_then, if◌then◌else◌}
 use Rattle.fwd_msgpack.specs.Scans.{pairs_of, is_nil}
 use Rattle.fwd_msgpack.specs.Texts.{is_text, last_under}
+use Rattle.fwd_modes.specs.declared.limits.TheConstants.{CHUNK_LIMIT}
 use Rattle.fwd_modes.specs.Kinds.{text_within}
 
 -- The pairs of an option. One that is left out or nil has
@@ -23,10 +24,10 @@ chunk_under pairs = option_and_then unless_nil (last_under (codes "chunk") pairs
 abbrev pub chunk_of : Option (List ℕ) → Option (List ℕ)
 chunk_of option = option_and_then chunk_under (option_pairs option)
 
--- a chunk is a str or a bin of at most 256 bytes
+-- a chunk is a str or a bin within the limit
 abbrev pub is_bad_chunk : Option (List ℕ) → Bool
 is_bad_chunk None = false
-is_bad_chunk (Some bytes) = is_none (text_within 256 bytes)
+is_bad_chunk (Some bytes) = is_none (text_within CHUNK_LIMIT bytes)
 
 -- there are no pairs, or their chunk is a bad one
 abbrev pub are_bad_pairs : Option (List (List ℕ × List ℕ)) → Bool

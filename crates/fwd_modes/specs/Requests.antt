@@ -6,6 +6,7 @@ use Rattle.fwd_msgpack.specs.declared.head.Head.TheVariants.{Int, Ext, Arr, Str,
 use Rattle.fwd_msgpack.specs.Scans.{elements_of, text_of, head_of, is_nil}
 use Rattle.fwd_modes.specs.declared.fault.InputFault.{InputFault}
 use Rattle.fwd_modes.specs.declared.fault.InputFault.TheVariants.{BadShape, BadTag, BadEntry, BadOption, Compressed}
+use Rattle.fwd_modes.specs.declared.limits.TheConstants.{TAG_LIMIT}
 use Rattle.fwd_modes.specs.Kinds.{text_within}
 use Rattle.fwd_modes.specs.Entries.{kept_if, listed_entries, packed_entries}
 use Rattle.fwd_modes.specs.Options.{is_bad_option, is_compressed, chunk_of}
@@ -82,9 +83,9 @@ parts_in deep (tag ∷ second ∷ others) =
     parts_by deep (mode_by (head_of second)) tag second others
 parts_in deep _ = None
 
--- a tag is a str or a bin of at most 1,024 bytes
+-- a tag is a str or a bin within the limit
 abbrev pub tag_of : List ℕ → Option (List ℕ)
-tag_of bytes = text_within 1024 bytes
+tag_of bytes = text_within TAG_LIMIT bytes
 
 -- what can be wrong with the parts, in the order in which it counts
 abbrev pub faults_of : Parts → List (Bool × InputFault)

@@ -1,13 +1,14 @@
 //! What a request has beside its entries.
 
-ghost use Rattle.std.specs.Prelude.{◌≤◌, length};
+ghost use Rattle.std.specs.Prelude.{◌≤◌, ◌+◌, length};
 ghost use Rattle.std.specs.Option.{ForSome};
+ghost use Rattle.fwd_modes.specs.declared.limits.TheConstants.{CHUNK_LIMIT, TAG_LIMIT};
 
 /// What a request without a fault has beside its entries.
 #[derive(Clone, Copy, Debug)]
 pub(crate) struct Asked<'a> {
     pub(crate) tag: &'a [u8],
     pub(crate) chunk: Option<&'a [u8]>,
-    ghost tag_fits: { length tag.now ≤ 1024 },
-    ghost chunk_fits: { ForSome chunk (λ bytes. length bytes.now ≤ 261) },
+    ghost tag_fits: { length tag.now ≤ TAG_LIMIT },
+    ghost chunk_fits: { ForSome chunk (λ bytes. length bytes.now ≤ CHUNK_LIMIT + 5) },
 }

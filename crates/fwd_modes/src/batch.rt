@@ -3,6 +3,7 @@ ghost use Rattle.std.specs.Prelude.{
   ◌<◌,
   ◌≤◌,
   ◌^◌,
+  ◌+◌,
   ◌==◌,
   ◌↔◌,
   IsTrue,
@@ -18,6 +19,7 @@ ghost use Rattle.fwd_modes.specs.Readings.{entries_left};
 
 use crate::entries::Entries;
 use crate::kept::Kept;
+use crate::limits::{CHUNK_LIMIT, TAG_LIMIT};
 use smallvec::SmallVec;
 use std::alloc::{AllocError, Global};
 use std::marker::Model;
@@ -46,13 +48,14 @@ impl Model for Batch {
       chunk = option_map (λ c. c.items) b.chunk;
     } };
 
-    ghost use Rattle.std.specs.Prelude.{◌<◌, ◌≤◌, ◌^◌, length};
+    ghost use Rattle.std.specs.Prelude.{◌<◌, ◌≤◌, ◌^◌, ◌+◌, length};
     ghost use Rattle.std.specs.List.{concat};
+    ghost use Rattle.fwd_modes.specs.declared.limits.TheConstants.{CHUNK_LIMIT, TAG_LIMIT};
 
     ghost invariant = { λ b.
-        (length b.tag.items ≤ 1024)
+        (length b.tag.items ≤ TAG_LIMIT)
         × (length (concat (arc_value b.entries)) < 2 ^ 32)
-        × ForSome b.chunk (λ chunk. length chunk.items ≤ 261) };
+        × ForSome b.chunk (λ chunk. length chunk.items ≤ CHUNK_LIMIT + 5) };
 }
 
 /// Whether bytes are the same, or there are none on either side.
@@ -74,8 +77,8 @@ impl Batch {
         entries: Kept,
         chunk: Option<&[u8]>,
     ) -> Result<Self, AllocError>
-        requires tag_fits { length tag.now ≤ 1024 }
-        requires chunk_fits { ForSome chunk (λ bytes. length bytes.now ≤ 261) }
+        requires tag_fits { length tag.now ≤ TAG_LIMIT }
+        requires chunk_fits { ForSome chunk (λ bytes. length bytes.now ≤ CHUNK_LIMIT + 5) }
         ensures { IfOk result (λ b.
             b
             ≡ record { tag = tag.now; entries = entries; chunk = option_copied chunk.entry }) }
@@ -94,8 +97,8 @@ impl Batch {
         chunk: Option<&[u8]>,
     ) -> Result<Self, AllocError>
         requires entries_fit { length (concat (arc_value entries)) < 2 ^ 32 }
-        requires tag_fits { length tag.now ≤ 1024 }
-        requires chunk_fits { ForSome chunk (λ bytes. length bytes.now ≤ 261) }
+        requires tag_fits { length tag.now ≤ TAG_LIMIT }
+        requires chunk_fits { ForSome chunk (λ bytes. length bytes.now ≤ CHUNK_LIMIT + 5) }
         ensures { IfOk result (λ b. b ≡ record {
           tag = tag.now;
           entries = arc_value entries;
@@ -133,7 +136,7 @@ impl Batch {
     /// The tag's bytes.
     pub fn tag(&self) -> &[u8]
         ensures value { result.now ≡ self.now.tag }
-        ensures bound { length result.now ≤ 1024 }
+        ensures bound { length result.now ≤ TAG_LIMIT }
     {
         self.tag.as_slice()
     }
@@ -177,10 +180,11 @@ impl Batch {
         self.entries.ends().is_empty()
     }
 
-    /// The bytes of the option's `chunk` value, head included, if there is one: at most 261.
+    /// The bytes of the option's `chunk` value, head included, if there is one: at most 5
+    /// more than `CHUNK_LIMIT`.
     pub fn chunk(&self) -> Option<&[u8]>
         ensures value { option_copied result ≡ self.now.chunk }
-        ensures bound { IfSome result (λ chunk. length chunk.now ≤ 261) }
+        ensures bound { IfSome result (λ chunk. length chunk.now ≤ CHUNK_LIMIT + 5) }
     {
         match &self.chunk {
             Some(chunk) => Some(chunk.as_slice()),

@@ -4,12 +4,12 @@
 pub enum InputFault {
     /// No array, or one of another length or with another kind in its second place.
     BadShape = 4,
-    /// The tag is no str or bin, or longer than 1,024 bytes.
+    /// The tag is no str or bin, or longer than `TAG_LIMIT` bytes.
     BadTag = 5,
     /// An entry is no array of a time and a map.
     BadEntry = 6,
-    /// The option is neither a map nor nil, or its `chunk`
-    /// is no text of at most 256 bytes and no nil.
+    /// The option is neither a map nor nil, or its `chunk` is no nil and no text of at most
+    /// `CHUNK_LIMIT` bytes.
     BadOption = 7,
     /// The option names a compression that this relay does not read.
     Compressed = 8,

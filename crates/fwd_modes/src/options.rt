@@ -1,16 +1,15 @@
 //! The option of a request (Forward Protocol Specification v1, "Option").
 
-ghost use Rattle.std.specs.Prelude.{◌≡◌, ◌≤◌, true, false, IfOk, IfErr, IfSome, length, option_and_then};
+ghost use Rattle.std.specs.Prelude.{◌≡◌, ◌≤◌, ◌+◌, true, false, IfOk, IfErr, IfSome, length, option_and_then};
 ghost use Rattle.std.specs.Option.{ForSome, option_copied, option_map};
 ghost use Rattle.fwd_msgpack.specs.Values.{bytes_of};
+ghost use Rattle.fwd_modes.specs.declared.limits.TheConstants.{CHUNK_LIMIT};
 ghost use Rattle.fwd_modes.specs.Options.{unless_nil, chunk_of, is_bad_chunk, is_bad_option, is_compression, is_compressed};
 
 use crate::fault::InputFault;
 use crate::kinds::text_within;
+use crate::limits::CHUNK_LIMIT;
 use fwd_msgpack::Value;
-
-/// The most bytes of a chunk's text.
-const CHUNK_LIMIT: usize = 256;
 
 /// What an option says.
 #[derive(Clone, Copy, Debug)]
@@ -19,7 +18,7 @@ pub(crate) struct Said<'a> {
     pub(crate) chunk: Option<&'a [u8]>,
     /// Whether a compression is named.
     pub(crate) compressed: bool,
-    ghost chunk_fits: { ForSome chunk (λ bytes. length bytes.now ≤ 261) },
+    ghost chunk_fits: { ForSome chunk (λ bytes. length bytes.now ≤ CHUNK_LIMIT + 5) },
 }
 
 /// What an option says that has no pairs.
@@ -42,7 +41,8 @@ fn is_compression(value: Option<Value<'_>>) -> bool
 fn read_chunk<'a>(value: Option<Value<'a>>) -> Result<Option<&'a [u8]>, InputFault>
     ensures ok { let given = option_and_then unless_nil (option_map bytes_of value.entry) in
         IfOk result (λ chunk. (is_bad_chunk given ≡ false) × (option_copied chunk ≡ given)) }
-    ensures bound { IfOk result (λ chunk. IfSome chunk (λ bytes. length bytes.now ≤ 261)) }
+    ensures bound { IfOk result (λ chunk.
+        IfSome chunk (λ bytes. length bytes.now ≤ CHUNK_LIMIT + 5)) }
     ensures err { let given = option_and_then unless_nil (option_map bytes_of value.entry) in
         IfErr result (λ fault. (is_bad_chunk given ≡ true) × (fault ≡ InputFault.BadOption)) }
 {

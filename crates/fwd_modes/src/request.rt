@@ -14,14 +14,12 @@ use crate::entry::Entry;
 use crate::fault::InputFault;
 use crate::kept::Kept;
 use crate::kinds::text_within;
+use crate::limits::TAG_LIMIT;
 use crate::lists::{read_list, read_packed};
 use crate::options::read_option;
 use crate::parts::{Given, Parts};
 use fwd_msgpack::{Limits, Value};
 use std::alloc::{AllocError, Global};
-
-/// The most bytes of a tag.
-const TAG_LIMIT: usize = 1024;
 
 /// What a whole value says.
 #[derive(Debug, Drop)]

@@ -90,7 +90,8 @@ told first = by_tests (ltb first 0x80) (ltb first 0x90) (ltb first 0xa0) (ltb fi
         (cond d (fixed (Str (first - 0xa0)))
         (cond e (get_or named_rows (first - 0xc0) None)
         (fixed (Int true (256 - first))))))))
-        (cond a 1 (cond b 0 (cond c 0 (cond d (first - 0xa0 + 1) (cond e (get_or named_sizes (first - 0xc0) 0) 1)))))
+        (cond a 1 (cond b 0
+        (cond c 0 (cond d (first - 0xa0 + 1) (cond e (get_or named_sizes (first - 0xc0) 0) 1)))))
     by_tests true b c d e = fixed_told (Int false first) 1 refl (lit≤ tt)
     by_tests false true c d e = untold (fixed (Map (first - 0x80)))
     by_tests false false true d e = untold (fixed (Arr (first - 0x90)))

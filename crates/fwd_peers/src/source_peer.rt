@@ -4,7 +4,7 @@
 ghost use Rattle.std.specs.Prelude.{◌≡◌, ◌⊎◌, Some, length, IfOk, IfSome, if◌then◌else◌};
 ghost use Rattle.std.specs.Arc.{arc_value};
 ghost use Rattle.fwd_modes.specs.Acks.{ack_text};
-ghost use Rattle.fwd_model.specs.Setups.{source_limits};
+ghost use Rattle.fwd_source.specs.History.{source_limits};
 ghost use Rattle.fwd_source.specs.Live.{
   opened_source,
   first_waiting,

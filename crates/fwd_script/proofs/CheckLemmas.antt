@@ -53,7 +53,8 @@ fault_checks : (r : Result Settings SettingsFault) (text : List ℕ) (status : S
 fault_checks (Ok s) text status known e h = absurd cc
 fault_checks (Err fault) text status known e h = by fault status e cc
   where
-    by : (fault : SettingsFault) (status : Status) → settings_of text ≡ Err fault → status ≡ refused_status fault → Checks status text known known
+    by : (fault : SettingsFault) (status : Status) → settings_of text ≡ Err fault
+        → status ≡ refused_status fault → Checks status text known known
     by faults.Memory status e h = rw h (Keeps-same known)
     by faults.Unreadable status e h = rw h (inl e, Keeps-same known)
     by faults.NotToml status e h = rw h (inl e, Keeps-same known)
@@ -77,7 +78,8 @@ memory_or Output text known h = fault_checks (settings_of text) text Output know
 pub refused_checks : (read : Result (Vec ℕ Global) InputError) (known : Option (List ℕ))
     (status : Status) (old : Option (List ℕ))
     → IfOk read (λ bytes. IfSome known (λ left. bytes.items ≡ left))
-    → IfOk read (λ text. refused status ≢ refused Memory → refused status ≡ verdict_on (settings_of text.items))
+    → IfOk read
+    (λ text. refused status ≢ refused Memory → refused status ≡ verdict_on (settings_of text.items))
     → IfErr read (λ error. refused status ≡ verdict_on (Err (unread error)))
     → (text : List ℕ) × IfSome known (λ left. text ≡ left) × Checks status text old old
 refused_checks (Ok bytes) known status old whole text failed = (bytes.items, whole, memory_or status bytes.items old text)

@@ -10,7 +10,8 @@ just x = Some x
 
 bad_line-more : (count : ℕ) (line : List ℕ) (lines : List (List ℕ)) (event : Event)
     → event_of line ≡ Some event → (b : Option ℕ)
-    → MatchOption b (AllAreEvents lines) (IsBadLine (count + 1) lines) → MatchOption b (AllAreEvents (line ∷ lines)) (IsBadLine count (line ∷ lines))
+    → MatchOption b (AllAreEvents lines) (IsBadLine (count + 1) lines)
+    → MatchOption b (AllAreEvents (line ∷ lines)) (IsBadLine count (line ∷ lines))
 bad_line-more count line lines event e None h =
     rw e (ap (λ (es : List (Option Event)). Some event ∷ es) h)
 bad_line-more count line lines event e (Some n) h =

@@ -35,13 +35,16 @@ live_answers_same r [] = refl
 live_answers_same r (e ∷ es) = ap (λ xs. live_answer_to r e ∷ xs) (live_answers_same (live_next r e) es)
 
 module _ (h : History) (r : LiveRelay) (shown : r ≡ live h) (law : (es : List Event) → model.answers histories h es ≡ model.answers lives (live h) es) where
-  same_output : (lines : List (List ℕ)) → output live_answer_to live_next r lines ≡ output answer_to next h lines
+  same_output : (lines : List (List ℕ))
+      → output live_answer_to live_next r lines ≡ output answer_to next h lines
   same_output lines =
       let es = events_of lines in
       ap (flat_map answer_line) (live_answers_same r es ∙ ap (λ x. model.answers lives x es) shown ∙ sym (law es) ∙ sym (history_answers h es))
 
   -- how a run over lines ended
-  pub of_history : (status : Status) (count : ℕ) (lines : List (List ℕ)) (old new : Option (List ℕ)) → Ends status live_answer_to live_next r count lines old new → Ends status answer_to next h count lines old new
+  pub of_history : (status : Status) (count : ℕ) (lines : List (List ℕ)) (old new : Option (List ℕ))
+      → Ends status live_answer_to live_next r count lines old new
+      → Ends status answer_to next h count lines old new
   of_history Done count lines old new f = (f.0, subst (λ bytes. Appends old new bytes) (same_output lines) f.1)
   of_history (BadLine n) count lines old new f = (f.0, subst (λ bytes. Appends old new bytes) (same_output lines) f.1)
   of_history (BadSettings fault) count lines old new f = f
@@ -60,8 +63,11 @@ module _ (h : History) (r : LiveRelay) (shown : r ≡ live h) (law : (es : List 
 -- a script that was answered by a relay that its settings opened
 pub opened_replays : (script text : List ℕ) (relay : LiveRelay) (status : Status) (count : ℕ)
     (lines : List (List ℕ)) (old new : Option (List ℕ))
-    → ((config : Config) (h : History) (es : List Event) → IsReached config h → model.answers histories h es ≡ model.answers lives (live h) es)
-    → Opens text (Ok relay) → text ≡ settings_of script → count ≡ head_len (lines_of script) → lines ≡ event_lines (lines_of script)
+    →
+    ((config : Config) (h : History) (es : List Event) → IsReached config h
+    → model.answers histories h es ≡ model.answers lives (live h) es)
+    → Opens text (Ok relay) → text ≡ settings_of script → count ≡ head_len (lines_of script)
+    → lines ≡ event_lines (lines_of script)
     → Ends status live_answer_to live_next relay count lines old new → Replays status script old new
 opened_replays script text relay status count lines old new law opened same before behind ended =
     by status (subst (λ ls. Ends status answer_to next (opening config) (head_len (lines_of script)) ls old new) behind
@@ -74,7 +80,10 @@ opened_replays script text relay status count lines old new law opened same befo
     good : Configures (settings_of script) (Ok config)
     good = subst (λ t. Configures t (Ok config)) same opened.1
 
-    by : (status : Status) → Ends status answer_to next (opening config) (head_len (lines_of script)) (event_lines (lines_of script)) old new → Replays status script old new
+    by : (status : Status)
+        → Ends status answer_to next (opening config) (head_len (lines_of script))
+        (event_lines (lines_of script)) old new
+        → Replays status script old new
     by Done e = (config, good, e)
     by (BadLine n) e = (config, good, e)
     by (BadSettings fault) e = absurd e

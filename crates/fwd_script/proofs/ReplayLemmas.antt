@@ -142,7 +142,9 @@ pub IsAnswered-more : {S : Type 0} (answer_to : S → Event → Answer) (next : 
     → S) (first : S) (before : ℕ) (lines : List (List ℕ)) (old : Option (List ℕ)) (s : S)
     (number : ℕ) (line : List ℕ) (rest : List (List ℕ)) (new : Option (List ℕ))
     (event : Event) (t : S) (newer : Option (List ℕ))
-    → IsAnswered answer_to next first before lines old s number (line ∷ rest) new → event_of line ≡ Some event → t ≡ next s event → Appends new newer (answer_line (answer_to s event))
+    → IsAnswered answer_to next first before lines old s number (line ∷ rest) new
+    → event_of line ≡ Some event → t ≡ next s event
+    → Appends new newer (answer_line (answer_to s event))
     → IsAnswered answer_to next first before lines old t (number + 1) rest newer
 IsAnswered-more {S = S} answer_to next first before lines old s number line rest new event t newer a e goes writes =
     let one : events_of (line ∷ []) ≡ event ∷ [] = rw e refl in
@@ -165,7 +167,8 @@ IsAnswered-more {S = S} answer_to next first before lines old s number line rest
 pub IsAnswered-all : {S : Type 0} (answer_to : S → Event → Answer) (next : S → Event
     → S) (first : S) (before : ℕ) (lines : List (List ℕ)) (old : Option (List ℕ)) (s : S)
     (number : ℕ) (new : Option (List ℕ))
-    → IsAnswered answer_to next first before lines old s number [] new → Ends Done answer_to next first before lines old new
+    → IsAnswered answer_to next first before lines old s number [] new
+    → Ends Done answer_to next first before lines old new
 IsAnswered-all answer_to next first before lines old s number new a =
     let whole : lines ≡ a.front = a.parts ∙ append-nil a.front in
     (ap (bad_line before) a.parts ∙ bad_line-append before a.front [] a.are_events, rw whole a.wrote)
@@ -173,7 +176,9 @@ IsAnswered-all answer_to next first before lines old s number new a =
 pub IsAnswered-bad : {S : Type 0} (answer_to : S → Event → Answer) (next : S → Event
     → S) (first : S) (before : ℕ) (lines : List (List ℕ)) (old : Option (List ℕ)) (s : S)
     (number : ℕ) (line : List ℕ) (rest : List (List ℕ)) (new newer : Option (List ℕ))
-    → IsAnswered answer_to next first before lines old s number (line ∷ rest) new → event_of line ≡ None → Keeps new newer → Ends (BadLine (number + 1)) answer_to next first before lines old newer
+    → IsAnswered answer_to next first before lines old s number (line ∷ rest) new
+    → event_of line ≡ None → Keeps new newer
+    → Ends (BadLine (number + 1)) answer_to next first before lines old newer
 IsAnswered-bad answer_to next first before lines old s number line rest new newer a none keeps =
     let here : bad_line (before + length a.front) (line ∷ rest) ≡ Some (before + length a.front + 1) = rw none refl in
     let counted = a.counted in
@@ -188,7 +193,8 @@ IsAnswered-bad answer_to next first before lines old s number line rest new newe
 -- what is written for a front of the lines is a front of what is written for all
 output-front : {S : Type 0} (answer_to : S → Event → Answer) (next : S → Event
     → S) (s : S) (front rest : List (List ℕ)) (old new : Option (List ℕ)) → AreEvents front
-    → Appends old new (output answer_to next s front) → AppendsFront old new (output answer_to next s (front ++ rest))
+    → Appends old new (output answer_to next s front)
+    → AppendsFront old new (output answer_to next s (front ++ rest))
 output-front answer_to next s front rest old new are h =
     let more = output answer_to next (after next s (events_of front)) rest in
     rw (output-append answer_to next s front rest are)
@@ -198,7 +204,8 @@ pub IsAnswered-memory : {S : Type 0} (answer_to : S → Event → Answer) (next 
     → S) (first : S) (before : ℕ) (lines : List (List ℕ)) (old : Option (List ℕ)) (s : S)
     (number : ℕ) (line : List ℕ) (rest : List (List ℕ)) (new : Option (List ℕ)) (t : S)
     (newer : Option (List ℕ))
-    → IsAnswered answer_to next first before lines old s number (line ∷ rest) new → Keeps new newer → (t ≡ s) ⊎ ((event : Event) × (event_of line ≡ Some event) × (t ≡ next s event))
+    → IsAnswered answer_to next first before lines old s number (line ∷ rest) new → Keeps new newer
+    → (t ≡ s) ⊎ ((event : Event) × (event_of line ≡ Some event) × (t ≡ next s event))
     → MeetsMemory answer_to next first t lines old newer
 IsAnswered-memory {S = S} answer_to next first before lines old s number line rest new t newer a keeps state =
     record {
@@ -216,7 +223,8 @@ IsAnswered-memory {S = S} answer_to next first before lines old s number line re
       ];
     }
   where
-    more : (event : Event) → event_of line ≡ Some event → t ≡ next s event → t ≡ after next first (events_of (a.front ++ line ∷ []))
+    more : (event : Event) → event_of line ≡ Some event → t ≡ next s event
+        → t ≡ after next first (events_of (a.front ++ line ∷ []))
     more event e goes =
         let one : events_of (line ∷ []) ≡ event ∷ [] = rw e refl in
         let all : events_of (a.front ++ line ∷ []) ≡ events_of a.front ++ event ∷ [] = events_of-append a.front (line ∷ []) a.are_events ∙ ap (λ (es : List Event). events_of a.front ++ es) one in
@@ -226,7 +234,8 @@ pub IsAnswered-output : {S : Type 0} (answer_to : S → Event → Answer) (next 
     → S) (first : S) (before : ℕ) (lines : List (List ℕ)) (old : Option (List ℕ)) (s : S)
     (number : ℕ) (line : List ℕ) (rest : List (List ℕ)) (new : Option (List ℕ))
     (event : Event) (newer : Option (List ℕ))
-    → IsAnswered answer_to next first before lines old s number (line ∷ rest) new → event_of line ≡ Some event → AppendsFront new newer (answer_line (answer_to s event))
+    → IsAnswered answer_to next first before lines old s number (line ∷ rest) new
+    → event_of line ≡ Some event → AppendsFront new newer (answer_line (answer_to s event))
     → Ends Output answer_to next first before lines old newer
 IsAnswered-output {S = S} answer_to next first before lines old s number line rest new event newer a e wrote =
     let here : output answer_to next s (line ∷ rest) ≡ answer_line (answer_to s event) ++ output answer_to next (next s event) rest = rw e refl in
@@ -242,7 +251,8 @@ IsAnswered-output {S = S} answer_to next first before lines old s number line re
 
 pub StopsAtLine-keeps : {S : Type 0} (answer_to : S → Event → Answer) (next : S → Event
     → S) (first : S) (lines : List (List ℕ)) (old new newer : Option (List ℕ))
-    → StopsAtLine answer_to next first lines old new → Keeps new newer → StopsAtLine answer_to next first lines old newer
+    → StopsAtLine answer_to next first lines old new → Keeps new newer
+    → StopsAtLine answer_to next first lines old newer
 StopsAtLine-keeps answer_to next first lines old new newer a keeps =
     record {
       front = a.front;
@@ -255,7 +265,8 @@ StopsAtLine-keeps answer_to next first lines old new newer a keeps =
 
 pub MeetsMemory-keeps : {S : Type 0} (answer_to : S → Event → Answer) (next : S → Event
     → S) (first t : S) (lines : List (List ℕ)) (old new newer : Option (List ℕ))
-    → MeetsMemory answer_to next first t lines old new → Keeps new newer → MeetsMemory answer_to next first t lines old newer
+    → MeetsMemory answer_to next first t lines old new → Keeps new newer
+    → MeetsMemory answer_to next first t lines old newer
 unfolding StopsAtLine-keeps
 MeetsMemory-keeps answer_to next first t lines old new newer a keeps =
     record { stops = StopsAtLine-keeps answer_to next first lines old new newer a.stops keeps; state = a.state }
@@ -263,7 +274,8 @@ MeetsMemory-keeps answer_to next first t lines old new newer a keeps =
 pub Ends-keeps : {S : Type 0} (answer_to : S → Event → Answer) (next : S → Event
     → S) (first : S) (status : Status) (before : ℕ) (lines : List (List ℕ))
     (old new newer : Option (List ℕ))
-    → Ends status answer_to next first before lines old new → Keeps new newer → Ends status answer_to next first before lines old newer
+    → Ends status answer_to next first before lines old new → Keeps new newer
+    → Ends status answer_to next first before lines old newer
 Ends-keeps answer_to next first Done before lines old new newer e keeps = (e.0, Appends-keeps old new newer _ e.1 keeps)
 Ends-keeps answer_to next first (BadLine n) before lines old new newer e keeps = (e.0, Appends-keeps old new newer _ e.1 keeps)
 Ends-keeps answer_to next first (BadSettings fault) before lines old new newer e keeps = absurd e
@@ -274,7 +286,8 @@ Ends-keeps answer_to next first Output before lines old new newer e keeps = Appe
 pub Ends-output : {S : Type 0} (answer_to : S → Event → Answer) (next : S → Event
     → S) (first : S) (status : Status) (before : ℕ) (lines : List (List ℕ))
     (old new : Option (List ℕ))
-    → Ends status answer_to next first before lines old new → Ends Output answer_to next first before lines old new
+    → Ends status answer_to next first before lines old new
+    → Ends Output answer_to next first before lines old new
 Ends-output answer_to next first Done before lines old new e = AppendsFront-all old new _ e.1
 Ends-output answer_to next first (BadLine n) before lines old new e = AppendsFront-all old new _ e.1
 Ends-output answer_to next first (BadSettings fault) before lines old new e = absurd e
@@ -289,7 +302,8 @@ pub IsAnswered-stop : {S : Type 0} (answer_to : S → Event → Answer) (next : 
     → S) (first : S) (before : ℕ) (lines : List (List ℕ)) (old : Option (List ℕ)) (s : S)
     (number : ℕ) (line : List ℕ) (rest : List (List ℕ)) (new : Option (List ℕ)) (t : S)
     (newer : Option (List ℕ)) (stop : Stop)
-    → IsAnswered answer_to next first before lines old s number (line ∷ rest) new → Stops stop answer_to next s t (event_of line) new newer
+    → IsAnswered answer_to next first before lines old s number (line ∷ rest) new
+    → Stops stop answer_to next s t (event_of line) new newer
     → Ends (stop_status stop (number + 1)) answer_to next first before lines old newer
 IsAnswered-stop answer_to next first before lines old s number line rest new t newer stops.Bad a h =
     IsAnswered-bad answer_to next first before lines old s number line rest new newer a h.0 h.1
@@ -302,7 +316,8 @@ pub IsAnswered-met : {S : Type 0} (answer_to : S → Event → Answer) (next : S
     → S) (first : S) (before : ℕ) (lines : List (List ℕ)) (old : Option (List ℕ)) (s : S)
     (number : ℕ) (line : List ℕ) (rest : List (List ℕ)) (new : Option (List ℕ)) (t : S)
     (newer : Option (List ℕ)) (stop : Stop)
-    → IsAnswered answer_to next first before lines old s number (line ∷ rest) new → Stops stop answer_to next s t (event_of line) new newer
+    → IsAnswered answer_to next first before lines old s number (line ∷ rest) new
+    → Stops stop answer_to next s t (event_of line) new newer
     → stop_status stop (number + 1) ≡ Memory → MeetsMemory answer_to next first t lines old newer
 IsAnswered-met answer_to next first before lines old s number line rest new t newer stops.Bad a h e = absurd cc
 IsAnswered-met answer_to next first before lines old s number line rest new t newer stops.Memory a h e =

@@ -103,7 +103,9 @@ IsSplit-more script rest count line after s f other =
 
 event_lines-rule : (seen : List (List ℕ)) (line : List ℕ) (more : List (List ℕ))
     → list_any is_rule seen ≡ false → is_rule line ≡ true
-    → (event_lines (seen ++ line ∷ more) ≡ more) × (settings_lines (seen ++ line ∷ more) ≡ seen) × (head_len (seen ++ line ∷ more) ≡ length seen + 1) × (list_any is_rule (seen ++ line ∷ more) ≡ true)
+    → (event_lines (seen ++ line ∷ more) ≡ more) × (settings_lines (seen ++ line ∷ more) ≡ seen) ×
+    (head_len (seen ++ line ∷ more) ≡ length seen + 1) ×
+    (list_any is_rule (seen ++ line ∷ more) ≡ true)
 event_lines-rule [] line more none rule = (rw rule refl, rw rule refl, rw rule refl, rw rule refl)
 event_lines-rule (first ∷ seen) line more none rule =
     let parts = or_false (is_rule first) (list_any is_rule seen) none in
@@ -128,7 +130,8 @@ front-at script front rest text =
 
 pub IsSplit-rule : (script rest : List ℕ) (count : ℕ) (line after : List ℕ)
     → IsSplit script rest count → IsFirstLine rest line after → is_rule line ≡ true
-    → (take (length script - length rest) script ≡ settings_of script) × (lines_of after ≡ event_lines (lines_of script)) × (count + 1 ≡ head_len (lines_of script))
+    → (take (length script - length rest) script ≡ settings_of script) ×
+    (lines_of after ≡ event_lines (lines_of script)) × (count + 1 ≡ head_len (lines_of script))
 IsSplit-rule script rest count line after s f rule =
     let whole : lines_of script ≡ s.seen ++ line ∷ lines_of after = s.lines ∙ ap (λ (ls : List (List ℕ)). s.seen ++ ls) f.lines in
     let at = event_lines-rule s.seen line (lines_of after) s.no_rule rule in
@@ -160,7 +163,8 @@ IsSplit-parts script rest count line after s f rule =
 
 pub IsSplit-end : (script : List ℕ) (count : ℕ) (rest : List ℕ) → rest ≡ []
     → IsSplit script rest count
-    → (script ≡ settings_of script) × (lines_of rest ≡ event_lines (lines_of script)) × (count ≡ head_len (lines_of script))
+    → (script ≡ settings_of script) × (lines_of rest ≡ event_lines (lines_of script)) ×
+    (count ≡ head_len (lines_of script))
 IsSplit-end script count rest none s =
     let whole : lines_of script ≡ s.seen = s.lines ∙ ap (λ (t : List ℕ). s.seen ++ lines_of t) none ∙ append-nil s.seen in
     let at = event_lines-none s.seen s.no_rule in

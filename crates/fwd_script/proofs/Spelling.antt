@@ -166,7 +166,8 @@ read_at-text_at Ending kind r = ending_of-ending_text kind
 -- words that are read are the spellings of what they say
 read_as-some : (kinds : List Kind) (make : Makes kinds) (ws : List (List ℕ)) (e : Event)
     → read_as kinds make ws ≡ Some e
-    → (xs : Values kinds) × AllFit (fields_of kinds xs) × (ws ≡ texts (fields_of kinds xs)) × (made kinds make xs ≡ e)
+    → (xs : Values kinds) × AllFit (fields_of kinds xs) × (ws ≡ texts (fields_of kinds xs)) ×
+    (made kinds make xs ≡ e)
 unfolding read_as
 read_as-some [] event [] e h = (tt, tt, refl, some_is event e h)
 read_as-some [] event (w ∷ ws) e h = absurd cc
@@ -182,7 +183,8 @@ read_as-some (kind ∷ kinds) make (w ∷ ws) e h =
 
 -- spellings are read
 read_as-texts : (kinds : List Kind) (make : Makes kinds) (xs : Values kinds)
-    → AllFit (fields_of kinds xs) → read_as kinds make (texts (fields_of kinds xs)) ≡ Some (made kinds make xs)
+    → AllFit (fields_of kinds xs)
+    → read_as kinds make (texts (fields_of kinds xs)) ≡ Some (made kinds make xs)
 unfolding read_as
 read_as-texts [] event xs r = refl
 read_as-texts (kind ∷ kinds) make xs r =
@@ -202,7 +204,8 @@ if_named : (name text : List ℕ) (kinds : List Kind) (make : Makes kinds)
     → ((xs : Values kinds) → form_of (made kinds make xs) ≡ (text, fields_of kinds xs))
     → (other : Option Event) (ws : List (List ℕ)) (e : Event)
     → (other ≡ Some e → InRange e × (name ∷ ws ≡ words_of e))
-    → cond (bytes_eq name text) (read_as kinds make ws) other ≡ Some e → InRange e × (name ∷ ws ≡ words_of e)
+    → cond (bytes_eq name text) (read_as kinds make ws) other ≡ Some e
+    → InRange e × (name ∷ ws ≡ words_of e)
 if_named name text kinds make form other ws e is_other h =
     elim (chosen (bytes_eq name text) (read_as kinds make ws) other (Some e) h) [
       | inl is ↦

@@ -10,6 +10,7 @@ use Rattle.fwd_modes.specs.Acks.{ack_name}
 use Rattle.std.specs.Str.{bytes_eq}
 use Rattle.fwd_handshake.specs.declared.credentials.Login.{Login}
 use Rattle.fwd_chunks.specs.History.{Load}
+use Rattle.fwd_session.specs.declared.limits.TheConstants.{REPLY_LIMIT, REPLY_NESTING}
 use Rattle.fwd_session.specs.declared.fault.SessionFault.{SessionFault}
 use Rattle.fwd_session.specs.declared.fault.SessionFault.TheVariants as fault
 use Rattle.fwd_session.specs.declared.handshake.Handshake.{Handshake}
@@ -35,11 +36,14 @@ behind-front vs (Broken ws broken) = ap (λ xs. Broken xs broken) (drop-front vs
 -- a stream that is not broken goes on behind its values
 pub reply_stream-goes_on : (heard bytes : List ℕ) → is_open (reply_stream heard) ≡ true
     → reply_stream (heard ++ bytes)
-    ≡ with_front (values_of (reply_stream heard)) (reply_stream (rest_of (reply_stream heard) ++ bytes))
+    ≡ with_front (values_of (reply_stream heard))
+    (reply_stream (rest_of (reply_stream heard) ++ bytes))
 unfolding reply_stream
-reply_stream-goes_on heard bytes e = split_append 65536 64 heard bytes ∙ at (split_of 65536 64 heard) e
+reply_stream-goes_on heard bytes e = split_append REPLY_LIMIT REPLY_NESTING heard bytes ∙ at (split_of REPLY_LIMIT REPLY_NESTING heard) e
   where
-    at : (s : Split) → is_open s ≡ true → continued 65536 64 s bytes ≡ with_front (values_of s) (split_of 65536 64 (rest_of s ++ bytes))
+    at : (s : Split) → is_open s ≡ true
+        → continued REPLY_LIMIT REPLY_NESTING s bytes ≡ with_front (values_of s)
+        (split_of REPLY_LIMIT REPLY_NESTING (rest_of s ++ bytes))
     at (Open vs rest) e = refl
     at (Broken vs broken) e = absurd cc
 
@@ -75,30 +79,40 @@ module _ (login : Login) (salt : List ℕ) where
       → at ≡ Done keepalive → ((name : Option (List ℕ)) → (others (Done keepalive) name).handshake ≡ Done keepalive)
       → (word_then at awaited v w others).handshake ≡ Done keepalive
 
-  ack_word-done : (keepalive : Bool) (awaited name : Option (List ℕ)) → StaysThen keepalive (ack_word awaited name)
+  ack_word-done : (keepalive : Bool) (awaited name : Option (List ℕ))
+      → StaysThen keepalive (ack_word awaited name)
   ack_word-done keepalive a None at awaited v others e f = e
   ack_word-done keepalive None (Some name) at awaited v others e f = e
   ack_word-done keepalive (Some a) (Some name) at awaited v others e f = by (bytes_eq name a)
     where
-      by : (b : Bool) → (word_then at awaited v (cond b Acks (Fails fault.WrongAck)) others).handshake ≡ Done keepalive
+      by : (b : Bool)
+          →
+          (word_then at awaited v (cond b Acks (Fails fault.WrongAck)) others).handshake
+          ≡ Done keepalive
       by true = ap (λ g. (others g None).handshake) e ∙ f None
       by false = e
 
-  word-done : (keepalive : Bool) (awaited : Option (List ℕ)) (v : List ℕ) → StaysThen keepalive (word_of login salt (Done keepalive) awaited v)
+  word-done : (keepalive : Bool) (awaited : Option (List ℕ)) (v : List ℕ)
+      → StaysThen keepalive (word_of login salt (Done keepalive) awaited v)
   unfolding word_of
   word-done keepalive a v at awaited u others e f = by (is_nil v)
     where
-      by : (b : Bool) → (word_then at awaited u (cond b Skipped (ack_word a (ack_name v))) others).handshake ≡ Done keepalive
+      by : (b : Bool)
+          →
+          (word_then at awaited u (cond b Skipped (ack_word a (ack_name v))) others).handshake
+          ≡ Done keepalive
       by true = ap (λ g. (others g awaited).handshake) e ∙ f awaited
       by false = ack_word-done keepalive a (ack_name v) at awaited u others e f
 
-  pub done_stays : (keepalive : Bool) (awaited : Option (List ℕ)) (vs : List (List ℕ)) (end : Handshake → Said)
+  pub done_stays : (keepalive : Bool) (awaited : Option (List ℕ)) (vs : List (List ℕ))
+      (end : Handshake → Said)
       → Keeps end → (said_of login salt (Done keepalive) awaited vs end).handshake ≡ Done keepalive
   done_stays keepalive awaited [] end keeps = keeps (Done keepalive)
   done_stays keepalive awaited (v ∷ vs) end keeps =
       word-done keepalive awaited v (Done keepalive) awaited v (λ next name. said_of login salt next name vs end) refl (λ name. done_stays keepalive name vs end keeps)
 
-  same_then : (at : Handshake) (a b : Option (List ℕ)) (v : List ℕ) (w : Word) (x y : Handshake → Option (List ℕ) → Said)
+  same_then : (at : Handshake) (a b : Option (List ℕ)) (v : List ℕ) (w : Word)
+      (x y : Handshake → Option (List ℕ) → Said)
       → ((g : Handshake) (m n : Option (List ℕ)) → (x g m).handshake ≡ (y g n).handshake)
       → (word_then at a v w x).handshake ≡ (word_then at b v w y).handshake
   same_then at a b v Skipped x y same = same at a b
@@ -107,7 +121,8 @@ module _ (login : Login) (salt : List ℕ) where
   same_then at a b v (Fails f) x y same = refl
 
   -- what is awaited makes no difference to it
-  pub same_handshake : (at : Handshake) (a b : Option (List ℕ)) (vs : List (List ℕ)) (e f : Handshake → Said)
+  pub same_handshake : (at : Handshake) (a b : Option (List ℕ)) (vs : List (List ℕ))
+      (e f : Handshake → Said)
       → Keeps e → Keeps f
       → (said_of login salt at a vs e).handshake ≡ (said_of login salt at b vs f).handshake
   unfolding word_of
@@ -118,9 +133,12 @@ module _ (login : Login) (salt : List ℕ) where
       same_then (AwaitsPong nonce keepalive) a b v (word_of login salt (AwaitsPong nonce keepalive) None v) (λ next name. said_of login salt next name vs e) (λ next name. said_of login salt next name vs f) (λ g m n. same_handshake g m n vs e f ke kf)
   same_handshake (Done keepalive) a b (v ∷ vs) e f ke kf = done_stays keepalive a (v ∷ vs) e ke ∙ sym (done_stays keepalive b (v ∷ vs) f kf)
 
-  goes_then : (at : Handshake) (a : Option (List ℕ)) (v : List ℕ) (w : Word) (x y z : Handshake → Option (List ℕ) → Said)
+  goes_then : (at : Handshake) (a : Option (List ℕ)) (v : List ℕ) (w : Word)
+      (x y z : Handshake → Option (List ℕ) → Said)
       (then : Handshake → Handshake)
-      → ((g : Handshake) (n : Option (List ℕ)) → (x g n).fault ≡ None → (y g None).handshake ≡ then (z g None).handshake)
+      →
+      ((g : Handshake) (n : Option (List ℕ)) → (x g n).fault ≡ None → (y g None).handshake
+      ≡ then (z g None).handshake)
       → (word_then at a v w x).fault ≡ None
       → (word_then at None v w y).handshake ≡ then (word_then at None v w z).handshake
   goes_then at a v Skipped x y z then same e = same at a e
@@ -132,7 +150,9 @@ module _ (login : Login) (salt : List ℕ) where
   pub handshake_goes_on : (at : Handshake) (a : Option (List ℕ)) (vs more : List (List ℕ))
       → (said_of login salt at a vs silence).fault ≡ None
       → (said_of login salt at None (vs ++ more) silence).handshake
-      ≡ (said_of login salt (said_of login salt at None vs silence).handshake None more silence).handshake
+      ≡
+      (said_of login salt
+      (said_of login salt at None vs silence).handshake None more silence).handshake
   unfolding word_of
   handshake_goes_on at a [] more e = refl
   handshake_goes_on AwaitsHelo a (v ∷ vs) more e =
@@ -145,11 +165,13 @@ module _ (login : Login) (salt : List ℕ) where
 
   -- what a stream says of it is what its values say
   pub by_values : (at : Handshake) (a : Option (List ℕ)) (s : Split)
-      → (said_in login salt at a s).handshake ≡ (said_of login salt at None (values_of s) silence).handshake
+      → (said_in login salt at a s).handshake ≡
+      (said_of login salt at None (values_of s) silence).handshake
   by_values at a (Open vs rest) = same_handshake at a None vs silence silence (λ g. refl) (λ g. refl)
   by_values at a (Broken vs broken) = same_handshake at a None vs (failing fault.BadReply) silence (λ g. refl) (λ g. refl)
 
-  fails_then : (at : Handshake) (a : Option (List ℕ)) (v : List ℕ) (w : Word) (x : Handshake → Option (List ℕ) → Said)
+  fails_then : (at : Handshake) (a : Option (List ℕ)) (v : List ℕ) (w : Word)
+      (x : Handshake → Option (List ℕ) → Said)
       → ((g : Handshake) (n : Option (List ℕ)) → (x g n).fault ≡ None → ⊥)
       → (word_then at a v w x).fault ≡ None → ⊥
   fails_then at a v Skipped x never e = never at a e
@@ -163,12 +185,14 @@ module _ (login : Login) (salt : List ℕ) where
   fails at a (v ∷ vs) f e = fails_then at a v (word_of login salt at a v) (λ g n. said_of login salt g n vs (failing f)) (λ g n. fails g n vs f) e
 
   -- where there was no fault, the stream is not broken
-  pub said-open : (at : Handshake) (a : Option (List ℕ)) (s : Split) → (said_in login salt at a s).fault ≡ None
+  pub said-open : (at : Handshake) (a : Option (List ℕ)) (s : Split)
+      → (said_in login salt at a s).fault ≡ None
       → is_open s ≡ true
   said-open at a (Open vs rest) e = refl
   said-open at a (Broken vs broken) e = absurd (fails at a vs fault.BadReply e)
 
-  pub said-whole_of : (at : Handshake) (a : Option (List ℕ)) (s : Split) → (said_in login salt at a s).fault ≡ None
+  pub said-whole_of : (at : Handshake) (a : Option (List ℕ)) (s : Split)
+      → (said_in login salt at a s).fault ≡ None
       → (said_of login salt at a (values_of s) silence).fault ≡ None
   said-whole_of at a (Open vs rest) e = e
   said-whole_of at a (Broken vs broken) e = absurd (fails at a vs fault.BadReply e)
@@ -183,7 +207,8 @@ awaited-live : (s : SessionHistory) → s.down ≡ false → awaited s ≡ live_
 unfolding live_session
 awaited-live s up = ap (λ b. cond (is_some s.reply || b) None (option_map (λ (c : Load). c.name) s.loaded)) (at s.down up)
   where
-    at : (b : Bool) → b ≡ false → not (leb (length s.appended) s.sent) ≡ ltb 0 (length (cond b [] (drop s.sent s.appended)))
+    at : (b : Bool) → b ≡ false
+        → not (leb (length s.appended) s.sent) ≡ ltb 0 (length (cond b [] (drop s.sent s.appended)))
     at true e = absurd cc
     at false e = grind (arith, nat_tests, length-drop s.sent s.appended)
 
@@ -219,7 +244,8 @@ handshake-hears s bytes sane up =
     ∙ sym (by_values s.setup.login s.setup.salt (handshake_of s) (awaited s) (newly_heard s bytes))
 
 waits : (f : Option SessionFault) (n : ℕ) (xs out : List ℕ) → n ≤ length xs
-    → cond (is_some f) [] (drop n (xs ++ cond (is_some f) [] out)) ≡ cond (is_some f) [] (drop n xs ++ out)
+    → cond (is_some f) [] (drop n (xs ++ cond (is_some f) [] out)) ≡ cond (is_some f) []
+    (drop n xs ++ out)
 waits (Some f) n xs out le = refl
 waits None n xs out le = drop-append-le n xs out le
 
@@ -283,7 +309,8 @@ pub hears-live : (s : SessionHistory) (bytes : List ℕ) → IsSane s
 hears-live s bytes sane = by s.down refl
   where
     by : (b : Bool) → s.down ≡ b
-        → live_session (cond s.down s (listens s bytes (says s bytes))) ≡ cond (live_session s).down (live_session s) (session_listens (live_session s) bytes)
+        → live_session (cond s.down s (listens s bytes (says s bytes))) ≡ cond (live_session s).down
+        (live_session s) (session_listens (live_session s) bytes)
     by true e = ap (λ b. live_session (cond b s (listens s bytes (says s bytes)))) e ∙ sym (ap (λ b. cond b (live_session s) (session_listens (live_session s) bytes)) (down-live s ∙ e))
     by false e = ap (λ b. live_session (cond b s (listens s bytes (says s bytes)))) e ∙ listens-live s bytes sane e ∙ sym (ap (λ b. cond b (live_session s) (session_listens (live_session s) bytes)) (down-live s ∙ e))
 
@@ -300,7 +327,8 @@ unfolding live_session
 told-live s bytes sane = by s.down refl
   where
     by : (b : Bool) → s.down ≡ b
-        → cond b told.NotUp (told_of (handshake_of s) (says s bytes)) ≡ cond b told.NotUp (told_of (handshake_of s) (live_says (live_session s) bytes))
+        → cond b told.NotUp (told_of (handshake_of s) (says s bytes)) ≡ cond b told.NotUp
+        (told_of (handshake_of s) (live_says (live_session s) bytes))
     by true e = refl
     by false e = ap (told_of (handshake_of s)) (says-live s bytes sane e)
 
@@ -430,7 +458,8 @@ looks-sane s now sane up = record {
 
 -- ---- once it is down
 
-told_fault : (f : Option SessionFault) (reply : Option (List ℕ)) (before after : Bool) (w : SessionFault)
+told_fault : (f : Option SessionFault) (reply : Option (List ℕ)) (before after : Bool)
+    (w : SessionFault)
     → told_by f reply before after ≡ told.Fault w → is_some f ≡ true
 told_fault (Some f) reply before after w e = refl
 told_fault None (Some reply) before after w e = absurd cc

@@ -33,6 +33,7 @@ use Rattle.fwd_source.specs.Judged.{Judged, resting, welcomed, judge_stream, jud
 use Rattle.fwd_source.specs.History.{Setup as SourceSetup, is_guarded}
 use Rattle.fwd_source.specs.Live.{LiveSource, opened_source, source_drains, source_hears, live_piece_next, live_pieces_next}
 use Rattle.fwd_source.proofs.Pieces.{pieces_are_one}
+use Rattle.fwd_session.specs.declared.limits.TheConstants.{REPLY_LIMIT, REPLY_NESTING}
 use Rattle.fwd_session.specs.declared.fault.SessionFault.TheVariants as fault
 use Rattle.fwd_session.specs.declared.handshake.Handshake.{Handshake}
 use Rattle.fwd_session.specs.declared.handshake.Handshake.TheVariants.{AwaitsHelo, AwaitsPong, Done}
@@ -55,10 +56,10 @@ one_split limit most deep v value shallow short =
     ap (split_of limit most) (sym (append-nil v))
     ∙ values_split limit most deep (v ∷ []) (value, tt) shallow (subst (λ (xs : List ℕ). length xs ≤ limit) (sym (append-nil v)) short)
 
-one_reply : (deep : ℕ) (v : List ℕ) → IsValue deep v → deep ≤ 64 → length v ≤ 65536
+one_reply : (deep : ℕ) (v : List ℕ) → IsValue deep v → deep ≤ 64 → length v ≤ REPLY_LIMIT
     → reply_stream v ≡ Open (v ∷ []) []
 unfolding reply_stream
-one_reply deep v value shallow short = one_split 65536 64 deep v value shallow short
+one_reply deep v value shallow short = one_split REPLY_LIMIT REPLY_NESTING deep v value shallow short
 
 -- an array is not nil
 array_not_nil : (n : ℕ) → n < 2 ^ 32 → (body : List ℕ) → is_nil (head_bytes (Arr n) ++ body) ≡ false
@@ -66,7 +67,8 @@ array_not_nil n lt body = ap is_nil_head (written_head (Arr n) lt tt body)
 
 -- an array of these values is a value
 array_value : (deep : ℕ) (vs : List (List ℕ)) → length vs < 2 ^ 32
-    → AllByRecursion (IsValue deep) vs → IsValue (deep + 1) (head_bytes (Arr (length vs)) ++ concat vs)
+    → AllByRecursion (IsValue deep) vs
+    → IsValue (deep + 1) (head_bytes (Arr (length vs)) ++ concat vs)
 array_value deep vs lt each =
     subst (λ n. IsValue n (head_bytes (Arr (length vs)) ++ concat vs)) (omega arith)
     (container_value deep (head_bytes (Arr (length vs)) ++ concat vs) (written_container (Arr (length vs)) lt tt (IsValue deep) (concat vs) refl (in_a_row (IsValue deep) vs each)))
@@ -87,14 +89,14 @@ text_values (w ∷ ws) short = (plain_value 0 (text w) (text_plain w short.0), t
 
 -- HELO
 
-auth_plain : (users : List User) (auth : List ℕ) → length (auth_value users auth) ≤ 65536
+auth_plain : (users : List User) (auth : List ℕ) → length (auth_value users auth) ≤ REPLY_LIMIT
     → IsPlain (auth_value users auth)
 auth_plain [] auth short = text_plain [] (lit≤ tt)
 auth_plain (user ∷ users) auth short =
     written_plain (Bin (length auth)) (omega (arith, short, length-append (head_bytes (Bin (length auth))) auth)) tt auth refl refl
 
 module _ (users : List User) (nonce auth : List ℕ)
-    (sized : length (helo_text users nonce auth) ≤ 65536) where
+    (sized : length (helo_text users nonce auth) ≤ REPLY_LIMIT) where
   abbrev given : List ℕ
   given = auth_value users auth
 
@@ -116,7 +118,7 @@ module _ (users : List User) (nonce auth : List ℕ)
 
   record Sizes : Type 0 where
     of_nonce : length nonce < 2 ^ 32
-    of_auth : length given ≤ 65536
+    of_auth : length given ≤ REPLY_LIMIT
 
   sizes : Sizes
   sizes =
@@ -193,7 +195,14 @@ ping_word_read = refl
 -- what a written PING says
 ping_said : (h s d u p : List ℕ) → length (ping_text h s d u p) < 2 ^ 32
     → ping_of (ping_text h s d u p)
-    ≡ Some (record { hostname = h; salt = s; digest = d; claim = Some (record { username = u; digest = p }) })
+    ≡ Some
+    (record {
+      hostname = h;
+      salt = s;
+      digest = d;
+      claim = Some
+          (record { username = u; digest = p });
+    })
 ping_said h s d u p lt =
     let ws = ping_words h s d u p in
     let size = ping_size h s d u p lt in
@@ -219,7 +228,14 @@ claimed (user ∷ users) claim = refl
 -- a PING that there is cause to deny is denied
 ping_denied : (security : Security) (nonces : Nonces) (h s d u p : List ℕ) (denial : Denial)
     → length (ping_text h s d u p) < 2 ^ 32
-    → denial_of security nonces (record { hostname = h; salt = s; digest = d; claim = Some (record { username = u; digest = p }) }) ≡ Some denial
+    → denial_of security nonces
+    (record {
+      hostname = h;
+      salt = s;
+      digest = d;
+      claim = Some
+          (record { username = u; digest = p });
+    }) ≡ Some denial
     → ping_verdict security nonces (ping_text h s d u p) ≡ ping.Deny (denying denial) denial
 unfolding ping_verdict
 ping_denied security nonces h s d u p denial lt cause =
@@ -247,7 +263,7 @@ pong_values passed r h d lt =
     let two = length-append (head_bytes (Boolean passed)) rest in
     (plain_value 0 (text (codes "PONG")) (text_plain (codes "PONG") (lit≤ tt)), (plain_value 0 (head_bytes (Boolean passed)) (bool_plain passed), text_values (r ∷ h ∷ d ∷ []) (words_short (r ∷ h ∷ d ∷ []) (omega (arith, lt, one, two)))))
 
-pong_reply : (passed : Bool) (r h d : List ℕ) → length (pong_text passed r h d) ≤ 65536
+pong_reply : (passed : Bool) (r h d : List ℕ) → length (pong_text passed r h d) ≤ REPLY_LIMIT
     → reply_stream (pong_text passed r h d) ≡ Open (pong_text passed r h d ∷ []) []
 pong_reply passed r h d le =
     let size = ap length (pong_joined passed r h d) ∙ length-append (head_bytes (Arr 5)) (concat (pong_parts passed r h d)) in
@@ -266,7 +282,8 @@ unfolding head_bytes parts_of reading_of row_of named_rows
 false_read = refl
 
 -- a PONG that says no is taken so
-pong_denied : (login : Login) (salt nonce r : List ℕ) → length (pong_text false r [] []) ≤ 65536
+pong_denied : (login : Login) (salt nonce r : List ℕ)
+    → length (pong_text false r [] []) ≤ REPLY_LIMIT
     → pong_verdict login salt nonce (pong_text false r [] []) ≡ pong.Denied
 unfolding pong_verdict
 pong_denied login salt nonce r le =
@@ -281,7 +298,7 @@ pong_denied login salt nonce r le =
     ∙ ap (λ (b : Bool). pong_judged login salt nonce (option_and_then four_in (cond b (Some rest) None))) pong_word_read
     ∙ ap (λ (o : Option Bool). pong_with login salt nonce o (text_of (text r)) (text_of (text [])) (text_of (text []))) false_read
 
-denying_short : (denial : Denial) → length (denying denial) ≤ 65536
+denying_short : (denial : Denial) → length (denying denial) ≤ REPLY_LIMIT
 unfolding pong_text head_bytes
 denying_short KeyMismatch = lit≤ tt
 denying_short UserMismatch = lit≤ tt
@@ -371,9 +388,9 @@ reply_continued (Broken vs broken) more = Broken vs broken
 
 cut : (a b : List ℕ) (s : Split) → reply_stream a ≡ s → reply_stream (a ++ b) ≡ reply_continued s b
 unfolding reply_stream
-cut a b s e = split_append 65536 64 a b ∙ ap (λ (x : Split). continued 65536 64 x b) e ∙ at s
+cut a b s e = split_append REPLY_LIMIT REPLY_NESTING a b ∙ ap (λ (x : Split). continued REPLY_LIMIT REPLY_NESTING x b) e ∙ at s
   where
-    at : (x : Split) → continued 65536 64 x b ≡ reply_continued x b
+    at : (x : Split) → continued REPLY_LIMIT REPLY_NESTING x b ≡ reply_continued x b
     at (Open vs rest) = refl
     at (Broken vs broken) = refl
 
@@ -406,13 +423,15 @@ one_front u us v (Broken ws broken) e = absurd cc
 hears_split : (setup : Setup) (at : Handshake) (rest bytes : List ℕ) (s : Split)
     → reply_stream (rest ++ bytes) ≡ s
     → session_hears (resting_at setup at rest) bytes
-    ≡ session_takes (resting_at setup at rest) (said_in setup.login setup.salt at None s) (rest_of s)
+    ≡ session_takes (resting_at setup at rest) (said_in setup.login setup.salt at None s)
+    (rest_of s)
 hears_split setup at rest bytes s e =
     ap (λ (x : Split). session_takes (resting_at setup at rest) (said_in setup.login setup.salt at None x) (rest_of x)) e
 
 told_split : (setup : Setup) (at : Handshake) (rest bytes : List ℕ) (s : Split)
     → reply_stream (rest ++ bytes) ≡ s
-    → live_piece_told (resting_at setup at rest) bytes ≡ told_of at (said_in setup.login setup.salt at None s)
+    → live_piece_told (resting_at setup at rest) bytes ≡ told_of at
+    (said_in setup.login setup.salt at None s)
 told_split setup at rest bytes s e = ap (λ (x : Split). told_of at (said_in setup.login setup.salt at None x)) e
 
 takes_nothing : (setup : Setup) (at : Handshake) (rest left : List ℕ)
@@ -451,7 +470,8 @@ quiet_pieces setup at rest left (bytes ∷ pieces) e = by (λ r f. quiet_pieces 
     by : ((r : List ℕ) → reply_stream (r ++ concat pieces) ≡ Open [] left
         → pieces_told (resting_at setup at r) pieces ≡ replicate (length pieces) told.Quiet)
         → (s : Split) → reply_stream (rest ++ bytes) ≡ s
-        → pieces_told (resting_at setup at rest) (bytes ∷ pieces) ≡ replicate (length (bytes ∷ pieces)) told.Quiet
+        → pieces_told (resting_at setup at rest) (bytes ∷ pieces) ≡ replicate
+        (length (bytes ∷ pieces)) told.Quiet
     by more (Open [] r) d =
         quiet_piece setup at rest bytes r pieces d
         ∙ ap (λ (ts : List Heard). told.Quiet ∷ ts) (more r (no_front (reply_stream (r ++ concat pieces)) ∙ behind_piece rest bytes pieces (Open [] r) (Open [] left) d e))
@@ -465,11 +485,14 @@ down_pieces s [] = refl
 down_pieces s (bytes ∷ pieces) = ap (λ (ts : List Heard). told.NotUp ∷ ts) (down_pieces s pieces)
 
 -- a piece that ends these values, with others behind it
-last_piece : (setup : Setup) (at : Handshake) (rest bytes left : List ℕ) (us : List (List ℕ)) (said : Said)
+last_piece : (setup : Setup) (at : Handshake) (rest bytes left : List ℕ) (us : List (List ℕ))
+    (said : Said)
     (pieces : List (List ℕ)) (behind : Heard) → reply_stream (rest ++ bytes) ≡ Open us left
     → said_of setup.login setup.salt at None us silence ≡ said
-    → pieces_told (session_takes (resting_at setup at rest) said left) pieces ≡ replicate (length pieces) behind
-    → pieces_told (resting_at setup at rest) (bytes ∷ pieces) ≡ told_of at said ∷ replicate (length pieces) behind
+    → pieces_told (session_takes (resting_at setup at rest) said left) pieces ≡ replicate
+    (length pieces) behind
+    → pieces_told (resting_at setup at rest) (bytes ∷ pieces) ≡ told_of at said ∷ replicate
+    (length pieces) behind
 last_piece setup at rest bytes left us said pieces behind e says then =
     (λ i. told_split setup at rest bytes (Open us left) e i ∷ pieces_told (hears_split setup at rest bytes (Open us left) e i) pieces)
     ∙ (λ i. told_of at (says i) ∷ pieces_told (session_takes (resting_at setup at rest) (says i) left) pieces)
@@ -500,10 +523,13 @@ value_pieces setup at v said behind says then rest some [] none e =
 value_pieces setup at v said behind says then rest some (bytes ∷ pieces) none e =
     by (λ r f g. value_pieces setup at v said behind says then r r pieces f g) (reply_stream (rest ++ bytes)) refl
   where
-    by : ((r : List ℕ) → reply_stream r ≡ Open [] r → reply_stream (r ++ concat pieces) ≡ Open (v ∷ []) []
+    by :
+        ((r : List ℕ) → reply_stream r ≡ Open [] r → reply_stream (r ++ concat pieces)
+        ≡ Open (v ∷ []) []
         → IsToldOnce (pieces_told (resting_at setup at r) pieces) (told_of at said) behind)
         → (s : Split) → reply_stream (rest ++ bytes) ≡ s
-        → IsToldOnce (pieces_told (resting_at setup at rest) (bytes ∷ pieces)) (told_of at said) behind
+        → IsToldOnce (pieces_told (resting_at setup at rest) (bytes ∷ pieces))
+        (told_of at said) behind
     by rests (Open [] r) d =
         let still : reply_stream r ≡ Open [] r =
         ap reply_stream (sym (append-nil r)) ∙ no_front (reply_stream (r ++ []))
@@ -524,11 +550,13 @@ nothing_said : reply_stream [] ≡ Open [] []
 unfolding reply_stream split_of
 nothing_said = refl
 
-behind_done : (setup : Setup) (at : Handshake) → Behind setup at (sending [] (silence (Done true))) told.Quiet
+behind_done : (setup : Setup) (at : Handshake)
+    → Behind setup at (sending [] (silence (Done true))) told.Quiet
 unfolding session_takes
 behind_done setup at rest left pieces e = quiet_pieces setup (Done true) left [] pieces e
 
-behind_denied : (setup : Setup) (at : Handshake) → Behind setup at (failing fault.Denied at) told.NotUp
+behind_denied : (setup : Setup) (at : Handshake)
+    → Behind setup at (failing fault.Denied at) told.NotUp
 unfolding session_takes
 behind_denied setup at rest left pieces e = down_pieces (going setup at) pieces
 
@@ -578,8 +606,8 @@ module _ (m : Meeting) (key : List ℕ) (client : m.client.login.shared_key ≡ 
   helo_is : concat m.helo ≡ helo
   helo_is = joined.helo ∙ ap (λ (b : Bool). cond b helo []) server
 
-  helo_short : length helo ≤ 65536
-  helo_short = subst (λ (xs : List ℕ). length xs ≤ 65536) helo_is within.helo
+  helo_short : length helo ≤ REPLY_LIMIT
+  helo_short = subst (λ (xs : List ℕ). length xs ≤ REPLY_LIMIT) helo_is within.helo
 
   abbrev ping_sent : List ℕ
   ping_sent = answering m.client.login m.client.salt nonce (auth_given users auth)
@@ -619,12 +647,16 @@ module _ (m : Meeting) (key : List ℕ) (client : m.client.login.shared_key ≡ 
   abbrev proof : List ℕ
   proof = proof_for m.client.login (auth_given users auth)
 
-  ping_is_array : ping_sent ≡ head_bytes (Arr 6) ++ concat (map text (codes "PING" ∷ m.client.login.hostname ∷ m.client.salt ∷ digest ∷ username ∷ proof ∷ []))
+  ping_is_array : ping_sent ≡ head_bytes (Arr 6) ++ concat
+      (map text (codes "PING" ∷ m.client.login.hostname ∷ m.client.salt ∷ digest ∷ username ∷ proof
+      ∷ []))
   ping_is_array = ping_joined m.client.login.hostname m.client.salt digest username proof
 
   -- the source, by its verdict
-  pub source_after : (verdict : PingVerdict) → ping_verdict m.server.security m.server.nonces ping_sent ≡ verdict
-      → source_after_ping m ≡ judged_to (opened_source m.server) (welcomed verdict (resting None []))
+  pub source_after : (verdict : PingVerdict)
+      → ping_verdict m.server.security m.server.nonces ping_sent ≡ verdict
+      → source_after_ping m ≡ judged_to (opened_source m.server)
+      (welcomed verdict (resting None []))
   source_after verdict says =
       let fits : length ping_sent ≤ m.server.limits.bytes = subst (λ (xs : List ℕ). length xs ≤ m.server.limits.bytes) ping_is within.ping in
       let body : List ℕ = concat (map text (codes "PING" ∷ m.client.login.hostname ∷ m.client.salt ∷ digest ∷ username ∷ proof ∷ [])) in
@@ -635,7 +667,7 @@ module _ (m : Meeting) (key : List ℕ) (client : m.client.login.shared_key ≡ 
   -- the session, by its verdict on the PONG
   module _ (passed : Bool) (r h d : List ℕ) (w : Word)
       (sent : (source_after_ping m).unsent ≡ pong_text passed r h d ++ [])
-      (le : length (pong_text passed r h d) ≤ 65536)
+      (le : length (pong_text passed r h d) ≤ REPLY_LIMIT)
       (says : spoken m.client.login m.client.salt awaiting None (pong_text passed r h d) ≡ w) where
     abbrev text_of_pong : List ℕ
     text_of_pong = pong_text passed r h d
@@ -661,11 +693,12 @@ module _ (m : Meeting) (key : List ℕ) (client : m.client.login.shared_key ≡ 
   -- ---- they agree
 
   module _ (agreed : IsAgreed m.client.login m.server.security m.client.salt key)
-      (some : 0 < length m.server.nonces.auth) (sized : length (concat m.pong) ≤ 65536) where
+      (some : 0 < length m.server.nonces.auth) (sized : length (concat m.pong) ≤ REPLY_LIMIT) where
     abbrev good : List ℕ
     good = passing m.server.security nonce m.client.salt
 
-    source_passed : source_after_ping m ≡ judged_to (opened_source m.server) (welcomed (ping.Pass good) (resting None []))
+    source_passed : source_after_ping m ≡ judged_to (opened_source m.server)
+        (welcomed (ping.Pass good) (resting None []))
     source_passed = source_after (ping.Pass good) (ping_passes m.client.login m.server.security m.server.nonces m.client.salt key agreed some)
 
     pub source_done : source_after_pong m ≡ done_source (opened_source m.server)
@@ -682,8 +715,8 @@ module _ (m : Meeting) (key : List ℕ) (client : m.client.login.shared_key ≡ 
     good_sent : (source_after_ping m).unsent ≡ good ++ []
     good_sent = ap (λ (s : LiveSource). s.unsent) source_passed
 
-    good_short : length good ≤ 65536
-    good_short = subst (λ (xs : List ℕ). length xs ≤ 65536) (joined.pong ∙ good_sent ∙ append-nil good) sized
+    good_short : length good ≤ REPLY_LIMIT
+    good_short = subst (λ (xs : List ℕ). length xs ≤ REPLY_LIMIT) (joined.pong ∙ good_sent ∙ append-nil good) sized
 
     good_said : spoken m.client.login m.client.salt awaiting None good ≡ Greets [] (Done true)
     good_said = ap (pong_word true) (pong_passes m.client.login m.server.security nonce m.client.salt key agreed)
@@ -708,16 +741,19 @@ module _ (m : Meeting) (key : List ℕ) (client : m.client.login.shared_key ≡ 
 
   module _ (denial : Denial)
       (cause : denial_of m.server.security m.server.nonces (said_by_ping m) ≡ Some denial) where
-    says : ping_verdict m.server.security m.server.nonces ping_sent ≡ ping.Deny (denying denial) denial
+    says : ping_verdict m.server.security m.server.nonces ping_sent ≡ ping.Deny
+        (denying denial) denial
     says = ping_denied m.server.security m.server.nonces m.client.login.hostname m.client.salt digest username proof denial ping_short cause
 
-    source_denied : source_after_ping m ≡ judged_to (opened_source m.server) (welcomed (ping.Deny (denying denial) denial) (resting None []))
+    source_denied : source_after_ping m ≡ judged_to (opened_source m.server)
+        (welcomed (ping.Deny (denying denial) denial) (resting None []))
     source_denied = source_after (ping.Deny (denying denial) denial) says
 
     bad_sent : (source_after_ping m).unsent ≡ denying denial ++ []
     bad_sent = ap (λ (s : LiveSource). s.unsent) source_denied
 
-    bad_said : spoken m.client.login m.client.salt awaiting None (denying denial) ≡ Fails fault.Denied
+    bad_said : spoken m.client.login m.client.salt awaiting None
+        (denying denial) ≡ Fails fault.Denied
     bad_said = ap (pong_word true) (pong_denied m.client.login m.client.salt nonce (reason denial) (denying_short denial))
 
     pub both_refused : IsRefused m

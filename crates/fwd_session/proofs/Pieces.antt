@@ -10,6 +10,7 @@ use Rattle.fwd_msgpack.proofs.Rows.{split_append}
 use Rattle.fwd_modes.specs.Acks.{ack_name}
 use Rattle.fwd_handshake.specs.declared.credentials.Login.{Login}
 use Rattle.fwd_chunks.specs.History.{Load}
+use Rattle.fwd_session.specs.declared.limits.TheConstants.{REPLY_LIMIT, REPLY_NESTING}
 use Rattle.fwd_session.specs.declared.fault.SessionFault.{SessionFault}
 use Rattle.fwd_session.specs.declared.fault.SessionFault.TheVariants as fault
 use Rattle.fwd_session.specs.declared.handshake.Handshake.{Handshake}
@@ -51,7 +52,8 @@ module _ (login : Login) (salt : List ℕ) where
   abbrev after_front : Option (List ℕ) → Split → Said → Said
   after_front awaited s front = then_said front (said_in login salt front.handshake (awaited_behind awaited front.reply) s)
 
-  abbrev IsCut : (Handshake → Option (List ℕ) → Said) → (Handshake → Option (List ℕ) → Said) → Split → Type 0
+  abbrev IsCut : (Handshake → Option (List ℕ) → Said) → (Handshake → Option (List ℕ) → Said) → Split
+      → Type 0
   IsCut all front s = (g : Handshake) (n : Option (List ℕ)) → (front g n).fault ≡ None → all g n ≡ after_front n s (front g n)
 
   acked_then : (v : List ℕ) (front : Said) (s : Split) → front.reply ≡ None
@@ -63,8 +65,10 @@ module _ (login : Login) (salt : List ℕ) where
       (λ i. acking v (then_said front (said_in login salt front.handshake (same i) s)))
       ∙ (λ i. record { handshake = behind.handshake; out = front.out ++ behind.out; reply = sym (ap (λ r. cond (is_some r) r (Some v)) quiet) i; fault = behind.fault })
 
-  cut_then : (at : Handshake) (a : Option (List ℕ)) (v : List ℕ) (w : Word) (all front : Handshake → Option (List ℕ) → Said) (s : Split)
-      → ((g : Handshake) → (front g None).reply ≡ None) → IsCut all front s → (word_then at a v w front).fault ≡ None
+  cut_then : (at : Handshake) (a : Option (List ℕ)) (v : List ℕ) (w : Word)
+      (all front : Handshake → Option (List ℕ) → Said) (s : Split)
+      → ((g : Handshake) → (front g None).reply ≡ None) → IsCut all front s
+      → (word_then at a v w front).fault ≡ None
       → word_then at a v w all ≡ after_front a s (word_then at a v w front)
   cut_then at a v Skipped all front s none cut e = cut at a e
   cut_then at a v (Greets out next) all front s none cut e =
@@ -84,13 +88,15 @@ module _ (login : Login) (salt : List ℕ) where
 
   front_step : (at : Handshake) (a : Option (List ℕ)) (v : List ℕ) (vs : List (List ℕ)) (s : Split)
       → said_in login salt at a (with_front (v ∷ vs) s)
-      ≡ word_then at a v (word_of login salt at a v) (λ g n. said_in login salt g n (with_front vs s))
+      ≡ word_then at a v (word_of login salt at a v)
+      (λ g n. said_in login salt g n (with_front vs s))
   front_step at a v vs (Open ws rest) = refl
   front_step at a v vs (Broken ws broken) = refl
 
   pub said_cut : (at : Handshake) (a : Option (List ℕ)) (vs : List (List ℕ)) (s : Split)
       → (said_of login salt at a vs silence).fault ≡ None
-      → said_in login salt at a (with_front vs s) ≡ after_front a s (said_of login salt at a vs silence)
+      → said_in login salt at a (with_front vs s) ≡ after_front a s
+      (said_of login salt at a vs silence)
   said_cut at a [] s e = empty_front at a s
   said_cut at a (v ∷ vs) s e =
       front_step at a v vs s
@@ -98,7 +104,8 @@ module _ (login : Login) (salt : List ℕ) where
 
   -- ---- a front with a fault
 
-  fault_then : (at : Handshake) (a : Option (List ℕ)) (v : List ℕ) (w : Word) (f : SessionFault) (x y : Handshake → Option (List ℕ) → Said)
+  fault_then : (at : Handshake) (a : Option (List ℕ)) (v : List ℕ) (w : Word) (f : SessionFault)
+      (x y : Handshake → Option (List ℕ) → Said)
       → ((g : Handshake) (n : Option (List ℕ)) → (x g n).fault ≡ Some f → x g n ≡ y g n)
       → (word_then at a v w x).fault ≡ Some f → word_then at a v w x ≡ word_then at a v w y
   fault_then at a v Skipped f x y same e = same at a e
@@ -107,7 +114,8 @@ module _ (login : Login) (salt : List ℕ) where
   fault_then at a v (Fails w) f x y same e = refl
 
   -- what is behind it counts for nothing
-  fault_cut : (at : Handshake) (a : Option (List ℕ)) (f : SessionFault) (vs : List (List ℕ)) (s : Split)
+  fault_cut : (at : Handshake) (a : Option (List ℕ)) (f : SessionFault) (vs : List (List ℕ))
+      (s : Split)
       → (said_of login salt at a vs silence).fault ≡ Some f
       → said_of login salt at a vs silence ≡ said_in login salt at a (with_front vs s)
   fault_cut at a f [] s e = absurd cc
@@ -117,12 +125,15 @@ module _ (login : Login) (salt : List ℕ) where
 
   pub fault_goes_on : (at : Handshake) (a : Option (List ℕ)) (f : SessionFault) (x more : List ℕ)
       → (said_in login salt at a (reply_stream x)).fault ≡ Some f
-      → said_in login salt at a (reply_stream x) ≡ said_in login salt at a (reply_stream (x ++ more))
+      → said_in login salt at a (reply_stream x) ≡ said_in login salt at a
+      (reply_stream (x ++ more))
   unfolding reply_stream
-  fault_goes_on at a f x more e = by (split_of 65536 64 x) e ∙ sym (ap (said_in login salt at a) (split_append 65536 64 x more))
+  fault_goes_on at a f x more e = by (split_of REPLY_LIMIT REPLY_NESTING x) e ∙ sym (ap (said_in login salt at a) (split_append REPLY_LIMIT REPLY_NESTING x more))
     where
-      by : (s : Split) → (said_in login salt at a s).fault ≡ Some f → said_in login salt at a s ≡ said_in login salt at a (continued 65536 64 s more)
-      by (Open vs rest) d = fault_cut at a f vs (split_of 65536 64 (rest ++ more)) d
+      by : (s : Split) → (said_in login salt at a s).fault ≡ Some f
+          → said_in login salt at a s ≡ said_in login salt at a
+          (continued REPLY_LIMIT REPLY_NESTING s more)
+      by (Open vs rest) d = fault_cut at a f vs (split_of REPLY_LIMIT REPLY_NESTING (rest ++ more)) d
       by (Broken vs broken) d = refl
 
   -- ---- once the handshake is done, nothing is sent for it
@@ -140,11 +151,13 @@ module _ (login : Login) (salt : List ℕ) where
       by true = same None
       by false = refl
 
-  mute : (keepalive : Bool) (awaited : Option (List ℕ)) (v : List ℕ) → IsMute (word_of login salt (Done keepalive) awaited v)
+  mute : (keepalive : Bool) (awaited : Option (List ℕ)) (v : List ℕ)
+      → IsMute (word_of login salt (Done keepalive) awaited v)
   unfolding word_of
   mute keepalive awaited v at a u others same = by (is_nil v)
     where
-      by : (b : Bool) → (word_then at a u (cond b Skipped (ack_word awaited (ack_name v))) others).out ≡ []
+      by : (b : Bool)
+          → (word_then at a u (cond b Skipped (ack_word awaited (ack_name v))) others).out ≡ []
       by true = same a
       by false = mute-ack awaited (ack_name v) at a u others same
 
@@ -175,7 +188,8 @@ abbrev pub IsOrdered : LiveSession → Type 0
 IsOrdered s = is_some s.loaded ≡ true → is_done s.handshake ≡ true
 
 reply_two : (old a b : Option (List ℕ))
-    → cond (is_some b) b (cond (is_some a) a old) ≡ cond (is_some (cond (is_some b) b a)) (cond (is_some b) b a) old
+    → cond (is_some b) b (cond (is_some a) a old) ≡ cond (is_some (cond (is_some b) b a))
+    (cond (is_some b) b a) old
 reply_two old a (Some v) = refl
 reply_two old a None = refl
 
@@ -205,8 +219,11 @@ none_either false = refl
 
 awaited_two : (loaded : Option Load) (reply r : Option (List ℕ)) (waiting out : List ℕ)
     → (is_some loaded ≡ true → out ≡ [])
-    → cond (is_some (cond (is_some r) r reply) || ltb 0 (length (waiting ++ out))) None (option_map (λ (c : Load). c.name) loaded)
-    ≡ awaited_behind (cond (is_some reply || ltb 0 (length waiting)) None (option_map (λ (c : Load). c.name) loaded)) r
+    → cond (is_some (cond (is_some r) r reply) || ltb 0 (length (waiting ++ out))) None
+    (option_map (λ (c : Load). c.name) loaded)
+    ≡ awaited_behind
+    (cond (is_some reply || ltb 0 (length waiting)) None
+    (option_map (λ (c : Load). c.name) loaded)) r
 awaited_two None reply None waiting out quiet = none_either (is_some reply || ltb 0 (length (waiting ++ out))) ∙ sym (none_either (is_some reply || ltb 0 (length waiting)))
 awaited_two None reply (Some v) waiting out quiet = refl
 awaited_two (Some c) reply None waiting out quiet = ap (λ (xs : List ℕ). cond (is_some reply || ltb 0 (length xs)) None (Some c.name)) (ap (λ (o : List ℕ). waiting ++ o) (quiet refl) ∙ append-nil waiting)
@@ -225,7 +242,8 @@ module _ (s : LiveSession) (a b : List ℕ) (up : s.down ≡ false) (ordered : I
   joined : reply_stream (s.rest ++ (a ++ b)) ≡ reply_stream ((s.rest ++ a) ++ b)
   joined = ap reply_stream (sym (append_assoc s.rest a b))
 
-  listens_two-fault : (f : SessionFault) → said.fault ≡ Some f → session_listens s a ≡ session_listens s (a ++ b)
+  listens_two-fault : (f : SessionFault) → said.fault ≡ Some f
+      → session_listens s a ≡ session_listens s (a ++ b)
   listens_two-fault f e =
       let same : said ≡ live_says s (a ++ b) = fault_goes_on login salt s.handshake (live_awaited s) f (s.rest ++ a) b e ∙ ap (said_in login salt s.handshake (live_awaited s)) (sym joined) in
       takes-rest s said (rest_of (reply_stream (s.rest ++ a))) (rest_of (reply_stream (s.rest ++ (a ++ b)))) (λ n. absurd (some_none f (sym e ∙ n)))
@@ -244,10 +262,13 @@ module _ (s : LiveSession) (a b : List ℕ) (up : s.down ≡ false) (ordered : I
     open_here : is_open stream ≡ true
     open_here = said-open login salt s.handshake (live_awaited s) stream good
 
-    goes : reply_stream (s.rest ++ (a ++ b)) ≡ with_front (values_of stream) (reply_stream (rest ++ b))
+    goes : reply_stream (s.rest ++ (a ++ b)) ≡ with_front (values_of stream)
+        (reply_stream (rest ++ b))
     goes = joined ∙ reply_stream-goes_on (s.rest ++ a) b open_here
 
-    by_values_here : (t : Split) → is_open t ≡ true → said_in login salt s.handshake (live_awaited s) t ≡ said_of login salt s.handshake (live_awaited s) (values_of t) silence
+    by_values_here : (t : Split) → is_open t ≡ true
+        → said_in login salt s.handshake (live_awaited s) t ≡ said_of login salt s.handshake
+        (live_awaited s) (values_of t) silence
     by_values_here (Open vs r) e = refl
     by_values_here (Broken vs broken) e = absurd cc
 
@@ -293,7 +314,8 @@ module _ (s : LiveSession) (a b : List ℕ) (up : s.down ≡ false) (ordered : I
         ∙ takes_two s said next rest (rest_of (reply_stream (rest ++ b))) good
         ∙ (λ i. session_takes s (sym all_is i) (sym rest_is i))
 
-listens-down : (s : LiveSession) (a : List ℕ) → (session_listens s a).down ≡ is_some (live_says s a).fault
+listens-down : (s : LiveSession) (a : List ℕ)
+    → (session_listens s a).down ≡ is_some (live_says s a).fault
 unfolding session_takes
 listens-down s a = refl
 
@@ -301,13 +323,15 @@ pub hears_two : (s : LiveSession) (a b : List ℕ) → IsOrdered s
     → session_hears (session_hears s a) b ≡ session_hears s (a ++ b)
 hears_two s a b ordered = by s.down refl
   where
-    hears_up : (x : LiveSession) (bytes : List ℕ) → x.down ≡ false → session_hears x bytes ≡ session_listens x bytes
+    hears_up : (x : LiveSession) (bytes : List ℕ) → x.down ≡ false
+        → session_hears x bytes ≡ session_listens x bytes
     hears_up x bytes e = ap (λ d. cond d x (session_listens x bytes)) e
 
     hears_down : (x : LiveSession) (bytes : List ℕ) → x.down ≡ true → session_hears x bytes ≡ x
     hears_down x bytes e = ap (λ d. cond d x (session_listens x bytes)) e
 
-    by_fault : s.down ≡ false → (f : Option SessionFault) → (live_says s a).fault ≡ f → session_hears (session_listens s a) b ≡ session_listens s (a ++ b)
+    by_fault : s.down ≡ false → (f : Option SessionFault) → (live_says s a).fault ≡ f
+        → session_hears (session_listens s a) b ≡ session_listens s (a ++ b)
     by_fault up (Some f) e = hears_down (session_listens s a) b (listens-down s a ∙ ap (λ (x : Option SessionFault). is_some x) e) ∙ listens_two-fault s a b up ordered f e
     by_fault up None e = hears_up (session_listens s a) b (listens-down s a ∙ ap (λ (x : Option SessionFault). is_some x) e) ∙ listens_two-good s a b up ordered e
 

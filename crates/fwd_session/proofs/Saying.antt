@@ -19,6 +19,7 @@ use Rattle.fwd_handshake.specs.declared.verdict.PongVerdict.{PongVerdict}
 use Rattle.fwd_handshake.specs.declared.verdict.PongVerdict.TheVariants as pong
 use Rattle.fwd_handshake.specs.Verdicts.{helo_answer, pong_verdict}
 use Rattle.fwd_chunks.specs.History.{Load}
+use Rattle.fwd_session.specs.declared.limits.TheConstants.{REPLY_LIMIT, REPLY_NESTING}
 use Rattle.fwd_session.specs.declared.fault.SessionFault.TheVariants as fault
 use Rattle.fwd_session.specs.declared.handshake.Handshake.{Handshake}
 use Rattle.fwd_session.specs.declared.handshake.Handshake.TheVariants.{AwaitsHelo, AwaitsPong, Done}
@@ -32,7 +33,8 @@ use Rattle.fwd_session.specs.Said.{Said, helo_word, pong_word, ack_word, spoken,
 said-front : (login : Login) (salt : List ℕ) (at : Handshake) (awaited : Option (List ℕ))
     (v : List ℕ) (s : Split)
     → said_in login salt at awaited (with_front (v ∷ []) s)
-    ≡ word_then at awaited v (word_of login salt at awaited v) (λ next name. said_in login salt next name s)
+    ≡ word_then at awaited v (word_of login salt at awaited v)
+    (λ next name. said_in login salt next name s)
 said-front login salt at awaited v (Open ws rest) = refl
 said-front login salt at awaited v (Broken ws broken) = refl
 
@@ -41,28 +43,29 @@ rest_of-front vs (Open ws rest) = refl
 rest_of-front vs (Broken ws broken) = refl
 
 pub said-whole : (login : Login) (salt : List ℕ) (at : Handshake) (awaited : Option (List ℕ))
-    (bytes : List ℕ) (used : ℕ) → first_of 65536 64 bytes ≡ Whole used
+    (bytes : List ℕ) (used : ℕ) → first_of REPLY_LIMIT REPLY_NESTING bytes ≡ Whole used
     → said_in login salt at awaited (reply_stream bytes)
     ≡ word_then at awaited (take used bytes) (word_of login salt at awaited (take used bytes))
     (λ next name. said_in login salt next name (reply_stream (drop used bytes)))
 unfolding reply_stream
 said-whole login salt at awaited bytes used e =
-    ap (said_in login salt at awaited) (split_first 65536 64 bytes used e) ∙ said-front login salt at awaited (take used bytes) (split_of 65536 64 (drop used bytes))
+    ap (said_in login salt at awaited) (split_first REPLY_LIMIT REPLY_NESTING bytes used e) ∙ said-front login salt at awaited (take used bytes) (split_of REPLY_LIMIT REPLY_NESTING (drop used bytes))
 
-pub rest-whole : (bytes : List ℕ) (used : ℕ) → first_of 65536 64 bytes ≡ Whole used
+pub rest-whole : (bytes : List ℕ) (used : ℕ) → first_of REPLY_LIMIT REPLY_NESTING bytes ≡ Whole used
     → rest_of (reply_stream bytes) ≡ rest_of (reply_stream (drop used bytes))
 unfolding reply_stream
-rest-whole bytes used e = ap rest_of (split_first 65536 64 bytes used e) ∙ rest_of-front (take used bytes ∷ []) (split_of 65536 64 (drop used bytes))
+rest-whole bytes used e = ap rest_of (split_first REPLY_LIMIT REPLY_NESTING bytes used e) ∙ rest_of-front (take used bytes ∷ []) (split_of REPLY_LIMIT REPLY_NESTING (drop used bytes))
 
-pub stream-short : (bytes : List ℕ) → first_of 65536 64 bytes ≡ Short
+pub stream-short : (bytes : List ℕ) → first_of REPLY_LIMIT REPLY_NESTING bytes ≡ Short
     → reply_stream bytes ≡ Open [] bytes
 unfolding reply_stream split_of
-stream-short bytes e = told_first 65536 64 [] bytes ∙ ap (by_first 65536 64 [] bytes) e
+stream-short bytes e = told_first REPLY_LIMIT REPLY_NESTING [] bytes ∙ ap (by_first REPLY_LIMIT REPLY_NESTING [] bytes) e
 
-pub stream-bad : (bytes : List ℕ) (fault : ScanFault) → first_of 65536 64 bytes ≡ Bad fault
+pub stream-bad : (bytes : List ℕ) (fault : ScanFault)
+    → first_of REPLY_LIMIT REPLY_NESTING bytes ≡ Bad fault
     → reply_stream bytes ≡ Broken [] fault
 unfolding reply_stream split_of
-stream-bad bytes fault e = told_first 65536 64 [] bytes ∙ ap (by_first 65536 64 [] bytes) e
+stream-bad bytes fault e = told_first REPLY_LIMIT REPLY_NESTING [] bytes ∙ ap (by_first REPLY_LIMIT REPLY_NESTING [] bytes) e
 
 -- what bytes say, by what comes next in them
 abbrev pub said_by : Login → (salt : List ℕ) → Handshake → Option (List ℕ) → Next → Said
@@ -73,13 +76,14 @@ said_by login salt at awaited (next.Value value behind) =
     (λ g name. said_in login salt g name (reply_stream behind.now))
 
 pub said_next : (login : Login) (salt : List ℕ) (at : Handshake) (awaited : Option (List ℕ))
-    (bytes : List ℕ) (what : Next) → split_of 65536 64 bytes ≡ split_by 65536 64 bytes what
+    (bytes : List ℕ) (what : Next)
+    → split_of REPLY_LIMIT REPLY_NESTING bytes ≡ split_by REPLY_LIMIT REPLY_NESTING bytes what
     → said_in login salt at awaited (reply_stream bytes) ≡ said_by login salt at awaited what
 unfolding reply_stream
 said_next login salt at awaited bytes next.Unfinished e = ap (said_in login salt at awaited) e
 said_next login salt at awaited bytes (next.Fault broken) e = ap (said_in login salt at awaited) e
 said_next login salt at awaited bytes (next.Value value behind) e =
-    ap (said_in login salt at awaited) e ∙ said-front login salt at awaited (bytes_of value) (split_of 65536 64 behind.now)
+    ap (said_in login salt at awaited) e ∙ said-front login salt at awaited (bytes_of value) (split_of REPLY_LIMIT REPLY_NESTING behind.now)
 
 -- the bytes of the unfinished value, by what comes next
 abbrev pub rest_by : List ℕ → Next → List ℕ
@@ -88,12 +92,12 @@ rest_by bytes (next.Fault broken) = []
 rest_by bytes (next.Value value behind) = rest_of (reply_stream behind.now)
 
 pub rest_next : (bytes : List ℕ) (what : Next)
-    → split_of 65536 64 bytes ≡ split_by 65536 64 bytes what
+    → split_of REPLY_LIMIT REPLY_NESTING bytes ≡ split_by REPLY_LIMIT REPLY_NESTING bytes what
     → rest_of (reply_stream bytes) ≡ rest_by bytes what
 unfolding reply_stream
 rest_next bytes next.Unfinished e = ap rest_of e
 rest_next bytes (next.Fault broken) e = ap rest_of e
-rest_next bytes (next.Value value behind) e = ap rest_of e ∙ rest_of-front (bytes_of value ∷ []) (split_of 65536 64 behind.now)
+rest_next bytes (next.Value value behind) e = ap rest_of e ∙ rest_of-front (bytes_of value ∷ []) (split_of REPLY_LIMIT REPLY_NESTING behind.now)
 
 -- ---- by the name that is awaited
 
@@ -128,7 +132,8 @@ fits-ack awaited value None e = tt
 fits-ack None value (Some name) e = tt
 fits-ack (Some awaited) value (Some name) e = at (bytes_eq name awaited) refl
   where
-    at : (b : Bool) → bytes_eq name awaited ≡ b → Fits (Some awaited) value (cond b Acks (Fails fault.WrongAck))
+    at : (b : Bool) → bytes_eq name awaited ≡ b
+        → Fits (Some awaited) value (cond b Acks (Fails fault.WrongAck))
     at true same = e ∙ ap Some ((bytes_eq-Decides name awaited).0 same)
     at false same = tt
 

@@ -8,6 +8,7 @@ use Rattle.fwd_handshake.specs.Digests.{key_digest}
 use Rattle.fwd_handshake.specs.Verdicts.{Ping, username_for, proof_for, denial_of}
 use Rattle.fwd_source.specs.History.{Setup as SourceSetup, is_guarded}
 use Rattle.fwd_source.specs.Live.{LiveSource, opened_source, source_drains, live_piece_next, live_pieces_next}
+use Rattle.fwd_session.specs.declared.limits.TheConstants.{REPLY_LIMIT}
 use Rattle.fwd_session.specs.declared.fault.SessionFault.TheVariants.{Denied}
 use Rattle.fwd_session.specs.declared.handshake.Handshake.TheVariants.{Done}
 use Rattle.fwd_session.specs.declared.told.Heard.{Heard}
@@ -94,7 +95,7 @@ uncut client server = record {
 -- HELO and PING are within the limits of the side that hears them, of which a source's let be an
 -- array, and PING has less than 2 ^ 32 bytes: a source's limit is below that by its type
 pub record AreWithin (m : Meeting) : Type 0 where
-  pub helo : length (concat m.helo) ≤ 65536
+  pub helo : length (concat m.helo) ≤ REPLY_LIMIT
   pub ping : length (concat m.ping) ≤ m.server.limits.bytes
   pub short : length (concat m.ping) < 2 ^ 32
   pub deep : 0 < m.server.limits.depth

@@ -11,6 +11,7 @@ use Rattle.fwd_handshake.specs.declared.verdict.HeloAnswer.TheVariants as helo
 use Rattle.fwd_handshake.specs.declared.verdict.PongVerdict.{PongVerdict}
 use Rattle.fwd_handshake.specs.declared.verdict.PongVerdict.TheVariants as pong
 use Rattle.fwd_handshake.specs.Verdicts.{helo_answer, pong_verdict}
+use Rattle.fwd_session.specs.declared.limits.TheConstants.{REPLY_LIMIT, REPLY_NESTING}
 use Rattle.fwd_session.specs.declared.fault.SessionFault.{SessionFault}
 use Rattle.fwd_session.specs.declared.fault.SessionFault.TheVariants as fault
 use Rattle.fwd_session.specs.declared.handshake.Handshake.{Handshake}
@@ -109,9 +110,9 @@ said_in login salt at awaited (Broken values broken) =
 
 -- ---- the stream
 
--- a server's bytes as a stream: a reply has at most 65,536 bytes and nests at most 64 deep
+-- a server's bytes as a stream of replies within the limits
 unfoldable pub reply_stream : List ℕ → Split
-reply_stream bytes = split_of 65536 64 bytes
+reply_stream bytes = split_of REPLY_LIMIT REPLY_NESTING bytes
 
 -- a stream behind its first n values
 abbrev pub behind : ℕ → Split → Split

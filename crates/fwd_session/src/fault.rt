@@ -2,7 +2,7 @@
 #[derive(Clone, Copy, Debug, PartialEq, Eq)]
 pub enum SessionFault {
     /// What the server sent is no acknowledgement, no PONG where one is awaited, or begins no value
-    /// of at most 65,536 bytes, 64 deep.
+    /// within `REPLY_LIMITS`.
     BadReply = 1,
     /// The server acknowledged another chunk than the one that it was sent.
     WrongAck = 2,

@@ -30,18 +30,13 @@ ghost use Rattle.fwd_session.specs.Hearing.{shown, is_greeting};
 
 use crate::fault::SessionFault;
 use crate::handshake::Handshake;
+use crate::limits::REPLY_LIMITS;
 use crate::word::Word;
 use fwd_base::Bytes;
 use fwd_handshake::{HeloAnswer, Login, PongVerdict, Salt, answer_helo, judge_pong};
 use fwd_modes::read_ack;
-use fwd_msgpack::{Limits, Next, Value, next_value};
+use fwd_msgpack::{Next, Value, next_value};
 use std::alloc::{AllocError, Global};
-
-/// How long and how deep a reply may be.
-pub const REPLY_LIMITS: Limits = Limits {
-    bytes: 65_536,
-    depth: 64,
-};
 
 /// What was heard from a server.
 #[derive(Drop)]

@@ -80,22 +80,26 @@ ghost use Rattle.fwd_session.specs.Meeting.{
   uncut,
 };
 
+use crate::limits::{REPLY_LIMIT, REPLY_NESTING};
+
 /// What bytes say, by what stands at their front: a value, less than one, or no value.
 pub fn said_by_front()
     ensures whole { (login : Login) (salt : List ℕ) (at : Handshake) (awaited : Option (List ℕ))
-        (bytes : List ℕ) (used : ℕ) → first_of 65536 64 bytes ≡ Whole used →
+        (bytes : List ℕ) (used : ℕ) → first_of REPLY_LIMIT REPLY_NESTING bytes ≡ Whole used →
         said_in login salt at awaited (reply_stream bytes)
         ≡ word_then at awaited (take used bytes) (word_of login salt at awaited (take used bytes))
         (λ next name. said_in login salt next name (reply_stream (drop used bytes))) }
-    ensures behind { (bytes : List ℕ) (used : ℕ) → first_of 65536 64 bytes ≡ Whole used →
+    ensures behind { (bytes : List ℕ) (used : ℕ)
+        → first_of REPLY_LIMIT REPLY_NESTING bytes ≡ Whole used →
         rest_of (reply_stream bytes) ≡ rest_of (reply_stream (drop used bytes)) }
     ensures short { (login : Login) (salt : List ℕ) (at : Handshake) (awaited : Option (List ℕ))
-        (bytes : List ℕ) → first_of 65536 64 bytes ≡ Short →
+        (bytes : List ℕ) → first_of REPLY_LIMIT REPLY_NESTING bytes ≡ Short →
         said_in login salt at awaited (reply_stream bytes) ≡ silence at }
-    ensures rest { (bytes : List ℕ) → first_of 65536 64 bytes ≡ Short →
+    ensures rest { (bytes : List ℕ) → first_of REPLY_LIMIT REPLY_NESTING bytes ≡ Short →
         rest_of (reply_stream bytes) ≡ bytes }
     ensures bad { (login : Login) (salt : List ℕ) (at : Handshake) (awaited : Option (List ℕ))
-        (bytes : List ℕ) (fault : ScanFault) → first_of 65536 64 bytes ≡ Bad fault →
+        (bytes : List ℕ) (fault : ScanFault)
+        → first_of REPLY_LIMIT REPLY_NESTING bytes ≡ Bad fault →
         said_in login salt at awaited (reply_stream bytes) ≡ failing BadReply at }
 {}
 
@@ -165,15 +169,15 @@ pub fn faults_put_down()
 /// has cause to deny the PING, the piece that ends PONG is told Denied, and the session is down.
 /// The cause is said of digests, not of keys and passwords: two keys may have one digest.
 ///
-/// Asked is that the pieces are all that waited to be sent; that HELO and PONG have 65,536 bytes at
-/// most, and PING less than 2^32 and no more than the source's limits let be, which let an array
-/// be; and, to be ready, that hostnames, username and salt are short, as `IsAgreed` says, and that
-/// the auth salt has a byte: it has sixteen. By `uncut` any two sides have such pieces.
+/// Asked is that the pieces are all that waited to be sent; that HELO and PONG have `REPLY_LIMIT`
+/// bytes at most, and PING less than 2^32 and no more than the source's limits let be, which let an
+/// array be; and, to be ready, that hostnames, username and salt are short, as `IsAgreed` says, and
+/// that the auth salt has a byte: it has sixteen. By `uncut` any two sides have such pieces.
 pub fn agreed_sides_meet()
     ensures ready { (m : Meeting) (key : List ℕ) →
         IsAgreed m.client.login m.server.security m.client.salt key →
         0 < length m.server.nonces.auth → IsJoined m → AreWithin m →
-        length (concat m.pong) ≤ 65536 → IsReady m }
+        length (concat m.pong) ≤ REPLY_LIMIT → IsReady m }
     ensures denied { (m : Meeting) (key : List ℕ) (denial : Denial) → IsDenied m key denial →
         IsJoined m → AreWithin m → IsRefused m }
     ensures uncut { (client : Setup) (server : SourceSetup) → IsJoined (uncut client server) }

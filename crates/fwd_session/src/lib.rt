@@ -8,6 +8,7 @@ mod frame;
 mod handshake;
 mod hearing;
 mod laws;
+mod limits;
 mod outbox;
 mod salt;
 mod session;
@@ -18,10 +19,10 @@ pub use acked::Acked;
 pub use fault::{NotUp, SessionFault};
 pub use frame::frame_of;
 pub use handshake::Handshake;
-pub use hearing::REPLY_LIMITS;
 pub use laws::{
     agreed_sides_meet, faults_put_down, live_follows, pieces_are_one, said_by_front, stays_sane,
 };
+pub use limits::{REPLY_LIMIT, REPLY_LIMITS, REPLY_NESTING};
 pub use salt::OwnedSalt;
 pub use session::{LoadError, LoadFailed, Session};
 pub use told::{Heard, Told};

@@ -69,7 +69,9 @@ from_v6 text address (Some parts) same h =
 
 from_either : (text : List ℕ) (address : SocketAddr) (read : Option (List ℕ × ℕ))
     → whole_value (read_socket_v4 text) ≡ read
-    → option_or (option_map v4_from read) (option_map v6_from (whole_value (read_socket_v6 text))) ≡ Some address → IsSocketText text address
+    → option_or (option_map v4_from read)
+    (option_map v6_from (whole_value (read_socket_v6 text))) ≡ Some address
+    → IsSocketText text address
 from_either text address None same h = from_v6 text address _ refl h
 from_either text address (Some parts) same h =
     let other : SocketAddrV4 = record { ip = record { octets = parts.0 }; port = parts.1 } in

@@ -8,6 +8,7 @@ use Rattle.fwd_settings.specs.Kinds.{Answers}
 -- a fault that `?` hands on
 pub told : {A : Type 0} (found : Option SettingsFault) (setting : A)
     (result : Result A SettingsFault) (fault : SettingsFault)
-    → IsErrAnd result (λ e. e ≡ fault) → (fault ≢ Memory → found ≡ Some fault) → Answers found setting result
+    → IsErrAnd result (λ e. e ≡ fault) → (fault ≢ Memory → found ≡ Some fault)
+    → Answers found setting result
 told found setting (Ok answer) fault same h = absurd same
 told found setting (Err e) fault same h = rw same h

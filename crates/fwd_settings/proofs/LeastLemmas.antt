@@ -81,7 +81,8 @@ module _ (a b : List ℕ) (rest : List (List ℕ)) (h : is_less b a ≡ true) wh
   no_least : is_least (a ∷ b ∷ rest) a ≡ false
   no_least = ap not (covered (is_less a a) (is_less b a) (any_below rest a) (λ e. h) ∙ ap (λ t. t || any_below rest a) h)
 
-  second_least : find (is_least (a ∷ b ∷ rest)) (a ∷ b ∷ rest) ≡ find (is_least (b ∷ rest)) (b ∷ rest)
+  second_least : find (is_least (a ∷ b ∷ rest)) (a ∷ b ∷ rest) ≡ find (is_least (b ∷ rest))
+      (b ∷ rest)
   second_least =
       ap (λ t. cond t (Some a) (find (is_least (a ∷ b ∷ rest)) (b ∷ rest))) no_least
       ∙ ap (λ (test : List ℕ → Bool). find test (b ∷ rest)) (λ i x. same_tests x i)
@@ -106,7 +107,8 @@ module _ (a b : List ℕ) (rest : List (List ℕ)) (h : is_less b a ≡ false) w
   least_twice e =
       subst (λ x. is_least (a ∷ rest) x ≡ true) (exact b a h (first_false (is_less a b) (any_below rest b) (negated (is_less a b || any_below rest b) e))) e
 
-  first_least : find (is_least (a ∷ b ∷ rest)) (a ∷ b ∷ rest) ≡ find (is_least (a ∷ rest)) (a ∷ rest)
+  first_least : find (is_least (a ∷ b ∷ rest)) (a ∷ b ∷ rest) ≡ find (is_least (a ∷ rest))
+      (a ∷ rest)
   first_least =
       ap (λ (test : List ℕ → Bool). find test (a ∷ b ∷ rest)) (λ i x. kept_tests x i)
       ∙ passed (is_least (a ∷ rest) a) (is_least (a ∷ rest) b) (Some a) (Some b) (find (is_least (a ∷ rest)) rest) least_twice
@@ -137,7 +139,8 @@ least_from a (b ∷ keys) more = by (least_from a keys more) (least_from b keys 
   where
     by : least (a ∷ keys ++ more) ≡ least (cons_option (least (a ∷ keys)) more)
         → least (b ∷ keys ++ more) ≡ least (cons_option (least (b ∷ keys)) more)
-        → (t : Bool) → is_less b a ≡ t → least (a ∷ (b ∷ keys) ++ more) ≡ least (cons_option (least (a ∷ b ∷ keys)) more)
+        → (t : Bool) → is_less b a ≡ t
+        → least (a ∷ (b ∷ keys) ++ more) ≡ least (cons_option (least (a ∷ b ∷ keys)) more)
     by first second true h =
         lesser_second a b (keys ++ more) h ∙ second ∙ sym (ap (λ found. least (cons_option found more)) (lesser_second a b keys h))
     by first second false h =
@@ -151,7 +154,8 @@ least_append (a ∷ keys) more = least_from a keys more
 
 -- the same behind a key
 pub least_onward : (found : Option (List ℕ)) (keys more : List (List ℕ))
-    → least (cons_option found (keys ++ more)) ≡ least (cons_option (least (cons_option found keys)) more)
+    → least (cons_option found (keys ++ more)) ≡ least
+    (cons_option (least (cons_option found keys)) more)
 least_onward None keys more = least_append keys more
 least_onward (Some a) keys more = least_from a keys more
 
@@ -161,7 +165,8 @@ least_alone (Some a) = least_one a
 
 -- one key more, of which the lesser is known
 pub least_more : (found : Option (List ℕ)) (key lesser : List ℕ) (more : List (List ℕ))
-    → least (cons_option found (key ∷ [])) ≡ Some lesser → least (cons_option found (key ∷ more)) ≡ least (lesser ∷ more)
+    → least (cons_option found (key ∷ [])) ≡ Some lesser
+    → least (cons_option found (key ∷ more)) ≡ least (lesser ∷ more)
 least_more found key lesser more h = least_onward found (key ∷ []) more ∙ ap (λ known. least (cons_option known more)) h
 
 -- what a look at one more key, or at more keys, needs

@@ -43,12 +43,14 @@ viewed_length (value ∷ more) = ap (λ n. suc n) (viewed_length more)
 -- one member more of a list whose members are visited in turn
 pub each_more : {A : Type 0} (test : ℕ → Data → A) (values : List Value) (i : ℕ) (v : Value)
     → i < length values
-    → each test i (map view (drop i values)) ≡ test i (view (get_or values i v)) ∷ each test (i + 1) (map view (drop (i + 1) values))
+    → each test i (map view (drop i values)) ≡ test i (view (get_or values i v)) ∷ each test (i + 1)
+    (map view (drop (i + 1) values))
 each_more test values i v h = rw (drop_more values i v h)
 
 pub map_more : {A : Type 0} (shown : Data → A) (values : List Value) (i : ℕ) (v : Value)
     → i < length values
-    → map shown (map view (take (i + 1) values)) ≡ map shown (map view (take i values)) ++ shown (view (get_or values i v)) ∷ []
+    → map shown (map view (take (i + 1) values)) ≡ map shown (map view (take i values)) ++ shown
+    (view (get_or values i v)) ∷ []
 map_more shown values i v h = simp (take_more values i v h, map-append)
 
 -- a value that is a table

@@ -166,12 +166,14 @@ allowed_given key (Some (table x)) h = absurd cc
 
 users_by : (members : Members) (key : Option (List ℕ))
     → fault_at Relay members (optional_list_key (codes "user") (is_some key)) ≡ None
-    → have_key key (map user_settings (setting_at members (optional_list_key (codes "user") (is_some key)))) ≡ true
+    → have_key key
+    (map user_settings (setting_at members (optional_list_key (codes "user") (is_some key)))) ≡ true
 unfolding setting_at optional_list_key
 users_by members key h = allowed_given key (get_member (codes "user") members) (no_flaw Relay members (optional_list_key (codes "user") (is_some key)) h)
 
 users_allowed : (members : Members) → fault_at Relay members (users members) ≡ None
-    → have_key (setting_at members shared_key) (map user_settings (setting_at members (users members))) ≡ true
+    → have_key (setting_at members shared_key)
+    (map user_settings (setting_at members (users members))) ≡ true
 users_allowed members h = users_by members (setting_at members shared_key) h
 
 user_within : (user : ℕ) (value : Data) → user_fault user value ≡ None
@@ -215,7 +217,11 @@ standby_none : (output : ℕ) (listed : List Data) → standby_fault output list
 standby_none output listed h =
     ap not (list_all-map (λ (server : ServerSettings). server.standby) server_settings listed) ∙ by (list_all is_standby listed) h
   where
-    by : (b : Bool) → cond b (Some (Rattle.fwd_settings.specs.declared.fault.SettingsFault.TheVariants.OutOfRange (key_under (Output output) (codes "server")))) None ≡ None → not b ≡ true
+    by : (b : Bool)
+        → cond b
+        (Some (Rattle.fwd_settings.specs.declared.fault.SettingsFault.TheVariants.OutOfRange
+        (key_under (Output output) (codes "server")))) None ≡ None
+        → not b ≡ true
     by true f = absurd cc
     by false f = refl
 
@@ -227,12 +233,18 @@ at_most : (least most n : ℕ) → is_within least most n ≡ true → nat_le n 
 at_most least most n h = grind (arith, nat_tests, h)
 
 module _ (output : ℕ) (members : Members) (h : first (output_table output members) ≡ None) where
-  number_here : (i : ℕ) (name : List ℕ) (least most default : ℕ) → is_within least most default ≡ true → slice_get (output_table output members) i ≡ Some (fault_at (Output output) members (number_key name least most default))
+  number_here : (i : ℕ) (name : List ℕ) (least most default : ℕ)
+      → is_within least most default ≡ true
+      → slice_get (output_table output members) i ≡ Some
+      (fault_at (Output output) members (number_key name least most default))
       → is_within least most (setting_at members (number_key name least most default)) ≡ true
   number_here i name least most default d e =
       number_within (Output output) members name least most default d (none_at (output_table output members) i (fault_at (Output output) members (number_key name least most default)) h e)
 
-  text_here : (i : ℕ) (name : List ℕ) (least : ℕ) (default : List ℕ) → is_within least 255 (length default) ≡ true → slice_get (output_table output members) i ≡ Some (fault_at (Output output) members (text_key name least 255 default))
+  text_here : (i : ℕ) (name : List ℕ) (least : ℕ) (default : List ℕ)
+      → is_within least 255 (length default) ≡ true
+      → slice_get (output_table output members) i ≡ Some
+      (fault_at (Output output) members (text_key name least 255 default))
       → is_within least 255 (length (setting_at members (text_key name least 255 default))) ≡ true
   text_here i name least default d e =
       text_within (Output output) members name least 255 default d (none_at (output_table output members) i (fault_at (Output output) members (text_key name least 255 default)) h e)
@@ -289,7 +301,10 @@ relay_here : (root : Members) → relay_fault (get_member (codes "relay") root) 
 relay_here root h = by (get_member (codes "relay") root) h
   where
     by : (value : Option Data) → relay_fault value ≡ None
-        → relay_in_range (relay_settings (Rattle.std.specs.Prelude.unwrap_or (Rattle.std.specs.Prelude.option_and_then Rattle.toml.specs.Data.as_table value) no_members)) ≡ true
+        → relay_in_range
+        (relay_settings (Rattle.std.specs.Prelude.unwrap_or
+        (Rattle.std.specs.Prelude.option_and_then Rattle.toml.specs.Data.as_table value) no_members))
+        ≡ true
     by None f = relay_within no_members f
     by (Some (table members)) f = relay_within members f
     by (Some (string x)) f = absurd cc

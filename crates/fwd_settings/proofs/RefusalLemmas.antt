@@ -86,7 +86,9 @@ standbys output listed = by (list_all is_standby listed)
     none : of_text None ≡ true
     none = flawed None []
 
-    by : (b : Bool) → of_text (cond b (Some (OutOfRange (key_under (Output output) (codes "server")))) None) ≡ true
+    by : (b : Bool)
+        → of_text
+        (cond b (Some (OutOfRange (key_under (Output output) (codes "server")))) None) ≡ true
     by true = out
     by false = none
 

@@ -10,7 +10,8 @@ use Rattle.fwd_settings.proofs.LeastLemmas.{least_alone, least_more}
 
 -- a name among references to names
 pub any_shown : (names : List (Bor (List ℕ))) (name : List ℕ)
-    → list_any (λ known. bytes_eq known name) (map (λ known. known.now) names) ≡ list_any (λ known. bytes_eq known.now name) names
+    → list_any (λ known. bytes_eq known name) (map (λ known. known.now) names) ≡ list_any
+    (λ known. bytes_eq known.now name) names
 any_shown [] name = refl
 any_shown (known ∷ more) name = ap (λ found. bytes_eq known.now name || found) (any_shown more name)
 

@@ -103,7 +103,8 @@ guarded = opened (setup (Some (codes "the lazy dog")))
 
 -- HELO is written at the start, with the nonce as a bin and an empty auth salt
 greets : unsent guarded ≡
-    0x92 ∷ 0xa4 ∷ codes "HELO" ++ 0x83 ∷ 0xa5 ∷ codes "nonce" ++ 0xc4 ∷ 0x10 ∷ replicate 16 0x6e ++ 0xa4 ∷ codes "auth" ++ 0xa0 ∷ 0xa9 ∷ codes "keepalive" ++ 0xc3 ∷ []
+    0x92 ∷ 0xa4 ∷ codes "HELO" ++ 0x83 ∷ 0xa5 ∷ codes "nonce" ++ 0xc4 ∷ 0x10 ∷ replicate 16 0x6e
+    ++ 0xa4 ∷ codes "auth" ++ 0xa0 ∷ 0xa9 ∷ codes "keepalive" ++ 0xc3 ∷ []
 unfolding helo_text head_bytes
 greets = refl
 
@@ -123,7 +124,8 @@ nothing_waits = refl
 -- ---- where a PING is awaited: what comes first is passed with the PONG "yes", or denied with "no"
 
 passed : judged_of limits (Some (λ value. ping.Pass (codes "yes"))) 0 (0xc0 ∷ 0x90 ∷ a) ≡
-    record { requests = asks 0x61 1 ∷ []; rest = []; pong = codes "yes"; awaits = false; fault = None }
+    record
+    { requests = asks 0x61 1 ∷ []; rest = []; pong = codes "yes"; awaits = false; fault = None }
 unfolding judged_of request_of parts_of row_of_values split_of first_of fault_at item_begun payload_ended reading_of row_of named_rows
 passed = refl
 

@@ -102,7 +102,8 @@ value_joined : (deep : ℕ) (awaited : AwaitedPing) (n : ℕ) (v : List ℕ)
     → Continues behind g k (front g k) (all g k))
     → ((k : ℕ) → (front None k).fault ≡ None → (front None k).awaits ≡ false)
     → (value_then deep awaited n v front).fault ≡ None
-    → Continues behind awaited n (value_then deep awaited n v front) (value_then deep awaited n v all)
+    → Continues behind awaited n (value_then deep awaited n v front)
+    (value_then deep awaited n v all)
 value_joined deep None n v front all behind h ends e = asked_joined n (request_of deep v) (front None) (all None) behind (h None) e
 value_joined deep (Some verdict) n v front all behind h ends e = by (is_nil v) e
   where
@@ -116,7 +117,8 @@ value_joined deep (Some verdict) n v front all behind h ends e = by (is_nil v) e
 
 -- ---- values
 
-stays : (awaited : AwaitedPing) (rest : List ℕ) → awaited_behind awaited (resting awaited rest).awaits ≡ awaited
+stays : (awaited : AwaitedPing) (rest : List ℕ)
+    → awaited_behind awaited (resting awaited rest).awaits ≡ awaited
 stays None rest = refl
 stays (Some verdict) rest = refl
 
@@ -242,7 +244,8 @@ welcome_broken (ping.Pass pong) front h e = h e
 welcome_broken (ping.Deny pong denial) front h e = cc
 welcome_broken ping.NotPing front h e = cc
 
-value_broken : (deep : ℕ) (awaited : AwaitedPing) (n : ℕ) (v : List ℕ) (front : AwaitedPing → ℕ → Judged)
+value_broken : (deep : ℕ) (awaited : AwaitedPing) (n : ℕ) (v : List ℕ)
+    (front : AwaitedPing → ℕ → Judged)
     → ((g : AwaitedPing) (k : ℕ) → (front g k).fault ≡ None → ⊥)
     → (value_then deep awaited n v front).fault ≡ None → ⊥
 value_broken deep None n v front h e = asked_broken n (request_of deep v) (front None) (h None) e
@@ -299,7 +302,8 @@ pub judged_of-append : (limits : Limits) (awaited : AwaitedPing) (n : ℕ) (a b 
     → (judged_of limits awaited n a).fault ≡ None
     → judged_of limits awaited n (a ++ b)
     ≡ joined (judged_of limits awaited n a).requests (judged_of limits awaited n a).pong
-    (judged_of limits (awaited_behind awaited (judged_of limits awaited n a).awaits) (n + length (judged_of limits awaited n a).requests) ((judged_of limits awaited n a).rest ++ b))
+    (judged_of limits (awaited_behind awaited (judged_of limits awaited n a).awaits)
+    (n + length (judged_of limits awaited n a).requests) ((judged_of limits awaited n a).rest ++ b))
 unfolding judged_of
 judged_of-append limits awaited n a b e =
     stream-append limits.depth awaited n (split_of limits.bytes limits.depth a) (split_of limits.bytes limits.depth (a ++ b)) (λ rest. split_of limits.bytes limits.depth (rest ++ b)) e
@@ -339,7 +343,8 @@ unfolding judged_of split_of
 judged_of-short limits awaited n bytes e = ap (judge_stream limits.depth awaited n) (told_first limits.bytes limits.depth [] bytes ∙ ap (by_first limits.bytes limits.depth [] bytes) e)
 
 -- no value within the limits
-pub judged_of-bad : (limits : Limits) (awaited : AwaitedPing) (n : ℕ) (bytes : List ℕ) (fault : ScanFault)
+pub judged_of-bad : (limits : Limits) (awaited : AwaitedPing) (n : ℕ) (bytes : List ℕ)
+    (fault : ScanFault)
     → first_of limits.bytes limits.depth bytes ≡ Bad fault
     → judged_of limits awaited n bytes ≡ failed (Scan fault)
 unfolding judged_of split_of

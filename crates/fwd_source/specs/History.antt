@@ -1,5 +1,6 @@
 -- The history of a connection, with nothing removed.
 use Rattle.std.specs.Prelude.{ℕ, ◌+◌, ◌≤◌, Bool, true, false, ◌||◌, List, [], ◌++◌, drop, length, Option, Some, None, is_some, if◌then◌else◌}
+use Rattle.std.proofs.Math.Nat.{le_refl}
 use Rattle.fwd_msgpack.specs.declared.limits.Limits.{Limits}
 use Rattle.fwd_modes.specs.Requests.{Request}
 use Rattle.fwd_handshake.specs.declared.credentials.Security.{Security}
@@ -7,9 +8,14 @@ use Rattle.fwd_handshake.specs.declared.nonces.Nonces.{Nonces}
 use Rattle.fwd_handshake.specs.Messages.{helo_text}
 use Rattle.fwd_handshake.specs.Verdicts.{ping_verdict}
 use Rattle.fwd_source.specs.declared.fault.SourceFault.{SourceFault}
+use Rattle.fwd_source.specs.declared.limits.TheConstants.{NESTING_LIMIT, VALUE_LIMIT}
 use Rattle.fwd_source.specs.declared.piece.Piece.{Piece}
 use Rattle.fwd_source.specs.declared.piece.Piece.TheVariants as piece
 use Rattle.fwd_source.specs.Judged.{Judged, AwaitedPing, judged_of}
+
+-- how long and how deep a value of a source may be, in the relay
+abbrev pub source_limits : Limits
+source_limits = record { bytes = VALUE_LIMIT; depth = NESTING_LIMIT; shallow = le_refl 64 }
 
 -- what a connection is accepted with: its id, what it has to prove, the random bytes of its
 -- handshake, and how long and deep a value may be
@@ -80,25 +86,11 @@ pub record IsSane (s : SourceHistory) : Type 0 where
 
 -- its bytes are heard
 abbrev pub has_heard : SourceHistory → List ℕ → SourceHistory
-has_heard s bytes = record {
-  setup = s.setup;
-  heard = s.heard ++ bytes;
-  admitted = s.admitted;
-  appended = s.appended;
-  drained = s.drained;
-  shut = s.shut;
-}
+has_heard s bytes = record s { heard = s.heard ++ bytes }
 
 -- bytes are appended to what is sent
 abbrev pub appends : SourceHistory → List ℕ → SourceHistory
-appends s bytes = record {
-  setup = s.setup;
-  heard = s.heard;
-  admitted = s.admitted;
-  appended = s.appended ++ bytes;
-  drained = s.drained;
-  shut = s.shut;
-}
+appends s bytes = record s { appended = s.appended ++ bytes }
 
 -- the PONG that a piece brings: what all bytes ask for, less what was appended before
 abbrev pub new_pong : SourceHistory → List ℕ → List ℕ
@@ -126,33 +118,12 @@ piece_answer s bytes =
 
 -- the first request that waits is admitted
 abbrev pub gives : SourceHistory → SourceHistory
-gives s = record {
-  setup = s.setup;
-  heard = s.heard;
-  admitted = s.admitted + 1;
-  appended = s.appended;
-  drained = s.drained;
-  shut = s.shut;
-}
+gives s = record s { admitted = s.admitted + 1 }
 
 -- the link took some of the bytes that wait to be sent
 abbrev pub drains : SourceHistory → ℕ → SourceHistory
-drains s count = record {
-  setup = s.setup;
-  heard = s.heard;
-  admitted = s.admitted;
-  appended = s.appended;
-  drained = s.drained + count;
-  shut = s.shut;
-}
+drains s count = record s { drained = s.drained + count }
 
 -- what waits is dropped, and no further piece is heard
 abbrev pub shuts : SourceHistory → SourceHistory
-shuts s = record {
-  setup = s.setup;
-  heard = s.heard;
-  admitted = s.admitted;
-  appended = s.appended;
-  drained = s.drained;
-  shut = true;
-}
+shuts s = record s { shut = true }

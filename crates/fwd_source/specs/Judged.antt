@@ -40,33 +40,15 @@ resting awaited rest = record {
 
 -- a request, and what comes after it
 abbrev pub ahead : Request → Judged → Judged
-ahead r j = record {
-  requests = r ∷ j.requests;
-  rest = j.rest;
-  pong = j.pong;
-  awaits = j.awaits;
-  fault = j.fault;
-}
+ahead r j = record j { requests = r ∷ j.requests }
 
 -- a PONG, and what comes after it
 abbrev pub greeted : List ℕ → Judged → Judged
-greeted pong j = record {
-  requests = j.requests;
-  rest = j.rest;
-  pong = pong ++ j.pong;
-  awaits = j.awaits;
-  fault = j.fault;
-}
+greeted pong j = record j { pong = pong ++ j.pong }
 
 -- what came, and what comes after it
 abbrev pub joined : List Request → List ℕ → Judged → Judged
-joined requests pong j = record {
-  requests = requests ++ j.requests;
-  rest = j.rest;
-  pong = pong ++ j.pong;
-  awaits = j.awaits;
-  fault = j.fault;
-}
+joined requests pong j = record j { requests = requests ++ j.requests; pong = pong ++ j.pong }
 
 -- a PING, judged, and what comes after it: a denied one has its PONG, and what is no PING has none
 abbrev pub welcomed : PingVerdict → Judged → Judged

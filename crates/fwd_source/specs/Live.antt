@@ -64,14 +64,11 @@ judged_piece s bytes = judged_behind s (s.rest ++ bytes)
 
 -- more bytes are heard, on a connection that is not closed
 unfoldable pub source_hears : LiveSource → List ℕ → LiveSource
-source_hears s bytes = record {
-  setup = s.setup;
+source_hears s bytes = record s {
   awaits = (judged_piece s bytes).awaits;
   rest = (judged_piece s bytes).rest;
   waiting = s.waiting ++ (judged_piece s bytes).requests;
-  admitted = s.admitted;
   unsent = s.unsent ++ (judged_piece s bytes).pong;
-  shut = s.shut;
   closed = is_some (judged_piece s bytes).fault;
 }
 
@@ -102,16 +99,7 @@ tail_of (r ∷ rs) = rs
 
 -- the first request that waits is taken
 abbrev pub source_gives : LiveSource → LiveSource
-source_gives s = record {
-  setup = s.setup;
-  awaits = s.awaits;
-  rest = s.rest;
-  waiting = tail_of s.waiting;
-  admitted = s.admitted + 1;
-  unsent = s.unsent;
-  shut = s.shut;
-  closed = s.closed;
-}
+source_gives s = record s { waiting = tail_of s.waiting; admitted = s.admitted + 1 }
 
 -- the first request that waits, with its number
 abbrev pub first_waiting : LiveSource → List Request → Option (Origin × Request)
@@ -125,38 +113,18 @@ source_gives_first s (r ∷ rs) = source_gives s
 
 -- bytes are put behind those that wait to be sent
 abbrev pub source_appends : LiveSource → List ℕ → LiveSource
-source_appends s bytes = record {
-  setup = s.setup;
-  awaits = s.awaits;
-  rest = s.rest;
-  waiting = s.waiting;
-  admitted = s.admitted;
-  unsent = s.unsent ++ bytes;
-  shut = s.shut;
-  closed = s.closed;
-}
+source_appends s bytes = record s { unsent = s.unsent ++ bytes }
 
 -- the first of the bytes that wait were sent, so many of them
 abbrev pub source_drains : LiveSource → ℕ → LiveSource
-source_drains s count = record {
-  setup = s.setup;
-  awaits = s.awaits;
-  rest = s.rest;
-  waiting = s.waiting;
-  admitted = s.admitted;
-  unsent = drop count s.unsent;
-  shut = s.shut;
-  closed = s.closed;
-}
+source_drains s count = record s { unsent = drop count s.unsent }
 
 -- the connection is shut: what waits is dropped, and no further piece is taken
 abbrev pub source_shuts : LiveSource → LiveSource
-source_shuts s = record {
-  setup = s.setup;
+source_shuts s = record s {
   awaits = false;
   rest = [];
   waiting = [];
-  admitted = s.admitted;
   unsent = [];
   shut = true;
   closed = true;

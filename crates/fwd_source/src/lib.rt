@@ -6,6 +6,7 @@ mod fault;
 mod greeting;
 mod hearing;
 mod laws;
+mod limits;
 mod origin;
 mod piece;
 mod source;
@@ -15,6 +16,7 @@ pub use laws::{
     answers_fit, faults_close, judged_by_front, live_source_follows, pieces_are_one,
     requests_are_values, source_stays_sane,
 };
+pub use limits::{NESTING_LIMIT, SOURCE_LIMITS, VALUE_LIMIT};
 pub use origin::Origin;
 pub use piece::{Piece, Told};
-pub use source::{AnswerError, SOURCE_LIMITS, Source};
+pub use source::{AnswerError, Source};

@@ -45,12 +45,6 @@ use std::collections::VecDeque;
 use std::marker::Model;
 use std::sync::Arc;
 
-/// How long and how deep a value of a source may be, in the relay.
-pub const SOURCE_LIMITS: Limits = Limits {
-    bytes: 16_777_216,
-    depth: 64,
-};
-
 /// Why an answer was not taken.
 #[derive(Clone, Copy, Debug, PartialEq, Eq)]
 pub enum AnswerError {

@@ -14,7 +14,8 @@ use Rattle.fwd_chunks.specs.Live.{
 }
 
 -- one entry more was accepted
-one-accepted : (b : LiveBuffer) (tag entry : List ℕ) → (live_adds b tag entry).accepted ≡ b.accepted + 1
+one-accepted : (b : LiveBuffer) (tag entry : List ℕ)
+    → (live_adds b tag entry).accepted ≡ b.accepted + 1
 unfolding live_adds
 one-accepted b tag entry = by (find (may_take b tag entry) b.chunks)
   where

@@ -263,7 +263,8 @@ handing-none o all answers kept answered = record {
 
 -- what is found for the first of some tickets, and for the others
 first-answered : (b : LiveBook) (t : Ticket) (ts : List Ticket) (a : Option Receipt)
-    (os : List (Option Receipt)) → AreAnswered b (t ∷ ts) (a ∷ os) → IsAnswered b t a × AreAnswered b ts os
+    (os : List (Option Receipt)) → AreAnswered b (t ∷ ts) (a ∷ os)
+    → IsAnswered b t a × AreAnswered b ts os
 first-answered b t ts a os answered = answered
 
 -- the next ticket has its receipt, and its request is held still

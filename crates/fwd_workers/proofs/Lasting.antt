@@ -86,7 +86,8 @@ mid-bytes s middle before between up bytes one = record {
 
 -- ---- the read
 
-heard-of : (s : SessionHistory) (bytes : List ℕ) → s.down ≡ false → hears s bytes ≡ listens s bytes (says s bytes)
+heard-of : (s : SessionHistory) (bytes : List ℕ) → s.down ≡ false
+    → hears s bytes ≡ listens s bytes (says s bytes)
 heard-of s bytes up = ap (λ d. cond d s (listens s bytes (says s bytes))) up
 
 -- what was given was heard
@@ -106,7 +107,8 @@ hears-over s middle t between after what sane up live bytes heard = record {
 
 -- nothing was heard
 rests-over : (s : SessionHistory) (middle t : LiveSession) (between after : Seen) → IsSane s
-    → middle ≡ live_session s → AreTheLinks s between → Rests middle t between after → IsOver t after
+    → middle ≡ live_session s → AreTheLinks s between → Rests middle t between after
+    → IsOver t after
 rests-over s middle t between after sane live bytes rests = record {
   history = s;
   live = rests.0 ∙ live;
@@ -116,7 +118,8 @@ rests-over s middle t between after sane live bytes rests = record {
 
 -- the link failed
 fails-over : (s : SessionHistory) (middle t : LiveSession) (between after : Seen) → IsSane s
-    → middle ≡ live_session s → AreTheLinks s between → Fails middle t between after → IsOver t after
+    → middle ≡ live_session s → AreTheLinks s between → Fails middle t between after
+    → IsOver t after
 fails-over s middle t between after sane live bytes fails = record {
   history = s;
   live = fails.0 ∙ live;

@@ -21,6 +21,11 @@ pub record Seen : Type 0 where
   pub given : List ℕ
   pub failures : ℕ
 
+-- it, from its parts
+abbrev pub seen_of : (taken given : List ℕ) (failures : ℕ) → Seen
+seen_of taken given failures =
+    record { taken = taken; given = given; failures = failures }
+
 -- the link took bytes from the front of those that waited, and the session was told how many
 pub record Sends (s t : LiveSession) (before after : Seen) : Type 0 where
   pub count : ℕ

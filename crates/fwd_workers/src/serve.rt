@@ -2,7 +2,7 @@
 
 ghost use Rattle.std.specs.Prelude.{◌≡◌, ◌≤◌, ◌+◌, ◌++◌, ℕ, List, false, IfOk, IfErr, OnErr, length};
 ghost use Rattle.fwd_session.specs.Live.{LiveSession};
-ghost use Rattle.fwd_workers.specs.Served.{Seen, Sends, Fails, HasHeard, Hears, IsServed};
+ghost use Rattle.fwd_workers.specs.Served.{Seen, seen_of, Sends, Fails, HasHeard, Hears, IsServed};
 
 use crate::link::{Link, LinkFault, Read};
 use fwd_session::{Heard, Session, SessionFault};
@@ -34,27 +34,11 @@ pub enum Served {
 /// The link takes of the bytes that wait, if any do, and the session is told how many.
 fn send<L: Link, R: Wait>(rt: &R, link: &mut L, session: &mut Session) -> Result<(), LinkFault>
     ensures sent { IfOk result (λ none. Sends session.old session.new
-        (record {
-          taken = L.taken link.old;
-          given = L.given link.old;
-          failures = L.failures link.old;
-        })
-        (record {
-          taken = L.taken link.new;
-          given = L.given link.new;
-          failures = L.failures link.new;
-        })) }
+        (seen_of (L.taken link.old) (L.given link.old) (L.failures link.old))
+        (seen_of (L.taken link.new) (L.given link.new) (L.failures link.new))) }
     ensures failed { IfErr result (λ fault. Fails session.old session.new
-        (record {
-          taken = L.taken link.old;
-          given = L.given link.old;
-          failures = L.failures link.old;
-        })
-        (record {
-          taken = L.taken link.new;
-          given = L.given link.new;
-          failures = L.failures link.new;
-        })) }
+        (seen_of (L.taken link.old) (L.given link.old) (L.failures link.old))
+        (seen_of (L.taken link.new) (L.given link.new) (L.failures link.new))) }
     ensures chunk { session.new.loaded ≡ session.old.loaded }
     ensures up { session.new.down ≡ session.old.down }
 {
@@ -95,16 +79,8 @@ pub fn serve_turn<L: Link, R: Wait>(
 ) -> Served
     requires { session.old.down ≡ false }
     ensures served { IsServed result session.old session.new
-        (record {
-          taken = L.taken link.old;
-          given = L.given link.old;
-          failures = L.failures link.old;
-        })
-        (record {
-          taken = L.taken link.new;
-          given = L.given link.new;
-          failures = L.failures link.new;
-        }) }
+        (seen_of (L.taken link.old) (L.given link.old) (L.failures link.old))
+        (seen_of (L.taken link.new) (L.given link.new) (L.failures link.new)) }
     ensures chunk { session.new.loaded ≡ session.old.loaded }
 {
     if let Err(fault) = send(rt, link, session) {

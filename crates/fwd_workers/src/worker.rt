@@ -241,9 +241,10 @@ impl Worker {
     }
 
     /// Closes chunks that are due and takes them, sends them to servers and settles what they
-    /// acknowledged, in so many turns, or until the gate stops it. A session ends at a fault, where its link is closed or fails, where
-    /// it is late, and for want of memory; a link that cannot be had is a loss of its server. At
-    /// the end an accepted chunk is settled, and a taken or loaded one goes back.
+    /// acknowledged, in so many turns, or until the gate stops it. A session ends at a fault, where
+    /// its link is closed or fails, where it is late, and for want of memory; a link that cannot be
+    /// had is a loss of its server. At the end an accepted chunk is settled, and a taken or loaded
+    /// one goes back.
     pub fn run<A: Tally, S: Tally, H: Hub, G: Gate, C: Clock, R: Wait>(
         &mut self,
         rt: &R,

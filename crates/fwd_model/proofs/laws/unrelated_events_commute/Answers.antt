@@ -1,5 +1,5 @@
 use Rattle.fwd_model.proofs.Follows.{reached_sane}
-use Rattle.fwd_model.proofs.Commuting.{unrelated_commute}
+use Rattle.fwd_model.proofs.Orders.Commuting.{unrelated_commute}
 use Rattle.fwd_model.proofs.laws.unrelated_events_commute.Goals as goal
 
 pub returns : goal.returns

@@ -1,5 +1,5 @@
 use Rattle.std.proofs.Common.{refl, ap, inr, Ok, ◌∙◌}
-use Rattle.fwd_workers.specs.Served.{Seen}
+use Rattle.fwd_workers.specs.Served.{Seen, seen_of}
 use Rattle.fwd_workers.proofs.Serving.{
   sends-none,
   bytes-seen,
@@ -11,25 +11,16 @@ use Rattle.fwd_workers.proofs.serve.serve_turn.Goals as goal
 
 pub returns-in-Err-clause-served : goal.returns-in-Err-clause-served
 returns-in-Err-clause-served g c =
-    let before : Seen = record {
-      taken = g.L.Link.taken c.args.link.now;
-      given = g.L.Link.given c.args.link.now;
-      failures = g.L.Link.failures c.args.link.now;
-    } in
+    let before : Seen =
+    seen_of (g.L.Link.taken c.args.link.now) (g.L.Link.given c.args.link.now) (g.L.Link.failures c.args.link.now) in
     (c.args.session.now, before, sends-none c.args.session.now before, c.in-Err.ensures.failed)
 
 pub returns-in-Ok-Bytes-clause-served : goal.returns-in-Ok-Bytes-clause-served
 returns-in-Ok-Bytes-clause-served g c =
-    let between : Seen = record {
-      taken = g.L.Link.taken c.send.new.link;
-      given = g.L.Link.given c.send.new.link;
-      failures = g.L.Link.failures c.send.new.link;
-    } in
-    let after : Seen = record {
-      taken = g.L.Link.taken c.read.new.self;
-      given = g.L.Link.given c.read.new.self;
-      failures = g.L.Link.failures c.read.new.self;
-    } in (
+    let between : Seen =
+    seen_of (g.L.Link.taken c.send.new.link) (g.L.Link.given c.send.new.link) (g.L.Link.failures c.send.new.link) in
+    let after : Seen =
+    seen_of (g.L.Link.taken c.read.new.self) (g.L.Link.given c.read.new.self) (g.L.Link.failures c.read.new.self) in (
       c.send.new.session,
       between,
       c.in_default.ensures.sent,
@@ -41,16 +32,10 @@ returns-in-Ok-Bytes-clause-served g c =
 
 pub returns-in-Ok-Nothing-clause-served : goal.returns-in-Ok-Nothing-clause-served
 returns-in-Ok-Nothing-clause-served g c =
-    let between : Seen = record {
-      taken = g.L.Link.taken c.send.new.link;
-      given = g.L.Link.given c.send.new.link;
-      failures = g.L.Link.failures c.send.new.link;
-    } in
-    let after : Seen = record {
-      taken = g.L.Link.taken c.read.new.self;
-      given = g.L.Link.given c.read.new.self;
-      failures = g.L.Link.failures c.read.new.self;
-    } in (
+    let between : Seen =
+    seen_of (g.L.Link.taken c.send.new.link) (g.L.Link.given c.send.new.link) (g.L.Link.failures c.send.new.link) in
+    let after : Seen =
+    seen_of (g.L.Link.taken c.read.new.self) (g.L.Link.given c.read.new.self) (g.L.Link.failures c.read.new.self) in (
       c.send.new.session,
       between,
       c.in_default.ensures.sent,
@@ -64,16 +49,10 @@ returns-in-Ok-Nothing-clause-served g c =
 
 pub returns-in-Ok-Closed-clause-served : goal.returns-in-Ok-Closed-clause-served
 returns-in-Ok-Closed-clause-served g c =
-    let between : Seen = record {
-      taken = g.L.Link.taken c.send.new.link;
-      given = g.L.Link.given c.send.new.link;
-      failures = g.L.Link.failures c.send.new.link;
-    } in
-    let after : Seen = record {
-      taken = g.L.Link.taken c.read.new.self;
-      given = g.L.Link.given c.read.new.self;
-      failures = g.L.Link.failures c.read.new.self;
-    } in (
+    let between : Seen =
+    seen_of (g.L.Link.taken c.send.new.link) (g.L.Link.given c.send.new.link) (g.L.Link.failures c.send.new.link) in
+    let after : Seen =
+    seen_of (g.L.Link.taken c.read.new.self) (g.L.Link.given c.read.new.self) (g.L.Link.failures c.read.new.self) in (
       c.send.new.session,
       between,
       c.in_default.ensures.sent,
@@ -87,16 +66,10 @@ returns-in-Ok-Closed-clause-served g c =
 
 pub returns-in-Err-read-clause-served : goal.returns-in-Err-read-clause-served
 returns-in-Err-read-clause-served g c =
-    let between : Seen = record {
-      taken = g.L.Link.taken c.send.new.link;
-      given = g.L.Link.given c.send.new.link;
-      failures = g.L.Link.failures c.send.new.link;
-    } in
-    let after : Seen = record {
-      taken = g.L.Link.taken c.read.new.self;
-      given = g.L.Link.given c.read.new.self;
-      failures = g.L.Link.failures c.read.new.self;
-    } in (
+    let between : Seen =
+    seen_of (g.L.Link.taken c.send.new.link) (g.L.Link.given c.send.new.link) (g.L.Link.failures c.send.new.link) in
+    let after : Seen =
+    seen_of (g.L.Link.taken c.read.new.self) (g.L.Link.given c.read.new.self) (g.L.Link.failures c.read.new.self) in (
       c.send.new.session,
       between,
       c.in_default.ensures.sent,

@@ -1,6 +1,7 @@
 use Rattle.std.proofs.Common.{rules, ◌≡◌, ℕ, List, cond, ◌+◌, ◌-◌, ◌≤◌, ◌<◌, ◌^◌, ◌++◌, length, max, Some, None, sym, ap, ◌∙◌, subst, arith}
 use Rattle.std.specs.Prelude.{find, map, ◌==◌, IfSome, IfNone, option_copied}
 use Rattle.std.specs.Str.{bytes_eq}
+use Rattle.fwd_modes.specs.declared.limits.TheConstants.{TAG_LIMIT}
 use Rattle.fwd_chunks.specs.Cells.{size_of}
 use Rattle.fwd_chunks.specs.Live.{LiveBuffer, is_at, is_open_of, live_next_number, live_enters, live_spans, live_refusal}
 use Rattle.fwd_chunks.specs.Soundness.{AreInOrder}
@@ -167,7 +168,7 @@ invariant_of-self-2 c =
     (λ i. record v { chunks = chunks i; greatest = last i; accepted = c.self.inside.accepted + c.len-2.result; moment = c.max-moment.ensures i })
     ∙ entered v r c.args.now p own.sound plan c.unwrap_or-first.result c.in_ok-fresh.fresh.items c.len-2.result made next c.len-2.ensures.value in
     let size : length c.entries.result.now ≡ size_of r.entries = ap length c.entries.ensures.value ∙ sym (size_joined r.entries) in
-    let fits : length r.tag ≤ 1024 = omega (arith, ap length c.tag-tag.ensures.value, c.tag-tag.ensures.bound) in
+    let fits : length r.tag ≤ TAG_LIMIT = omega (arith, ap length c.tag-tag.ensures.value, c.tag-tag.ensures.bound) in
     let items = c.self.inside.slots.chunks in
     let back = entries_in p.back in
     let all : c.fill.new.slots.chunks ≡ filled_in p.joins (entries_in p.front) (stage_last (length (fresh_of c.self.inside.limits.chunk r.tag (max c.self.inside.moment c.args.now) c.unwrap_or-first.result (entries_in p.back)) == 0)) c.self.inside.slots.chunks ++ fresh_of c.self.inside.limits.chunk r.tag (max c.self.inside.moment c.args.now) c.unwrap_or-first.result (entries_in p.back) =
@@ -201,7 +202,6 @@ returns-clause-ok c =
     c.in_ok-fresh.ensures ∙ (λ i. fresh_of (c.from-limit.ensures i) (c.tag-tag.ensures.value i) (c.max-moment.ensures i) c.unwrap_or-first.result (entries_in p.back)) in
     let kept : c.reserve.new.self.chunks ≡ c.self.inside.slots.chunks = ap (λ (h : Held). h.chunks) c.in_ok-reserve.ensures.kept in
     let kept_last : c.reserve.new.self.last ≡ c.self.inside.slots.last = ap (λ (h : Held). h.last) c.in_ok-reserve.ensures.kept in
-    let kept_retry : c.reserve.new.self.retry ≡ c.self.inside.slots.retry = ap (λ (h : Held). h.retry) c.in_ok-reserve.ensures.kept in
     let chunks : c.fill.new.slots.chunks ≡ filled_in p.joins (entries_in p.front) (stage_last (length c.in_ok-fresh.fresh.items == 0)) c.self.inside.slots.chunks ++ c.in_ok-fresh.fresh.items =
     ap (λ (h : Held). h.chunks) c.in_ok-fill.ensures.ok ∙ ap (λ l. filled_in p.joins (entries_in p.front) (stage_last (length c.in_ok-fresh.fresh.items == 0)) l ++ c.in_ok-fresh.fresh.items) kept in
     let last : c.fill.new.slots.last ≡ last_of c.self.inside.slots.last c.in_ok-fresh.fresh.items = ap (λ (h : Held). h.last) c.in_ok-fill.ensures.ok ∙ ap (λ o. last_of o c.in_ok-fresh.fresh.items) kept_last in

@@ -1,6 +1,7 @@
 use Rattle.std.proofs.Common.{◌≡◌, Some, None, find, sym, ap, ◌∙◌}
 use Rattle.std.specs.Prelude.{option_copied, ◌&&◌}
-use Rattle.fwd_chunks.specs.Live.{is_closed, live_is_over, live_looks, live_given, live_is_free}
+use Rattle.fwd_chunks.specs.Live.{is_closed, live_looks, live_given, live_is_free}
+use Rattle.fwd_retry.specs.Tallies.{live_is_over}
 use Rattle.fwd_chunks.specs.Stored.{TagFits}
 use Rattle.fwd_chunks.proofs.Sounding.{found-all}
 use Rattle.fwd_chunks.proofs.buffer.Buffer.take.Goals as goal

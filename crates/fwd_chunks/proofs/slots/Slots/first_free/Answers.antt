@@ -1,6 +1,7 @@
 use Rattle.std.proofs.Common.{◌≡◌, ◌&&◌, position, find, option_copied, Some, None, sym, ap, ◌∙◌, arith}
 use Rattle.std.specs.Prelude.{slice_get}
-use Rattle.fwd_chunks.specs.Live.{is_closed, live_is_over}
+use Rattle.fwd_chunks.specs.Live.{is_closed}
+use Rattle.fwd_retry.specs.Tallies.{live_is_over}
 use Rattle.fwd_chunks.specs.Earliest.{is_within}
 use Rattle.fwd_chunks.specs.Slots.{Held, ready_key}
 use Rattle.fwd_chunks.proofs.Places.{get-read}

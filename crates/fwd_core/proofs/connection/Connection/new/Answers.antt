@@ -4,7 +4,7 @@ use Rattle.std.specs.Coded.{le_prop}
 use Rattle.std.specs.Arc.{arc_value}
 use Rattle.fwd_msgpack.specs.declared.limits.Limits.{Limits}
 use Rattle.fwd_source.specs.Live.{opened_source}
-use Rattle.fwd_model.specs.Setups.{source_limits}
+use Rattle.fwd_source.specs.History.{source_limits}
 use Rattle.fwd_core.proofs.connection.Connection.new.Goals as goal
 
 abbrev limits_by : 64 ≤ 64 → Limits

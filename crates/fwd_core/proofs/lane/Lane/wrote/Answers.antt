@@ -9,24 +9,18 @@ use Rattle.fwd_core.proofs.lane.Lane.wrote.Goals as goal
 
 pub invariant_of-self : goal.invariant_of-self
 invariant_of-self c =
-    let workers = c.self.inside.workers in
-    let x = c.index_mut.result.now in
-    let size : c.len.result ≡ length workers.items = c.len.ensures ∙ workers.ok.0 in
-    let here : slice_get workers.items c.from-place.result ≡ Some x = slice_get_read workers.items c.len.result c.from-place.result x size c.if-place-len.false c.index_mut.ensures.value in
-    held-put c.self.inside.output.buffer workers.items c.from-place.result x c.wrote.new.self c.self.invariant here c.wrote.ensures.chunk
+    let size : c.len.result ≡ length c.self.inside.workers.items = c.len.ensures ∙ c.self.inside.workers.ok.0 in
+    let here : slice_get c.self.inside.workers.items c.from-place.result ≡ Some c.index_mut.result.now = slice_get_read c.self.inside.workers.items c.len.result c.from-place.result c.index_mut.result.now size c.if-place-len.false c.index_mut.ensures.value in
+    held-put c.self.inside.output.buffer c.self.inside.workers.items c.from-place.result c.index_mut.result.now c.wrote.new.self c.self.invariant here c.wrote.ensures.chunk
 
 pub returns-clause-answer : goal.returns-clause-answer
 returns-clause-answer c =
-    let workers = c.self.inside.workers in
-    let x = c.index_mut.result.now in
-    let size : c.len.result ≡ length workers.items = c.len.ensures ∙ workers.ok.0 in
-    let here : slice_get workers.items c.from-place.result ≡ Some x = slice_get_read workers.items c.len.result c.from-place.result x size c.if-place-len.false c.index_mut.ensures.value in
-    c.wrote.ensures.answer ∙ worker_told _ c.args.self.now c.self.view_is c.args.worker c.from-place.result c.from-place.ensures x here (λ y. steps.at_session lives y (steps.wrote lives c.args.count))
+    let size : c.len.result ≡ length c.self.inside.workers.items = c.len.ensures ∙ c.self.inside.workers.ok.0 in
+    let here : slice_get c.self.inside.workers.items c.from-place.result ≡ Some c.index_mut.result.now = slice_get_read c.self.inside.workers.items c.len.result c.from-place.result c.index_mut.result.now size c.if-place-len.false c.index_mut.ensures.value in
+    c.wrote.ensures.answer ∙ worker_told _ c.args.self.now c.self.view_is c.args.worker c.from-place.result c.from-place.ensures c.index_mut.result.now here (λ y. steps.at_session lives y (steps.wrote lives c.args.count))
 
 pub returns-clause-next : goal.returns-clause-next
 returns-clause-next c =
-    let workers = c.self.inside.workers in
-    let x = c.index_mut.result.now in
-    let size : c.len.result ≡ length workers.items = c.len.ensures ∙ workers.ok.0 in
-    let here : slice_get workers.items c.from-place.result ≡ Some x = slice_get_read workers.items c.len.result c.from-place.result x size c.if-place-len.false c.index_mut.ensures.value in
-    worker_done _ c.args.self.now c.self.view_is c.args.worker c.from-place.result c.from-place.ensures x c.wrote.new.self here (λ y. steps.at_session lives y (steps.wrote lives c.args.count)) c.wrote.ensures.next
+    let size : c.len.result ≡ length c.self.inside.workers.items = c.len.ensures ∙ c.self.inside.workers.ok.0 in
+    let here : slice_get c.self.inside.workers.items c.from-place.result ≡ Some c.index_mut.result.now = slice_get_read c.self.inside.workers.items c.len.result c.from-place.result c.index_mut.result.now size c.if-place-len.false c.index_mut.ensures.value in
+    worker_done _ c.args.self.now c.self.view_is c.args.worker c.from-place.result c.from-place.ensures c.index_mut.result.now c.wrote.new.self here (λ y. steps.at_session lives y (steps.wrote lives c.args.count)) c.wrote.ensures.next

@@ -1,6 +1,6 @@
 use Rattle.std.proofs.Common.{rules, arith, ◌<◌, Option, subst, ◌≡◌, ℕ, ◌%◌, length, max, None, slice_index_or, sym, ap, ◌∙◌, vec_len}
 use Rattle.std.specs.Prelude.{IfSome}
-use Rattle.fwd_failover.specs.Live.{is_live_over}
+use Rattle.fwd_retry.specs.Tallies.{live_is_over}
 use Rattle.fwd_failover.proofs.Rounds.{first_of_three}
 use Rattle.fwd_failover.proofs.Orders.{choice_within}
 use Rattle.fwd_failover.proofs.Histories.{looked_on, chosen_by}
@@ -13,7 +13,7 @@ returns-clause-choice c =
     let counted : vec_len a.primaries ≡ length a.primaries.items = sym c.deref.ensures.len ∙ ap length c.deref.ensures.value in
     rw (← c.self.view_is, c.or-2.ensures, c.or.ensures, c.first_usable.ensures, c.first_usable-2.ensures, c.first_usable-3.ensures)
     (rw (c.split_at.ensures.front, c.split_at.ensures.back, c.deref.ensures.value, c.deref-2.ensures.value, c.len.ensures, counted, c.from.ensures, c.max-self-inside.ensures)
-    (first_of_three (λ server. is_live_over a.retry.wait a.retry.max (slice_index_or a.losses.items server None) (max a.moment c.args.now))
+    (first_of_three (λ server. live_is_over a.retry.wait a.retry.max (slice_index_or a.losses.items server None) (max a.moment c.args.now))
     (c.args.worker % length a.primaries.items) a.primaries.items a.standbys.items))
 
 pub returns-clause-after : goal.returns-clause-after

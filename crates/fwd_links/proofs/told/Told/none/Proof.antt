@@ -41,7 +41,9 @@ module _ {M : Type 1} {𝓤 : Ura M} (𝓛 : Logic 𝓤) (at_mem : Memory → SP
   held = clauses 𝓛 at_mem run
 
   module _ (C : Calls 𝓤 H) (Λ : Loops 𝓤 H) (z : (walk_of 𝓛 ended stayed held).Ghost) where
-    walks : ent 𝓤 ((walk_of 𝓛 ended stayed held).pre z) (WpFn 𝓤 H C Λ code.function ((walk_of 𝓛 ended stayed held).args z) ((walk_of 𝓛 ended stayed held).post z))
+    walks : ent 𝓤 ((walk_of 𝓛 ended stayed held).pre z)
+        (WpFn 𝓤 H C Λ code.function ((walk_of 𝓛 ended stayed held).args z)
+        ((walk_of 𝓛 ended stayed held).post z))
     walks =
         let v : Val = vstruct (vcons (vstruct vnil) vnil) in let r : the_row.Denot = record { marker = record {}; bytes = [] } in
         let O : Fml = the_row.own_val r (v ∷ []) in
@@ -53,7 +55,8 @@ module _ {M : Type 1} {𝓤 : Ura M} (𝓛 : Logic 𝓤) (at_mem : Memory → SP
         suffices ! _ (ends_at 𝓛 ended stayed held z v r tt tt) $ says ! refl $
         nothing ! $ join ! $ move ! (1 ∷ 0 ∷ []) $ join ! $ done !)
 
-  meets : (𝓣 : Tables 𝓤 H) → Meets 𝓛 ended.signature (WpFn 𝓤 H 𝓣.C 𝓣.Λ code.function) (closing 𝓛 ended held)
+  meets : (𝓣 : Tables 𝓤 H)
+      → Meets 𝓛 ended.signature (WpFn 𝓤 H 𝓣.C 𝓣.Λ code.function) (closing 𝓛 ended held)
   meets 𝓣 =
       walk_Meets 𝓛 ended stayed tt held
       (WpFn 𝓤 H 𝓣.C 𝓣.Λ code.function) (WpFn-mono 𝓤 H 𝓛.laws 𝓣 code.function)

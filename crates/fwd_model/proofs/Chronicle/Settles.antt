@@ -1,0 +1,109 @@
+-- What settling and telling add to the chronicle.
+use Rattle.std.proofs.Common.{◌≡◌, ℕ, Bool, true, false, cond, eqb, List, [], ◌∷◌, ◌++◌, Option, Some, None, refl, sym, ap, subst, ◌∙◌, inl, inr, arith}
+use Rattle.std.specs.Prelude.{◌⊎◌, map, is_some, ◌||◌, slice_get, ◌&&◌}
+use Rattle.std.proofs.lemmas.Bool.Decides.{nat_tests}
+use Rattle.fwd_chunks.specs.Cells.{Cell, has_number}
+use Rattle.fwd_chunks.proofs.Numbers.{has_number-push}
+use Rattle.fwd_model.specs.declared.config.Config.{Config}
+use Rattle.fwd_model.specs.declared.event.Event.{Event}
+use Rattle.fwd_modes.specs.Frames.{chunk_name}
+use Rattle.fwd_chunks.specs.History.{BufferHistory, Load}
+use Rattle.fwd_session.specs.Evidence.{frame_of, evidence_of}
+use Rattle.fwd_session.specs.History as session
+use Rattle.fwd_session.specs.History.{SessionHistory, acked}
+use Rattle.fwd_model.specs.Delivered.{WasAcknowledged}
+use Rattle.fwd_model.proofs.Settling.{IsHis}
+use Rattle.fwd_book.specs.History.{Fate, Told, Forgotten, Admission, BookHistory, is_untold, is_due, is_owed_to, becomes, leaves, tells_due, forgets_of}
+use Rattle.fwd_model.specs.Outputs.{output_history_settles}
+use Rattle.fwd_model.specs.History.{Connection, Lane, with_session, with_output, with_book}
+use Rattle.fwd_model.proofs.Chronicle.{Quiet, IsNamed, frame_at, frame_is, LaneStory, NumberStory, RequestStory, AllTold, Extends, extends_same, lane_still, number_still, SessionStory}
+use Rattle.fwd_model.proofs.Chronicle.Sessions.{put_session, unloads}
+
+loaded_of : (b : Bool) (loaded : Option Load) (c : Load) → cond b loaded None ≡ Some c
+    → (b ≡ true) × (loaded ≡ Some c)
+loaded_of true loaded c e = (refl, e)
+loaded_of false loaded c e = absurd cc
+
+-- the number of an accepted acknowledgement was acknowledged
+pub acked_number_is : (config : Config) (es : List Event) (o w : ℕ) (b : BufferHistory)
+    (s : SessionHistory) (c : Load) → SessionStory config es o w s → IsHis b w c
+    → IsNamed config o b → acked s ≡ Some c → NumberStory config es o b.cells c.number
+acked_number_is config es o w b s c t is named e =
+    let has = loaded_of (is_some s.reply) s.loaded c e in
+    let frame : frame_of c ≡ frame_at config o b.cells c.number = ap frame_of (sym is.same) ∙ frame_is config o c.number b named in
+    let name : c.name ≡ chunk_name config.run o c.number = ap (λ (x : Load). x.name) (sym is.same) ∙ (λ i. chunk_name (named.0 i) (named.1 i) c.number) in
+    (w, subst (λ n. WasAcknowledged config es o w (frame_at config o b.cells c.number) n) name (subst (λ f. WasAcknowledged config es o w f c.name) frame ((t.chunk c has.1).was_acked has.0)))
+
+either : (a b : Bool) → (a || b) ≡ true → (a ≡ true) ⊎ (b ≡ true)
+either true b h = inl refl
+either false b h = inr h
+
+eq_from : (a b : ℕ) → eqb a b ≡ true → a ≡ b
+eq_from a b e = grind (arith, nat_tests, e)
+
+pub lane_settles : (config : Config) (es : List Event) (e : Event) (cs : List Connection)
+    (o w server : ℕ) (reply : Option (List ℕ)) (l : Lane) (s : SessionHistory) (c : Load)
+    → slice_get l.sessions w ≡ Some (Some s) → IsHis l.output.buffer w c → acked s ≡ Some c
+    → Quiet config es e o → LaneStory config es cs o l
+    → LaneStory config (es ++ e ∷ []) cs o (with_session w (session.unloads s)
+    (with_output l (output_history_settles l.output (evidence_of c server reply))))
+lane_settles config es e cs o w server reply l s c here his is quiet t =
+    let own = t.sessions w s here in
+    let cells = l.output.buffer.cells in
+    let put = put_session config es e o cs l w (session.unloads s) quiet t (unloads config es o w e s (quiet w) own) in record {
+      sessions = put.sessions;
+      numbers = λ j h. elim (either (has_number j l.output.buffer.acknowledged) (eqb c.number j) (sym (has_number-push j c.number l.output.buffer.acknowledged) ∙ h)) [
+        | inl x ↦ put.numbers j x
+        | inr x ↦ subst (λ n. NumberStory config (es ++ e ∷ []) o cells n) (eq_from c.number j x) (number_still config es e o cells c.number (acked_number_is config es o w l.output.buffer s c own his t.named is))
+      ];
+      own = put.own;
+      requests = put.requests;
+      named = put.named;
+    }
+
+one_becomes : (routes : List (List (List ℕ))) (cs : List Connection) (o : ℕ) (cells : List Cell)
+    (fate : Fate) (b : Bool) (a : Admission) → RequestStory routes cs o cells a.request
+    → RequestStory routes cs o cells (becomes fate b a).request
+one_becomes routes cs o cells fate true a t = t
+one_becomes routes cs o cells fate false a t = t
+
+all_become : (routes : List (List (List ℕ))) (cs : List Connection) (o : ℕ) (cells : List Cell)
+    (fate : Fate) (p : Admission → Bool) (admissions : List Admission)
+    → AllTold routes cs o cells admissions
+    → AllTold routes cs o cells (map (λ a. becomes fate (p a) a) admissions)
+all_become routes cs o cells fate p [] all = tt
+all_become routes cs o cells fate p (a ∷ admissions) all = (one_becomes routes cs o cells fate (p a) a all.0, all_become routes cs o cells fate p admissions all.1)
+
+-- another book with the same requests
+lane_becomes : (config : Config) (es : List Event) (e : Event) (cs ds : List Connection)
+    (o : ℕ) (l : Lane) (b : BookHistory) → Extends cs ds → Quiet config es e o
+    → LaneStory config es cs o l
+    →
+    (AllTold config.routes ds o l.output.buffer.cells l.output.book.admissions
+    → AllTold config.routes ds o l.output.buffer.cells b.admissions)
+    → LaneStory config (es ++ e ∷ []) ds o (with_book l b)
+lane_becomes config es e cs ds o l b ext quiet t same =
+    let still = lane_still config es e cs ds o l ext quiet t in record {
+      sessions = still.sessions;
+      numbers = still.numbers;
+      own = still.own;
+      requests = same still.requests;
+      named = still.named;
+    }
+
+pub lane_tells : (config : Config) (es : List Event) (e : Event) (cs ds : List Connection)
+    (o id : ℕ) (l : Lane) → Extends cs ds → Quiet config es e o
+    → LaneStory config es cs o l
+    → LaneStory config (es ++ e ∷ []) ds o (with_book l (tells_due l.output.book id))
+unfolding leaves
+lane_tells config es e cs ds o id l ext quiet t =
+    lane_becomes config es e cs ds o l (tells_due l.output.book id) ext quiet t
+    (λ all. all_become config.routes ds o l.output.buffer.cells Told (λ a. is_untold a.fate && is_due id l.output.book.settled a) l.output.book.admissions all)
+
+pub lane_forgets : (config : Config) (es : List Event) (e : Event) (cs : List Connection)
+    (o id : ℕ) (l : Lane) → Quiet config es e o → LaneStory config es cs o l
+    → LaneStory config (es ++ e ∷ []) cs o (with_book l (forgets_of l.output.book id))
+unfolding leaves
+lane_forgets config es e cs o id l quiet t =
+    lane_becomes config es e cs cs o l (forgets_of l.output.book id) (extends_same cs) quiet t
+    (λ all. all_become config.routes cs o l.output.buffer.cells Forgotten (λ a. is_untold a.fate && is_owed_to id a) l.output.book.admissions all)

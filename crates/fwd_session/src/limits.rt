@@ -1,0 +1,15 @@
+//! How long and how deep a server's reply may be.
+
+use fwd_msgpack::Limits;
+
+/// The most bytes of a reply.
+pub const REPLY_LIMIT: u32 = 65_536;
+
+/// The most arrays and maps, empty ones included, that may stand one in another.
+pub const REPLY_NESTING: u8 = 64;
+
+/// Both limits.
+pub const REPLY_LIMITS: Limits = Limits {
+    bytes: REPLY_LIMIT,
+    depth: REPLY_NESTING,
+};
