@@ -140,11 +140,8 @@ fn collect_all(alloc: Global, output: &mut OutputState, origins: &[Origin]) -> R
 /// The origins of so many requests of one connection.
 fn origins_of(alloc: Global, requests: u32) -> Result<Vec<Origin>, AllocError> {
     let mut origins = Vec::new(alloc);
-    for number in 0..requests {
-        origins.push(Origin {
-            conn: 1,
-            request: u64::from(number),
-        })?;
+    for request in 0..u64::from(requests) {
+        origins.push(Origin { conn: 1, request })?;
     }
     Ok(origins)
 }

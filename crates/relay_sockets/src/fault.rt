@@ -1,10 +1,9 @@
 //! A fault behind a good request in one piece: the request's entries are sent, and the source is
 //! closed and told nothing.
 
-use crate::peer::{accept, rest, serve, shown, source, visit};
-use crate::site::{Site, around, free_site, listen, plain, relay};
+use crate::peer::{accept, rest_len, serve_text, shown, source, visit};
+use crate::site::{Site, around, free_site, listen, relay_to};
 use anyhow::Result;
-use hex::encode;
 use std::net::{Net, TcpListener, TcpStream};
 use std::rt::Clock;
 use std::sync::Wait;
@@ -30,15 +29,11 @@ fn play<R: Net<Listener = TcpListener, Stream = TcpStream> + Clock + AllocGlobal
 ) -> Result<String> {
     let alloc = rt.alloc();
     let source = source(rt, site, FAULTY)?;
-    let told = rest(alloc, &source)?.len();
+    let told = rest_len(alloc, &source)?;
     let link = accept(rt, server)?;
-    let frame = serve(alloc, &link)?;
-    let seen = Remains {
-        told,
-        frame: encode(alloc, &frame)?,
-        next: visit(rt, site, &link)?,
-    };
-    shown(alloc, &seen)
+    let frame = serve_text(alloc, &link)?;
+    let next = visit(rt, site, &link)?;
+    shown(alloc, &Remains { told, frame, next })
 }
 
 /// What the source and the server saw, and what the relay came to.
@@ -52,6 +47,6 @@ pub fn fault<
 >(rt: &R, host: u8) -> Result<String> {
     let server = listen(rt, host)?;
     let site = free_site(rt, host)?;
-    let relay = relay(rt, &plain(rt.alloc(), site, &[server.local_addr()?])?)?;
+    let relay = relay_to(rt, site, &server)?;
     around(rt, site, relay, move || play(rt, site, &server))
 }

@@ -2,9 +2,9 @@
 
 use crate::frame::MESSAGE;
 use crate::peer::{
-    accept, connect, is_silent, rest, rest_text, send, serve, shown, source, value, visit,
+    accept, connect, is_silent, rest_len, rest_text, send, serve, shown, source, value, visit,
 };
-use crate::site::{Site, around, free_site, listen, plain, relay};
+use crate::site::{Site, around, free_site, listen, relay_to};
 use anyhow::Result;
 use std::net::{Net, TcpListener, TcpStream};
 use std::rt::Clock;
@@ -59,7 +59,8 @@ fn random<R: Net<Listener = TcpListener, Stream = TcpStream> + AllocGlobal>(
         let source = connect(rt, site.sources)?;
         // The relay may close in the middle of it.
         let _ = send(&source, &random_bytes(seed + 1));
-        told = told.saturating_add(rest(rt.alloc(), &source)?.len());
+        let count = rest_len(rt.alloc(), &source)?;
+        told = told.saturating_add(count);
     }
     Ok(told)
 }
@@ -75,7 +76,8 @@ fn head<R: Net<Listener = TcpListener, Stream = TcpStream> + AllocGlobal>(
     send(&monitor, &[b'a'; HEAD - 22])?;
     let waits = is_silent(&monitor)?;
     send(&monitor, b"a")?;
-    Ok((waits, rest_text(rt.alloc(), &monitor)?))
+    let told = rest_text(rt.alloc(), &monitor)?;
+    Ok((waits, told))
 }
 
 /// The first request goes to the server, over the link that serves the others.
@@ -103,12 +105,13 @@ fn play<R: Net<Listener = TcpListener, Stream = TcpStream> + Clock + AllocGlobal
     let random = random(rt, site)?;
     let beside_random = visit(rt, site, &link)?;
     let (head_waits, head) = head(rt, site)?;
+    let beside_head = visit(rt, site, &link)?;
     let seen = Attacks {
         random,
         beside_random,
         head_waits,
         head,
-        beside_head: visit(rt, site, &link)?,
+        beside_head,
     };
     shown(alloc, &seen)
 }
@@ -124,6 +127,6 @@ pub fn hostile<
 >(rt: &R, host: u8) -> Result<String> {
     let server = listen(rt, host)?;
     let site = free_site(rt, host)?;
-    let relay = relay(rt, &plain(rt.alloc(), site, &[server.local_addr()?])?)?;
+    let relay = relay_to(rt, site, &server)?;
     around(rt, site, relay, move || play(rt, site, &server))
 }

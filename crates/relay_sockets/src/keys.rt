@@ -2,11 +2,10 @@
 //! beside them are closed, or waited for, and the source's next request is acknowledged.
 
 use crate::frame::MESSAGE;
-use crate::peer::{accept, connect, round, send, serve, shown, value_text};
+use crate::peer::{accept, connect, round, send, serve_text, shown, value_text};
 use crate::site::{Site, around, free_site, front, listen, output, relay};
 use crate::strangers::strangers;
 use anyhow::Result;
-use hex::encode;
 use std::alloc::Global;
 use std::net::{Net, SocketAddr, TcpListener, TcpStream};
 use std::rt::Clock;
@@ -67,16 +66,18 @@ fn play<R: Net<Listener = TcpListener, Stream = TcpStream> + Clock + AllocGlobal
     send(&source, MESSAGE)?;
     let link = accept(rt, server)?;
     let ping = let_in(alloc, &link)?;
-    let frame = serve(alloc, &link)?;
+    let frame = serve_text(alloc, &link)?;
     let told = value_text(alloc, &source)?;
+    let strangers = strangers(rt, site, &source, &link)?;
+    let beside = round(alloc, &source, &link)?;
     let seen = Agreed {
         helo,
         pong,
         ping,
-        frame: encode(alloc, &frame)?,
+        frame,
         told,
-        strangers: strangers(rt, site, &source, &link)?,
-        beside: round(alloc, &source, &link)?,
+        strangers,
+        beside,
     };
     shown(alloc, &seen)
 }
@@ -85,7 +86,8 @@ fn play<R: Net<Listener = TcpListener, Stream = TcpStream> + Clock + AllocGlobal
 fn settings<R: AllocGlobal>(rt: &R, site: Site, server: SocketAddr) -> Result<String> {
     let alloc = rt.alloc();
     let mut text = front(alloc, site, 8, KEY)?;
-    text.push_str(&output(alloc, "**", KEY, &[server])?)?;
+    let output = output(alloc, "**", KEY, &[server])?;
+    text.push_str(&output)?;
     Ok(text)
 }
 
@@ -100,6 +102,8 @@ pub fn keys<
 >(rt: &R, host: u8) -> Result<String> {
     let server = listen(rt, host)?;
     let site = free_site(rt, host)?;
-    let relay = relay(rt, &settings(rt, site, server.local_addr()?)?)?;
+    let at = server.local_addr()?;
+    let text = settings(rt, site, at)?;
+    let relay = relay(rt, &text)?;
     around(rt, site, relay, move || play(rt, site, &server))
 }

@@ -1,10 +1,9 @@
 //! A server is down at the start, and its standby serves; it comes once the standby is gone.
 
 use crate::frame::MESSAGE;
-use crate::peer::{accept, send, serve, shown, source, value_text};
-use crate::site::{Site, around, free_site, listen, listen_at, plain, relay};
+use crate::peer::{accept, send, serve_text, shown, source, value_text};
+use crate::site::{Site, around, free_port, free_site, listen, listen_at, relay_to_two};
 use anyhow::Result;
-use hex::encode;
 use std::net::{Net, SocketAddr, TcpListener, TcpStream};
 use std::rt::Clock;
 use std::sync::Wait;
@@ -20,9 +19,9 @@ struct Turns {
 }
 
 /// The standby serves a chunk, and is gone.
-fn stand_in<R: Clock + AllocGlobal>(rt: &R, standby: TcpListener) -> Result<Vec<u8>> {
+fn stand_in<R: Clock + AllocGlobal>(rt: &R, standby: TcpListener) -> Result<String> {
     let link = accept(rt, &standby)?;
-    serve(rt.alloc(), &link)
+    serve_text(rt.alloc(), &link)
 }
 
 /// The source and the servers.
@@ -34,17 +33,18 @@ fn play<R: Net<Listener = TcpListener, Stream = TcpStream> + Clock + AllocGlobal
 ) -> Result<String> {
     let alloc = rt.alloc();
     let source = source(rt, site, MESSAGE)?;
-    let first = stand_in(rt, standby)?;
+    let standby = stand_in(rt, standby)?;
     let told = value_text(alloc, &source)?;
     let server = listen_at(rt, late)?;
     send(&source, MESSAGE)?;
     let link = accept(rt, &server)?;
-    let second = serve(alloc, &link)?;
+    let late = serve_text(alloc, &link)?;
+    let told_again = value_text(alloc, &source)?;
     let seen = Turns {
-        standby: encode(alloc, &first)?,
+        standby,
         told,
-        late: encode(alloc, &second)?,
-        told_again: value_text(alloc, &source)?,
+        late,
+        told_again,
     };
     shown(alloc, &seen)
 }
@@ -58,10 +58,9 @@ pub fn late<
         + AllocGlobal
         + Sync,
 >(rt: &R, host: u8) -> Result<String> {
-    let late = listen(rt, host)?.local_addr()?;
+    let late = free_port(rt, host)?;
     let standby = listen(rt, host)?;
     let site = free_site(rt, host)?;
-    let servers = [late, standby.local_addr()?];
-    let relay = relay(rt, &plain(rt.alloc(), site, &servers)?)?;
+    let relay = relay_to_two(rt, site, late, &standby)?;
     around(rt, site, relay, move || play(rt, site, late, standby))
 }

@@ -2,8 +2,8 @@
 //! right name twice. Each lie costs it its connection, and no source is told by one.
 
 use crate::frame::{MESSAGE, ack};
-use crate::peer::{accept, is_silent, rest, send, serve, shown, source, value, value_text};
-use crate::site::{Site, around, free_site, listen, plain, relay};
+use crate::peer::{accept, is_silent, rest, send, serve_text, shown, source, value, value_text};
+use crate::site::{Site, around, free_site, listen, relay_to};
 use anyhow::Result;
 use hex::encode;
 use std::net::{Net, TcpListener, TcpStream};
@@ -65,14 +65,18 @@ fn play<R: Net<Listener = TcpListener, Stream = TcpStream> + Clock + AllocGlobal
     let twice = repeat(rt, server)?;
     let told = value_text(alloc, &source)?;
     send(&source, MESSAGE)?;
-    let honest = serve(alloc, &accept(rt, server)?)?;
+    let link = accept(rt, server)?;
+    let honest = serve_text(alloc, &link)?;
+    let told_again = value_text(alloc, &source)?;
+    let same = none == other && twice == other;
+    let other = encode(alloc, &other)?;
     let seen = Lies {
-        same: none == other && twice == other,
-        other: encode(alloc, &other)?,
+        other,
+        same,
         silent,
         told,
-        honest: encode(alloc, &honest)?,
-        told_again: value_text(alloc, &source)?,
+        honest,
+        told_again,
     };
     shown(alloc, &seen)
 }
@@ -88,6 +92,6 @@ pub fn liar<
 >(rt: &R, host: u8) -> Result<String> {
     let server = listen(rt, host)?;
     let site = free_site(rt, host)?;
-    let relay = relay(rt, &plain(rt.alloc(), site, &[server.local_addr()?])?)?;
+    let relay = relay_to(rt, site, &server)?;
     around(rt, site, relay, move || play(rt, site, &server))
 }

@@ -1,9 +1,10 @@
 //! A relay that takes two sources at a time, and its monitor's page.
 
-use crate::peer::{connect, is_silent, page, rest};
+use crate::peer::{connect, is_silent, page, rest_len};
 use crate::site::{Site, around, free_site, front, listen, output, relay};
 use anyhow::Result;
-use std::net::{Net, TcpListener, TcpStream};
+use std::alloc::Global;
+use std::net::{Net, SocketAddr, TcpListener, TcpStream};
 use std::rt::Clock;
 use std::sync::Wait;
 use std::thread::Threads;
@@ -28,11 +29,13 @@ fn sources<R: Net<Listener = TcpListener, Stream = TcpStream> + AllocGlobal>(
     let first = connect(rt, site.sources)?;
     let second = connect(rt, site.sources)?;
     let both_stand = is_silent(&first)? && is_silent(&second)?;
-    let third = rest(alloc, &connect(rt, site.sources)?)?.len();
+    let third = connect(rt, site.sources)?;
+    let third = rest_len(alloc, &third)?;
     drop(first);
     // A page is told behind what came before it.
     let _page = page(rt, alloc, site.monitors, "/")?;
-    let next_stands = is_silent(&connect(rt, site.sources)?)?;
+    let next = connect(rt, site.sources)?;
+    let next_stands = is_silent(&next)?;
     Ok(Crowd {
         both_stand,
         third,
@@ -51,6 +54,14 @@ fn play<R: Net<Listener = TcpListener, Stream = TcpStream> + AllocGlobal>(
     Ok(format!(in alloc; "{crowd:?}\n{page}")?)
 }
 
+/// The settings of a relay that takes two sources.
+fn settings(alloc: Global, site: Site, server: SocketAddr) -> Result<String> {
+    let mut text = front(alloc, site, 2, "")?;
+    let output = output(alloc, "**", "", &[server])?;
+    text.push_str(&output)?;
+    Ok(text)
+}
+
 /// What sources and monitors saw, and what the relay came to.
 pub fn limits<
     R: Net<Listener = TcpListener, Stream = TcpStream>
@@ -63,8 +74,8 @@ pub fn limits<
     let alloc = rt.alloc();
     let server = listen(rt, host)?;
     let site = free_site(rt, host)?;
-    let mut text = front(alloc, site, 2, "")?;
-    text.push_str(&output(alloc, "**", "", &[server.local_addr()?])?)?;
+    let at = server.local_addr()?;
+    let text = settings(alloc, site, at)?;
     let relay = relay(rt, &text)?;
     around(rt, site, relay, move || play(rt, site))
 }

@@ -1,7 +1,7 @@
 //! Sixteen monitors at a time, and each status of what they are told.
 
-use crate::peer::{asked, connect, page, rest, rest_text, send, send_by_bytes, turn};
-use crate::site::{Site, around, free_site, listen, plain, relay};
+use crate::peer::{asked, connect, page, rest_len, rest_text, send, send_by_bytes, turn};
+use crate::site::{Site, around, free_site, listen, relay_to};
 use anyhow::{Result, anyhow};
 use std::alloc::Global;
 use std::net::{Net, SocketAddr, TcpListener, TcpStream};
@@ -78,6 +78,15 @@ fn count_told(alloc: Global, monitors: &[TcpStream], text: &str) -> Result<usize
     Ok(count)
 }
 
+/// How many bytes a monitor is told for which there is no place.
+fn one_too_many<R: Net<Listener = TcpListener, Stream = TcpStream> + AllocGlobal>(
+    rt: &R,
+    site: Site,
+) -> Result<usize> {
+    let monitor = connect(rt, site.monitors)?;
+    rest_len(rt.alloc(), &monitor)
+}
+
 /// All places are taken, and one becomes free.
 fn fill<R: Net<Listener = TcpListener, Stream = TcpStream> + AllocGlobal>(
     rt: &R,
@@ -86,12 +95,13 @@ fn fill<R: Net<Listener = TcpListener, Stream = TcpStream> + AllocGlobal>(
 ) -> Result<Places> {
     let alloc = rt.alloc();
     let mut standing = crowd(rt, site)?;
-    let seventeenth = rest(alloc, &connect(rt, site.monitors)?)?.len();
+    let seventeenth = one_too_many(rt, site)?;
     let Some(first) = standing.pop() else {
         return Err(anyhow!("no monitor"));
     };
     is_told(alloc, &first, text)?;
-    let next = page(rt, alloc, site.monitors, "/")?.as_str() == text;
+    let next = page(rt, alloc, site.monitors, "/")?;
+    let next = next.as_str() == text;
     let standing = count_told(alloc, &standing, text)?;
     Ok(Places {
         seventeenth,
@@ -124,10 +134,13 @@ fn play<R: Net<Listener = TcpListener, Stream = TcpStream> + AllocGlobal>(
     let crowd = fill(rt, site, &page)?;
     let other = asked(rt, alloc, at, OTHER)?;
     let none = asked(rt, alloc, at, NONE)?;
+    let page_same = by_bytes(rt, at, PAGE, &page)?;
+    let other_same = by_bytes(rt, at, OTHER, &other)?;
+    let none_same = by_bytes(rt, at, NONE, &none)?;
     let by_bytes = ByBytes {
-        page: by_bytes(rt, at, PAGE, &page)?,
-        other: by_bytes(rt, at, OTHER, &other)?,
-        none: by_bytes(rt, at, NONE, &none)?,
+        page: page_same,
+        other: other_same,
+        none: none_same,
     };
     Ok(format!(in alloc; "{crowd:?}\n{by_bytes:?}\n{page}{other}{none}")?)
 }
@@ -143,6 +156,6 @@ pub fn monitors<
 >(rt: &R, host: u8) -> Result<String> {
     let server = listen(rt, host)?;
     let site = free_site(rt, host)?;
-    let relay = relay(rt, &plain(rt.alloc(), site, &[server.local_addr()?])?)?;
+    let relay = relay_to(rt, site, &server)?;
     around(rt, site, relay, move || play(rt, site))
 }

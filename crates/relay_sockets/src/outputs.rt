@@ -1,7 +1,7 @@
 //! Two outputs: each tag goes to the first that takes it, and a source is told by its own server.
 
-use crate::frame::{MESSAGE, ack};
-use crate::peer::{accept, send, shown, source, value, value_text};
+use crate::frame::MESSAGE;
+use crate::peer::{accept, acknowledge, send, shown, source, value, value_text};
 use crate::site::{Site, around, free_site, front, listen, output, relay};
 use anyhow::Result;
 use hex::encode;
@@ -37,14 +37,17 @@ fn play<R: Net<Listener = TcpListener, Stream = TcpStream> + Clock + AllocGlobal
     let first = value(alloc, &link)?;
     let other = accept(rt, rest)?;
     let second = value(alloc, &other)?;
-    send(&other, &ack(alloc, &second)?)?;
+    acknowledge(alloc, &other, &second)?;
     let told_first = value_text(alloc, &source)?;
-    send(&link, &ack(alloc, &first)?)?;
+    acknowledge(alloc, &link, &first)?;
+    let told_then = value_text(alloc, &source)?;
+    let first = encode(alloc, &first)?;
+    let second = encode(alloc, &second)?;
     let seen = Apart {
-        first: encode(alloc, &first)?,
-        second: encode(alloc, &second)?,
+        first,
+        second,
         told_first,
-        told_then: value_text(alloc, &source)?,
+        told_then,
     };
     shown(alloc, &seen)
 }
@@ -53,8 +56,10 @@ fn play<R: Net<Listener = TcpListener, Stream = TcpStream> + Clock + AllocGlobal
 fn settings<R: AllocGlobal>(rt: &R, site: Site, a: SocketAddr, rest: SocketAddr) -> Result<String> {
     let alloc = rt.alloc();
     let mut text = front(alloc, site, 8, "")?;
-    text.push_str(&output(alloc, "a", "", &[a])?)?;
-    text.push_str(&output(alloc, "**", "", &[rest])?)?;
+    let first = output(alloc, "a", "", &[a])?;
+    text.push_str(&first)?;
+    let second = output(alloc, "**", "", &[rest])?;
+    text.push_str(&second)?;
     Ok(text)
 }
 
@@ -70,7 +75,9 @@ pub fn outputs<
     let a = listen(rt, host)?;
     let rest = listen(rt, host)?;
     let site = free_site(rt, host)?;
-    let text = settings(rt, site, a.local_addr()?, rest.local_addr()?)?;
+    let first = a.local_addr()?;
+    let second = rest.local_addr()?;
+    let text = settings(rt, site, first, second)?;
     let relay = relay(rt, &text)?;
     around(rt, site, relay, move || play(rt, site, &a, &rest))
 }

@@ -105,6 +105,12 @@ pub fn rest(alloc: Global, stream: &TcpStream) -> Result<Vec<u8>> {
     Err(anyhow!("no end"))
 }
 
+/// How many bytes come up to the close.
+pub fn rest_len(alloc: Global, stream: &TcpStream) -> Result<usize> {
+    let rest = rest(alloc, stream)?;
+    Ok(rest.len())
+}
+
 /// How many bytes come, or none at a close.
 fn read_or_close(stream: &TcpStream, room: &mut [u8; 4096]) -> Result<usize>
     ensures { IfOk result (λ count. count ≤ 4096) }
@@ -140,12 +146,23 @@ pub fn source<R: Net<Listener = TcpListener, Stream = TcpStream>>(
     Ok(source)
 }
 
+/// A server acknowledges a frame.
+pub fn acknowledge(alloc: Global, link: &TcpStream, frame: &[u8]) -> Result<()> {
+    let ack = ack(alloc, frame)?;
+    send(link, &ack)
+}
+
 /// A server reads a frame and acknowledges it.
 pub fn serve(alloc: Global, link: &TcpStream) -> Result<Vec<u8>> {
     let frame = value(alloc, link)?;
-    let ack = ack(alloc, &frame)?;
-    send(link, &ack)?;
+    acknowledge(alloc, link, &frame)?;
     Ok(frame)
+}
+
+/// The same: the frame in hexadecimal digits.
+pub fn serve_text(alloc: Global, link: &TcpStream) -> Result<String> {
+    let frame = serve(alloc, link)?;
+    Ok(encode(alloc, &frame)?)
 }
 
 /// A source sends a request, its server acknowledges the frame, and the source is told.

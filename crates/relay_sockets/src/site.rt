@@ -45,17 +45,25 @@ pub fn listen_at<R: Net<Listener = TcpListener, Stream = TcpStream>>(
     Ok(TcpListener::bind(rt, addr)?)
 }
 
+/// A free port.
+pub fn free_port<R: Net<Listener = TcpListener, Stream = TcpStream>>(
+    rt: &R,
+    host: u8,
+) -> Result<SocketAddr> {
+    let listener = listen(rt, host)?;
+    Ok(listener.local_addr()?)
+}
+
 /// Two free ports.
 pub fn free_site<R: Net<Listener = TcpListener, Stream = TcpStream>>(
     rt: &R,
     host: u8,
 ) -> Result<Site> {
-    let sources = listen(rt, host)?;
-    let monitors = listen(rt, host)?;
-    Ok(Site {
-        sources: sources.local_addr()?,
-        monitors: monitors.local_addr()?,
-    })
+    let first = listen(rt, host)?;
+    let second = listen(rt, host)?;
+    let sources = first.local_addr()?;
+    let monitors = second.local_addr()?;
+    Ok(Site { sources, monitors })
 }
 
 /// What the settings of a relay begin with: it takes so many sources, and has these keys beside.
@@ -114,6 +122,29 @@ pub fn relay<R: Net + AllocGlobal>(rt: &R, text: &str) -> Result<Loop> {
         Ok(relay) => Ok(relay),
         Err(fault) => Err(anyhow!("{fault}")),
     }
+}
+
+/// A relay for all tags to one server.
+pub fn relay_to<R: Net<Listener = TcpListener, Stream = TcpStream> + AllocGlobal>(
+    rt: &R,
+    site: Site,
+    server: &TcpListener,
+) -> Result<Loop> {
+    let server = server.local_addr()?;
+    let text = plain(rt.alloc(), site, &[server])?;
+    relay(rt, &text)
+}
+
+/// A relay for all tags to the server at an address and to its standby.
+pub fn relay_to_two<R: Net<Listener = TcpListener, Stream = TcpStream> + AllocGlobal>(
+    rt: &R,
+    site: Site,
+    server: SocketAddr,
+    standby: &TcpListener,
+) -> Result<Loop> {
+    let standby = standby.local_addr()?;
+    let text = plain(rt.alloc(), site, &[server, standby])?;
+    relay(rt, &text)
 }
 
 /// Runs a relay, and plays what happens around it meanwhile: what was seen, and what the relay came

@@ -1,9 +1,8 @@
 //! A request whose entries are in two chunks is told after both.
 
-use crate::peer::{accept, is_silent, serve, shown, source, value_text};
-use crate::site::{Site, around, free_site, listen, plain, relay};
+use crate::peer::{accept, is_silent, serve_text, shown, source, value_text};
+use crate::site::{Site, around, free_site, listen, relay_to};
 use anyhow::Result;
-use hex::encode;
 use std::net::{Net, TcpListener, TcpStream};
 use std::rt::Clock;
 use std::sync::Wait;
@@ -30,14 +29,15 @@ fn play<R: Net<Listener = TcpListener, Stream = TcpStream> + Clock + AllocGlobal
     let alloc = rt.alloc();
     let source = source(rt, site, TWO)?;
     let link = accept(rt, server)?;
-    let first = serve(alloc, &link)?;
+    let first = serve_text(alloc, &link)?;
     let silent = is_silent(&source)?;
-    let second = serve(alloc, &link)?;
+    let second = serve_text(alloc, &link)?;
+    let told = value_text(alloc, &source)?;
     let seen = Halves {
-        first: encode(alloc, &first)?,
+        first,
         silent,
-        second: encode(alloc, &second)?,
-        told: value_text(alloc, &source)?,
+        second,
+        told,
     };
     shown(alloc, &seen)
 }
@@ -53,6 +53,6 @@ pub fn split<
 >(rt: &R, host: u8) -> Result<String> {
     let server = listen(rt, host)?;
     let site = free_site(rt, host)?;
-    let relay = relay(rt, &plain(rt.alloc(), site, &[server.local_addr()?])?)?;
+    let relay = relay_to(rt, site, &server)?;
     around(rt, site, relay, move || play(rt, site, &server))
 }

@@ -1,10 +1,9 @@
 //! A server closes in the middle of a frame and is gone, and a standby acknowledges the chunk.
 
 use crate::frame::MESSAGE;
-use crate::peer::{accept, serve, shown, source, value_text};
-use crate::site::{Site, around, free_site, listen, plain, relay};
+use crate::peer::{accept, serve_text, shown, source, value_text};
+use crate::site::{Site, around, free_site, listen, relay_to_two};
 use anyhow::Result;
-use hex::encode;
 use std::io::Read;
 use std::net::{Net, TcpListener, TcpStream};
 use std::rt::Clock;
@@ -37,13 +36,9 @@ fn play<R: Net<Listener = TcpListener, Stream = TcpStream> + Clock + AllocGlobal
     let source = source(rt, site, MESSAGE)?;
     let read = leave(rt, first)?;
     let link = accept(rt, second)?;
-    let frame = serve(alloc, &link)?;
-    let seen = Rescue {
-        read,
-        frame: encode(alloc, &frame)?,
-        told: value_text(alloc, &source)?,
-    };
-    shown(alloc, &seen)
+    let frame = serve_text(alloc, &link)?;
+    let told = value_text(alloc, &source)?;
+    shown(alloc, &Rescue { read, frame, told })
 }
 
 /// What the source and the servers saw, and what the relay came to.
@@ -58,7 +53,7 @@ pub fn standby<
     let first = listen(rt, host)?;
     let second = listen(rt, host)?;
     let site = free_site(rt, host)?;
-    let servers = [first.local_addr()?, second.local_addr()?];
-    let relay = relay(rt, &plain(rt.alloc(), site, &servers)?)?;
+    let server = first.local_addr()?;
+    let relay = relay_to_two(rt, site, server, &second)?;
     around(rt, site, relay, move || play(rt, site, first, &second))
 }

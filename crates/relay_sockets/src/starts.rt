@@ -23,6 +23,11 @@ fn names(alloc: Global, fault: StartFault, taken: SocketAddr) -> Result<bool> {
     Ok(fault == StartFault::Listen(taken) && text == due)
 }
 
+/// A fault's text.
+fn shown_fault(alloc: Global, fault: StartFault) -> Result<String> {
+    Ok(format!(in alloc; "{fault}")?)
+}
+
 /// Whether a relay cannot start since an address is taken, and says so.
 fn is_refused<R: Net<Listener = TcpListener, Stream = TcpStream> + AllocGlobal>(
     rt: &R,
@@ -30,7 +35,8 @@ fn is_refused<R: Net<Listener = TcpListener, Stream = TcpStream> + AllocGlobal>(
     taken: SocketAddr,
 ) -> Result<bool> {
     let alloc = rt.alloc();
-    match try_relay(rt, &plain(alloc, site, &[taken])?)? {
+    let text = plain(alloc, site, &[taken])?;
+    match try_relay(rt, &text)? {
         Ok(_) => Ok(false),
         Err(fault) => names(alloc, fault, taken),
     }
@@ -43,10 +49,11 @@ fn unseeded_text<R: Net<Listener = TcpListener, Stream = TcpStream> + AllocGloba
 ) -> Result<String> {
     let alloc = rt.alloc();
     let mut text = unseeded(alloc, site, 8, "")?;
-    text.push_str(&output(alloc, "**", "", &[site.sources])?)?;
+    let output = output(alloc, "**", "", &[site.sources])?;
+    text.push_str(&output)?;
     match try_relay(rt, &text)? {
         Ok(_) => Err(anyhow!("it starts")),
-        Err(fault) => Ok(format!(in alloc; "{fault}")?),
+        Err(fault) => shown_fault(alloc, fault),
     }
 }
 
@@ -67,10 +74,13 @@ pub fn starts<R: Net<Listener = TcpListener, Stream = TcpStream> + AllocGlobal>(
         sources: site.sources,
         monitors: taken,
     };
+    let sources = is_refused(rt, front, taken)?;
+    let monitors = is_refused(rt, behind, taken)?;
+    let seed = unseeded_text(rt, site)?;
     let seen = Told {
-        sources: is_refused(rt, front, taken)?,
-        monitors: is_refused(rt, behind, taken)?,
-        seed: unseeded_text(rt, site)?,
+        sources,
+        monitors,
+        seed,
     };
     let (memory, poll, thread) = (StartFault::Memory, StartFault::Poll, StartFault::Thread);
     Ok(format!(in alloc; "{seen:?}\n  {memory}\n  {poll}\n  {thread}")?)

@@ -46,6 +46,16 @@ fn stranger<R: Net<Listener = TcpListener, Stream = TcpStream> + AllocGlobal>(
     Ok(stranger)
 }
 
+/// What such a one is told before it is closed.
+fn told<R: Net<Listener = TcpListener, Stream = TcpStream> + AllocGlobal>(
+    rt: &R,
+    site: Site,
+    bytes: &[u8],
+) -> Result<Vec<u8>> {
+    let stranger = stranger(rt, site, bytes)?;
+    rest(rt.alloc(), &stranger)
+}
+
 /// A stranger sends a part of its hostname. The relay keeps what came of an unfinished value, which
 /// is bounded by the limit of a value: 16,777,216 bytes.
 fn dawdle(stranger: &TcpStream) -> Result<()> {
@@ -63,15 +73,18 @@ pub fn strangers<R: Net<Listener = TcpListener, Stream = TcpStream> + AllocGloba
     link: &TcpStream,
 ) -> Result<String> {
     let alloc = rt.alloc();
-    let denied = rest(alloc, &stranger(rt, site, DENIED)?)?;
-    let too_long = rest(alloc, &stranger(rt, site, TOO_LONG)?)?.len();
+    let denied = told(rt, site, DENIED)?;
+    let too_long = told(rt, site, TOO_LONG)?;
     let endless = stranger(rt, site, ENDLESS)?;
     dawdle(&endless)?;
+    let beside = round(alloc, source, link)?;
+    let endless_waits = is_silent(&endless)?;
+    let denied = encode(alloc, &denied)?;
     let seen = Turned {
-        denied: encode(alloc, &denied)?,
-        too_long,
-        beside: round(alloc, source, link)?,
-        endless_waits: is_silent(&endless)?,
+        denied,
+        too_long: too_long.len(),
+        endless_waits,
+        beside,
     };
     shown(alloc, &seen)
 }

@@ -1,10 +1,9 @@
 //! A source closes in the middle of a request, while another goes on in pieces.
 
 use crate::frame::MESSAGE;
-use crate::peer::{accept, send, serve, shown, source, value_text};
-use crate::site::{Site, around, free_site, listen, plain, relay};
+use crate::peer::{accept, send, serve_text, shown, source, value_text};
+use crate::site::{Site, around, free_site, listen, relay_to};
 use anyhow::Result;
-use hex::encode;
 use std::net::{Net, TcpListener, TcpStream};
 use std::rt::Clock;
 use std::sync::Wait;
@@ -29,12 +28,9 @@ fn play<R: Net<Listener = TcpListener, Stream = TcpStream> + Clock + AllocGlobal
     drop(torn);
     send(&whole, &MESSAGE[5..])?;
     let link = accept(rt, server)?;
-    let frame = serve(alloc, &link)?;
-    let seen = Onward {
-        frame: encode(alloc, &frame)?,
-        told: value_text(alloc, &whole)?,
-    };
-    shown(alloc, &seen)
+    let frame = serve_text(alloc, &link)?;
+    let told = value_text(alloc, &whole)?;
+    shown(alloc, &Onward { frame, told })
 }
 
 /// What came of the source that went on, and what the relay came to.
@@ -48,6 +44,6 @@ pub fn torn<
 >(rt: &R, host: u8) -> Result<String> {
     let server = listen(rt, host)?;
     let site = free_site(rt, host)?;
-    let relay = relay(rt, &plain(rt.alloc(), site, &[server.local_addr()?])?)?;
+    let relay = relay_to(rt, site, &server)?;
     around(rt, site, relay, move || play(rt, site, &server))
 }

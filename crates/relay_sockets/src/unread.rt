@@ -1,7 +1,7 @@
 //! A source that asks to be told and reads nothing.
 
 use crate::peer::{connect, shown, turn};
-use crate::site::{Site, around, free_site, listen, plain, relay};
+use crate::site::{Site, around, free_site, listen, relay_to};
 use anyhow::Result;
 use std::alloc::Global;
 use std::io::{Read, Write};
@@ -115,6 +115,6 @@ pub fn hoard<
 >(rt: &R, host: u8) -> Result<String> {
     let server = listen(rt, host)?;
     let site = free_site(rt, host)?;
-    let relay = relay(rt, &plain(rt.alloc(), site, &[server.local_addr()?])?)?;
+    let relay = relay_to(rt, site, &server)?;
     around(rt, site, relay, move || play(rt, site))
 }

@@ -1,8 +1,8 @@
 //! A request goes the whole way: to the relay, to its server, and back.
 
-use crate::frame::{MESSAGE, ack};
-use crate::peer::{accept, is_silent, send, shown, source, value, value_text};
-use crate::site::{Site, around, free_site, listen, plain, relay};
+use crate::frame::MESSAGE;
+use crate::peer::{accept, acknowledge, is_silent, shown, source, value, value_text};
+use crate::site::{Site, around, free_site, listen, relay_to};
 use anyhow::Result;
 use hex::encode;
 use std::net::{Net, TcpListener, TcpStream};
@@ -29,13 +29,17 @@ fn play<R: Net<Listener = TcpListener, Stream = TcpStream> + Clock + AllocGlobal
     let link = accept(rt, server)?;
     let frame = value(alloc, &link)?;
     let silent = is_silent(&source)?;
-    send(&link, &ack(alloc, &frame)?)?;
-    let seen = Seen {
-        frame: encode(alloc, &frame)?,
-        silent,
-        told: value_text(alloc, &source)?,
-    };
-    shown(alloc, &seen)
+    acknowledge(alloc, &link, &frame)?;
+    let told = value_text(alloc, &source)?;
+    let frame = encode(alloc, &frame)?;
+    shown(
+        alloc,
+        &Seen {
+            frame,
+            silent,
+            told,
+        },
+    )
 }
 
 /// What both sides saw, and what the relay came to.
@@ -49,6 +53,6 @@ pub fn whole_way<
 >(rt: &R, host: u8) -> Result<String> {
     let server = listen(rt, host)?;
     let site = free_site(rt, host)?;
-    let relay = relay(rt, &plain(rt.alloc(), site, &[server.local_addr()?])?)?;
+    let relay = relay_to(rt, site, &server)?;
     around(rt, site, relay, move || play(rt, site, &server))
 }

@@ -7,10 +7,11 @@ use crate::batches::{ACK, MESSAGE, batch, login, output};
 use anyhow::{Result, bail};
 use fwd_base::Bytes;
 use fwd_core::{FlushKind, Origin, OutputState, OwnedSalt};
+use fwd_handshake::Login;
 use fwd_session::{LoadFailed, Session};
 use fwd_workers::{Link, LinkFault, Read, Served, serve_turn};
 use std::alloc::Global;
-use std::sync::Wait;
+use std::sync::{Arc, Wait};
 
 /// A link that takes so many bytes in all, and gives an acknowledgement whatever it took.
 #[derive(Drop)]
@@ -56,13 +57,22 @@ impl Link for Hasty {
 }
 
 /// A session that begins.
+fn session_of(alloc: Global, login: Arc<Login>, salt: OwnedSalt) -> Session
+    ensures loaded { result.loaded ≡ None }
+    ensures down { result.down ≡ false }
+{
+    Session::up(alloc, 0, login, salt, 10_000, 0)
+}
+
+/// A session that begins, with a login without a key.
 fn session(alloc: Global) -> Result<Session>
     ensures { IfOk result (λ s. (s.loaded ≡ None) × (s.down ≡ false)) }
 {
     let Some(salt) = OwnedSalt::new(Bytes::new(alloc)) else {
         bail!("no salt");
     };
-    Ok(Session::up(alloc, 0, login(alloc)?, salt, 10_000, 0))
+    let login = login(alloc)?;
+    Ok(session_of(alloc, login, salt))
 }
 
 /// What one turn comes to where the link takes at most so many bytes of the frame's 46.
