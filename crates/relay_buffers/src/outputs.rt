@@ -146,25 +146,28 @@ fn origins_of(alloc: Global, requests: u32) -> Result<Vec<Origin>, AllocError> {
     Ok(origins)
 }
 
-/// Admits all, closes it, takes, sends and settles each chunk, and collects. Answers how many
-/// requests were told, and how long each part took.
-pub fn output_turn<R: Runtime + AllocGlobal>(
+/// Takes, sends and settles each chunk, through a session of its own.
+fn settle_through<R: Runtime + AllocGlobal>(rt: &R, output: &mut OutputState) -> Result<Rounds> {
+    let mut session = session(rt.alloc())?;
+    let rounds = settle_all(rt, output, &mut session);
+    session.spend();
+    rounds
+}
+
+/// Admits all, closes it, takes, sends and settles each chunk, and collects.
+fn turn_through<R: Runtime + AllocGlobal>(
     rt: &R,
+    output: &mut OutputState,
     batches: &Vec<Batch>,
-    requests: u32,
+    origins: &[Origin],
 ) -> Result<(u64, OutputTimes)> {
-    let origins = origins_of(rt.alloc(), requests)?;
-    let mut output = OutputState::new(rt.alloc(), LIMITS, [0; 6], 0, &[false])?;
     let start = Instant::now(rt)?;
-    admit_all(rt.alloc(), &mut output, batches, &origins)?;
+    admit_all(rt.alloc(), output, batches, origins)?;
     let admit = start.elapsed(rt)?;
     output.flush(0, FlushKind::All);
-    let mut session = session(rt.alloc())?;
-    let rounds = settle_all(rt, &mut output, &mut session);
-    session.spend();
-    let rounds = rounds?;
+    let rounds = settle_through(rt, output)?;
     let start = Instant::now(rt)?;
-    let told = collect_all(rt.alloc(), &mut output, &origins)?;
+    let told = collect_all(rt.alloc(), output, origins)?;
     let collect = start.elapsed(rt)?;
     let times = OutputTimes {
         admit,
@@ -172,4 +175,16 @@ pub fn output_turn<R: Runtime + AllocGlobal>(
         collect,
     };
     Ok((told, times))
+}
+
+/// Does all of it with an output of its own. Answers how many requests were told, and how long each
+/// part took.
+pub fn output_turn<R: Runtime + AllocGlobal>(
+    rt: &R,
+    batches: &Vec<Batch>,
+    requests: u32,
+) -> Result<(u64, OutputTimes)> {
+    let origins = origins_of(rt.alloc(), requests)?;
+    let mut output = OutputState::new(rt.alloc(), LIMITS, [0; 6], 0, &[false])?;
+    turn_through(rt, &mut output, batches, &origins)
 }
