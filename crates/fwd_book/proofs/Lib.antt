@@ -3,6 +3,9 @@ pub mod Facts
 pub mod Found
 pub mod Noting
 pub mod Slotting
+pub mod Linking
+pub mod Chaining
+pub mod Orders
 pub mod Keeping
 pub mod Stepping
 pub mod Following

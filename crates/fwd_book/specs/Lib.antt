@@ -4,4 +4,5 @@ pub mod Receipts
 pub mod Live
 -- how the code keeps it
 pub mod Slots
+pub mod Links
 pub mod Notes

@@ -2,6 +2,7 @@
 #![tactic(auto)]
 
 mod book;
+mod chains;
 mod kept;
 mod laws;
 mod numbers;

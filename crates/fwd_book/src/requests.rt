@@ -1,4 +1,4 @@
-//! The requests that a book holds, each found by its origin.
+//! The requests that a book holds, each found by its origin, and a connection's in their order.
 
 ghost use Rattle.std.specs.Prelude.{
   ◌≡◌,
@@ -25,6 +25,7 @@ ghost use Rattle.std.specs.Prelude.{
 ghost use Rattle.fwd_book.specs.Slots.{present};
 ghost use Rattle.fwd_book.specs.History.{is_of, is_origin, request_at};
 
+use crate::chains::Chains;
 use crate::kept::Kept;
 use fwd_source::Origin;
 use indexmap::IndexMap;
@@ -32,66 +33,33 @@ use std::alloc::{AllocError, Global};
 use std::marker::Model;
 
 /// Requests in the order in which they were entered. A slot stays, empty, until room is made anew,
-/// so that what leaves moves nothing.
+/// so that what leaves moves nothing. A connection's requests are chained by their numbers, which
+/// stay as they are when slots move.
 #[derive(Debug, Drop)]
 pub(crate) struct Requests {
     slots: IndexMap<(u64, u64), Option<Kept>>,
+    chains: Chains,
 }
 
 impl Model for Requests {
+    ghost use Rattle.std.specs.Prelude.{min};
     ghost use Rattle.std.specs.Map.{keys_of};
     ghost use Rattle.std.specs.List.{IsDistinct};
     ghost use Rattle.indexmap.specs.IndexMap.{spare};
     ghost use Rattle.fwd_book.specs.Slots.{Held, is_key, present, AreKeyed};
+    ghost use Rattle.fwd_book.specs.Links.{order_of, AreChained};
 
     ghost Value = { Held };
 
-    ghost view = { λ r. record { items = present r.slots.entries; room = spare r.slots } };
+    ghost view = { λ r. record {
+      items = present r.slots.entries;
+      room = min (spare r.slots) (min (spare r.chains.links) (spare r.chains.ends));
+    } };
 
     ghost invariant = { λ r. AreKeyed r.slots.entries
-        × IsDistinct is_key (keys_of r.slots.entries) };
-}
-
-/// The origin of the request in a slot, if there is one and it is the connection's.
-fn origin_at(slots: &IndexMap<(u64, u64), Option<Kept>>, place: usize, conn: u64) -> Option<Origin>
-    ensures { option_to_list result ≡ map (λ q. q.origin)
-        (filter (is_of conn) (present (option_to_list (slice_get slots.now.entries place)))) }
-{
-    match slots.as_slice().get_index(place) {
-        Some((_, Some(kept))) if kept.origin().conn == conn => Some(kept.origin()),
-        _ => None,
-    }
-}
-
-/// The origins of a connection's requests.
-fn origins_in(
-    alloc: Global,
-    slots: &IndexMap<(u64, u64), Option<Kept>>,
-    conn: u64,
-) -> Result<Vec<Origin>, AllocError>
-    ensures { IfOk result (λ origins. origins.items
-        ≡ map (λ q. q.origin) (filter (is_of conn) (present slots.now.entries))) }
-{
-    let mut origins = Vec::new(alloc);
-    for place in 0..slots.len() {
-        if let Some(origin) = origin_at(slots, place, conn) {
-            origins.push(origin)?;
-        }
-    }
-    Ok(origins)
-}
-
-/// The origin of a connection's first request, if it has one.
-fn first_in(slots: &IndexMap<(u64, u64), Option<Kept>>, conn: u64) -> Option<Origin>
-    ensures { result ≡ option_map (λ q. q.origin) (find (is_of conn) (present slots.now.entries)) }
-{
-    for place in 0..slots.len() {
-        let origin = origin_at(slots, place, conn);
-        if origin.is_some() {
-            return origin;
-        }
-    }
-    None
+        × IsDistinct is_key (keys_of r.slots.entries)
+        × AreChained r.chains.links.entries r.chains.ends.entries
+        (order_of (present r.slots.entries)) };
 }
 
 impl Requests {
@@ -101,6 +69,7 @@ impl Requests {
     {
         Requests {
             slots: IndexMap::new(alloc),
+            chains: Chains::new(alloc),
         }
     }
 
@@ -116,14 +85,15 @@ impl Requests {
         ensures { IfOk result (λ origins. origins.items
             ≡ map (λ q. q.origin) (filter (is_of conn) self.now.items)) }
     {
-        origins_in(alloc, &self.slots, conn)
+        self.chains.origins(alloc, conn, self.slots.len())
     }
 
     /// The origin of a connection's first request, if it has one.
     pub(crate) fn first_of(&self, conn: u64) -> Option<Origin>
         ensures { result ≡ option_map (λ q. q.origin) (find (is_of conn) self.now.items) }
     {
-        first_in(&self.slots, conn)
+        let request = self.chains.first(conn)?;
+        Some(Origin { conn, request })
     }
 
     /// Makes room for one more request. On an error nothing has changed.
@@ -136,7 +106,8 @@ impl Requests {
             self.compact();
             self.slots.reserve(self.slots.len())?;
         }
-        self.slots.reserve(1)
+        self.slots.reserve(1)?;
+        self.chains.reserve()
     }
 
     /// Empty slots leave.
@@ -165,6 +136,7 @@ impl Requests {
         ensures { self.new.items ≡ self.old.items ++ kept ∷ [] }
     {
         let origin = kept.origin();
+        self.chains.push(origin);
         let key = (origin.conn, origin.request);
         self.slots.shift_remove(&key);
         let Ok(_) = self.slots.insert(key, Some(kept)) else {
@@ -179,6 +151,8 @@ impl Requests {
             ≡ filter (λ q. not (is_origin origin q.origin)) self.old.items }
         ensures room { self.old.room ≤ self.new.room }
     {
-        self.slots.get_mut(&(origin.conn, origin.request))?.take()
+        let taken = self.slots.get_mut(&(origin.conn, origin.request))?.take();
+        self.chains.remove(origin);
+        taken
     }
 }

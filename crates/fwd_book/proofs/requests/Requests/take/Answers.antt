@@ -1,9 +1,12 @@
-use Rattle.std.proofs.Common.{◌≡◌, None, filter, sym, ap, subst, ◌∙◌}
+use Rattle.std.proofs.Common.{◌≡◌, None, List, filter, sym, ap, subst, ◌∙◌}
 use Rattle.std.specs.Prelude.{not}
 use Rattle.std.specs.Map.{set_value}
-use Rattle.fwd_book.specs.History.{is_origin, request_at}
-use Rattle.fwd_book.specs.Slots.{Held, AreKeyed, present, key_of, is_key}
+use Rattle.fwd_source.specs.declared.origin.Origin.{Origin}
+use Rattle.fwd_book.specs.History.{Entered, is_origin, request_at}
+use Rattle.fwd_book.specs.Slots.{Held, Slot, AreKeyed, present, key_of, is_key}
+use Rattle.fwd_book.specs.Links.{order_of, AreChained}
 use Rattle.fwd_book.proofs.Slotting.{held_in, slot_found, emptied, keyed_emptied, any_none, filter_none}
+use Rattle.fwd_book.proofs.Orders.{order-left}
 use Rattle.fwd_book.proofs.requests.Requests.take.Goals as goal
 
 pub returns-in_err-get_mut-clause-taken : goal.returns-in_err-get_mut-clause-taken
@@ -24,19 +27,26 @@ returns-in_err-get_mut-clause-left c =
 
 pub invariant_of-self-2 : goal.invariant_of-self-2
 invariant_of-self-2 c =
-    let new : (c.get_mut.follows.lender c.take.new.self).entries ≡ set_value (is_key (key_of c.args.origin)) c.self.inside.slots.entries None =
-    (c.get_mut.follows.holds c.take.new.self).0 ∙ ap (set_value (is_key (key_of c.args.origin)) c.self.inside.slots.entries) c.take.ensures.after in
-    (subst AreKeyed (sym new) (keyed_emptied c.self.inside.slots.entries (is_key (key_of c.args.origin)) c.self.invariant.0), (c.get_mut.follows.holds c.take.new.self).4)
+    let o : Origin = c.args.origin in
+    let slots : List Slot = c.self.inside.slots.entries in
+    let new : (c.get_mut.follows.lender c.take-taken.new.self).entries ≡ set_value (is_key (key_of o)) slots None =
+    (c.get_mut.follows.holds c.take-taken.new.self).0 ∙ ap (set_value (is_key (key_of o)) slots) c.take-taken.ensures.after in
+    let items : filter (λ q. not (is_origin o q.origin)) (present slots) ≡ present (c.get_mut.follows.lender c.take-taken.new.self).entries =
+    sym (ap present new ∙ emptied slots o c.self.invariant.0 c.self.invariant.1) in (
+      subst AreKeyed (sym new) (keyed_emptied slots (is_key (key_of o)) c.self.invariant.0),
+      (c.get_mut.follows.holds c.take-taken.new.self).4,
+      subst (AreChained c.remove.new.self.links.entries c.remove.new.self.ends.entries) (order-left (present slots) o ∙ ap order_of items) (c.remove.ensures.chained (order_of (present slots)) c.self.invariant.2),
+    )
 
 pub returns-clause-taken : goal.returns-clause-taken
 returns-clause-taken c =
-    c.take.ensures.value ∙ ap held_in c.in_ok-get_mut.ensures.value
+    c.take-taken.ensures.value ∙ ap held_in c.in_ok-get_mut.ensures.value
     ∙ slot_found c.self.inside.slots.entries c.args.origin c.self.invariant.0 c.self.invariant.1
     ∙ ap (λ (h : Held). request_at h.items c.args.origin) c.self.view_is
 
 pub returns-clause-left : goal.returns-clause-left
 returns-clause-left c =
-    let new : (c.get_mut.follows.lender c.take.new.self).entries ≡ set_value (is_key (key_of c.args.origin)) c.self.inside.slots.entries None =
-    (c.get_mut.follows.holds c.take.new.self).0 ∙ ap (set_value (is_key (key_of c.args.origin)) c.self.inside.slots.entries) c.take.ensures.after in
+    let new : (c.get_mut.follows.lender c.take-taken.new.self).entries ≡ set_value (is_key (key_of c.args.origin)) c.self.inside.slots.entries None =
+    (c.get_mut.follows.holds c.take-taken.new.self).0 ∙ ap (set_value (is_key (key_of c.args.origin)) c.self.inside.slots.entries) c.take-taken.ensures.after in
     ap present new ∙ emptied c.self.inside.slots.entries c.args.origin c.self.invariant.0 c.self.invariant.1
     ∙ ap (λ (h : Held). filter (λ q. not (is_origin c.args.origin q.origin)) h.items) c.self.view_is
