@@ -1,5 +1,5 @@
 -- The numbers of each connection's requests, in their order.
-use Rattle.std.proofs.Common.{arith, ◌≡◌, ◌≤◌, length, ℕ, Bool, true, false, cond, suc, Option, Some, None, List, [], ◌∷◌, ◌++◌, refl, sym, ap, ◌∙◌}
+use Rattle.std.proofs.Common.{arith, ◌≡◌, ◌≤◌, length, ℕ, Bool, true, false, cond, suc, Some, None, List, [], ◌∷◌, ◌++◌, refl, sym, ap, ◌∙◌}
 use Rattle.std.specs.Prelude.{not, ◌&&◌, ◌||◌, ◌==◌, map, filter, find, option_map, slice_get}
 use Rattle.std.specs.List.{list_any}
 use Rattle.std.proofs.lemmas.Bool.{eqb-true}

@@ -1,16 +1,12 @@
 -- Requests in slots by their origins.
-use Rattle.std.proofs.Common.{arith, ◌≡◌, ◌≤◌, length, ℕ, zero, suc, take, append_assoc, Bool, true, false, cond, Option, Some, None, List, [], ◌∷◌, ◌++◌, refl, sym, ap, ◌∙◌}
-use Rattle.std.specs.Prelude.{IfSome, not, map, filter, find, option_map, slice_get, ◌||◌, ◌&&◌, ◌==◌, is_some, option_to_list}
+use Rattle.std.proofs.Common.{arith, ◌≡◌, ◌≤◌, length, ℕ, Bool, true, false, cond, Option, Some, None, List, [], ◌∷◌, ◌++◌, refl, sym, ap, ◌∙◌}
+use Rattle.std.specs.Prelude.{IfSome, not, filter, find, ◌||◌, ◌&&◌, ◌==◌, is_some, option_to_list}
 use Rattle.std.specs.List.{list_any, AllByRecursion, IsDistinct}
 use Rattle.std.specs.Map.{keys_of, lookup, set_value, remove_entry}
 use Rattle.std.proofs.lemmas.Bool.{eqb-true}
 use Rattle.std.proofs.lemmas.Grind.{flat_map-append}
-use Rattle.std.specs.Option.{option_or}
-use Rattle.std.proofs.lemmas.List.{map-append}
-use Rattle.std.proofs.lemmas.List.Elements.{filter-append}
-use Rattle.std.proofs.lemmas.List.Folds.{find-append}
 use Rattle.fwd_source.specs.declared.origin.Origin.{Origin}
-use Rattle.fwd_book.specs.History.{Entered, is_of, is_origin, request_at}
+use Rattle.fwd_book.specs.History.{Entered, is_origin, request_at}
 use Rattle.fwd_book.specs.Slots.{Slot, key_of, is_key, present, AreKeyed}
 use Rattle.fwd_book.proofs.Facts.{none_some, neither_left, neither_right, both_left, both_right}
 

@@ -1,26 +1,6 @@
 -- How the code finds a connection's requests: each request that is held is linked to the earlier
 -- and to the later one of its own connection, and a connection's first and last are known.
-use Rattle.std.specs.Prelude.{
-  ◌≡◌,
-  ◌==◌,
-  ◌&&◌,
-  ℕ,
-  Bool,
-  false,
-  not,
-  List,
-  [],
-  ◌∷◌,
-  ◌++◌,
-  Option,
-  None,
-  Some,
-  map,
-  filter,
-  option_map,
-  slice_get,
-  if◌then◌else◌,
-}
+use Rattle.std.specs.Prelude.{◌≡◌, ◌==◌, ℕ, Bool, false, not, List, [], ◌∷◌, ◌++◌, Option, None, Some, map, filter, option_map, slice_get, if◌then◌else◌}
 use Rattle.std.specs.List.{list_any}
 use Rattle.std.specs.Map.{lookup}
 use Rattle.fwd_source.specs.declared.origin.Origin.{Origin}

@@ -17,7 +17,8 @@ ghost use Rattle.std.specs.Prelude.{
   map,
   option_map,
   option_and_then,
-  slice_get,
+  unwrap_or,
+  not,
   if◌then◌else◌,
   IfOk,
   OnOk,
@@ -102,40 +103,58 @@ fn set_earlier(
     }
 }
 
-/// The ends of a connection without a request that was linked so.
-fn ends_without(ends: Ends, link: Link) -> Option<Ends>
-    ensures first { option_map (λ e. e.first) result
-        ≡ (if is_some link.earlier then Some ends.first else link.later) }
-    ensures last { option_map (λ e. e.last) result
-        ≡ (if is_some link.later then Some ends.last else link.earlier) }
+/// The number of a connection's last request, if it has one.
+fn last_in(ends: Option<Ends>) -> Option<u64>
+    ensures { result ≡ option_map (λ e. e.last) ends }
 {
-    match (link.earlier, link.later) {
-        (None, None) => None,
-        (None, Some(first)) => Some(Ends {
-            first,
-            last: ends.last,
-        }),
-        (Some(last), None) => Some(Ends {
-            first: ends.first,
-            last,
-        }),
-        (Some(_), Some(_)) => Some(ends),
+    match ends {
+        None => None,
+        Some(ends) => Some(ends.last),
     }
 }
 
-/// A connection that has ends has others, or none any more.
-fn set_ends(ends: &mut IndexMap<u64, Ends>, conn: u64, next: Option<Ends>)
-    requires { IsSome (ends_at ends.old.entries conn) }
-    ensures ends { (c : ℕ) → ends_at ends.new.entries c
-        ≡ (if conn == c then next else ends_at ends.old.entries c) }
+/// The ends of a connection with this request behind its others, if it has any.
+fn ends_with(ends: Option<Ends>, request: u64) -> Ends
+    ensures first { result.first ≡ unwrap_or (option_map (λ e. e.first) ends) request }
+    ensures last { result.last ≡ request }
+{
+    let first = match ends {
+        None => request,
+        Some(ends) => ends.first,
+    };
+    Ends {
+        first,
+        last: request,
+    }
+}
+
+/// The ends of a connection that has some, once a request left that was linked so.
+fn leave_ends(ends: &mut IndexMap<u64, Ends>, conn: u64, link: Link)
+    ensures first { IsSome (ends_at ends.old.entries conn)
+        → (c : ℕ) → option_map (λ e. e.first) (ends_at ends.new.entries c)
+        ≡ (if (conn == c) && not (is_some link.earlier) then link.later
+        else option_map (λ e. e.first) (ends_at ends.old.entries c)) }
+    ensures last { IsSome (ends_at ends.old.entries conn)
+        → (c : ℕ) → option_map (λ e. e.last) (ends_at ends.new.entries c)
+        ≡ (if (conn == c) && not (is_some link.later) then link.earlier
+        else option_map (λ e. e.last) (ends_at ends.old.entries c)) }
     ensures room { spare ends.old ≤ spare ends.new }
 {
-    let Some(next) = next else {
-        ends.swap_remove(&conn);
-        return;
-    };
-    if let Some(there) = ends.get_mut(&conn) {
-        *there = next;
+    match (link.earlier, link.later) {
+        (None, None) => {
+            ends.swap_remove(&conn);
+        }
+        (None, Some(first)) => {
+            if let Some(ends) = ends.get_mut(&conn) {
+                ends.first = first;
+            }
+        }
+        (Some(last), None) => {
+            if let Some(ends) = ends.get_mut(&conn) {
+                ends.last = last;
+            }
+        }
+        (Some(_), Some(_)) => {}
     }
 }
 
@@ -179,19 +198,10 @@ impl Chains {
         }
     }
 
-    /// The number of a connection's last request, if it has one.
-    fn last(&self, conn: u64) -> Option<u64>
-        ensures { result ≡ option_map (λ e. e.last) (ends_at self.now.ends.entries conn) }
-    {
-        match self.ends_of(conn) {
-            None => None,
-            Some(ends) => Some(ends.last),
-        }
-    }
-
     /// The number of the request behind this one, if this one is there and is not the last.
     fn later(&self, conn: u64, request: u64) -> Option<u64>
-        ensures { result ≡ option_and_then (λ k. k.later) (link_at self.now.links.entries conn request) }
+        ensures { result
+            ≡ option_and_then (λ k. k.later) (link_at self.now.links.entries conn request) }
     {
         match self.links.get(&(conn, request)) {
             None => None,
@@ -233,8 +243,8 @@ impl Chains {
             → AreChained self.new.links.entries self.new.ends.entries (order_with origin order) }
     {
         let Origin { conn, request } = origin;
-        let earlier = self.last(conn);
-        let first = self.first(conn).unwrap_or(request);
+        let ends = self.ends_of(conn);
+        let earlier = last_in(ends);
         set_later(&mut self.links, conn, earlier, Some(request));
         let link = Link {
             earlier,
@@ -243,11 +253,7 @@ impl Chains {
         let Ok(_) = self.links.insert((conn, request), link) else {
             unreachable!();
         };
-        let ends = Ends {
-            first,
-            last: request,
-        };
-        let Ok(_) = self.ends.insert(conn, ends) else {
+        let Ok(_) = self.ends.insert(conn, ends_with(ends, request)) else {
             unreachable!();
         };
     }
@@ -267,8 +273,6 @@ impl Chains {
         };
         set_later(&mut self.links, conn, link.earlier, link.later);
         set_earlier(&mut self.links, conn, link.later, link.earlier);
-        if let Some(ends) = self.ends_of(conn) {
-            set_ends(&mut self.ends, conn, ends_without(ends, link));
-        }
+        leave_ends(&mut self.ends, conn, link);
     }
 }

@@ -16,13 +16,10 @@ ghost use Rattle.std.specs.Prelude.{
   filter,
   find,
   option_map,
-  option_to_list,
-  slice_get,
   IfOk,
   option_copied,
   OnOk,
 };
-ghost use Rattle.fwd_book.specs.Slots.{present};
 ghost use Rattle.fwd_book.specs.History.{is_of, is_origin, request_at};
 
 use crate::chains::Chains;

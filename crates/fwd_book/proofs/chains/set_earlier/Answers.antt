@@ -1,4 +1,4 @@
-use Rattle.std.proofs.Common.{◌≡◌, Some, None, cond, refl, sym, ap, subst, ◌∙◌}
+use Rattle.std.proofs.Common.{◌≡◌, Some, cond, refl, sym, ap, subst, ◌∙◌}
 use Rattle.std.specs.Prelude.{IsSome, option_map, ◌&&◌, ◌==◌}
 use Rattle.fwd_book.specs.declared.chains.Link.{Link}
 use Rattle.fwd_book.specs.Slots.{is_key}

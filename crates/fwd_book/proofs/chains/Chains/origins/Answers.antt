@@ -1,4 +1,4 @@
-use Rattle.std.proofs.Common.{arith, ◌≡◌, ◌+◌, ℕ, suc, List, ◌++◌, ◌∷◌, [], Some, take, refl, sym, ap, ◌∙◌}
+use Rattle.std.proofs.Common.{arith, ◌≡◌, ◌+◌, ℕ, suc, List, ◌++◌, ◌∷◌, [], Some, take, sym, ap, ◌∙◌}
 use Rattle.std.specs.Prelude.{map, slice_get, option_and_then}
 use Rattle.std.proofs.lemmas.List.{take_all, map-append}
 use Rattle.fwd_source.specs.declared.origin.Origin.{Origin}
@@ -18,13 +18,13 @@ loop-preserved c = λ order chained.
     let at : slice_get rs c.loop.counter ≡ Some c.in-Some.request = sym so_far.1 ∙ c.in-Some.is in
     let next : c.loop.counter + 1 ≡ suc c.loop.counter = omega arith in (
       c.in_ok-push.ensures.items
-      ∙ (λ i. so_far.0 i ++ f c.in-Some.request ∷ [])
-      ∙ sym (map-append f (take c.loop.counter rs) (c.in-Some.request ∷ []))
-      ∙ ap (map f) (sym (take_next rs c.loop.counter (c.loop.counter + 1) c.in-Some.request next at)),
+          ∙ (λ i. so_far.0 i ++ f c.in-Some.request ∷ [])
+          ∙ sym (map-append f (take c.loop.counter rs) (c.in-Some.request ∷ []))
+          ∙ ap (map f) (sym (take_next rs c.loop.counter (c.loop.counter + 1) c.in-Some.request next at)),
       c.later-next.ensures
-      ∙ ap (option_and_then (λ (k : Link). k.later)) (chained.linked c.args.conn c.in-Some.request)
-      ∙ later_at _ rs c.loop.counter c.in-Some.request (chained.once c.args.conn) at
-      ∙ ap (slice_get rs) (sym next),
+          ∙ ap (option_and_then (λ (k : Link). k.later)) (chained.linked c.args.conn c.in-Some.request)
+          ∙ later_at _ rs c.loop.counter c.in-Some.request (chained.once c.args.conn) at
+          ∙ ap (slice_get rs) (sym next),
     )
 
 pub returns : goal.returns

@@ -9,7 +9,6 @@ use Rattle.fwd_book.proofs.requests.Requests.compact.Goals as goal
 pub invariant_of-self : goal.invariant_of-self
 invariant_of-self c =
     let kept : c.retain.new.self.entries ≡ filter (λ e. is_some e.1) c.self.inside.slots.entries = filter-RetainsPairs _ (λ e. is_some e.1) _ (λ k v b w g call. search rules) _ _ c.retain.ensures.filtered in
-    
     let same : present c.self.inside.slots.entries ≡ present c.retain.new.self.entries = sym (ap present kept ∙ kept_present c.self.inside.slots.entries) in (
       subst AreKeyed (sym kept) (keyed_kept c.self.inside.slots.entries c.self.invariant.0),
       c.retain.ensures.unique,

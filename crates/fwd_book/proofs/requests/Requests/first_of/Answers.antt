@@ -1,6 +1,5 @@
-use Rattle.std.proofs.Common.{◌≡◌, List, ap, ◌∙◌}
+use Rattle.std.proofs.Common.{List, ap, ◌∙◌}
 use Rattle.std.specs.Prelude.{find, option_map}
-use Rattle.fwd_source.specs.declared.origin.Origin.{Origin}
 use Rattle.fwd_book.specs.History.{Entered, is_of}
 use Rattle.fwd_book.specs.Slots.{Held, present}
 use Rattle.fwd_book.proofs.Orders.{order-first}

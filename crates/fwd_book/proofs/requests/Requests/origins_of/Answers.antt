@@ -1,6 +1,5 @@
-use Rattle.std.proofs.Common.{arith, ◌≡◌, ◌≤◌, length, List, ap, ◌∙◌, Ok, Err}
-use Rattle.std.specs.Prelude.{IfOk, map, filter}
-use Rattle.fwd_source.specs.declared.origin.Origin.{Origin}
+use Rattle.std.proofs.Common.{arith, ◌≡◌, ◌≤◌, length, List, ap, ◌∙◌}
+use Rattle.std.specs.Prelude.{map, filter}
 use Rattle.fwd_book.specs.History.{Entered, is_of}
 use Rattle.fwd_book.specs.Slots.{Held, present}
 use Rattle.fwd_book.specs.Links.{order_of}
