@@ -499,7 +499,8 @@ event_agrees h (event.Settle o w) sane = at_lane h sane o _ (λ l. steps.settle 
 event_agrees h (event.Collect id o) sane = at_both h sane id o _ (steps.collect lives id) (λ s l own its. collect id s l own its)
 event_agrees h (event.Forget id o) sane = at_lane h sane o _ (λ l. steps.forget lives l id) (λ l own. forget l id own)
 event_agrees h (event.Drained id count) sane = at_source h sane id _ (λ s. steps.drained lives s count) (λ s own. drained s count own)
-event_agrees h (event.Shut id) sane = shut h id sane
+-- a connection is shut, or nothing changes
+event_agrees h e sane = search (shut)
 
 -- ---- counts
 

@@ -302,7 +302,8 @@ event_on config es (event.Settle o w) m = at_lane_on config es (event.Settle o w
 event_on config es (event.Collect id o) m = collect_on config es id o m
 event_on config es (event.Forget id o) m = forget_on config es (event.Forget id o) id o m
 event_on config es (event.Drained id count) m = at_source_on config es (event.Drained id count) m id (λ s. steps.drained histories s count)
-event_on config es (event.Shut id) m = past_found _ (λ s here. to (nothing config es (event.Shut id) m (leaves id (reached config es)) refl))
+-- a connection is shut, or nothing changes
+event_on config es e m = search (past_found, told_still)
 
 marks_on : (config : Config) (es : List Event) (e : Event)
     (m : Marked config es (reached config es))

@@ -373,4 +373,5 @@ module _ (p : Change) (h : History) where
   beside (event.Forget id o) apart one spares =
       at_output o (λ l. steps.forget histories l id) (two_named (part.Connection id) (part.Output o) (part_of p) apart).1 (λ l v s is. forget l v s id)
   beside (event.Drained id count) apart one spares = at_source id _ (one_named (part.Connection id) (part_of p) apart)
-  beside (event.Shut id) apart one spares = shut id (one_named (part.Connection id) (part_of p) apart)
+  -- a connection is shut, or nothing changes
+  beside f apart one spares = search (shut, one_named)

@@ -351,4 +351,5 @@ module _ (h : History) (sane : IsSane h) where
   event_leads (event.Collect id o) = both_on histories h id o (Leads (event.Collect id o) h) (steps.collect histories id) (λ s l here lane. collect id o s l lane)
   event_leads (event.Forget id o) = at_output (event.Forget id o) o (λ l. steps.forget histories l id) (λ l here own. forget id o l here)
   event_leads (event.Drained id count) = at_source (event.Drained id count) id _ (named_alone (part.Connection id))
-  event_leads (event.Shut id) = shut id
+  -- a connection is shut, or nothing changes
+  event_leads e = Prim.first_of (search (shut), search (no_effect))
