@@ -39,7 +39,7 @@ use Rattle.fwd_model.specs.Outputs.{returned, output_history_enters, output_hist
 use Rattle.fwd_model.specs.History.{Connection, ever_at, source_at, with_source, with_gone, Lane, History, with_connection, with_lane, with_output, with_buffer, with_book, with_session, without_session, histories}
 use Rattle.fwd_model.specs.Delivered.{reached, answered, session_of, standing, session_at}
 use Rattle.fwd_model.proofs.Onward.{Onward, to, past, past_found, Resting, rests, rest_past, rest_found, rest_within, at_next, source_on, lane_on, both_on, worker_on, session_on}
-use Rattle.fwd_model.proofs.Places.{slice_get-set_same}
+use Rattle.fwd_model.proofs.Places.{slice_get-set_same, same_at}
 use Rattle.fwd_model.proofs.Reached.{IsSaneLane, IsSane, AllSources-at, AllSane-at}
 use Rattle.fwd_model.proofs.Follows.Workers.{session_here}
 use Rattle.fwd_model.proofs.Follows.Settles.{acked_is}
@@ -452,4 +452,4 @@ module _ (config : Config) (es : List Event) (sane : IsSane (reached config es))
   -- a connection is shut, or nothing changes
   goes_on e =
       let calm : Calm config es e t = λ j v kind' moment number is done. absurd cc in
-      calmly e calm (anyhow e (step histories h e) (Prim.first_of (search (shut_on e calm), search (all_stays config es e t calm))))
+      calmly e calm (anyhow e (step histories h e) (Prim.first_of (search (shut_on e calm), search (same_at, all_stays config es e t calm))))
