@@ -20,6 +20,9 @@ use Rattle.fwd_model.specs.declared.answer.Answer.TheVariants.{
   Full,
   NumbersSpent,
 }
+use Rattle.fwd_model.specs.Outcome.{answer_of}
+use Rattle.fwd_model.specs.Step.{step}
+use Rattle.fwd_model.specs.Live.{LiveRelay, lives}
 
 -- want of memory
 abbrev pub is_memory : Answer → Bool
@@ -56,3 +59,7 @@ is_free NoRoute = true
 is_free Full = true
 is_free NumbersSpent = true
 is_free _ = false
+
+-- what the event is answered takes no memory
+abbrev pub is_free_at : LiveRelay → Event → Bool
+is_free_at r e = is_free (answer_of (step lives r e))

@@ -249,6 +249,22 @@ impl Lane {
         self.workers[place].wrote(count)
     }
 
+    /// It is asked at a moment (milliseconds) whether a worker's session is late.
+    pub fn late(&mut self, worker: u16, now: u64) -> Answer
+        ensures answer { result
+            ≡ answer_of (at_worker lives self.old worker (λ x.
+            at_session lives x (late lives now))) }
+        ensures next { self.new
+            ≡ state_of self.old (at_worker lives self.old worker (λ x.
+            at_session lives x (late lives now))) }
+    {
+        let place = usize::from(worker);
+        if place >= self.workers.len() {
+            return Answer::Refused(Refusal::NoSuch);
+        }
+        self.workers[place].late(now)
+    }
+
     /// Bytes are read from the link of a worker's session. On an error nothing has changed.
     pub fn heard(&mut self, alloc: Global, worker: u16, bytes: &[u8]) -> Result<Answer, AllocError>
         ensures answer { IfOk result (λ a.
@@ -266,22 +282,6 @@ impl Lane {
             return Ok(Answer::Refused(Refusal::NoSuch));
         }
         self.workers[place].heard(alloc, bytes)
-    }
-
-    /// It is asked at a moment (milliseconds) whether a worker's session is late.
-    pub fn late(&mut self, worker: u16, now: u64) -> Answer
-        ensures answer { result
-            ≡ answer_of (at_worker lives self.old worker (λ x.
-            at_session lives x (late lives now))) }
-        ensures next { self.new
-            ≡ state_of self.old (at_worker lives self.old worker (λ x.
-            at_session lives x (late lives now))) }
-    {
-        let place = usize::from(worker);
-        if place >= self.workers.len() {
-            return Answer::Refused(Refusal::NoSuch);
-        }
-        self.workers[place].late(now)
     }
 
     /// A worker's acknowledged chunk leaves the output.

@@ -27,7 +27,7 @@ ghost use Rattle.fwd_model.specs.History.{
 ghost use Rattle.fwd_model.specs.Live.{live, live_relay_counts, lives};
 ghost use Rattle.fwd_model.specs.declared.config.Config.{Config as Settings};
 ghost use Rattle.fwd_chunks.specs.Live.{live_counts};
-ghost use Rattle.fwd_core.specs.Runs.{told, kept, takes_none, is_free};
+ghost use Rattle.fwd_core.specs.Runs.{told, kept, takes_none, is_free, is_free_at};
 ghost use Rattle.fwd_core.specs.Lanes.{new_live_lanes};
 ghost use Rattle.fwd_model.specs.declared.event.Event.{Event as AbstractEvent};
 ghost use Rattle.fwd_model.specs.declared.event.Event.TheVariants as event;
@@ -180,7 +180,7 @@ impl Relay {
     fn try_step(&mut self, alloc: Global, event: &Event) -> Result<Answer, AllocError>
         ensures answer { IfOk result (λ a. a ≡ answer_of (step lives self.old event.now)) }
         ensures none { takes_none event.now ≡ true → IsOk result }
-        ensures sure { is_free (answer_of (step lives self.old event.now)) ≡ true → IsOk result }
+        ensures sure { is_free_at self.old event.now ≡ true → IsOk result }
         ensures next { OnOk result (self.new ≡ state_of self.old (step lives self.old event.now)) }
         ensures err { OnErr result (self.new ≡ self.old) }
     {
@@ -250,8 +250,7 @@ impl Relay {
     ) -> Result<Answer, AllocError>
         ensures answer { IfOk result (λ a.
             a ≡ answer_of (step lives self.old (event.Accept conn nonce auth))) }
-        ensures sure { is_free (answer_of (step lives self.old (event.Accept conn nonce auth)))
-            ≡ true → IsOk result }
+        ensures sure { is_free_at self.old (event.Accept conn nonce auth) ≡ true → IsOk result }
         ensures next { OnOk result (self.new
             ≡ state_of self.old (step lives self.old (event.Accept conn nonce auth))) }
         ensures err { OnErr result (self.new ≡ self.old) }
@@ -275,8 +274,7 @@ impl Relay {
     fn piece(&mut self, alloc: Global, conn: u64, bytes: &[u8]) -> Result<Answer, AllocError>
         ensures answer { IfOk result (λ a.
             a ≡ answer_of (step lives self.old (event.Piece conn bytes.now))) }
-        ensures sure { is_free (answer_of (step lives self.old (event.Piece conn bytes.now)))
-            ≡ true → IsOk result }
+        ensures sure { is_free_at self.old (event.Piece conn bytes.now) ≡ true → IsOk result }
         ensures next { OnOk result (self.new
             ≡ state_of self.old (step lives self.old (event.Piece conn bytes.now))) }
         ensures err { OnErr result (self.new ≡ self.old) }
@@ -323,8 +321,7 @@ impl Relay {
     ) -> Result<Answer, AllocError>
         ensures answer { IfOk result (λ a.
             a ≡ answer_of (step lives self.old (event.Admit conn output now))) }
-        ensures sure { is_free (answer_of (step lives self.old (event.Admit conn output now)))
-            ≡ true → IsOk result }
+        ensures sure { is_free_at self.old (event.Admit conn output now) ≡ true → IsOk result }
         ensures next { OnOk result (self.new
             ≡ state_of self.old (step lives self.old (event.Admit conn output now))) }
         ensures err { OnErr result (self.new ≡ self.old) }
@@ -359,8 +356,7 @@ impl Relay {
         if place >= self.lanes.len() {
             return Answer::Refused(Refusal::NoSuch);
         }
-        let lane = &mut self.lanes[place];
-        let chunks = lane.flush(now, kind);
+        let chunks = self.lanes[place].flush(now, kind);
         Answer::Closed { chunks }
     }
 
@@ -374,8 +370,7 @@ impl Relay {
         if place >= self.lanes.len() {
             return Answer::Refused(Refusal::NoSuch);
         }
-        let lane = &mut self.lanes[place];
-        lane.choose(worker, now)
+        self.lanes[place].choose(worker, now)
     }
 
     /// A worker's session with a server begins. On an error nothing has changed.
@@ -390,8 +385,7 @@ impl Relay {
     ) -> Result<Answer, AllocError>
         ensures answer { IfOk result (λ a.
             a ≡ answer_of (step lives self.old (event.Up output worker server salt.now now))) }
-        ensures sure { is_free
-            (answer_of (step lives self.old (event.Up output worker server salt.now now))) ≡ true
+        ensures sure { is_free_at self.old (event.Up output worker server salt.now now) ≡ true
             → IsOk result }
         ensures next { OnOk result (self.new ≡ state_of self.old
             (step lives self.old (event.Up output worker server salt.now now))) }
@@ -401,8 +395,7 @@ impl Relay {
         if place >= self.lanes.len() {
             return Ok(Answer::Refused(Refusal::NoSuch));
         }
-        let lane = &mut self.lanes[place];
-        lane.up(alloc, worker, server, salt, now)
+        self.lanes[place].up(alloc, worker, server, salt, now)
     }
 
     /// A worker takes the least free chunk of its output. On an error nothing has changed.
@@ -415,8 +408,7 @@ impl Relay {
     ) -> Result<Answer, AllocError>
         ensures answer { IfOk result (λ a.
             a ≡ answer_of (step lives self.old (event.Take output worker now))) }
-        ensures sure { is_free (answer_of (step lives self.old (event.Take output worker now)))
-            ≡ true → IsOk result }
+        ensures sure { is_free_at self.old (event.Take output worker now) ≡ true → IsOk result }
         ensures next { OnOk result (self.new
             ≡ state_of self.old (step lives self.old (event.Take output worker now))) }
         ensures err { OnErr result (self.new ≡ self.old) }
@@ -425,8 +417,7 @@ impl Relay {
         if place >= self.lanes.len() {
             return Ok(Answer::Refused(Refusal::NoSuch));
         }
-        let lane = &mut self.lanes[place];
-        lane.take(alloc, worker, now)
+        self.lanes[place].take(alloc, worker, now)
     }
 
     /// A worker's chunk is put into its session. On an error nothing has changed.
@@ -439,8 +430,7 @@ impl Relay {
     ) -> Result<Answer, AllocError>
         ensures answer { IfOk result (λ a.
             a ≡ answer_of (step lives self.old (event.Load output worker now))) }
-        ensures sure { is_free (answer_of (step lives self.old (event.Load output worker now)))
-            ≡ true → IsOk result }
+        ensures sure { is_free_at self.old (event.Load output worker now) ≡ true → IsOk result }
         ensures next { OnOk result (self.new
             ≡ state_of self.old (step lives self.old (event.Load output worker now))) }
         ensures err { OnErr result (self.new ≡ self.old) }
@@ -449,8 +439,7 @@ impl Relay {
         if place >= self.lanes.len() {
             return Ok(Answer::Refused(Refusal::NoSuch));
         }
-        let lane = &mut self.lanes[place];
-        lane.load(alloc, worker, now)
+        self.lanes[place].load(alloc, worker, now)
     }
 
     /// The link took so many bytes of a worker's session.
@@ -464,8 +453,7 @@ impl Relay {
         if place >= self.lanes.len() {
             return Answer::Refused(Refusal::NoSuch);
         }
-        let lane = &mut self.lanes[place];
-        lane.wrote(worker, count)
+        self.lanes[place].wrote(worker, count)
     }
 
     /// Bytes are read from the link of a worker's session. On an error nothing has changed.
@@ -478,8 +466,7 @@ impl Relay {
     ) -> Result<Answer, AllocError>
         ensures answer { IfOk result (λ a.
             a ≡ answer_of (step lives self.old (event.Heard output worker bytes.now))) }
-        ensures sure { is_free
-            (answer_of (step lives self.old (event.Heard output worker bytes.now))) ≡ true
+        ensures sure { is_free_at self.old (event.Heard output worker bytes.now) ≡ true
             → IsOk result }
         ensures next { OnOk result (self.new
             ≡ state_of self.old (step lives self.old (event.Heard output worker bytes.now))) }
@@ -489,8 +476,7 @@ impl Relay {
         if place >= self.lanes.len() {
             return Ok(Answer::Refused(Refusal::NoSuch));
         }
-        let lane = &mut self.lanes[place];
-        lane.heard(alloc, worker, bytes)
+        self.lanes[place].heard(alloc, worker, bytes)
     }
 
     /// A worker's acknowledged chunk leaves its output.
@@ -503,8 +489,7 @@ impl Relay {
         if place >= self.lanes.len() {
             return Answer::Refused(Refusal::NoSuch);
         }
-        let lane = &mut self.lanes[place];
-        lane.settle(worker)
+        self.lanes[place].settle(worker)
     }
 
     /// It is asked whether a worker's session is late.
@@ -517,8 +502,7 @@ impl Relay {
         if place >= self.lanes.len() {
             return Answer::Refused(Refusal::NoSuch);
         }
-        let lane = &mut self.lanes[place];
-        lane.late(worker, now)
+        self.lanes[place].late(worker, now)
     }
 
     /// A worker's session is no more, and a chunk that it has goes back to its output.
@@ -532,8 +516,7 @@ impl Relay {
         if place >= self.lanes.len() {
             return Answer::Refused(Refusal::NoSuch);
         }
-        let lane = &mut self.lanes[place];
-        lane.end(worker, kind, now)
+        self.lanes[place].end(worker, kind, now)
     }
 
     /// Nobody is to be told of a connection's requests at an output any more.
@@ -546,8 +529,7 @@ impl Relay {
         if place >= self.lanes.len() {
             return Answer::Refused(Refusal::NoSuch);
         }
-        let lane = &mut self.lanes[place];
-        lane.forget(conn)
+        self.lanes[place].forget(conn)
     }
 
     /// A connection is told of its requests at an output whose entries are all settled. On an
@@ -555,8 +537,7 @@ impl Relay {
     fn collect(&mut self, alloc: Global, conn: u64, output: u16) -> Result<Answer, AllocError>
         ensures answer { IfOk result (λ a.
             a ≡ answer_of (step lives self.old (event.Collect conn output))) }
-        ensures sure { is_free (answer_of (step lives self.old (event.Collect conn output)))
-            ≡ true → IsOk result }
+        ensures sure { is_free_at self.old (event.Collect conn output) ≡ true → IsOk result }
         ensures next { OnOk result (self.new
             ≡ state_of self.old (step lives self.old (event.Collect conn output))) }
         ensures err { OnErr result (self.new ≡ self.old) }

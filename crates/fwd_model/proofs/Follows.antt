@@ -31,6 +31,7 @@ use Rattle.fwd_model.specs.declared.config.Config.{Config}
 use Rattle.fwd_model.specs.declared.config.OutputConfig.{OutputConfig}
 use Rattle.fwd_model.specs.declared.event.Event.{Event}
 use Rattle.fwd_model.specs.declared.event.Event.TheVariants as event
+use Rattle.fwd_model.specs.declared.answer.Answer.{Answer}
 use Rattle.fwd_model.specs.declared.answer.Answer.TheVariants as answer
 use Rattle.fwd_model.specs.declared.event.EndKind.{EndKind}
 use Rattle.fwd_model.specs.declared.fault.Refusal.TheVariants.{NotNow, NotUp}
@@ -92,6 +93,12 @@ module _ (h : History) (sane : IsSane h) where
   at_lane o p q agrees =
       sought _ _ (lane_at-live o h) (λ l e.
       inside _ _ (agrees l (own_lane o l e)) (λ m own. (with_lane-live o m h, with_lane-sane o m h sane own)))
+
+-- at an output that it leaves as it is
+same_at : (h : History) (o : ℕ) (a : Answer) → IsSane h
+    → Agrees live IsSane (steps.at_lane histories h o (λ l. Goes a l))
+    (steps.at_lane lives (live h) o (λ l. Goes a l))
+same_at h o a sane = at_lane h sane o _ (λ l. Goes a l) (λ l own. goes refl (refl, own))
 
 abbrev both : SourceHistory × Lane → LiveSource × LiveLane
 both two = (live_source two.0, live_lane two.1)
@@ -499,7 +506,8 @@ event_agrees h (event.Settle o w) sane = at_lane h sane o _ (λ l. steps.settle 
 event_agrees h (event.Collect id o) sane = at_both h sane id o _ (steps.collect lives id) (λ s l own its. collect id s l own its)
 event_agrees h (event.Forget id o) sane = at_lane h sane o _ (λ l. steps.forget lives l id) (λ l own. forget l id own)
 event_agrees h (event.Drained id count) sane = at_source h sane id _ (λ s. steps.drained lives s count) (λ s own. drained s count own)
-event_agrees h (event.Shut id) sane = shut h id sane
+-- a connection is shut, or nothing changes
+event_agrees h e sane = Prim.first_of (search (shut), search (same_at))
 
 -- ---- counts
 

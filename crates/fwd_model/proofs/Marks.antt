@@ -13,6 +13,7 @@ use Rattle.fwd_chunks.specs.declared.fault.AdmitError.{AdmitError}
 use Rattle.fwd_chunks.specs.declared.fault.AdmitError.TheVariants.{Full, NumbersSpent, Memory}
 use Rattle.fwd_chunks.specs.declared.flush.FlushKind.{FlushKind}
 use Rattle.fwd_chunks.specs.History.{spans_of}
+use Rattle.fwd_model.specs.declared.answer.Answer.{Answer}
 use Rattle.fwd_model.specs.declared.answer.Answer.TheVariants as answer
 use Rattle.fwd_match.specs.Patterns.{route}
 use Rattle.fwd_source.specs.History as source
@@ -28,7 +29,7 @@ use Rattle.fwd_book.specs.History.{Untold, Told, Forgotten, Admission, entered_a
 use Rattle.fwd_model.specs.Outputs.{output_history_enters}
 use Rattle.fwd_session.specs.History.{SessionHistory}
 use Rattle.fwd_model.specs.declared.event.EndKind.{EndKind}
-use Rattle.fwd_model.specs.History.{source_at, Lane, History, opening, new_lane, new_lanes, with_connection, leaves, with_lane, with_output, with_book, histories}
+use Rattle.fwd_model.specs.History.{source_at, Lane, History, opening, new_lane, new_lanes, with_connection, with_lane, with_output, with_book, histories}
 use Rattle.fwd_model.specs.Delivered.{reached, IsTold}
 use Rattle.fwd_model.proofs.Onward.{Onward, to, past, past_found, at_next, source_on, lane_on, both_on, worker_on}
 use Rattle.fwd_model.proofs.Reached.{slice_get-set}
@@ -143,6 +144,10 @@ module _ (config : Config) (es : List Event) (e : Event) (m : Marked config es (
           → Onward (λ a y. On (with_lane o y h)) x
       each l here (Stays a) same = record { holds = tt }
       each l here (Goes a y) same = to (keeps o l y h refl here same.holds)
+
+  -- at an output that it leaves as it is
+  same_at : (o : ℕ) (a : Answer) → Onward (λ a k. On k) (steps.at_lane histories h o (λ l. Goes a l))
+  same_at o a = at_lane_on o (λ l. Goes a l) (λ l. to refl)
 
   at_worker_on : (l : Lane) (w : ℕ) (p : Worker SessionHistory → Outcome (Worker SessionHistory))
       → Onward (λ a x. x.output.book.admissions ≡ l.output.book.admissions)
@@ -302,7 +307,8 @@ event_on config es (event.Settle o w) m = at_lane_on config es (event.Settle o w
 event_on config es (event.Collect id o) m = collect_on config es id o m
 event_on config es (event.Forget id o) m = forget_on config es (event.Forget id o) id o m
 event_on config es (event.Drained id count) m = at_source_on config es (event.Drained id count) m id (λ s. steps.drained histories s count)
-event_on config es (event.Shut id) m = past_found _ (λ s here. to (nothing config es (event.Shut id) m (leaves id (reached config es)) refl))
+-- a connection is shut, or nothing changes
+event_on config es e m = Prim.first_of (search (past_found, told_still), search (same_at config es e m))
 
 marks_on : (config : Config) (es : List Event) (e : Event)
     (m : Marked config es (reached config es))

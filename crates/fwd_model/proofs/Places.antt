@@ -1,5 +1,5 @@
 -- Places in the lists of a history and of its live part.
-use Rattle.std.proofs.Common.{◌≡◌, ℕ, zero, suc, ◌+◌, ◌<◌, Bool, true, false, cond, eqb, List, [], ◌∷◌, ◌++◌, length, Option, Some, None, refl, ap, subst, ◌∙◌, add-zero, arith}
+use Rattle.std.proofs.Common.{◌≡◌, ℕ, zero, suc, ◌+◌, ◌<◌, Bool, true, false, cond, eqb, List, [], ◌∷◌, ◌++◌, length, Option, Some, None, refl, sym, ap, subst, ◌∙◌, add-zero, arith}
 use Rattle.std.proofs.Math.ListN.{set}
 use Rattle.std.specs.Prelude.{map, option_map, slice_get, ◌&&◌, not, nat_lt, ◌==◌}
 use Rattle.std.specs.List.{list_all}
@@ -9,8 +9,12 @@ use Rattle.fwd_source.specs.Live.{live_source}
 use Rattle.fwd_session.specs.History.{SessionHistory}
 use Rattle.fwd_session.specs.Live.{live_session}
 use Rattle.fwd_model.specs.Outputs.{OutputHistory, carried_by}
-use Rattle.fwd_model.specs.History.{Connection, source_at, with_source, with_gone, is_fresh}
+use Rattle.fwd_model.specs.History.{History, histories, Connection, source_at, with_source, with_gone, is_fresh}
 use Rattle.fwd_model.specs.Live.{live_connection, known, last_id, live_worker, live_workers, live_source_at, with_live_source, without}
+use Rattle.fwd_model.specs.declared.answer.Answer.{Answer}
+use Rattle.fwd_model.specs.Outcome.{Goes}
+use Rattle.fwd_model.specs.Step as steps
+use Rattle.fwd_model.proofs.Onward.{Onward, to, lane_on}
 
 -- nothing is done to what there may be
 pub option_id : {X : Type 0} (o : Option X) → o ≡ option_map (λ x. x) o
@@ -155,6 +159,16 @@ pub slice_get-set_same : {X : Type 0} (xs : List X) (i : ℕ) (x y : X)
 slice_get-set_same [] i x y h = absurd cc
 slice_get-set_same (a ∷ xs) zero x y h = refl
 slice_get-set_same (a ∷ xs) (suc i) x y h = slice_get-set_same xs i x y h
+
+set-same : {X : Type 0} (xs : List X) (i : ℕ) (x : X) → slice_get xs i ≡ Some x → set xs i x ≡ xs
+set-same [] i x h = refl
+set-same (a ∷ xs) zero x h = let e : a ≡ x = cc in ap (λ y. y ∷ xs) (sym e)
+set-same (a ∷ xs) (suc i) x h = ap (λ ys. a ∷ ys) (set-same xs i x h)
+
+-- an event at an output that it leaves as it is goes on to the same history
+pub same_at : (h : History) (P : Answer → History → Type 0) (o : ℕ) {a : Answer} → P a h
+    → Onward P (steps.at_lane histories h o (λ l. Goes a l))
+same_at h P o {a} holds = lane_on histories h o P (λ l. Goes a l) (λ l here. to (subst (λ ls. P a (record h { lanes = ls })) (sym (set-same h.lanes o l here)) holds))
 
 -- what a worker has behind more cells, and behind more that is carried
 pub live_workers-same : (o p : OutputHistory) (w : ℕ) (ss : List (Option SessionHistory))

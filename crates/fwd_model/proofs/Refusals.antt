@@ -105,9 +105,6 @@ module _ (L : Layers) where
   accept_counts : (r : L.Relay) (setup : Setup) → Onward Answered (steps.accept L r setup)
   accept_counts r setup = past NotNow {b = not (L.is_fresh r setup.conn)} (λ fresh. to {a = answer.Accepted (opening_text setup)} refl)
 
-  shut_counts : (r : L.Relay) (id : ℕ) → Onward Answered (steps.shut L r id)
-  shut_counts r id = past_found NoSuch {x = L.source_at r id} (λ s here. to {a = answer.Done} refl)
-
   event_counts : (r : L.Relay) (e : Event) → Onward Answered (step L r e)
   event_counts r (event.Accept id nonce auth) = accept_counts r (setup_of (L.security r) id nonce auth)
   event_counts r (event.Piece id bytes) = source_on L r id Answered _ (λ s here. piece_counts (L.piece_answer s bytes) (length (L.waiting (L.hears s bytes))) (L.pong s bytes) (L.hears s bytes))
@@ -125,7 +122,8 @@ module _ (L : Layers) where
   event_counts r (event.Collect id o) = both_on L r id o Answered _ (λ s l here lane. collect_counts id s l)
   event_counts r (event.Forget id o) = lane_on L r o Answered (λ l. steps.forget L l id) (λ l here. to refl)
   event_counts r (event.Drained id count) = source_on L r id Answered _ (λ s here. drained_counts s count)
-  event_counts r (event.Shut id) = shut_counts r id
+  -- a connection is shut, or nothing changes
+  event_counts r e = search (past_found)
 
 stays_by : {S : Type 0} (before : S) (x : Outcome S) → Onward Answered x
     → is_refusal (answer_of x) ≡ true → state_of before x ≡ before

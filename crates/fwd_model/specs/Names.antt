@@ -34,10 +34,16 @@ is_same (Output a) (Output b) = a == b
 is_same (Session a v) (Session b w) = (a == b) && (v == w)
 is_same _ _ = false
 
--- what an event names
+-- the connection that an event names, where it names nothing else
+abbrev pub names_connection : Event → List Named
+names_connection (event.Accept id nonce auth) = Connection id ∷ []
+names_connection (event.Piece id bytes) = Connection id ∷ []
+names_connection (event.Drained id count) = Connection id ∷ []
+names_connection (event.Shut id) = Connection id ∷ []
+names_connection _ = []
+
+-- what an event names; one that has no line here and none above names nothing
 abbrev pub names : Event → List Named
-names (event.Accept id nonce auth) = Connection id ∷ []
-names (event.Piece id bytes) = Connection id ∷ []
 names (event.Admit id o now) = Connection id ∷ Output o ∷ []
 names (event.Flush o now kind) = Output o ∷ []
 names (event.Choose o w now) = Output o ∷ []
@@ -51,8 +57,7 @@ names (event.Late o w now) = Session o w ∷ []
 names (event.End o w kind now) = Output o ∷ Session o w ∷ []
 names (event.Collect id o) = Connection id ∷ Output o ∷ []
 names (event.Forget id o) = Connection id ∷ Output o ∷ []
-names (event.Drained id count) = Connection id ∷ []
-names (event.Shut id) = Connection id ∷ []
+names e = names_connection e
 
 -- the event names the part
 abbrev pub does_name : Event → Named → Bool

@@ -39,11 +39,11 @@ use Rattle.fwd_model.specs.Outputs.{returned, output_history_enters, output_hist
 use Rattle.fwd_model.specs.History.{Connection, ever_at, source_at, with_source, with_gone, Lane, History, with_connection, with_lane, with_output, with_buffer, with_book, with_session, without_session, histories}
 use Rattle.fwd_model.specs.Delivered.{reached, answered, session_of, standing, session_at}
 use Rattle.fwd_model.proofs.Onward.{Onward, to, past, past_found, Resting, rests, rest_past, rest_found, rest_within, at_next, source_on, lane_on, both_on, worker_on, session_on}
-use Rattle.fwd_model.proofs.Places.{slice_get-set_same}
+use Rattle.fwd_model.proofs.Places.{slice_get-set_same, same_at}
 use Rattle.fwd_model.proofs.Reached.{IsSaneLane, IsSane, AllSources-at, AllSane-at}
 use Rattle.fwd_model.proofs.Follows.Workers.{session_here}
 use Rattle.fwd_model.proofs.Follows.Settles.{acked_is}
-use Rattle.fwd_model.proofs.Chronicle.{Quiet, Calm, SessionStory, LaneStory, Story, Grows, ever_from, extends_push, extends_with, extends_gone, extends_same, lanes_stay, lane_put, still, after-push}
+use Rattle.fwd_model.proofs.Chronicle.{Quiet, Calm, SessionStory, LaneStory, Story, Grows, ever_from, extends_push, extends_with, extends_gone, extends_same, lanes_stay, all_stays, lane_put, still, after-push}
 use Rattle.fwd_model.proofs.Chronicle.Sessions.{put_session, begins, loads, sends, hears as hears_story, looks}
 use Rattle.fwd_model.proofs.Chronicle.Settles.{lane_forgets, lane_settles, lane_tells}
 use Rattle.fwd_model.proofs.Chronicle.Ends.{lane_ends}
@@ -425,7 +425,7 @@ module _ (config : Config) (es : List Event) (sane : IsSane (reached config es))
       → Onward (Next e) (step histories h e)
       → Story config (es ++ e ∷ []) (state_of h (step histories h e))
   goes_by e calm on =
-      at_next h (step histories h e) (λ k. Story config (es ++ e ∷ []) k) (λ a is. Rattle.fwd_model.proofs.Chronicle.all_stays config es e t (calm a is)) on (λ a k is next.
+      at_next h (step histories h e) (λ k. Story config (es ++ e ∷ []) k) (λ a is. all_stays config es e t (calm a is)) on (λ a k is next.
       next (ap answer_of is) (after-push (Rattle.fwd_model.specs.History.opening config) es e ∙ ap (state_of h) is))
 
   calmly : (e : Event) → Calm config es e t → Onward (Next e) (step histories h e)
@@ -449,4 +449,7 @@ module _ (config : Config) (es : List Event) (sane : IsSane (reached config es))
   goes_on (event.Collect id o) = calmly (event.Collect id o) (λ j v kind' moment number is done. absurd cc) (anyhow _ _ (collect_on (event.Collect id o) (λ j v kind' moment number is done. absurd cc) id o))
   goes_on (event.Forget id o) = calmly (event.Forget id o) (λ j v kind' moment number is done. absurd cc) (anyhow _ _ (forget_on (event.Forget id o) (λ j v kind' moment number is done. absurd cc) id o))
   goes_on (event.Drained id count) = calmly (event.Drained id count) (λ j v kind' moment number is done. absurd cc) (anyhow _ _ (drained_on (event.Drained id count) (λ j v kind' moment number is done. absurd cc) id count))
-  goes_on (event.Shut id) = calmly (event.Shut id) (λ j v kind' moment number is done. absurd cc) (anyhow _ _ (shut_on (event.Shut id) (λ j v kind' moment number is done. absurd cc) id))
+  -- a connection is shut, or nothing changes
+  goes_on e =
+      let calm : Calm config es e t = λ j v kind' moment number is done. absurd cc in
+      calmly e calm (anyhow e (step histories h e) (Prim.first_of (search (shut_on e calm), search (same_at, all_stays config es e t calm))))

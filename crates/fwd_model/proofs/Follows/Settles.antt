@@ -15,7 +15,7 @@ use Rattle.fwd_model.specs.Live.{live_workers, live_lane, lane_settles}
 use Rattle.fwd_model.proofs.Settling.{AreApart, IsHis, his, apart-without, carry_of-without_same, carry_of-without_other}
 use Rattle.fwd_session.specs.Evidence.{evidence_of}
 use Rattle.fwd_book.proofs.Following.{follows-settles}
-use Rattle.fwd_model.proofs.Settled.{numbers_in, numbers_in-push}
+use Rattle.fwd_model.proofs.Settled.{numbers_in-push}
 use Rattle.fwd_model.proofs.Reached.{IsSaneLane, IsSaneSession, slice_get-set}
 
 -- ---- the workers: one has nothing any more

@@ -16,6 +16,7 @@ use Rattle.fwd_session.specs.History.{SessionHistory, unloads}
 use Rattle.fwd_model.specs.declared.config.OutputConfig.{OutputConfig}
 use Rattle.fwd_model.specs.declared.event.Event.{Event}
 use Rattle.fwd_model.specs.declared.event.Event.TheVariants as event
+use Rattle.fwd_model.specs.declared.answer.Answer.{Answer}
 use Rattle.fwd_model.specs.declared.event.EndKind.{EndKind}
 use Rattle.fwd_model.specs.declared.fault.Refusal.TheVariants.{Closed, NotNow}
 use Rattle.fwd_model.specs.Outcome.{Outcome, Stays, Goes, first_of}
@@ -260,6 +261,11 @@ module _ (p : Change) (h : History) where
         tt,
       )))
 
+  -- at an output that it leaves as it is
+  same_at : (o : ℕ) (a : Answer)
+      → IsBeside (made p) (λ h. steps.at_lane histories h o (λ l. Goes a l)) h
+  same_at o a = at_lane o (λ l. Goes a l) (λ l here. goes refl (refl, tt))
+
   at_both : (id o : ℕ) (event : SourceHistory → Lane → Outcome (SourceHistory × Lane))
       → is_same (part.Connection id) (part_of p) ≡ false
       → ((s : SourceHistory) (l : Lane) → IsBesideBoth (changed_lane p o) event s l)
@@ -373,4 +379,5 @@ module _ (p : Change) (h : History) where
   beside (event.Forget id o) apart one spares =
       at_output o (λ l. steps.forget histories l id) (two_named (part.Connection id) (part.Output o) (part_of p) apart).1 (λ l v s is. forget l v s id)
   beside (event.Drained id count) apart one spares = at_source id _ (one_named (part.Connection id) (part_of p) apart)
-  beside (event.Shut id) apart one spares = shut id (one_named (part.Connection id) (part_of p) apart)
+  -- a connection is shut, or nothing changes
+  beside f apart one spares = Prim.first_of (search (shut, one_named), search (same_at))

@@ -28,6 +28,7 @@ use Rattle.fwd_model.specs.History.{Lane, History, histories, accepts, with_conn
 use Rattle.fwd_model.specs.Names as part
 use Rattle.fwd_model.specs.Names.{Named, is_same, does_name, is_accept}
 use Rattle.fwd_model.proofs.Onward.{Onward, to, past, past_found, source_on, lane_on, both_on, worker_on}
+use Rattle.fwd_model.proofs.Places.{same_at}
 use Rattle.fwd_model.proofs.Reached.{IsSane, IsSaneLane, AllSane-at}
 use Rattle.fwd_model.proofs.Follows.Workers.{worker_is, session_here, carried_is}
 use Rattle.fwd_model.proofs.Follows.Admits.{worker_stays}
@@ -351,4 +352,5 @@ module _ (h : History) (sane : IsSane h) where
   event_leads (event.Collect id o) = both_on histories h id o (Leads (event.Collect id o) h) (steps.collect histories id) (λ s l here lane. collect id o s l lane)
   event_leads (event.Forget id o) = at_output (event.Forget id o) o (λ l. steps.forget histories l id) (λ l here own. forget id o l here)
   event_leads (event.Drained id count) = at_source (event.Drained id count) id _ (named_alone (part.Connection id))
-  event_leads (event.Shut id) = shut id
+  -- a connection is shut, or nothing changes
+  event_leads e = Prim.first_of (search (shut), search (same_at, no_effect))

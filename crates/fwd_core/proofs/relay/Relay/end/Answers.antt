@@ -9,7 +9,7 @@ use Rattle.fwd_core.proofs.relay.Relay.end.Goals as goal
 pub returns-clause-next : goal.returns-clause-next
 returns-clause-next c =
     let lanes = c.self.inside.lanes in
-    let l = c.index_mut-lane.result.now in
+    let l = c.index_mut.result.now in
     let size : c.len.result ≡ length lanes.items = c.len.ensures ∙ lanes.ok.0 in
-    let here : slice_get lanes.items c.from-place.result ≡ Some l = slice_get_read lanes.items c.len.result c.from-place.result l size c.if-place-len.false c.index_mut-lane.ensures.value in
+    let here : slice_get lanes.items c.from-place.result ≡ Some l = slice_get_read lanes.items c.len.result c.from-place.result l size c.if-place-len.false c.index_mut.ensures.value in
     lane_done _ c.args.self.now c.self.view_is c.args.output c.from-place.result c.from-place.ensures l c.end.new.self here (λ r m. steps.end lives m c.args.worker c.args.kind c.args.now) c.end.ensures.next
