@@ -1,7 +1,14 @@
 ghost use Rattle.std.specs.Prelude.{◌≡◌, ◌↔◌, ℕ, List, map, IfOk, Some};
 ghost use Rattle.std.specs.Str.{IsUtf8};
 ghost use Rattle.fwd_model.specs.declared.event.Event.{Event};
-ghost use Rattle.fwd_script.specs.Lines.{forms, worker_forms, named, event_of, IsLineOf, HasOneSpelling};
+ghost use Rattle.fwd_script.specs.Lines.{
+  forms,
+  worker_forms,
+  named,
+  event_of,
+  IsLineOf,
+  HasOneSpelling,
+};
 
 use crate::values::Words;
 use crate::word::split_words;
