@@ -82,19 +82,25 @@ pub record Form : Type 0 where
 abbrev pub row : List ℕ → (kinds : List Kind) → Makes kinds → Form
 row name kinds make = record { name = name; kinds = kinds; make = make }
 
--- the events of workers
-abbrev pub worker_forms : List Form
-worker_forms =
-    row (codes "choose") (Short ∷ Short ∷ Long ∷ []) events.Choose
-    ∷ row (codes "up") (Short ∷ Short ∷ Short ∷ Salt ∷ Long ∷ []) events.Up
-    ∷ row (codes "take") (Short ∷ Short ∷ Long ∷ []) events.Take
+-- the events of sessions
+abbrev pub session_forms : List Form
+session_forms =
+    row (codes "up") (Short ∷ Short ∷ Short ∷ Salt ∷ Long ∷ []) events.Up
     ∷ row (codes "load") (Short ∷ Short ∷ Long ∷ []) events.Load
     ∷ row (codes "wrote") (Short ∷ Short ∷ Long ∷ []) events.Wrote
     ∷ row (codes "heard") (Short ∷ Short ∷ Hex ∷ []) events.Heard
-    ∷ row (codes "settle") (Short ∷ Short ∷ []) events.Settle
     ∷ row (codes "late") (Short ∷ Short ∷ Long ∷ []) events.Late
     ∷ row (codes "end") (Short ∷ Short ∷ Ending ∷ Long ∷ []) events.End
     ∷ []
+
+-- the events of outputs and their workers, and of sessions
+abbrev pub output_forms : List Form
+output_forms =
+    row (codes "flush") (Short ∷ Long ∷ Closing ∷ []) events.Flush
+    ∷ row (codes "choose") (Short ∷ Short ∷ Long ∷ []) events.Choose
+    ∷ row (codes "take") (Short ∷ Short ∷ Long ∷ []) events.Take
+    ∷ row (codes "settle") (Short ∷ Short ∷ []) events.Settle
+    ∷ session_forms
 
 -- all events
 abbrev pub forms : List Form
@@ -102,12 +108,11 @@ forms =
     row (codes "accept") (Long ∷ Sixteen ∷ Sixteen ∷ []) events.Accept
     ∷ row (codes "piece") (Long ∷ Hex ∷ []) events.Piece
     ∷ row (codes "admit") (Long ∷ Short ∷ Long ∷ []) events.Admit
-    ∷ row (codes "flush") (Short ∷ Long ∷ Closing ∷ []) events.Flush
     ∷ row (codes "collect") (Long ∷ Short ∷ []) events.Collect
     ∷ row (codes "forget") (Long ∷ Short ∷ []) events.Forget
     ∷ row (codes "drained") (Long ∷ Long ∷ []) events.Drained
     ∷ row (codes "shut") (Long ∷ []) events.Shut
-    ∷ worker_forms
+    ∷ output_forms
 
 -- ---- the lines of an event
 

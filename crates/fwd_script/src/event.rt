@@ -3,7 +3,8 @@ ghost use Rattle.std.specs.Str.{IsUtf8};
 ghost use Rattle.fwd_model.specs.declared.event.Event.{Event};
 ghost use Rattle.fwd_script.specs.Lines.{
   forms,
-  worker_forms,
+  output_forms,
+  session_forms,
   named,
   event_of,
   IsLineOf,
@@ -69,8 +70,6 @@ fn event_named(alloc: Global, name: &[u8], rest: &[&[u8]]) -> Result<Option<Even
         event!(alloc, rest; Piece { conn, bytes })
     } else if name == b"admit".as_slice() {
         event!(alloc, rest; Admit { conn, output, now })
-    } else if name == b"flush".as_slice() {
-        event!(alloc, rest; Flush { output, now, kind })
     } else if name == b"collect".as_slice() {
         event!(alloc, rest; Collect { conn, output })
     } else if name == b"forget".as_slice() {
@@ -80,31 +79,45 @@ fn event_named(alloc: Global, name: &[u8], rest: &[&[u8]]) -> Result<Option<Even
     } else if name == b"shut".as_slice() {
         event!(alloc, rest; Shut { conn })
     } else {
-        worker_event_named(alloc, name, rest)
+        output_event_named(alloc, name, rest)
     }
 }
 
-fn worker_event_named(
+fn output_event_named(
     alloc: Global,
     name: &[u8],
     rest: &[&[u8]],
 ) -> Result<Option<Event>, AllocError>
-    ensures { IfOk result (λ e. e ≡ named worker_forms name.now (map (λ w. w.now) rest.now)) }
+    ensures { IfOk result (λ e. e ≡ named output_forms name.now (map (λ w. w.now) rest.now)) }
 {
-    if name == b"choose".as_slice() {
+    if name == b"flush".as_slice() {
+        event!(alloc, rest; Flush { output, now, kind })
+    } else if name == b"choose".as_slice() {
         event!(alloc, rest; Choose { output, worker, now })
-    } else if name == b"up".as_slice() {
-        event!(alloc, rest; Up { output, worker, server, salt, now })
     } else if name == b"take".as_slice() {
         event!(alloc, rest; Take { output, worker, now })
+    } else if name == b"settle".as_slice() {
+        event!(alloc, rest; Settle { output, worker })
+    } else {
+        session_event_named(alloc, name, rest)
+    }
+}
+
+fn session_event_named(
+    alloc: Global,
+    name: &[u8],
+    rest: &[&[u8]],
+) -> Result<Option<Event>, AllocError>
+    ensures { IfOk result (λ e. e ≡ named session_forms name.now (map (λ w. w.now) rest.now)) }
+{
+    if name == b"up".as_slice() {
+        event!(alloc, rest; Up { output, worker, server, salt, now })
     } else if name == b"load".as_slice() {
         event!(alloc, rest; Load { output, worker, now })
     } else if name == b"wrote".as_slice() {
         event!(alloc, rest; Wrote { output, worker, count })
     } else if name == b"heard".as_slice() {
         event!(alloc, rest; Heard { output, worker, bytes })
-    } else if name == b"settle".as_slice() {
-        event!(alloc, rest; Settle { output, worker })
     } else if name == b"late".as_slice() {
         event!(alloc, rest; Late { output, worker, now })
     } else if name == b"end".as_slice() {
