@@ -15,7 +15,8 @@ abbrev Follows : List Form → (Event → Type 0) → Type 0 → Type 0
 Follows [] P Q = Q
 Follows (form ∷ more) P Q = OfEach form.kinds form.make P → Follows more P Q
 
--- what holds of what each row makes holds of each event: one row makes it
+-- what holds of what each row makes holds of each event: one row makes it. The first clause splits
+-- the events, and the second is checked for each of the others, so that none is listed here
 by_rows : (P : Event → Type 0) (e : Event) → Follows forms P (P e)
 by_rows P (Shut conn) = search
 by_rows P e = search
