@@ -1,5 +1,5 @@
 -- The line of an event is text.
-use Rattle.std.proofs.Common.{◌≡◌, ℕ, true, List, [], ◌∷◌, map, Some, refl, nat_lt, lit<, arith}
+use Rattle.std.proofs.Common.{◌≡◌, ℕ, true, List, [], ◌∷◌, Some, refl, nat_lt, lit<, arith}
 use Rattle.std.specs.Prelude.{codes}
 use Rattle.std.specs.List.{join_with_byte, list_all}
 use Rattle.std.specs.Str.{IsAscii, IsUtf8}
@@ -15,8 +15,8 @@ use Rattle.fwd_model.specs.declared.event.EndKind.TheVariants.{Kept, Lost}
 use Rattle.fwd_chunks.specs.declared.flush.FlushKind.{FlushKind}
 use Rattle.fwd_chunks.specs.declared.flush.FlushKind.TheVariants.{Due, All}
 use Rattle.fwd_script.specs.Words.{hex_text}
-use Rattle.fwd_script.specs.Lines.{Kind, Long, Short, Hex, Sixteen, Salt, Closing, Ending, Meaning, Fits, text_at, Field, kind_text, ending_text, form_of, words_of, line_of, AllFit, InRange, event_of}
-use Rattle.fwd_script.proofs.Spelling.{spelled, event_of-some}
+use Rattle.fwd_script.specs.Lines.{Kind, Long, Short, Hex, Sixteen, Salt, Closing, Ending, Meaning, Fits, text_at, kind_text, ending_text, Field, AllFit, texts, said, event_of}
+use Rattle.fwd_script.proofs.Spelling.{is_ascii-name, event_of-some}
 
 -- a text whose bytes pass the test
 IsAscii-tested : (text : List ℕ) → list_all (λ b. nat_lt b 128) text ≡ true → IsAscii text
@@ -51,10 +51,6 @@ IsAscii-ending : (k : EndKind) → IsAscii (ending_text k)
 IsAscii-ending Kept = IsAscii-tested (codes "kept") refl
 IsAscii-ending Lost = IsAscii-tested (codes "lost") refl
 
-IsAscii-words : (ws : List (List ℕ)) → AllAscii ws → IsAscii (join_with_byte 32 ws)
-IsAscii-words [] h = IsAscii-nil
-IsAscii-words (first ∷ more) h = IsAscii-join first more h
-
 -- a word in range is ASCII
 IsAscii-text_at : (kind : Kind) (x : Meaning kind) → Fits kind x → IsAscii (text_at kind x)
 IsAscii-text_at Long n r = IsAscii-decimal n r
@@ -65,15 +61,14 @@ IsAscii-text_at Salt bytes r = IsAscii-hex_text bytes
 IsAscii-text_at Closing kind r = IsAscii-kind kind
 IsAscii-text_at Ending kind r = IsAscii-ending kind
 
-AllAscii-fields : (fields : List Field) → AllFit fields
-    → AllAscii (map (λ f. text_at f.0 f.1) fields)
-AllAscii-fields [] r = tt
-AllAscii-fields (f ∷ fields) r = (IsAscii-text_at f.0 f.1 r.0, AllAscii-fields fields r.1)
-
-AllAscii-words_of : (e : Event) → InRange e → AllAscii (words_of e)
-AllAscii-words_of e r = (IsAscii-tested (form_of e).0 (spelled e r).is_ascii, AllAscii-fields (form_of e).1 r)
+AllAscii-texts : (fields : List Field) → AllFit fields → AllAscii (texts fields)
+AllAscii-texts [] fit = tt
+AllAscii-texts (f ∷ fields) fit = (IsAscii-text_at f.0 f.1 fit.0, AllAscii-texts fields fit.1)
 
 pub IsUtf8-event : (line : List ℕ) (e : Event) → event_of line ≡ Some e → IsUtf8 line
 IsUtf8-event line e h =
-    let spelled = (event_of-some line e).0 h in
-    rw spelled.1 (IsUtf8-from_ascii (line_of e) (IsAscii-words (words_of e) (AllAscii-words_of e spelled.0)))
+    let l = (event_of-some line e).0 h in
+    let s = l.spelling in
+    let name = IsAscii-tested s.form.name (is_ascii-name s.form s.is_row) in
+    let all : AllAscii ((said s).0 ∷ texts (said s).1) = (name, AllAscii-texts (said s).1 l.fits) in
+    rw l.spells (IsUtf8-from_ascii _ (IsAscii-join (said s).0 (texts (said s).1) all))

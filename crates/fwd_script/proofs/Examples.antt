@@ -1,5 +1,5 @@
 -- The definitions at work on a few lines.
-use Rattle.std.proofs.Common.{◌≡◌, true, false, [], ◌∷◌, Some, None, refl}
+use Rattle.std.proofs.Common.{◌≡◌, true, false, [], ◌∷◌, Some, None, refl, lit<}
 use Rattle.std.specs.Prelude.{codes}
 use Rattle.std.specs.Fmt.{digits}
 use Rattle.hex.specs.Hex.{decode_pairs, encode_with}
@@ -9,84 +9,81 @@ use Rattle.fwd_session.specs.declared.fault.SessionFault.TheVariants.{EarlyAck, 
 use Rattle.fwd_model.specs.declared.fault.Refusal.TheVariants.{NotUp}
 use Rattle.fwd_model.specs.declared.answer.Answer.TheVariants.{Chose, Quiet, Ready, Acked, SessionFaulted, Settled, Late as LateOrNot, Ended, Told, Refused}
 use Rattle.fwd_script.specs.Words.{number_of, bytes_of, salt_of}
-use Rattle.fwd_script.specs.Lines.{line_of, ending_of, read_as, worker_named, named, of_words, event_of}
+use Rattle.fwd_script.specs.Lines.{Long, Short, Ending, row, IsLineOf, ending_of, read_none, read_more, of_words, event_of}
 use Rattle.fwd_script.specs.Texts.{list_text, text_of}
 
 -- ---- lines
 
 wrote_line : event_of (codes "wrote 0 0 46") ≡ Some (Wrote 0 0 46)
-unfolding of_words named worker_named read_as number_of digits
+unfolding of_words read_none read_more number_of digits
 wrote_line = refl
 
 heard_line : event_of (codes "heard 0 1 81a361636b")
     ≡ Some (Heard 0 1 (0x81 ∷ 0xa3 ∷ 0x61 ∷ 0x63 ∷ 0x6b ∷ []))
-unfolding of_words named worker_named read_as number_of digits bytes_of decode_pairs encode_with
+unfolding of_words read_none read_more number_of digits bytes_of decode_pairs encode_with
 heard_line = refl
 
 heard_nothing : event_of (codes "heard 0 1 -") ≡ Some (Heard 0 1 [])
-unfolding of_words named worker_named read_as number_of digits bytes_of decode_pairs encode_with
+unfolding of_words read_none read_more number_of digits bytes_of decode_pairs encode_with
 heard_nothing = refl
 
 settle_line : event_of (codes "settle 0 65535") ≡ Some (Settle 0 65535)
-unfolding of_words named worker_named read_as number_of digits
+unfolding of_words read_none read_more number_of digits
 settle_line = refl
 
 worker_too_large : event_of (codes "settle 0 65536") ≡ None
-unfolding of_words named worker_named read_as number_of digits
+unfolding of_words read_none read_more number_of digits
 worker_too_large = refl
 
 settle_has_no_moment : event_of (codes "settle 0 0 0") ≡ None
-unfolding of_words named worker_named read_as number_of digits
+unfolding of_words read_none read_more number_of digits
 settle_has_no_moment = refl
 
 collect_line : event_of (codes "collect 65536 0") ≡ Some (Collect 65536 0)
-unfolding of_words named read_as number_of digits
+unfolding of_words read_none read_more number_of digits
 collect_line = refl
 
 choose_line : event_of (codes "choose 0 1 1500") ≡ Some (Choose 0 1 1500)
-unfolding of_words named worker_named read_as number_of digits
+unfolding of_words read_none read_more number_of digits
 choose_line = refl
 
 up_line : event_of (codes "up 0 1 2 0aff 7") ≡ Some (Up 0 1 2 (0x0a ∷ 0xff ∷ []) 7)
-unfolding of_words named worker_named read_as number_of digits bytes_of salt_of decode_pairs encode_with
+unfolding of_words read_none read_more number_of digits bytes_of salt_of decode_pairs encode_with
 up_line = refl
 
 up_without_salt : event_of (codes "up 0 1 2 - 7") ≡ Some (Up 0 1 2 [] 7)
-unfolding of_words named worker_named read_as number_of digits bytes_of salt_of decode_pairs encode_with
+unfolding of_words read_none read_more number_of digits bytes_of salt_of decode_pairs encode_with
 up_without_salt = refl
 
 late_line : event_of (codes "late 0 1 18446744073709551615")
     ≡ Some (Late 0 1 18446744073709551615)
-unfolding of_words named worker_named read_as number_of digits
+unfolding of_words read_none read_more number_of digits
 late_line = refl
 
 end_kept_line : event_of (codes "end 0 1 kept 9") ≡ Some (End 0 1 Kept 9)
-unfolding of_words named worker_named read_as number_of ending_of digits
+unfolding of_words read_none read_more number_of ending_of digits
 end_kept_line = refl
 
 end_lost_line : event_of (codes "end 0 1 lost 9") ≡ Some (End 0 1 Lost 9)
-unfolding of_words named worker_named read_as number_of ending_of digits
+unfolding of_words read_none read_more number_of ending_of digits
 end_lost_line = refl
 
 kind_stands_before_the_moment : event_of (codes "end 0 1 9 kept") ≡ None
-unfolding of_words named worker_named read_as number_of ending_of digits
+unfolding of_words read_none read_more number_of ending_of digits
 kind_stands_before_the_moment = refl
 
-line_of_end : line_of (End 1 2 Lost 30) ≡ codes "end 1 2 lost 30"
+end_spelled : IsLineOf (End 1 2 Lost 30) (codes "end 1 2 lost 30")
 unfolding digits
-line_of_end = refl
-
-line_of_up : line_of (Up 1 2 3 (0xc3 ∷ []) 4) ≡ codes "up 1 2 3 c3 4"
-unfolding digits encode_with
-line_of_up = refl
-
-line_of_wrote : line_of (Wrote 1 2 46) ≡ codes "wrote 1 2 46"
-unfolding digits
-line_of_wrote = refl
-
-line_of_heard : line_of (Heard 0 0 (0xc3 ∷ [])) ≡ codes "heard 0 0 c3"
-unfolding digits encode_with
-line_of_heard = refl
+end_spelled = record {
+  spelling = record {
+    form = row (codes "end") (Short ∷ Short ∷ Ending ∷ Long ∷ []) End;
+    is_row = (16, lit< tt, refl);
+    values = (1, (2, (Lost, (30, tt))));
+    makes = refl;
+  };
+  fits = (lit< tt, (lit< tt, (tt, (lit< tt, tt))));
+  spells = refl;
+}
 
 -- ---- answers
 

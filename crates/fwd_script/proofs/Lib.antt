@@ -1,6 +1,7 @@
 pub mod WordLemmas
 pub mod HexText
 pub mod Spelling
+pub mod Rows
 pub mod ScriptLemmas
 pub mod ReplayLemmas
 pub mod EventText

@@ -1,24 +1,24 @@
 -- A line spells an event exactly where it is that event's line.
-use Rattle.std.proofs.Common.{◌≡◌, ℕ, suc, ◌^◌, ◌<◌, ◌==◌, ◌/◌, ◌%◌, true, false, nat_lt, cond, List, [], ◌∷◌, ◌++◌, map, Option, Some, None, refl, sym, ap, ◌∙◌, arith, inl, inr, ◌⊎◌}
-use Rattle.std.specs.Prelude.{codes, ◌↔◌}
+use Rattle.std.proofs.Common.{◌≡◌, ℕ, suc, ◌^◌, ◌<◌, ◌==◌, ◌/◌, ◌%◌, ◌&&◌, Bool, true, false, not, zero, nat_lt, cond, List, [], ◌∷◌, ◌++◌, Option, Some, None, refl, subst, sym, ap, ◌∙◌, arith, inl, inr, ◌⊎◌}
+use Rattle.std.specs.Prelude.{codes, ◌↔◌, Contains, option_map}
 use Rattle.std.specs.List.{list_any, list_all, join_with_byte}
 use Rattle.std.specs.Str.{bytes_eq}
 use Rattle.std.specs.Str.Parse.{AllDigits}
 use Rattle.std.specs.Fmt.{decimal}
+use Rattle.std.proofs.lemmas.Bool.{and_parts}
 use Rattle.std.proofs.lemmas.Bool.Decides.{nat_tests}
 use Rattle.std.proofs.lemmas.Fmt.{decimal_is_IsNumeral}
 use Rattle.std.proofs.lemmas.Str.Parse.{digit_from_value}
 use Rattle.std.proofs.lemmas.List.Splits.{join_with_byte-slice_split}
 use Rattle.hex.specs.Hex.{IsBytes, encode_lower, encode_with}
 use Rattle.fwd_model.specs.declared.event.Event.{Event}
-use Rattle.fwd_model.specs.declared.event.Event.TheVariants.{Accept, Piece, Admit, Flush, Choose, Up, Take, Load, Wrote, Heard, Settle, Late, End, Collect, Forget, Drained, Shut}
 use Rattle.fwd_model.specs.declared.event.EndKind.{EndKind}
 use Rattle.fwd_model.specs.declared.event.EndKind.TheVariants.{Kept, Lost}
 use Rattle.fwd_chunks.specs.declared.flush.FlushKind.{FlushKind}
 use Rattle.fwd_chunks.specs.declared.flush.FlushKind.TheVariants.{Due, All}
 use Rattle.fwd_script.specs.Words.{words, hex_text}
-use Rattle.fwd_script.specs.Lines.{Kind, Long, Short, Hex, Sixteen, Salt, Closing, Ending, Meaning, Fits, text_at, Field, kind_text, ending_text, form_of, words_of, line_of, AllFit, InRange, kind_of, ending_of, read_at, Makes, read_as, worker_named, named, of_words, event_of}
-use Rattle.fwd_script.proofs.WordLemmas.{bytes_eq-true, number_of-some, number_of-decimal}
+use Rattle.fwd_script.specs.Lines.{Kind, Long, Short, Hex, Sixteen, Salt, Closing, Ending, Meaning, Fits, text_at, kind_text, ending_text, Form, forms, Values, made, Field, fields_of, AllFit, texts, Spelling, said, IsLineOf, kind_of, ending_of, read_at, read_none, read_more, read_all, read_as, named, of_words, event_of}
+use Rattle.fwd_script.proofs.WordLemmas.{bytes_eq-same, bytes_eq-true, number_of-some, number_of-decimal}
 use Rattle.fwd_script.proofs.HexText.{chosen, then_some, or_false, no_space, bytes_of-some, bytes_of-hex_text, sixteen_of-some, sixteen_of-encode_lower, salt_of-some, salt_of-hex_text}
 
 -- ---- words and the spaces between them
@@ -74,24 +74,6 @@ Lacks-hex_text [] fits = refl
 Lacks-hex_text (b ∷ bytes) fits = Lacks-encode_lower (b ∷ bytes) fits
 
 -- ---- what words of some kinds say
-
--- the values of words of some kinds
-abbrev pub Values : List Kind → Type 0
-Values [] = Unit {0}
-Values (kind ∷ kinds) = Meaning kind × Values kinds
-
--- what is made of them
-abbrev pub made : (kinds : List Kind) → Makes kinds → Values kinds → Event
-made [] event xs = event
-made (kind ∷ kinds) make xs = made kinds (make xs.0) xs.1
-
--- each with its kind
-abbrev pub fields_of : (kinds : List Kind) → Values kinds → List Field
-fields_of [] xs = []
-fields_of (kind ∷ kinds) xs = (kind, xs.0) ∷ fields_of kinds xs.1
-
-abbrev texts : List Field → List (List ℕ)
-texts fields = map (λ f. text_at f.0 f.1) fields
 
 abbrev just : {A : Type 0} → A → Option A
 just x = Some x
@@ -164,117 +146,85 @@ read_at-text_at Closing kind r = kind_of-kind_text kind
 read_at-text_at Ending kind r = ending_of-ending_text kind
 
 -- words that are read are the spellings of what they say
-read_as-some : (kinds : List Kind) (make : Makes kinds) (ws : List (List ℕ)) (e : Event)
-    → read_as kinds make ws ≡ Some e
-    → (xs : Values kinds) × AllFit (fields_of kinds xs) × (ws ≡ texts (fields_of kinds xs)) ×
-    (made kinds make xs ≡ e)
-unfolding read_as
-read_as-some [] event [] e h = (tt, tt, refl, some_is event e h)
-read_as-some [] event (w ∷ ws) e h = absurd cc
-read_as-some (kind ∷ kinds) make [] e h = absurd cc
-read_as-some (kind ∷ kinds) make (w ∷ ws) e h =
-    let x = then_some (read_at kind w) _ e h in
-    let word = read_at-some kind w x.0 x.1 in
-    let rest = read_as-some kinds (make x.0) ws e x.2 in
-    ((x.0, rest.0), (word.0, rest.1), same_row word.1 rest.2, rest.3)
+read_all-some : (kinds : List Kind) (ws : List (List ℕ)) (values : Values kinds)
+    → read_all kinds ws ≡ Some values
+    → AllFit (fields_of kinds values) × (ws ≡ texts (fields_of kinds values))
+unfolding read_none read_more
+read_all-some [] [] values h = (tt, refl)
+read_all-some [] (w ∷ ws) values h = absurd cc
+read_all-some (kind ∷ kinds) [] values h = absurd cc
+read_all-some (kind ∷ kinds) (w ∷ ws) values h =
+    let first = then_some (read_at kind w) _ values h in
+    let more = then_some (read_all kinds ws) _ values first.2 in
+    let same = some_is (first.0, more.0) values more.2 in
+    let word = read_at-some kind w first.0 first.1 in
+    let rest = read_all-some kinds ws more.0 more.1 in
+    rw (← same) ((word.0, rest.0), same_row word.1 rest.1)
   where
     same_row : {v w : List ℕ} {vs ws : List (List ℕ)} → v ≡ w → vs ≡ ws → v ∷ vs ≡ w ∷ ws
     same_row p q = cc
 
 -- spellings are read
-read_as-texts : (kinds : List Kind) (make : Makes kinds) (xs : Values kinds)
-    → AllFit (fields_of kinds xs)
-    → read_as kinds make (texts (fields_of kinds xs)) ≡ Some (made kinds make xs)
-unfolding read_as
-read_as-texts [] event xs r = refl
-read_as-texts (kind ∷ kinds) make xs r =
-    rw (read_at-text_at kind xs.0 r.0) (read_as-texts kinds (make xs.0) xs.1 r.1)
+read_all-texts : (kinds : List Kind) (values : Values kinds) → AllFit (fields_of kinds values)
+    → read_all kinds (texts (fields_of kinds values)) ≡ Some values
+unfolding read_none read_more
+read_all-texts [] values fit = refl
+read_all-texts (kind ∷ kinds) values fit =
+    rw (read_at-text_at kind values.0 fit.0, read_all-texts kinds values.1 fit.1) refl
 
--- ---- a line that is read is the event's line
+mapped_some : {A B : Type 0} (f : A → B) (o : Option A) (y : B) → option_map f o ≡ Some y
+    → (x : A) × (o ≡ Some x) × (f x ≡ y)
+mapped_some f (Some x) y h = (x, refl, some_is (f x) y h)
+mapped_some f None y h = absurd cc
 
--- an event of this form has these words
-spelled_by : (name text : List ℕ) (fields : List Field) (ws : List (List ℕ)) (d e : Event)
-    → d ≡ e → form_of d ≡ (text, fields) → name ≡ text → ws ≡ texts fields → AllFit fields
-    → InRange e × (name ∷ ws ≡ words_of e)
-spelled_by name text fields ws d e same form is spelling fit =
-    rw (← same, form, is, spelling) (fit, refl)
+-- ---- the row of a name
 
--- a test of the name that passed, or failed: what is read is the event's words
-if_named : (name text : List ℕ) (kinds : List Kind) (make : Makes kinds)
-    → ((xs : Values kinds) → form_of (made kinds make xs) ≡ (text, fields_of kinds xs))
-    → (other : Option Event) (ws : List (List ℕ)) (e : Event)
-    → (other ≡ Some e → InRange e × (name ∷ ws ≡ words_of e))
-    → cond (bytes_eq name text) (read_as kinds make ws) other ≡ Some e
-    → InRange e × (name ∷ ws ≡ words_of e)
-if_named name text kinds make form other ws e is_other h =
-    elim (chosen (bytes_eq name text) (read_as kinds make ws) other (Some e) h) [
-      | inl is ↦
-          let r = read_as-some kinds make ws e is.1 in
-          spelled_by name text (fields_of kinds r.0) ws (made kinds make r.0) e
-          r.3 (form r.0) (bytes_eq-true name text is.0) r.2 r.1
-      | inr is_not ↦ is_other is_not.1
+-- what is read by name is read by a row of that name
+named-some : (fs : List Form) (name : List ℕ) (ws : List (List ℕ)) (e : Event)
+    → named fs name ws ≡ Some e
+    → (form : Form) × Contains fs form × (name ≡ form.name) × (read_as form ws ≡ Some e)
+named-some [] name ws e h = absurd cc
+named-some (form ∷ more) name ws e h =
+    elim (chosen (bytes_eq name form.name) (read_as form ws) (named more name ws) (Some e) h) [
+      | inl is ↦ (form, (zero, omega arith, refl), bytes_eq-true name form.name is.0, is.1)
+      | inr other ↦
+          let found = named-some more name ws e other.1 in
+          let at = found.1 in
+          (found.0, (suc at.0, omega arith, at.2), found.2, found.3)
     ]
 
-worker_named-some : (name : List ℕ) (ws : List (List ℕ)) (e : Event)
-    → worker_named name ws ≡ Some e → InRange e × (name ∷ ws ≡ words_of e)
-unfolding worker_named
-worker_named-some name ws e =
-    if_named name (codes "choose") (Short ∷ Short ∷ Long ∷ []) Choose (λ xs. refl) _ ws e (
-    if_named name (codes "up") (Short ∷ Short ∷ Short ∷ Salt ∷ Long ∷ []) Up (λ xs. refl) _ ws e (
-    if_named name (codes "take") (Short ∷ Short ∷ Long ∷ []) Take (λ xs. refl) _ ws e (
-    if_named name (codes "load") (Short ∷ Short ∷ Long ∷ []) Load (λ xs. refl) _ ws e (
-    if_named name (codes "wrote") (Short ∷ Short ∷ Long ∷ []) Wrote (λ xs. refl) _ ws e (
-    if_named name (codes "heard") (Short ∷ Short ∷ Hex ∷ []) Heard (λ xs. refl) _ ws e (
-    if_named name (codes "settle") (Short ∷ Short ∷ []) Settle (λ xs. refl) _ ws e (
-    if_named name (codes "late") (Short ∷ Short ∷ Long ∷ []) Late (λ xs. refl) _ ws e (
-    if_named name (codes "end") (Short ∷ Short ∷ Ending ∷ Long ∷ []) End (λ xs. refl) None ws e (λ none. absurd cc)))))))))
+-- no row has the name of another
+abbrev have_other_names : List Form → Bool
+have_other_names [] = true
+have_other_names (form ∷ more) =
+    list_all (λ f. not (bytes_eq f.name form.name)) more && have_other_names more
 
-named-some : (name : List ℕ) (ws : List (List ℕ)) (e : Event) → named name ws ≡ Some e
-    → InRange e × (name ∷ ws ≡ words_of e)
-unfolding named
-named-some name ws e =
-    if_named name (codes "accept") (Long ∷ Sixteen ∷ Sixteen ∷ []) Accept (λ xs. refl) _ ws e (
-    if_named name (codes "piece") (Long ∷ Hex ∷ []) Piece (λ xs. refl) _ ws e (
-    if_named name (codes "admit") (Long ∷ Short ∷ Long ∷ []) Admit (λ xs. refl) _ ws e (
-    if_named name (codes "flush") (Short ∷ Long ∷ Closing ∷ []) Flush (λ xs. refl) _ ws e (
-    if_named name (codes "collect") (Long ∷ Short ∷ []) Collect (λ xs. refl) _ ws e (
-    if_named name (codes "forget") (Long ∷ Short ∷ []) Forget (λ xs. refl) _ ws e (
-    if_named name (codes "drained") (Long ∷ Long ∷ []) Drained (λ xs. refl) _ ws e (
-    if_named name (codes "shut") (Long ∷ []) Shut (λ xs. refl) (worker_named name ws) ws e (worker_named-some name ws e))))))))
+-- what passes for all rows passes for one of them
+row_passes : (test : Form → Bool) (fs : List Form) (form : Form) → Contains fs form
+    → list_all test fs ≡ true → test form ≡ true
+row_passes test [] form at h = absurd (omega arith)
+row_passes test (first ∷ more) form (zero, lt, is) h =
+    subst (λ (f : Form). test f ≡ true) is (and_parts (test first) (list_all test more) h).0
+row_passes test (first ∷ more) form (suc k, lt, is) h =
+    row_passes test more form (k, omega arith, is) (and_parts (test first) (list_all test more) h).1
 
-of_words-some : (ws : List (List ℕ)) (e : Event) → of_words ws ≡ Some e → InRange e
-    × (ws ≡ words_of e)
-unfolding of_words
-of_words-some [] e h = absurd cc
-of_words-some (name ∷ ws) e h = named-some name ws e h
+not_true : (b : Bool) → not b ≡ true → b ≡ false
+not_true true e = absurd cc
+not_true false e = refl
 
--- ---- an event's line is read
+-- a row is found by its name
+named-row : (fs : List Form) (form : Form) (ws : List (List ℕ)) → have_other_names fs ≡ true
+    → Contains fs form → named fs form.name ws ≡ read_as form ws
+named-row [] form ws other at = absurd (omega arith)
+named-row (first ∷ more) form ws other (zero, lt, is) =
+    rw (← is, bytes_eq-same first.name first.name refl) refl
+named-row (first ∷ more) form ws other (suc k, lt, is) =
+    let tested = and_parts (list_all (λ f. not (bytes_eq f.name first.name)) more) (have_other_names more) other in
+    let at : Contains more form = (k, omega arith, is) in
+    let differs = row_passes (λ f. not (bytes_eq f.name first.name)) more form at tested.0 in
+    rw (not_true (bytes_eq form.name first.name) differs) (named-row more form ws tested.1 at)
 
--- an event's words are read as it, and its name is ASCII without a space
-pub record IsSpelled (e : Event) : Type 0 where
-  pub is_read : of_words (words_of e) ≡ Some e
-  pub is_ascii : list_all (λ b. nat_lt b 128) (form_of e).0 ≡ true
-  pub has_no_space : Lacks (form_of e).0
-
-pub spelled : (e : Event) → InRange e → IsSpelled e
-unfolding of_words named worker_named
-spelled (Accept conn nonce auth) r = record { is_read = read_as-texts (Long ∷ Sixteen ∷ Sixteen ∷ []) Accept (conn, (nonce, (auth, tt))) r; is_ascii = refl; has_no_space = refl }
-spelled (Piece conn bytes) r = record { is_read = read_as-texts (Long ∷ Hex ∷ []) Piece (conn, (bytes, tt)) r; is_ascii = refl; has_no_space = refl }
-spelled (Admit conn output now) r = record { is_read = read_as-texts (Long ∷ Short ∷ Long ∷ []) Admit (conn, (output, (now, tt))) r; is_ascii = refl; has_no_space = refl }
-spelled (Flush output now kind) r = record { is_read = read_as-texts (Short ∷ Long ∷ Closing ∷ []) Flush (output, (now, (kind, tt))) r; is_ascii = refl; has_no_space = refl }
-spelled (Choose output worker now) r = record { is_read = read_as-texts (Short ∷ Short ∷ Long ∷ []) Choose (output, (worker, (now, tt))) r; is_ascii = refl; has_no_space = refl }
-spelled (Up output worker server salt now) r = record { is_read = read_as-texts (Short ∷ Short ∷ Short ∷ Salt ∷ Long ∷ []) Up (output, (worker, (server, (salt, (now, tt))))) r; is_ascii = refl; has_no_space = refl }
-spelled (Take output worker now) r = record { is_read = read_as-texts (Short ∷ Short ∷ Long ∷ []) Take (output, (worker, (now, tt))) r; is_ascii = refl; has_no_space = refl }
-spelled (Load output worker now) r = record { is_read = read_as-texts (Short ∷ Short ∷ Long ∷ []) Load (output, (worker, (now, tt))) r; is_ascii = refl; has_no_space = refl }
-spelled (Wrote output worker count) r = record { is_read = read_as-texts (Short ∷ Short ∷ Long ∷ []) Wrote (output, (worker, (count, tt))) r; is_ascii = refl; has_no_space = refl }
-spelled (Heard output worker bytes) r = record { is_read = read_as-texts (Short ∷ Short ∷ Hex ∷ []) Heard (output, (worker, (bytes, tt))) r; is_ascii = refl; has_no_space = refl }
-spelled (Settle output worker) r = record { is_read = read_as-texts (Short ∷ Short ∷ []) Settle (output, (worker, tt)) r; is_ascii = refl; has_no_space = refl }
-spelled (Late output worker now) r = record { is_read = read_as-texts (Short ∷ Short ∷ Long ∷ []) Late (output, (worker, (now, tt))) r; is_ascii = refl; has_no_space = refl }
-spelled (End output worker kind now) r = record { is_read = read_as-texts (Short ∷ Short ∷ Ending ∷ Long ∷ []) End (output, (worker, (kind, (now, tt)))) r; is_ascii = refl; has_no_space = refl }
-spelled (Collect conn output) r = record { is_read = read_as-texts (Long ∷ Short ∷ []) Collect (conn, (output, tt)) r; is_ascii = refl; has_no_space = refl }
-spelled (Forget conn output) r = record { is_read = read_as-texts (Long ∷ Short ∷ []) Forget (conn, (output, tt)) r; is_ascii = refl; has_no_space = refl }
-spelled (Drained conn count) r = record { is_read = read_as-texts (Long ∷ Long ∷ []) Drained (conn, (count, tt)) r; is_ascii = refl; has_no_space = refl }
-spelled (Shut conn) r = record { is_read = read_as-texts (Long ∷ []) Shut (conn, tt) r; is_ascii = refl; has_no_space = refl }
+-- ---- no space in the words of an event
 
 Lacks-kind : (k : FlushKind) → Lacks (kind_text k)
 Lacks-kind Due = refl
@@ -294,17 +244,57 @@ Lacks-text_at Closing kind r = Lacks-kind kind
 Lacks-text_at Ending kind r = Lacks-ending kind
 
 AllLack-texts : (fields : List Field) → AllFit fields → AllLack (texts fields)
-AllLack-texts [] r = tt
-AllLack-texts (f ∷ fields) r = (Lacks-text_at f.0 f.1 r.0, AllLack-texts fields r.1)
+AllLack-texts [] fit = tt
+AllLack-texts (f ∷ fields) fit = (Lacks-text_at f.0 f.1 fit.0, AllLack-texts fields fit.1)
 
-words-line_of : (e : Event) → InRange e → words (line_of e) ≡ words_of e
-words-line_of e r = words-join _ _ ((spelled e r).has_no_space, AllLack-texts (form_of e).1 r)
+Lacks-name : (form : Form) → Contains forms form → Lacks form.name
+Lacks-name form at =
+    not_true (list_any (λ b. b == 32) form.name) (row_passes (λ f. not (list_any (λ b. b == 32) f.name)) forms form at refl)
 
-pub event_of-some : (line : List ℕ) (e : Event)
-    → (event_of line ≡ Some e) ↔ (InRange e × (line ≡ line_of e))
+pub is_ascii-name : (form : Form) → Contains forms form
+    → list_all (λ b. nat_lt b 128) form.name ≡ true
+is_ascii-name form at = row_passes (λ f. list_all (λ b. nat_lt b 128) f.name) forms form at refl
+
+-- ---- a line is an event exactly where it is the event's line
+
+of_words-some : (ws : List (List ℕ)) (e : Event) → of_words ws ≡ Some e
+    → (s : Spelling e) × AllFit (said s).1 × (ws ≡ (said s).0 ∷ texts (said s).1)
+unfolding of_words
+of_words-some [] e h = absurd cc
+of_words-some (name ∷ ws) e h =
+    let found = named-some forms name ws e h in
+    let form = found.0 in
+    let made_of = mapped_some (made form.kinds form.make) (read_all form.kinds ws) e found.3 in
+    let values = made_of.0 in
+    let words_are = read_all-some form.kinds ws values made_of.1 in (
+      record { form = form; is_row = found.1; values = values; makes = made_of.2 },
+      words_are.0,
+      same_row found.2 words_are.1,
+    )
+  where
+    same_row : {v w : List ℕ} {vs ws : List (List ℕ)} → v ≡ w → vs ≡ ws → v ∷ vs ≡ w ∷ ws
+    same_row p q = cc
+
+of_words-said : (e : Event) (s : Spelling e) → AllFit (said s).1
+    → of_words ((said s).0 ∷ texts (said s).1) ≡ Some e
+unfolding of_words
+of_words-said e s fit =
+    named-row forms s.form (texts (said s).1) refl s.is_row
+    ∙ ap (option_map (made s.form.kinds s.form.make)) (read_all-texts s.form.kinds s.values fit)
+    ∙ ap Some s.makes
+
+pub event_of-some : (line : List ℕ) (e : Event) → (event_of line ≡ Some e) ↔ IsLineOf e line
 event_of-some line e = (
   λ h.
       let s = of_words-some (words line) e h in
-      (s.0, sym (join_with_byte-slice_split 32 line) ∙ ap (join_with_byte 32) s.1),
-  λ s. ap event_of s.1 ∙ ap of_words (words-line_of e s.0) ∙ (spelled e s.0).is_read,
+      record {
+        spelling = s.0;
+        fits = s.1;
+        spells = sym (join_with_byte-slice_split 32 line) ∙ ap (join_with_byte 32) s.2;
+      },
+  λ l.
+      let s = l.spelling in
+      let lack : AllLack ((said s).0 ∷ texts (said s).1) = (Lacks-name s.form s.is_row, AllLack-texts (said s).1 l.fits) in
+      ap event_of l.spells ∙ ap of_words (words-join (said s).0 (texts (said s).1) lack)
+      ∙ of_words-said e s l.fits,
 )

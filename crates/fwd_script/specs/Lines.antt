@@ -1,11 +1,11 @@
--- The one spelling of each event as a script line, and the event that a line spells.
-use Rattle.std.specs.Prelude.{◌≡◌, ℕ, ◌^◌, ◌<◌, if◌then◌else◌, List, [], ◌∷◌, length, map, codes, Option, Some, None}
+-- The table of events as script lines, the event that a line spells, and the lines of an event.
+use Rattle.std.specs.Prelude.{◌≡◌, ℕ, ◌^◌, ◌<◌, if◌then◌else◌, List, [], ◌∷◌, length, map, Contains, codes, Option, Some, None, option_map}
 use Rattle.std.specs.List.{join_with_byte}
 use Rattle.std.specs.Str.{bytes_eq}
 use Rattle.std.specs.Fmt.{decimal}
 use Rattle.hex.specs.Hex.{encode_lower, IsBytes}
 use Rattle.fwd_model.specs.declared.event.Event.{Event}
-use Rattle.fwd_model.specs.declared.event.Event.TheVariants.{Accept, Piece, Admit, Flush, Choose, Up, Take, Load, Wrote, Heard, Settle, Late, End, Collect, Forget, Drained, Shut}
+use Rattle.fwd_model.specs.declared.event.Event.TheVariants as events
 use Rattle.fwd_model.specs.declared.event.EndKind.{EndKind}
 use Rattle.fwd_model.specs.declared.event.EndKind.TheVariants.{Kept, Lost}
 use Rattle.fwd_chunks.specs.declared.flush.FlushKind.{FlushKind}
@@ -65,66 +65,109 @@ text_at Salt bytes = hex_text bytes
 text_at Closing kind = kind_text kind
 text_at Ending kind = ending_text kind
 
--- ---- the line of an event
+-- ---- the table of events
 
--- what stands in one word after an event's name
+-- what makes an event of the values of some kinds
+abbrev pub Makes : List Kind → Type 0
+Makes [] = Event
+Makes (kind ∷ kinds) = Meaning kind → Makes kinds
+
+-- a form of lines: the name, the kinds of the words behind it, and the event that they make
+pub record Form : Type 0 where
+  pub name : List ℕ
+  pub kinds : List Kind
+  pub make : Makes kinds
+
+-- a row of the table
+abbrev pub row : List ℕ → (kinds : List Kind) → Makes kinds → Form
+row name kinds make = record { name = name; kinds = kinds; make = make }
+
+-- the events of sessions
+abbrev pub session_forms : List Form
+session_forms =
+    row (codes "up") (Short ∷ Short ∷ Short ∷ Salt ∷ Long ∷ []) events.Up
+    ∷ row (codes "load") (Short ∷ Short ∷ Long ∷ []) events.Load
+    ∷ row (codes "wrote") (Short ∷ Short ∷ Long ∷ []) events.Wrote
+    ∷ row (codes "heard") (Short ∷ Short ∷ Hex ∷ []) events.Heard
+    ∷ row (codes "late") (Short ∷ Short ∷ Long ∷ []) events.Late
+    ∷ row (codes "end") (Short ∷ Short ∷ Ending ∷ Long ∷ []) events.End
+    ∷ []
+
+-- the events of outputs and their workers, and of sessions
+abbrev pub output_forms : List Form
+output_forms =
+    row (codes "flush") (Short ∷ Long ∷ Closing ∷ []) events.Flush
+    ∷ row (codes "choose") (Short ∷ Short ∷ Long ∷ []) events.Choose
+    ∷ row (codes "take") (Short ∷ Short ∷ Long ∷ []) events.Take
+    ∷ row (codes "settle") (Short ∷ Short ∷ []) events.Settle
+    ∷ session_forms
+
+-- all events
+abbrev pub forms : List Form
+forms =
+    row (codes "accept") (Long ∷ Sixteen ∷ Sixteen ∷ []) events.Accept
+    ∷ row (codes "piece") (Long ∷ Hex ∷ []) events.Piece
+    ∷ row (codes "admit") (Long ∷ Short ∷ Long ∷ []) events.Admit
+    ∷ row (codes "collect") (Long ∷ Short ∷ []) events.Collect
+    ∷ row (codes "forget") (Long ∷ Short ∷ []) events.Forget
+    ∷ row (codes "drained") (Long ∷ Long ∷ []) events.Drained
+    ∷ row (codes "shut") (Long ∷ []) events.Shut
+    ∷ output_forms
+
+-- ---- the lines of an event
+
+-- the values of words of some kinds
+abbrev pub Values : List Kind → Type 0
+Values [] = Unit {0}
+Values (kind ∷ kinds) = Meaning kind × Values kinds
+
+-- the event that is made of them
+abbrev pub made : (kinds : List Kind) → Makes kinds → Values kinds → Event
+made [] event values = event
+made (kind ∷ kinds) make values = made kinds (make values.0) values.1
+
+-- what one word says
 abbrev pub Field : Type 0
 Field = (kind : Kind) × Meaning kind
 
--- an event's name, and what the words after it say
-abbrev pub form_of : Event → List ℕ × List Field
-form_of (Accept conn nonce auth) =
-    (codes "accept", (Long, conn) ∷ (Sixteen, nonce) ∷ (Sixteen, auth) ∷ [])
-form_of (Piece conn bytes) = (codes "piece", (Long, conn) ∷ (Hex, bytes) ∷ [])
-form_of (Admit conn output now) =
-    (codes "admit", (Long, conn) ∷ (Short, output) ∷ (Long, now) ∷ [])
-form_of (Flush output now kind) =
-    (codes "flush", (Short, output) ∷ (Long, now) ∷ (Closing, kind) ∷ [])
-form_of (Choose output worker now) =
-    (codes "choose", (Short, output) ∷ (Short, worker) ∷ (Long, now) ∷ [])
-form_of (Up output worker server salt now) = (
-  codes "up",
-  (Short, output) ∷ (Short, worker) ∷ (Short, server) ∷ (Salt, salt)
-      ∷ (Long, now) ∷ [],
-)
-form_of (Take output worker now) =
-    (codes "take", (Short, output) ∷ (Short, worker) ∷ (Long, now) ∷ [])
-form_of (Load output worker now) =
-    (codes "load", (Short, output) ∷ (Short, worker) ∷ (Long, now) ∷ [])
-form_of (Wrote output worker count) =
-    (codes "wrote", (Short, output) ∷ (Short, worker) ∷ (Long, count) ∷ [])
-form_of (Heard output worker bytes) =
-    (codes "heard", (Short, output) ∷ (Short, worker) ∷ (Hex, bytes) ∷ [])
-form_of (Settle output worker) = (codes "settle", (Short, output) ∷ (Short, worker) ∷ [])
-form_of (Late output worker now) =
-    (codes "late", (Short, output) ∷ (Short, worker) ∷ (Long, now) ∷ [])
-form_of (End output worker kind now) = (
-  codes "end",
-  (Short, output) ∷ (Short, worker) ∷ (Ending, kind) ∷ (Long, now) ∷ [],
-)
-form_of (Collect conn output) = (codes "collect", (Long, conn) ∷ (Short, output) ∷ [])
-form_of (Forget conn output) = (codes "forget", (Long, conn) ∷ (Short, output) ∷ [])
-form_of (Drained conn count) = (codes "drained", (Long, conn) ∷ (Long, count) ∷ [])
-form_of (Shut conn) = (codes "shut", (Long, conn) ∷ [])
-
--- the words of an event: its name, then its numbers in decimal and its bytes in hexadecimal
-abbrev pub words_of : Event → List (List ℕ)
-words_of event = (form_of event).0 ∷ map (λ f. text_at f.0 f.1) (form_of event).1
-
--- the line of an event: its words, with one space between each two
-abbrev pub line_of : Event → List ℕ
-line_of event = join_with_byte 32 (words_of event)
+-- the values, each with its kind
+abbrev pub fields_of : (kinds : List Kind) → Values kinds → List Field
+fields_of [] values = []
+fields_of (kind ∷ kinds) values = (kind, values.0) ∷ fields_of kinds values.1
 
 -- each of them is in range
 abbrev pub AllFit : List Field → Type 0
 AllFit [] = Unit {0}
 AllFit (f ∷ fields) = Fits f.0 f.1 × AllFit fields
 
--- an event's numbers and bytes are in range
-abbrev pub InRange : Event → Type 0
-InRange event = AllFit (form_of event).1
+-- their words
+abbrev pub texts : List Field → List (List ℕ)
+texts fields = map (λ f. text_at f.0 f.1) fields
 
--- ---- the event that a line spells, by its words
+-- a row of the table and values of its kinds that make this event
+pub record Spelling (event : Event) : Type 0 where
+  pub form : Form
+  pub is_row : Contains forms form
+  pub values : Values form.kinds
+  pub makes : made form.kinds form.make values ≡ event
+
+-- the name and what the words behind it say
+abbrev pub said : {event : Event} → Spelling event → List ℕ × List Field
+said s = (s.form.name, fields_of s.form.kinds s.values)
+
+-- the line is an event's: its row's name and the words of its values, which are in range, with one
+-- space between each two
+pub record IsLineOf (event : Event) (line : List ℕ) : Type 0 where
+  pub spelling : Spelling event
+  pub fits : AllFit (said spelling).1
+  pub spells : line ≡ join_with_byte 32 ((said spelling).0 ∷ texts (said spelling).1)
+
+-- an event is in one row of the table alone, and is made there of one list of values alone
+pub record HasOneSpelling (event : Event) : Type 0 where
+  pub spelling : Spelling event
+  pub alone : (other : Spelling event) → said other ≡ said spelling
+
+-- ---- the event that a line spells
 
 -- which open chunks a flush closes, by its word
 unfoldable pub kind_of : List ℕ → Option FlushKind
@@ -150,54 +193,40 @@ read_at Salt word = salt_of word
 read_at Closing word = kind_of word
 read_at Ending word = ending_of word
 
--- what makes an event of the words of some kinds
-abbrev pub Makes : List Kind → Type 0
-Makes [] = Event
-Makes (kind ∷ kinds) = Meaning kind → Makes kinds
+-- what no words say
+unfoldable pub read_none : List (List ℕ) → Option (Unit {0})
+read_none [] = Some tt
+read_none (word ∷ rest) = None
+
+-- what a word and the words behind it say
+unfoldable pub read_more
+    : {A B : Type 0} → (List ℕ → Option A) → (List (List ℕ) → Option B) → List (List ℕ)
+    → Option (A × B)
+read_more read_first read_rest [] = None
+read_more read_first read_rest (word ∷ rest) = do
+  x ← read_first word
+  xs ← read_rest rest
+  Some (x, xs)
+
+-- what just so many words say, each of its kind
+abbrev pub read_all : (kinds : List Kind) → List (List ℕ) → Option (Values kinds)
+read_all [] = read_none
+read_all (kind ∷ kinds) = read_more (read_at kind) (read_all kinds)
 
 -- the event of just so many words, each of its kind
-unfoldable pub read_as : (kinds : List Kind) → Makes kinds → List (List ℕ) → Option Event
-read_as [] event [] = Some event
-read_as [] event (word ∷ rest) = None
-read_as (kind ∷ kinds) make [] = None
-read_as (kind ∷ kinds) make (word ∷ rest) = do
-  x ← read_at kind word
-  read_as kinds (make x) rest
+abbrev pub read_as : Form → List (List ℕ) → Option Event
+read_as form words = option_map (made form.kinds form.make) (read_all form.kinds words)
 
--- the event of a worker, by its name and the words after it
-unfoldable pub worker_named : List ℕ → List (List ℕ) → Option Event
-worker_named name rest =
-    if bytes_eq name (codes "choose") then read_as (Short ∷ Short ∷ Long ∷ []) Choose rest
-    else if bytes_eq name (codes "up")
-    then read_as (Short ∷ Short ∷ Short ∷ Salt ∷ Long ∷ []) Up rest
-    else if bytes_eq name (codes "take") then read_as (Short ∷ Short ∷ Long ∷ []) Take rest
-    else if bytes_eq name (codes "load") then read_as (Short ∷ Short ∷ Long ∷ []) Load rest
-    else if bytes_eq name (codes "wrote") then read_as (Short ∷ Short ∷ Long ∷ []) Wrote rest
-    else if bytes_eq name (codes "heard") then read_as (Short ∷ Short ∷ Hex ∷ []) Heard rest
-    else if bytes_eq name (codes "settle") then read_as (Short ∷ Short ∷ []) Settle rest
-    else if bytes_eq name (codes "late") then read_as (Short ∷ Short ∷ Long ∷ []) Late rest
-    else if bytes_eq name (codes "end")
-    then read_as (Short ∷ Short ∷ Ending ∷ Long ∷ []) End rest
-    else None
-
--- the event of a name and the words after it
-unfoldable pub named : List ℕ → List (List ℕ) → Option Event
-named name rest =
-    if bytes_eq name (codes "accept") then read_as (Long ∷ Sixteen ∷ Sixteen ∷ []) Accept rest
-    else if bytes_eq name (codes "piece") then read_as (Long ∷ Hex ∷ []) Piece rest
-    else if bytes_eq name (codes "admit") then read_as (Long ∷ Short ∷ Long ∷ []) Admit rest
-    else if bytes_eq name (codes "flush")
-    then read_as (Short ∷ Long ∷ Closing ∷ []) Flush rest
-    else if bytes_eq name (codes "collect") then read_as (Long ∷ Short ∷ []) Collect rest
-    else if bytes_eq name (codes "forget") then read_as (Long ∷ Short ∷ []) Forget rest
-    else if bytes_eq name (codes "drained") then read_as (Long ∷ Long ∷ []) Drained rest
-    else if bytes_eq name (codes "shut") then read_as (Long ∷ []) Shut rest
-    else worker_named name rest
+-- the event of a name and the words behind it, by the first row of that name
+abbrev pub named : List Form → List ℕ → List (List ℕ) → Option Event
+named [] name rest = None
+named (form ∷ more) name rest =
+    if bytes_eq name form.name then read_as form rest else named more name rest
 
 -- the event of a line's words
 unfoldable pub of_words : List (List ℕ) → Option Event
 of_words [] = None
-of_words (name ∷ rest) = named name rest
+of_words (name ∷ rest) = named forms name rest
 
 -- the event that a line spells, if it spells one
 abbrev pub event_of : List ℕ → Option Event

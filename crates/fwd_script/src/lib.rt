@@ -11,12 +11,13 @@ mod script;
 mod status;
 mod stepping;
 mod text;
+mod values;
 mod word;
 mod writing;
 
 pub use checking::{check, check_file};
 pub use config::read_config;
-pub use event::{events_are_text, one_spelling, read_event};
+pub use event::{events_are_text, one_form, one_spelling, read_event};
 pub use input::{InputError, read_input};
 pub use program::{Command, End, asked, buffered, perform, run_program, tell, words};
 pub use run::replay;
