@@ -1,6 +1,6 @@
 //! The calls, and their answers as text.
 
-use crate::words::{bytes, client, key, nonces, server, users, value, word_of};
+use crate::words::{bytes, client, nonces, server, value, word_of};
 use anyhow::{Result, bail};
 use fwd_handshake::{
     Denial, HeloAnswer, PingVerdict, PongVerdict, Salt, answer_helo, judge_ping, judge_pong,
@@ -12,8 +12,9 @@ fn helo(alloc: Global, words: &[&str]) -> Result<String> {
     let [host, names, nonce, auth] = *words else {
         bail!("no HELO");
     };
-    let security = server(alloc, host, None, users(alloc, names)?)?;
-    let helo = write_helo(alloc, &security, &nonces(nonce, auth)?)?;
+    let security = server(alloc, host, "none", names)?;
+    let nonces = nonces(nonce, auth)?;
+    let helo = write_helo(alloc, &security, &nonces)?;
     word_of(alloc, helo.as_slice())
 }
 
@@ -21,9 +22,10 @@ fn ping(alloc: Global, words: &[&str]) -> Result<String> {
     let [host, shared, names, nonce, auth, ping] = *words else {
         bail!("no PING");
     };
-    let security = server(alloc, host, key(alloc, shared)?, users(alloc, names)?)?;
+    let security = server(alloc, host, shared, names)?;
+    let nonces = nonces(nonce, auth)?;
     let ping = bytes(alloc, ping)?;
-    let (word, pong) = match judge_ping(alloc, value(&ping)?, &security, &nonces(nonce, auth)?)? {
+    let (word, pong) = match judge_ping(alloc, value(&ping)?, &security, &nonces)? {
         PingVerdict::Pass(pong) => ("pass", pong),
         PingVerdict::Deny(pong, Denial::KeyMismatch) => ("key", pong),
         PingVerdict::Deny(pong, Denial::UserMismatch) => ("user", pong),
@@ -37,7 +39,7 @@ fn answer_to_helo(alloc: Global, words: &[&str]) -> Result<String> {
     let [host, shared, name, password, salt, helo] = *words else {
         bail!("no answer");
     };
-    let login = client(alloc, host, key(alloc, shared)?, name, password)?;
+    let login = client(alloc, host, shared, name, password)?;
     let salt = bytes(alloc, salt)?;
     let Some(salt) = Salt::new(&salt) else {
         bail!("a salt of {} bytes", salt.len());
@@ -58,21 +60,26 @@ fn answer_to_helo(alloc: Global, words: &[&str]) -> Result<String> {
     }
 }
 
-fn pong(alloc: Global, words: &[&str]) -> Result<String> {
-    let [shared, salt, nonce, pong] = *words else {
-        bail!("no PONG");
-    };
-    let login = client(alloc, "-", key(alloc, shared)?, "-", "-")?;
-    let pong = bytes(alloc, pong)?;
-    let salt = bytes(alloc, salt)?;
-    let nonce = bytes(alloc, nonce)?;
-    let word = match judge_pong(value(&pong)?, &login, &salt, &nonce) {
+/// The word for a verdict on a PONG.
+fn pong_word(verdict: PongVerdict) -> &'static str {
+    match verdict {
         PongVerdict::Pass => "pass",
         PongVerdict::Denied => "denied",
         PongVerdict::BadDigest => "bad_digest",
         PongVerdict::NotPong => "not_pong",
+    }
+}
+
+fn pong(alloc: Global, words: &[&str]) -> Result<String> {
+    let [shared, salt, nonce, pong] = *words else {
+        bail!("no PONG");
     };
-    Ok(String::from_str(alloc, word)?)
+    let login = client(alloc, "-", shared, "-", "-")?;
+    let pong = bytes(alloc, pong)?;
+    let salt = bytes(alloc, salt)?;
+    let nonce = bytes(alloc, nonce)?;
+    let verdict = judge_pong(value(&pong)?, &login, &salt, &nonce);
+    Ok(String::from_str(alloc, pong_word(verdict))?)
 }
 
 /// Makes the call of a line.

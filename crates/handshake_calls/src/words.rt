@@ -1,5 +1,7 @@
 //! What the words of a line stand for.
 
+ghost use Rattle.std.specs.Prelude.{◌<◌, ◌^◌, length, IfOk};
+
 use anyhow::{Result, bail};
 use fwd_base::{Bytes, Seq};
 use fwd_handshake::{Login, Nonces, Security, User};
@@ -24,11 +26,12 @@ pub(crate) fn word_of(alloc: Global, bytes: &[u8]) -> Result<String> {
 }
 
 /// The shared key of a word.
-pub(crate) fn key(alloc: Global, word: &str) -> Result<Option<Bytes>> {
+fn key(alloc: Global, word: &str) -> Result<Option<Bytes>> {
     if word == "none" {
         return Ok(None);
     }
-    Ok(Some(Bytes::from_vec(bytes(alloc, word)?)))
+    let key = bytes(alloc, word)?;
+    Ok(Some(Bytes::from_vec(key)))
 }
 
 /// The user of a word.
@@ -36,14 +39,16 @@ fn user(alloc: Global, word: &str) -> Result<User> {
     let Some((name, password)) = word.split_once(':') else {
         bail!("no user: {word}");
     };
+    let name = bytes(alloc, name)?;
+    let password = bytes(alloc, password)?;
     Ok(User {
-        name: Bytes::from_vec(bytes(alloc, name)?),
-        password: Bytes::from_vec(bytes(alloc, password)?),
+        name: Bytes::from_vec(name),
+        password: Bytes::from_vec(password),
     })
 }
 
 /// The users of a word.
-pub(crate) fn users(alloc: Global, word: &str) -> Result<Seq<User>> {
+fn users(alloc: Global, word: &str) -> Result<Seq<User>> {
     let mut users = Seq::new(alloc);
     if word == "-" {
         return Ok(users);
@@ -56,10 +61,9 @@ pub(crate) fn users(alloc: Global, word: &str) -> Result<Seq<User>> {
 
 /// The nonces of two words.
 pub(crate) fn nonces(nonce: &str, auth: &str) -> Result<Nonces> {
-    Ok(Nonces {
-        nonce: <[u8; 16] as FromHex>::from_hex(nonce)?,
-        auth: <[u8; 16] as FromHex>::from_hex(auth)?,
-    })
+    let nonce = <[u8; 16] as FromHex>::from_hex(nonce)?;
+    let auth = <[u8; 16] as FromHex>::from_hex(auth)?;
+    Ok(Nonces { nonce, auth })
 }
 
 /// The one whole value of the bytes.
@@ -70,19 +74,24 @@ pub(crate) fn value(bytes: &[u8]) -> Result<Value<'_>> {
     }
 }
 
-/// A server.
-pub(crate) fn server(
-    alloc: Global,
-    host: &str,
-    shared_key: Option<Bytes>,
-    users: Seq<User>,
-) -> Result<Security> {
-    let host = bytes(alloc, host)?;
-    if host.len() >= 0x1_0000_0000 {
-        bail!("a hostname of {} bytes", host.len());
+/// The bytes of a name, of which there are few enough for a str.
+fn name_of(alloc: Global, word: &str) -> Result<Bytes>
+    ensures { IfOk result (λ name. length name < 2 ^ 32) }
+{
+    let name = bytes(alloc, word)?;
+    if name.len() >= 0x1_0000_0000 {
+        bail!("a name of {} bytes", name.len());
     }
+    Ok(Bytes::from_vec(name))
+}
+
+/// A server.
+pub(crate) fn server(alloc: Global, host: &str, shared: &str, names: &str) -> Result<Security> {
+    let hostname = name_of(alloc, host)?;
+    let shared_key = key(alloc, shared)?;
+    let users = users(alloc, names)?;
     Ok(Security {
-        hostname: Bytes::from_vec(host),
+        hostname,
         shared_key,
         users,
     })
@@ -92,19 +101,18 @@ pub(crate) fn server(
 pub(crate) fn client(
     alloc: Global,
     host: &str,
-    shared_key: Option<Bytes>,
+    shared: &str,
     name: &str,
     password: &str,
 ) -> Result<Login> {
-    let host = bytes(alloc, host)?;
-    let name = bytes(alloc, name)?;
-    if host.len() >= 0x1_0000_0000 || name.len() >= 0x1_0000_0000 {
-        bail!("a name of {} or {} bytes", host.len(), name.len());
-    }
+    let hostname = name_of(alloc, host)?;
+    let shared_key = key(alloc, shared)?;
+    let username = name_of(alloc, name)?;
+    let password = bytes(alloc, password)?;
     Ok(Login {
-        hostname: Bytes::from_vec(host),
+        hostname,
         shared_key,
-        username: Bytes::from_vec(name),
-        password: Bytes::from_vec(bytes(alloc, password)?),
+        username,
+        password: Bytes::from_vec(password),
     })
 }

@@ -2,12 +2,10 @@
 //! closed and told nothing.
 
 use crate::peer::{accept, rest_len, serve_text, shown, source, visit};
-use crate::site::{Site, around, free_site, listen, relay_to};
+use crate::site::Site;
 use anyhow::Result;
 use std::net::{Net, TcpListener, TcpStream};
 use std::rt::Clock;
-use std::sync::Wait;
-use std::thread::Threads;
 
 /// A Message under the tag `a` that asks to be acknowledged as `x`, and the byte that no value
 /// begins with.
@@ -22,7 +20,7 @@ struct Remains {
 }
 
 /// The source, its server, and another source behind it.
-fn play<R: Net<Listener = TcpListener, Stream = TcpStream> + Clock + AllocGlobal>(
+pub fn play<R: Net<Listener = TcpListener, Stream = TcpStream> + Clock + AllocGlobal>(
     rt: &R,
     site: Site,
     server: &TcpListener,
@@ -34,19 +32,4 @@ fn play<R: Net<Listener = TcpListener, Stream = TcpStream> + Clock + AllocGlobal
     let frame = serve_text(alloc, &link)?;
     let next = visit(rt, site, &link)?;
     shown(alloc, &Remains { told, frame, next })
-}
-
-/// What the source and the server saw, and what the relay came to.
-pub fn fault<
-    R: Net<Listener = TcpListener, Stream = TcpStream>
-        + Threads
-        + Wait
-        + Clock
-        + AllocGlobal
-        + Sync,
->(rt: &R, host: u8) -> Result<String> {
-    let server = listen(rt, host)?;
-    let site = free_site(rt, host)?;
-    let relay = relay_to(rt, site, &server)?;
-    around(rt, site, relay, move || play(rt, site, &server))
 }

@@ -4,12 +4,10 @@ use crate::frame::MESSAGE;
 use crate::peer::{
     accept, connect, is_silent, rest_len, rest_text, send, serve, shown, source, value, visit,
 };
-use crate::site::{Site, around, free_site, listen, relay_to};
+use crate::site::Site;
 use anyhow::Result;
 use std::net::{Net, TcpListener, TcpStream};
 use std::rt::Clock;
-use std::sync::Wait;
-use std::thread::Threads;
 
 /// Sources of random bytes: from so many seeds, from 1 on, so many bytes each. The first value of
 /// each is whole within its first 256 bytes, and is no array.
@@ -95,7 +93,7 @@ fn begin<R: Net<Listener = TcpListener, Stream = TcpStream> + Clock + AllocGloba
 }
 
 /// The hostile peers, one after the other.
-fn play<R: Net<Listener = TcpListener, Stream = TcpStream> + Clock + AllocGlobal>(
+pub fn play<R: Net<Listener = TcpListener, Stream = TcpStream> + Clock + AllocGlobal>(
     rt: &R,
     site: Site,
     server: &TcpListener,
@@ -114,19 +112,4 @@ fn play<R: Net<Listener = TcpListener, Stream = TcpStream> + Clock + AllocGlobal
         beside_head,
     };
     shown(alloc, &seen)
-}
-
-/// What hostile peers saw, and what the relay came to.
-pub fn hostile<
-    R: Net<Listener = TcpListener, Stream = TcpStream>
-        + Threads
-        + Wait
-        + Clock
-        + AllocGlobal
-        + Sync,
->(rt: &R, host: u8) -> Result<String> {
-    let server = listen(rt, host)?;
-    let site = free_site(rt, host)?;
-    let relay = relay_to(rt, site, &server)?;
-    around(rt, site, relay, move || play(rt, site, &server))
 }

@@ -3,13 +3,11 @@
 
 use crate::frame::{MESSAGE, ack};
 use crate::peer::{accept, is_silent, rest, send, serve_text, shown, source, value, value_text};
-use crate::site::{Site, around, free_site, listen, relay_to};
+use crate::site::Site;
 use anyhow::Result;
 use hex::encode;
 use std::net::{Net, TcpListener, TcpStream};
 use std::rt::Clock;
-use std::sync::Wait;
-use std::thread::Threads;
 
 /// The acknowledgement of the output's second chunk.
 const OTHER: &[u8] = b"\x81\xa3ack\xb8AAAAAAAAAAAAAAAAAAAAAg==";
@@ -52,7 +50,7 @@ fn repeat<R: Clock + AllocGlobal>(rt: &R, server: &TcpListener) -> Result<Vec<u8
 }
 
 /// The source and the server.
-fn play<R: Net<Listener = TcpListener, Stream = TcpStream> + Clock + AllocGlobal>(
+pub fn play<R: Net<Listener = TcpListener, Stream = TcpStream> + Clock + AllocGlobal>(
     rt: &R,
     site: Site,
     server: &TcpListener,
@@ -79,19 +77,4 @@ fn play<R: Net<Listener = TcpListener, Stream = TcpStream> + Clock + AllocGlobal
         told_again,
     };
     shown(alloc, &seen)
-}
-
-/// What the source and the server saw, and what the relay came to.
-pub fn liar<
-    R: Net<Listener = TcpListener, Stream = TcpStream>
-        + Threads
-        + Wait
-        + Clock
-        + AllocGlobal
-        + Sync,
->(rt: &R, host: u8) -> Result<String> {
-    let server = listen(rt, host)?;
-    let site = free_site(rt, host)?;
-    let relay = relay_to(rt, site, &server)?;
-    around(rt, site, relay, move || play(rt, site, &server))
 }

@@ -1,13 +1,10 @@
 //! Sixteen monitors at a time, and each status of what they are told.
 
 use crate::peer::{asked, connect, page, rest_len, rest_text, send, send_by_bytes, turn};
-use crate::site::{Site, around, free_site, listen, relay_to};
+use crate::site::Site;
 use anyhow::{Result, anyhow};
 use std::alloc::Global;
 use std::net::{Net, SocketAddr, TcpListener, TcpStream};
-use std::rt::Clock;
-use std::sync::Wait;
-use std::thread::Threads;
 
 /// The most monitors at a time.
 const MOST: usize = 16;
@@ -124,7 +121,7 @@ fn by_bytes<R: Net<Listener = TcpListener, Stream = TcpStream> + AllocGlobal>(
 }
 
 /// What monitors saw, and what is told of another target, and of no head.
-fn play<R: Net<Listener = TcpListener, Stream = TcpStream> + AllocGlobal>(
+pub fn play<R: Net<Listener = TcpListener, Stream = TcpStream> + AllocGlobal>(
     rt: &R,
     site: Site,
 ) -> Result<String> {
@@ -143,19 +140,4 @@ fn play<R: Net<Listener = TcpListener, Stream = TcpStream> + AllocGlobal>(
         none: none_same,
     };
     Ok(format!(in alloc; "{crowd:?}\n{by_bytes:?}\n{page}{other}{none}")?)
-}
-
-/// What monitors saw, and what the relay came to.
-pub fn monitors<
-    R: Net<Listener = TcpListener, Stream = TcpStream>
-        + Threads
-        + Wait
-        + Clock
-        + AllocGlobal
-        + Sync,
->(rt: &R, host: u8) -> Result<String> {
-    let server = listen(rt, host)?;
-    let site = free_site(rt, host)?;
-    let relay = relay_to(rt, site, &server)?;
-    around(rt, site, relay, move || play(rt, site))
 }

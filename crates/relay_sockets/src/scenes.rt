@@ -1,5 +1,6 @@
 //! The scenes, side by side: each has a relay of its own, whose workers wait out their turns.
 
+use crate::site::beside_server;
 use crate::{
     fault, hostile, keys, late, liar, limits, monitors, outputs, split, standby, torn, unread,
     whole_way,
@@ -79,19 +80,27 @@ impl Scene {
     >(self, rt: &R) -> Result<String> {
         let host = self.host();
         match self {
-            Scene::WholeWay => whole_way::whole_way(rt, host),
-            Scene::Split => split::split(rt, host),
+            Scene::WholeWay => beside_server(
+                rt,
+                host,
+                |site, server| whole_way::play(rt, site, server),
+            ),
+            Scene::Split => beside_server(rt, host, |site, server| split::play(rt, site, server)),
             Scene::Outputs => outputs::outputs(rt, host),
             Scene::Keys => keys::keys(rt, host),
             Scene::Standby => standby::standby(rt, host),
             Scene::Late => late::late(rt, host),
-            Scene::Liar => liar::liar(rt, host),
-            Scene::Torn => torn::torn(rt, host),
-            Scene::Fault => fault::fault(rt, host),
+            Scene::Liar => beside_server(rt, host, |site, server| liar::play(rt, site, server)),
+            Scene::Torn => beside_server(rt, host, |site, server| torn::play(rt, site, server)),
+            Scene::Fault => beside_server(rt, host, |site, server| fault::play(rt, site, server)),
             Scene::Limits => limits::limits(rt, host),
-            Scene::Monitors => monitors::monitors(rt, host),
-            Scene::Hostile => hostile::hostile(rt, host),
-            Scene::Unread => unread::hoard(rt, host),
+            Scene::Monitors => beside_server(rt, host, |site, _server| monitors::play(rt, site)),
+            Scene::Hostile => beside_server(
+                rt,
+                host,
+                |site, server| hostile::play(rt, site, server),
+            ),
+            Scene::Unread => beside_server(rt, host, |site, _server| unread::play(rt, site)),
         }
     }
 

@@ -125,7 +125,7 @@ pub fn relay<R: Net + AllocGlobal>(rt: &R, text: &str) -> Result<Loop> {
 }
 
 /// A relay for all tags to one server.
-pub fn relay_to<R: Net<Listener = TcpListener, Stream = TcpStream> + AllocGlobal>(
+fn relay_to<R: Net<Listener = TcpListener, Stream = TcpStream> + AllocGlobal>(
     rt: &R,
     site: Site,
     server: &TcpListener,
@@ -178,4 +178,30 @@ pub fn around<
 fn both(alloc: Global, seen: Result<String>, ended: Ended) -> Result<String> {
     let seen = seen?;
     Ok(format!(in alloc; "{seen}\n  {ended:?}")?)
+}
+
+/// Runs a relay for all tags to one server, which listens at the host of this number, and plays
+/// what happens around both meanwhile: what was seen, and what the relay came to.
+pub fn beside_server<
+    R: Net<Listener = TcpListener, Stream = TcpStream>
+        + Threads
+        + Wait
+        + Clock
+        + AllocGlobal
+        + Sync,
+    F: FnOnce(Site, &TcpListener) -> Result<String> + Drop,
+>(rt: &R, host: u8, play: F) -> Result<String>
+    requires { F.IsAlwaysCallable play }
+{
+    let server = listen(rt, host)?;
+    let site = free_site(rt, host)?;
+    let relay = relay_to(rt, site, &server)?;
+    around(
+        rt,
+        site,
+        relay,
+        move ||
+            requires { F.IsAlwaysCallable play }
+        { play(site, &server) },
+    )
 }

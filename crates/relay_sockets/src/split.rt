@@ -1,12 +1,10 @@
 //! A request whose entries are in two chunks is told after both.
 
 use crate::peer::{accept, is_silent, serve_text, shown, source, value_text};
-use crate::site::{Site, around, free_site, listen, relay_to};
+use crate::site::Site;
 use anyhow::Result;
 use std::net::{Net, TcpListener, TcpStream};
 use std::rt::Clock;
-use std::sync::Wait;
-use std::thread::Threads;
 
 /// Two entries under the tag `a`, in Forward mode, that ask to be acknowledged as `x`.
 const TWO: &[u8] = b"\x93\xa1a\x92\x92\x01\x80\x92\x02\x80\x81\xa5chunk\xa1x";
@@ -21,7 +19,7 @@ struct Halves {
 }
 
 /// The source, and a server that acknowledges one chunk, and a while later the other.
-fn play<R: Net<Listener = TcpListener, Stream = TcpStream> + Clock + AllocGlobal>(
+pub fn play<R: Net<Listener = TcpListener, Stream = TcpStream> + Clock + AllocGlobal>(
     rt: &R,
     site: Site,
     server: &TcpListener,
@@ -40,19 +38,4 @@ fn play<R: Net<Listener = TcpListener, Stream = TcpStream> + Clock + AllocGlobal
         told,
     };
     shown(alloc, &seen)
-}
-
-/// What both sides saw, and what the relay came to.
-pub fn split<
-    R: Net<Listener = TcpListener, Stream = TcpStream>
-        + Threads
-        + Wait
-        + Clock
-        + AllocGlobal
-        + Sync,
->(rt: &R, host: u8) -> Result<String> {
-    let server = listen(rt, host)?;
-    let site = free_site(rt, host)?;
-    let relay = relay_to(rt, site, &server)?;
-    around(rt, site, relay, move || play(rt, site, &server))
 }

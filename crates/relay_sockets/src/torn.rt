@@ -2,12 +2,10 @@
 
 use crate::frame::MESSAGE;
 use crate::peer::{accept, send, serve_text, shown, source, value_text};
-use crate::site::{Site, around, free_site, listen, relay_to};
+use crate::site::Site;
 use anyhow::Result;
 use std::net::{Net, TcpListener, TcpStream};
 use std::rt::Clock;
-use std::sync::Wait;
-use std::thread::Threads;
 
 /// What came of the source that went on.
 #[derive(Debug, Drop)]
@@ -17,7 +15,7 @@ struct Onward {
 }
 
 /// Two sources and the server.
-fn play<R: Net<Listener = TcpListener, Stream = TcpStream> + Clock + AllocGlobal>(
+pub fn play<R: Net<Listener = TcpListener, Stream = TcpStream> + Clock + AllocGlobal>(
     rt: &R,
     site: Site,
     server: &TcpListener,
@@ -31,19 +29,4 @@ fn play<R: Net<Listener = TcpListener, Stream = TcpStream> + Clock + AllocGlobal
     let frame = serve_text(alloc, &link)?;
     let told = value_text(alloc, &whole)?;
     shown(alloc, &Onward { frame, told })
-}
-
-/// What came of the source that went on, and what the relay came to.
-pub fn torn<
-    R: Net<Listener = TcpListener, Stream = TcpStream>
-        + Threads
-        + Wait
-        + Clock
-        + AllocGlobal
-        + Sync,
->(rt: &R, host: u8) -> Result<String> {
-    let server = listen(rt, host)?;
-    let site = free_site(rt, host)?;
-    let relay = relay_to(rt, site, &server)?;
-    around(rt, site, relay, move || play(rt, site, &server))
 }

@@ -1,14 +1,11 @@
 //! A source that asks to be told and reads nothing.
 
 use crate::peer::{connect, shown, turn};
-use crate::site::{Site, around, free_site, listen, relay_to};
+use crate::site::Site;
 use anyhow::Result;
 use std::alloc::Global;
 use std::io::{Read, Write};
 use std::net::{Net, TcpListener, TcpStream};
-use std::rt::Clock;
-use std::sync::Wait;
-use std::thread::Threads;
 use std::time::Duration;
 
 /// How long a write waits before a source takes it that it is not read, in milliseconds.
@@ -84,7 +81,7 @@ fn is_told(source: &TcpStream, sent: usize) -> Result<bool> {
 }
 
 /// The source, and another beside it.
-fn play<R: Net<Listener = TcpListener, Stream = TcpStream> + AllocGlobal>(
+pub fn play<R: Net<Listener = TcpListener, Stream = TcpStream> + AllocGlobal>(
     rt: &R,
     site: Site,
 ) -> Result<String> {
@@ -102,19 +99,4 @@ fn play<R: Net<Listener = TcpListener, Stream = TcpStream> + AllocGlobal>(
         told,
     };
     shown(alloc, &seen)
-}
-
-/// What the source saw, and what the relay came to.
-pub fn hoard<
-    R: Net<Listener = TcpListener, Stream = TcpStream>
-        + Threads
-        + Wait
-        + Clock
-        + AllocGlobal
-        + Sync,
->(rt: &R, host: u8) -> Result<String> {
-    let server = listen(rt, host)?;
-    let site = free_site(rt, host)?;
-    let relay = relay_to(rt, site, &server)?;
-    around(rt, site, relay, move || play(rt, site))
 }

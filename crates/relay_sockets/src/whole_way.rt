@@ -2,13 +2,11 @@
 
 use crate::frame::MESSAGE;
 use crate::peer::{accept, acknowledge, is_silent, shown, source, value, value_text};
-use crate::site::{Site, around, free_site, listen, relay_to};
+use crate::site::Site;
 use anyhow::Result;
 use hex::encode;
 use std::net::{Net, TcpListener, TcpStream};
 use std::rt::Clock;
-use std::sync::Wait;
-use std::thread::Threads;
 
 /// What both sides saw.
 #[derive(Debug, Drop)]
@@ -19,7 +17,7 @@ struct Seen {
 }
 
 /// The source and the server.
-fn play<R: Net<Listener = TcpListener, Stream = TcpStream> + Clock + AllocGlobal>(
+pub fn play<R: Net<Listener = TcpListener, Stream = TcpStream> + Clock + AllocGlobal>(
     rt: &R,
     site: Site,
     server: &TcpListener,
@@ -40,19 +38,4 @@ fn play<R: Net<Listener = TcpListener, Stream = TcpStream> + Clock + AllocGlobal
             told,
         },
     )
-}
-
-/// What both sides saw, and what the relay came to.
-pub fn whole_way<
-    R: Net<Listener = TcpListener, Stream = TcpStream>
-        + Threads
-        + Wait
-        + Clock
-        + AllocGlobal
-        + Sync,
->(rt: &R, host: u8) -> Result<String> {
-    let server = listen(rt, host)?;
-    let site = free_site(rt, host)?;
-    let relay = relay_to(rt, site, &server)?;
-    around(rt, site, relay, move || play(rt, site, &server))
 }
