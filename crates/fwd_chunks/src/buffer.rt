@@ -82,7 +82,7 @@ pub struct Buffer {
     run: [u8; 6],
     output: u16,
     slots: Slots,
-    /// The number of each tag's open chunk.
+    /// The number of each tag's newest chunk.
     tags: Tags,
     accepted: u64,
     settled: u64,
