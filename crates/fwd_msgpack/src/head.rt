@@ -114,7 +114,12 @@ fn u64_at(bytes: &[u8]) -> Option<u64>
 /// Reads the head at the front of the bytes (MessagePack
 /// specification, "Formats"). It takes no memory.
 #[inline(always)]
-#[tactic(auto, unfolding(crate::specs::Heads::reading_of, crate::specs::Heads::row_of, crate::specs::Heads::named_rows))]
+#[rattlefmt::skip]
+#[tactic(auto, unfolding(
+    crate::specs::Heads::reading_of,
+    crate::specs::Heads::row_of,
+    crate::specs::Heads::named_rows
+))]
 pub fn read_head(bytes: &[u8]) -> HeadRead
     ensures head { result ≡ reading_of bytes.now }
     ensures within { IsWithin (length bytes.now) result }

@@ -33,7 +33,12 @@ impl<'a> Section<'a> {
     }
 
     /// A number of its range.
-    #[tactic(auto, unfolding(crate::specs::Kinds::fault_at, crate::specs::Kinds::setting_at, crate::specs::Kinds::number_key))]
+    #[rattlefmt::skip]
+    #[tactic(auto, unfolding(
+        crate::specs::Kinds::fault_at,
+        crate::specs::Kinds::setting_at,
+        crate::specs::Kinds::number_key
+    ))]
     pub fn number(
         &self,
         alloc: Global,
@@ -90,7 +95,12 @@ impl<'a> Section<'a> {
     }
 
     /// True or false.
-    #[tactic(auto, unfolding(crate::specs::Kinds::fault_at, crate::specs::Kinds::setting_at, crate::specs::Kinds::flag_key))]
+    #[rattlefmt::skip]
+    #[tactic(auto, unfolding(
+        crate::specs::Kinds::fault_at,
+        crate::specs::Kinds::setting_at,
+        crate::specs::Kinds::flag_key
+    ))]
     pub fn flag(&self, alloc: Global, name: &str, default: bool) -> Result<bool, SettingsFault>
         ensures { Reads self.now.place (table_view self.now.table.now)
             (flag_key name.now default) result }
@@ -105,7 +115,12 @@ impl<'a> Section<'a> {
     }
 
     /// A text of so many bytes.
-    #[tactic(auto, unfolding(crate::specs::Kinds::fault_at, crate::specs::Kinds::setting_at, crate::specs::Kinds::text_key))]
+    #[rattlefmt::skip]
+    #[tactic(auto, unfolding(
+        crate::specs::Kinds::fault_at,
+        crate::specs::Kinds::setting_at,
+        crate::specs::Kinds::text_key
+    ))]
     pub fn text(
         &self,
         alloc: Global,
@@ -127,7 +142,12 @@ impl<'a> Section<'a> {
     }
 
     /// A text of so many bytes, if there is one.
-    #[tactic(auto, unfolding(crate::specs::Kinds::fault_at, crate::specs::Kinds::setting_at, crate::specs::Kinds::optional_text_key))]
+    #[rattlefmt::skip]
+    #[tactic(auto, unfolding(
+        crate::specs::Kinds::fault_at,
+        crate::specs::Kinds::setting_at,
+        crate::specs::Kinds::optional_text_key
+    ))]
     pub fn optional_text(
         &self,
         alloc: Global,
@@ -148,7 +168,12 @@ impl<'a> Section<'a> {
     }
 
     /// A text of so many bytes that has to be there.
-    #[tactic(auto, unfolding(crate::specs::Kinds::fault_at, crate::specs::Kinds::setting_at, crate::specs::Kinds::required_text_key))]
+    #[rattlefmt::skip]
+    #[tactic(auto, unfolding(
+        crate::specs::Kinds::fault_at,
+        crate::specs::Kinds::setting_at,
+        crate::specs::Kinds::required_text_key
+    ))]
     pub fn required_text(
         &self,
         alloc: Global,
@@ -169,7 +194,12 @@ impl<'a> Section<'a> {
     }
 
     /// So many bytes as hex digits.
-    #[tactic(auto, unfolding(crate::specs::Kinds::fault_at, crate::specs::Kinds::setting_at, crate::specs::Kinds::digits_key))]
+    #[rattlefmt::skip]
+    #[tactic(auto, unfolding(
+        crate::specs::Kinds::fault_at,
+        crate::specs::Kinds::setting_at,
+        crate::specs::Kinds::digits_key
+    ))]
     pub fn digits<const N: usize>(
         &self,
         alloc: Global,
@@ -188,7 +218,12 @@ impl<'a> Section<'a> {
     }
 
     /// An address, if there is one.
-    #[tactic(auto, unfolding(crate::specs::Kinds::fault_at, crate::specs::Kinds::setting_at, crate::specs::Kinds::address_key))]
+    #[rattlefmt::skip]
+    #[tactic(auto, unfolding(
+        crate::specs::Kinds::fault_at,
+        crate::specs::Kinds::setting_at,
+        crate::specs::Kinds::address_key
+    ))]
     pub fn address(&self, alloc: Global, name: &str) -> Result<Option<SocketAddr>, SettingsFault>
         ensures { Reads self.now.place (table_view self.now.table.now)
             (address_key name.now) result }
@@ -203,7 +238,12 @@ impl<'a> Section<'a> {
     }
 
     /// An address, or the default.
-    #[tactic(auto, unfolding(crate::specs::Kinds::fault_at, crate::specs::Kinds::setting_at, crate::specs::Kinds::address_key_or))]
+    #[rattlefmt::skip]
+    #[tactic(auto, unfolding(
+        crate::specs::Kinds::fault_at,
+        crate::specs::Kinds::setting_at,
+        crate::specs::Kinds::address_key_or
+    ))]
     pub fn address_or(
         &self,
         alloc: Global,
@@ -223,7 +263,12 @@ impl<'a> Section<'a> {
     }
 
     /// An address that has to be there.
-    #[tactic(auto, unfolding(crate::specs::Kinds::fault_at, crate::specs::Kinds::setting_at, crate::specs::Kinds::required_address_key))]
+    #[rattlefmt::skip]
+    #[tactic(auto, unfolding(
+        crate::specs::Kinds::fault_at,
+        crate::specs::Kinds::setting_at,
+        crate::specs::Kinds::required_address_key
+    ))]
     pub fn required_address(&self, alloc: Global, name: &str) -> Result<SocketAddr, SettingsFault>
         ensures { Reads self.now.place (table_view self.now.table.now)
             (required_address_key name.now) result }
@@ -238,7 +283,12 @@ impl<'a> Section<'a> {
     }
 
     /// A match pattern that has to be there.
-    #[tactic(auto, unfolding(crate::specs::Kinds::fault_at, crate::specs::Kinds::setting_at, crate::specs::Kinds::required_pattern_key))]
+    #[rattlefmt::skip]
+    #[tactic(auto, unfolding(
+        crate::specs::Kinds::fault_at,
+        crate::specs::Kinds::setting_at,
+        crate::specs::Kinds::required_pattern_key
+    ))]
     pub fn required_pattern(&self, alloc: Global, name: &str) -> Result<Pattern, SettingsFault>
         ensures { Reads self.now.place (table_view self.now.table.now)
             (required_pattern_key name.now) result }
@@ -257,7 +307,12 @@ impl<'a> Section<'a> {
     }
 
     /// The members of a list that has to be there, from 1 to so many.
-    #[tactic(auto, unfolding(crate::specs::Kinds::fault_at, crate::specs::Kinds::setting_at, crate::specs::Kinds::required_list_key))]
+    #[rattlefmt::skip]
+    #[tactic(auto, unfolding(
+        crate::specs::Kinds::fault_at,
+        crate::specs::Kinds::setting_at,
+        crate::specs::Kinds::required_list_key
+    ))]
     pub fn required_list(
         &self,
         alloc: Global,
@@ -282,7 +337,12 @@ impl<'a> Section<'a> {
 
     /// The members of a list of at least one, or none where it is absent. It may only be there
     /// where that is allowed.
-    #[tactic(auto, unfolding(crate::specs::Kinds::fault_at, crate::specs::Kinds::setting_at, crate::specs::Kinds::optional_list_key))]
+    #[rattlefmt::skip]
+    #[tactic(auto, unfolding(
+        crate::specs::Kinds::fault_at,
+        crate::specs::Kinds::setting_at,
+        crate::specs::Kinds::optional_list_key
+    ))]
     pub fn optional_list(
         &self,
         alloc: Global,
