@@ -1,5 +1,5 @@
 -- The definitions at work on a few lines.
-use Rattle.std.proofs.Common.{◌≡◌, true, false, [], ◌∷◌, Some, None, refl, lit<}
+use Rattle.std.proofs.Common.{◌≡◌, true, false, [], ◌∷◌, Some, None, refl, lit<, length, ◌-◌}
 use Rattle.std.specs.Prelude.{codes}
 use Rattle.std.specs.Fmt.{digits}
 use Rattle.hex.specs.Hex.{decode_pairs, encode_with}
@@ -9,7 +9,7 @@ use Rattle.fwd_session.specs.declared.fault.SessionFault.TheVariants.{EarlyAck, 
 use Rattle.fwd_model.specs.declared.fault.Refusal.TheVariants.{NotUp}
 use Rattle.fwd_model.specs.declared.answer.Answer.TheVariants.{Chose, Quiet, Ready, Acked, SessionFaulted, Settled, Late as LateOrNot, Ended, Told, Refused}
 use Rattle.fwd_script.specs.Words.{number_of, bytes_of, salt_of}
-use Rattle.fwd_script.specs.Lines.{Long, Short, Ending, row, IsLineOf, ending_of, read_none, read_more, of_words, event_of}
+use Rattle.fwd_script.specs.Lines.{Long, Short, Ending, row, IsLineOf, ending_of, read_none, read_more, of_words, event_of, forms}
 use Rattle.fwd_script.specs.Texts.{list_text, text_of}
 
 -- ---- lines
@@ -77,7 +77,7 @@ unfolding digits
 end_spelled = record {
   spelling = record {
     form = row (codes "end") (Short ∷ Short ∷ Ending ∷ Long ∷ []) End;
-    is_row = (16, lit< tt, refl);
+    is_row = (length forms - 1, lit< tt, refl);
     values = (1, (2, (Lost, (30, tt))));
     makes = refl;
   };
