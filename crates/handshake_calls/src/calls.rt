@@ -3,8 +3,8 @@
 use crate::words::{bytes, client, nonces, server, value, word_of};
 use anyhow::{Result, bail};
 use fwd_handshake::{
-    Denial, HeloAnswer, PingVerdict, PongVerdict, Salt, answer_helo, judge_ping, judge_pong,
-    write_helo,
+    Denial, HeloAnswer, Login, Nonces, PingVerdict, PongVerdict, Salt, Security, answer_helo,
+    judge_ping, judge_pong, write_helo,
 };
 use std::alloc::Global;
 
@@ -18,14 +18,20 @@ fn helo(alloc: Global, words: &[&str]) -> Result<String> {
     word_of(alloc, helo.as_slice())
 }
 
-fn ping(alloc: Global, words: &[&str]) -> Result<String> {
-    let [host, shared, names, nonce, auth, ping] = *words else {
-        bail!("no PING");
-    };
-    let security = server(alloc, host, shared, names)?;
-    let nonces = nonces(nonce, auth)?;
+/// The verdict on a PING, and the PONG that a server answers.
+fn judged_ping(
+    alloc: Global,
+    security: &Security,
+    nonces: &Nonces,
+    ping: &str,
+) -> Result<PingVerdict> {
     let ping = bytes(alloc, ping)?;
-    let (word, pong) = match judge_ping(alloc, value(&ping)?, &security, &nonces)? {
+    Ok(judge_ping(alloc, value(&ping)?, security, nonces)?)
+}
+
+/// The text of a verdict on a PING.
+fn ping_text(alloc: Global, verdict: &PingVerdict) -> Result<String> {
+    let (word, pong) = match verdict {
         PingVerdict::Pass(pong) => ("pass", pong),
         PingVerdict::Deny(pong, Denial::KeyMismatch) => ("key", pong),
         PingVerdict::Deny(pong, Denial::UserMismatch) => ("user", pong),
@@ -35,29 +41,61 @@ fn ping(alloc: Global, words: &[&str]) -> Result<String> {
     Ok(format!(in alloc; "{word} {pong}")?)
 }
 
+fn ping(alloc: Global, words: &[&str]) -> Result<String> {
+    let [host, shared, names, nonce, auth, ping] = *words else {
+        bail!("no PING");
+    };
+    let nonces = nonces(nonce, auth)?;
+    let security = server(alloc, host, shared, names)?;
+    let verdict = judged_ping(alloc, &security, &nonces, ping)?;
+    ping_text(alloc, &verdict)
+}
+
+/// A client's answer to a HELO, under a salt.
+fn answered(alloc: Global, login: &Login, salt: &str, helo: &str) -> Result<HeloAnswer> {
+    let salt = bytes(alloc, salt)?;
+    let helo = bytes(alloc, helo)?;
+    let Some(salt) = Salt::new(&salt) else {
+        bail!("no salt");
+    };
+    Ok(answer_helo(alloc, value(&helo)?, login, salt)?)
+}
+
+/// The text of a PING, by the nonce and the keepalive of the HELO that it answers.
+fn ping_words(alloc: Global, ping: &[u8], nonce: &[u8], keepalive: bool) -> Result<String> {
+    let word = if keepalive { "keep" } else { "close" };
+    let nonce = word_of(alloc, nonce)?;
+    let ping = word_of(alloc, ping)?;
+    Ok(format!(in alloc; "{word} {nonce} {ping}")?)
+}
+
 fn answer_to_helo(alloc: Global, words: &[&str]) -> Result<String> {
     let [host, shared, name, password, salt, helo] = *words else {
         bail!("no answer");
     };
     let login = client(alloc, host, shared, name, password)?;
-    let salt = bytes(alloc, salt)?;
-    let Some(salt) = Salt::new(&salt) else {
-        bail!("a salt of {} bytes", salt.len());
-    };
-    let helo = bytes(alloc, helo)?;
-    match answer_helo(alloc, value(&helo)?, &login, salt)? {
+    match &answered(alloc, &login, salt, helo)? {
         HeloAnswer::Ping {
             bytes,
             nonce,
             keepalive,
-        } => {
-            let word = if keepalive { "keep" } else { "close" };
-            let nonce = word_of(alloc, nonce.as_slice())?;
-            let ping = word_of(alloc, bytes.as_slice())?;
-            Ok(format!(in alloc; "{word} {nonce} {ping}")?)
-        }
+        } => ping_words(alloc, bytes.as_slice(), nonce.as_slice(), *keepalive),
         HeloAnswer::NotHelo => Ok(String::from_str(alloc, "not_helo")?),
     }
+}
+
+/// The verdict on a PONG.
+fn judged_pong(
+    alloc: Global,
+    login: &Login,
+    salt: &str,
+    nonce: &str,
+    pong: &str,
+) -> Result<PongVerdict> {
+    let salt = bytes(alloc, salt)?;
+    let nonce = bytes(alloc, nonce)?;
+    let pong = bytes(alloc, pong)?;
+    Ok(judge_pong(value(&pong)?, login, &salt, &nonce))
 }
 
 /// The word for a verdict on a PONG.
@@ -75,10 +113,7 @@ fn pong(alloc: Global, words: &[&str]) -> Result<String> {
         bail!("no PONG");
     };
     let login = client(alloc, "-", shared, "-", "-")?;
-    let pong = bytes(alloc, pong)?;
-    let salt = bytes(alloc, salt)?;
-    let nonce = bytes(alloc, nonce)?;
-    let verdict = judge_pong(value(&pong)?, &login, &salt, &nonce);
+    let verdict = judged_pong(alloc, &login, salt, nonce, pong)?;
     Ok(String::from_str(alloc, pong_word(verdict))?)
 }
 

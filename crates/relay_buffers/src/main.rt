@@ -15,7 +15,7 @@ mod words;
 
 use crate::outputs::{OutputTimes, output_turn};
 use crate::requests::batches;
-use crate::turns::{Times, fastest};
+use crate::turns::{Found, Times, fastest};
 use crate::words::{Mode, Words, read_words};
 use anyhow::{Context, Result};
 use fwd_modes::Batch;
@@ -60,44 +60,61 @@ fn report_output<R: Runtime + AllocGlobal>(
     report(rt, "collect", collect, told, "a request")
 }
 
+/// What the buffer was left with.
+fn report_found(rt: &impl Print, found: &Found) -> Result<()> {
+    let Found {
+        counts,
+        chunks,
+        closed,
+    } = *found;
+    println!(rt;
+        "entries {} settled {} chunks {chunks} closed {closed}",
+        counts.accepted, counts.settled
+    )?;
+    Ok(())
+}
+
+/// How long each part took in the fastest of the turns.
+fn report_times(rt: &impl Print, found: &Found, times: &Times) -> Result<()> {
+    let entries = found.counts.accepted;
+    let chunks = found.chunks;
+    let behind = "a chunk taken behind all others, which wait";
+    for (part, took, count, of) in [
+        ("admit", times.admit, entries, "an entry"),
+        ("copy", times.copy, entries, "an entry"),
+        ("flush", times.flush, chunks, "a chunk"),
+        ("take", times.take, chunks, "a chunk"),
+        ("settle", times.settle, chunks, "a chunk"),
+        ("behind", times.behind, 1, behind),
+    ] {
+        report(rt, part, took, count, of)?;
+    }
+    Ok(())
+}
+
+/// Does it with a buffer alone.
+fn report_buffer<R: Runtime + AllocGlobal>(
+    rt: &R,
+    words: &Words,
+    batches: &Vec<Batch>,
+) -> Result<()> {
+    let (found, times) = fastest(rt, words, batches)?;
+    report_found(rt, &found)?;
+    if words.mode == Mode::Speed {
+        report_times(rt, &found, &times)?;
+    }
+    Ok(())
+}
+
 fn main(rt: HostRuntime) -> Result<()> {
     let words = read_words(&rt)?;
     let batches = batches(rt.alloc(), words.load).context("no requests")?;
-    if words.mode == Mode::Requests {
-        println!(rt; "requests {}", batches.len())?;
-        return Ok(());
+    match words.mode {
+        Mode::Requests => {
+            println!(rt; "requests {}", batches.len())?;
+            Ok(())
+        }
+        Mode::Output => report_output(&rt, &words, &batches),
+        Mode::Count | Mode::Speed => report_buffer(&rt, &words, &batches),
     }
-    if words.mode == Mode::Output {
-        return report_output(&rt, &words, &batches);
-    }
-    let (found, times) = fastest(&rt, &words, &batches)?;
-    let entries = found.counts.accepted;
-    let chunks = found.chunks;
-    println!(rt;
-        "entries {entries} settled {} chunks {chunks} closed {}",
-        found.counts.settled, found.closed
-    )?;
-    if words.mode == Mode::Speed {
-        let Times {
-            admit,
-            flush,
-            take,
-            settle,
-            copy,
-            behind,
-        } = times;
-        report(&rt, "admit", admit, entries, "an entry")?;
-        report(&rt, "copy", copy, entries, "an entry")?;
-        report(&rt, "flush", flush, chunks, "a chunk")?;
-        report(&rt, "take", take, chunks, "a chunk")?;
-        report(&rt, "settle", settle, chunks, "a chunk")?;
-        report(
-            &rt,
-            "behind",
-            behind,
-            1,
-            "a chunk taken behind all others, which wait",
-        )?;
-    }
-    Ok(())
 }

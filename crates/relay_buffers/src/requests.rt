@@ -1,7 +1,7 @@
 //! The requests that are admitted.
 
 use crate::words::Load;
-use anyhow::{Result, bail};
+use anyhow::{Context, Result, bail};
 use fwd_modes::{Batch, Reading, read_request};
 use fwd_msgpack::{Cut, Head, Limits, cut, write_head};
 use std::alloc::{AllocError, Global};
@@ -33,24 +33,42 @@ fn put_entry(out: &mut Vec<u8>, size: u32) -> Result<(), AllocError> {
     Ok(())
 }
 
-/// A Forward request of so many entries for the tag of a number.
-fn request(alloc: Global, tag: u32, count: u32, size: u32) -> Result<Batch> {
-    let mut bytes = Vec::new(alloc);
-    write_head(&mut bytes, Head::Arr(2))?;
-    let name = format!(in alloc; "tag.{tag:07}")?;
-    write_head(&mut bytes, Head::Str(11))?;
-    bytes.extend_from_slice(name.as_bytes())?;
-    write_head(&mut bytes, Head::Arr(count))?;
+/// Appends a Forward request's bytes before its entries.
+fn put_front(out: &mut Vec<u8>, tag: &str, count: u32) -> Result<()> {
+    let length = u32::try_from(tag.len()).context("a long tag")?;
+    write_head(out, Head::Arr(2))?;
+    write_head(out, Head::Str(length))?;
+    out.extend_from_slice(tag.as_bytes())?;
+    write_head(out, Head::Arr(count))?;
+    Ok(())
+}
+
+/// Appends a Forward request of so many entries for a tag.
+fn put_request(out: &mut Vec<u8>, tag: &str, count: u32, size: u32) -> Result<()> {
+    put_front(out, tag, count)?;
     for _ in 0..count {
-        put_entry(&mut bytes, size)?;
+        put_entry(out, size)?;
     }
-    let Cut::Whole(value, _) = cut(&bytes, LIMITS) else {
+    Ok(())
+}
+
+/// What the bytes of a request ask.
+fn batch_of(alloc: Global, bytes: &[u8]) -> Result<Batch> {
+    let Cut::Whole(value, _) = cut(bytes, LIMITS) else {
         bail!("no value");
     };
     match read_request(alloc, value, LIMITS)? {
         Reading::Asks(batch) => Ok(batch),
         _ => bail!("no request"),
     }
+}
+
+/// A Forward request of so many entries for the tag of a number.
+fn request(alloc: Global, tag: u32, count: u32, size: u32) -> Result<Batch> {
+    let tag = format!(in alloc; "tag.{tag:07}")?;
+    let mut bytes = Vec::new(alloc);
+    put_request(&mut bytes, &tag, count, size)?;
+    batch_of(alloc, &bytes)
 }
 
 /// A request for each tag, but no more than are admitted in all.

@@ -1,7 +1,7 @@
 //! The program's words.
 
 use anyhow::{Context, Result, bail};
-use std::env;
+use std::env::{self, Args};
 use std::rt::Runtime;
 
 /// What a buffer has to do.
@@ -46,37 +46,41 @@ pub struct Words {
     pub turns: u32,
 }
 
+/// The mode of a word.
+fn mode_of(word: &str) -> Result<Mode> {
+    match word {
+        "requests" => Ok(Mode::Requests),
+        "count" => Ok(Mode::Count),
+        "speed" => Ok(Mode::Speed),
+        "output" => Ok(Mode::Output),
+        _ => bail!("requests, count, speed or output?"),
+    }
+}
+
+/// The number of the next word.
+fn next_number(words: &mut Args, what: &str) -> Result<u32> {
+    let word = words.next().context(format_args!("how many {what}?"))?;
+    word.parse().context(format_args!("how many {what}?"))
+}
+
+/// The load of the next four words.
+fn next_load(words: &mut Args) -> Result<Load> {
+    Ok(Load {
+        entries: next_number(words, "entries")?,
+        tags: next_number(words, "tags")?,
+        size: next_number(words, "bytes an entry")?,
+        request: next_number(words, "entries a request")?,
+    })
+}
+
 /// The program's words, or which of them is none that it knows.
 pub fn read_words<R: Runtime + AllocGlobal>(rt: &R) -> Result<Words> {
-    let mut words = env::args(rt)?.skip(1);
-    let mode = match words
-        .next()
-        .context("requests, count, speed or output?")?
-        .as_str()
-    {
-        "requests" => Mode::Requests,
-        "count" => Mode::Count,
-        "speed" => Mode::Speed,
-        "output" => Mode::Output,
-        _ => bail!("requests, count, speed or output?"),
-    };
-    let mut number = |what: &str| -> Result<u32> {
-        let word = words.next().context(format_args!("how many {what}?"))?;
-        word.parse().context(format_args!("how many {what}?"))
-    };
-    let entries = number("entries")?;
-    let tags = number("tags")?;
-    let size = number("bytes an entry")?;
-    let request = number("entries a request")?;
-    let turns = number("turns")?;
+    let mut words = env::args(rt)?;
+    let _program = words.next();
+    let mode = words.next().context("requests, count, speed or output?")?;
     Ok(Words {
-        mode,
-        load: Load {
-            entries,
-            tags,
-            size,
-            request,
-        },
-        turns,
+        mode: mode_of(&mode)?,
+        load: next_load(&mut words)?,
+        turns: next_number(&mut words, "turns")?,
     })
 }

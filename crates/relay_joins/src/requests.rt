@@ -30,27 +30,45 @@ pub struct Request {
     pub batch: Batch,
 }
 
-/// A Forward request of these entries, each told by its place among all.
-fn one_request(alloc: Global, tag: u8, entries: &[usize]) -> Result<Request> {
-    let mut bytes = Vec::new(alloc);
-    let mut sizes = Vec::new(alloc);
-    write_head(&mut bytes, Head::Arr(2))?;
-    write_head(&mut bytes, Head::Str(1))?;
-    bytes.push(tag)?;
+/// An entry's bytes, by its place among all.
+fn spelled(entry: usize) -> &'static [u8] {
+    ENTRIES.get(entry).copied().unwrap_or(b"")
+}
+
+/// Appends a Forward request of these entries, each told by its place among all.
+fn put_request(out: &mut Vec<u8>, tag: u8, entries: &[usize]) -> Result<()> {
     let count = u32::try_from(entries.len()).context("too many entries")?;
-    write_head(&mut bytes, Head::Arr(count))?;
+    write_head(out, Head::Arr(2))?;
+    write_head(out, Head::Str(1))?;
+    out.push(tag)?;
+    write_head(out, Head::Arr(count))?;
     for entry in entries {
-        let spelled = ENTRIES.get(*entry).copied().unwrap_or(b"");
-        bytes.extend_from_slice(spelled)?;
-        sizes.push(spelled.len() as u64)?;
+        out.extend_from_slice(spelled(*entry))?;
     }
-    let Cut::Whole(value, _) = cut(&bytes, LIMITS) else {
+    Ok(())
+}
+
+/// What the bytes of a request ask.
+fn batch_of(alloc: Global, bytes: &[u8]) -> Result<Batch> {
+    let Cut::Whole(value, _) = cut(bytes, LIMITS) else {
         bail!("no value");
     };
     match read_request(alloc, value, LIMITS)? {
-        Reading::Asks(batch) => Ok(Request { tag, sizes, batch }),
+        Reading::Asks(batch) => Ok(batch),
         _ => bail!("no request"),
     }
+}
+
+/// A Forward request of these entries, each told by its place among all.
+fn one_request(alloc: Global, tag: u8, entries: &[usize]) -> Result<Request> {
+    let mut bytes = Vec::new(alloc);
+    put_request(&mut bytes, tag, entries)?;
+    let sizes = entries
+        .iter()
+        .map(|entry| spelled(*entry).len() as u64)
+        .collect(alloc)?;
+    let batch = batch_of(alloc, &bytes)?;
+    Ok(Request { tag, sizes, batch })
 }
 
 /// The entries of the request of a number among those with so many entries: its digits to the

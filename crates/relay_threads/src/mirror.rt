@@ -292,25 +292,29 @@ fn locked(alloc: Global, story: Story) -> Result<Locked<Plain, Plain>> {
     Ok(Locked::new(state, Plain::new(0), Plain::new(0)))
 }
 
+/// What a story's calls answer on an output itself.
+fn played_bare(alloc: Global, story: Story) -> Result<Vec<Note>> {
+    let mut out = locked(alloc, story)?;
+    Ok(played(alloc, &mut out, story))
+}
+
+/// What a story's calls answer on the same output behind its lock.
+fn played_behind<R: Wait>(rt: &R, alloc: Global, story: Story) -> Result<Vec<Note>> {
+    let shared = SharedOutput::new(locked(alloc, story)?);
+    let mut behind = Behind { rt, shared };
+    Ok(played(alloc, &mut behind, story))
+}
+
 /// How many calls a story has, and whether the output answered them alike behind its lock.
 pub fn mirrored<R: Wait>(rt: &R, alloc: Global, story: Story) -> Result<(usize, bool)> {
-    let mut bare = locked(alloc, story)?;
-    let plain = played(alloc, &mut bare, story);
-    let mut behind = Behind {
-        rt,
-        shared: SharedOutput::new(locked(alloc, story)?),
-    };
-    let shared = played(alloc, &mut behind, story);
-    Ok((plain.len(), plain.as_slice() == shared.as_slice()))
+    let bare = played_bare(alloc, story)?;
+    let behind = played_behind(rt, alloc, story)?;
+    Ok((bare.len(), bare.as_slice() == behind.as_slice()))
 }
 
 /// What a story's calls answer behind a lock, one after the other.
 pub fn told<R: Wait>(rt: &R, alloc: Global, story: Story) -> Result<String> {
-    let mut behind = Behind {
-        rt,
-        shared: SharedOutput::new(locked(alloc, story)?),
-    };
-    let notes = played(alloc, &mut behind, story);
+    let notes = played_behind(rt, alloc, story)?;
     let mut text = String::new(alloc);
     for note in &notes {
         let answer = note.answer;
