@@ -40,19 +40,23 @@ fn given(alloc: Global, book: &Book) -> Option<usize> {
     Some(receipts.len())
 }
 
-/// What a book tells of a request without entries: how many receipts it gives, and how many
-/// requests leave as they are forgotten twice.
+/// How many receipts a book gives, and how many requests leave as they are forgotten twice.
+fn given_and_left(alloc: Global, book: &mut Book) -> Option<(usize, usize)> {
+    let receipts = given(alloc, book)?;
+    Some((receipts, book.forget(&[ORIGIN, ORIGIN])))
+}
+
+/// The same of a new book that a request without entries is entered in.
 fn told(alloc: Global, batch: &Batch) -> Option<(usize, usize)>
     requires { batch.now.entries ≡ [] }
 {
     let mut book = Book::new(alloc, [0; 6], 0);
-    let Ok(()) = book.prepare(alloc, batch) else {
-        return None;
-    };
-    book.enter(ORIGIN, Vec::new(alloc));
-    let receipts = given(alloc, &book);
-    let left = book.forget(&[ORIGIN, ORIGIN]);
-    Some((receipts?, left))
+    let mut told = None;
+    if book.prepare(alloc, batch).is_ok() {
+        book.enter(ORIGIN, Vec::new(alloc));
+        told = given_and_left(alloc, &mut book);
+    }
+    told
 }
 
 #[test]

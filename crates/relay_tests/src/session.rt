@@ -146,18 +146,29 @@ fn an_early_acknowledgement_is_a_fault(rt: HostRuntime) -> Result<(), Fail> {
     Ok(())
 }
 
+/// What the rest of HELO comes to, with the PING that the session has to send.
+fn hear_helo(alloc: Global, session: &mut Session, rest: &[u8]) -> Result<Heard, Fail> {
+    let told = session.heard(alloc, rest)?;
+    if session.out() != told.out.as_slice() || told.out.len() != 155 {
+        return Err(Fail::from("another PING"));
+    }
+    Ok(told.heard)
+}
+
+/// What PONG comes to.
+fn hear_pong(alloc: Global, session: &mut Session) -> Result<Heard, Fail> {
+    let mut pong = Vec::from_slice(alloc, b"\x95\xa4PONG\xc3\xa0\xa5brown\xd9\x80")?;
+    pong.extend_from_slice(DIGEST)?;
+    Ok(session.heard(alloc, &pong)?.heard)
+}
+
 /// What a handshake comes to, where HELO is heard in two pieces.
 fn greet(alloc: Global, session: &mut Session, cut: usize) -> Result<[Heard; 3], Fail> {
     let (first, second) = HELO.split_at(cut.min(HELO.len()));
     let quiet = session.heard(alloc, first)?.heard;
-    let ping = session.heard(alloc, second)?;
-    if session.out() != ping.out.as_slice() || ping.out.len() != 155 {
-        return Err(Fail::from("another PING"));
-    }
+    let helo = hear_helo(alloc, session, second)?;
     session.wrote(session.out().len());
-    let mut pong = Vec::from_slice(alloc, b"\x95\xa4PONG\xc3\xa0\xa5brown\xd9\x80")?;
-    pong.extend_from_slice(DIGEST)?;
-    Ok([quiet, ping.heard, session.heard(alloc, &pong)?.heard])
+    Ok([quiet, helo, hear_pong(alloc, session)?])
 }
 
 #[test]

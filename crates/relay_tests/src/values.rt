@@ -19,6 +19,11 @@ fn lists(rt: HostRuntime) -> Result<(), Fail> {
     let copy = list.to_owned(rt.alloc())?;
     assert_eq!(rt; copy.as_slice(), [1, 2, 3].as_slice());
     assert_eq!(rt; copy.len(), 3);
+    Ok(())
+}
+
+#[test]
+fn joined_lists(rt: HostRuntime) -> Result<(), Fail> {
     assert!(rt; Bytes::new(rt.alloc()).is_empty());
     let joined = Bytes::joined(rt.alloc(), &[1], &[2, 3])?;
     assert_eq!(rt; joined.as_slice(), [1, 2, 3].as_slice());
