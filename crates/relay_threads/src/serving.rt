@@ -75,31 +75,39 @@ fn session(alloc: Global) -> Result<Session>
     Ok(session_of(alloc, login, salt))
 }
 
-/// What one turn comes to where the link takes at most so many bytes of the frame's 46.
-pub fn served<R: Wait>(rt: &R, alloc: Global, most: usize) -> Result<Served> {
-    let mut state: OutputState = output(alloc, 1000, 100_000)?;
+/// Admits a Message.
+fn admit_one(alloc: Global, state: &mut OutputState) -> Result<()> {
     let request = batch(alloc, MESSAGE)?;
     let origin = Origin {
         conn: 1,
         request: 1,
     };
     state.admit(alloc, origin, &request, 0)?;
+    Ok(())
+}
+
+/// An output with one chunk, which is closed.
+fn closed(alloc: Global) -> Result<OutputState> {
+    let mut state = output(alloc, 1000, 100_000)?;
+    admit_one(alloc, &mut state)?;
     state.flush(0, FlushKind::All);
-    let session = session(alloc)?;
-    serve_loaded(rt, alloc, &mut state, session, most)
+    Ok(state)
+}
+
+/// What one turn comes to where the link takes at most so many bytes of the frame's 46.
+pub fn served<R: Wait>(rt: &R, alloc: Global, most: usize) -> Result<Served> {
+    let mut state = closed(alloc)?;
+    serve_first(rt, alloc, &mut state, most)
 }
 
 /// The same of a session that is loaded with the output's chunk first.
-fn serve_loaded<R: Wait>(
+fn serve_first<R: Wait>(
     rt: &R,
     alloc: Global,
     state: &mut OutputState,
-    session: Session,
     most: usize,
-) -> Result<Served>
-    requires { (session.loaded ≡ None) × (session.down ≡ false) }
-{
-    let mut session = session;
+) -> Result<Served> {
+    let mut session = session(alloc)?;
     if let Ok(Some(chunk)) = state.take(alloc, 0, 0) {
         if let Err(LoadFailed { chunk, error: _ }) = session.load(alloc, chunk, 0) {
             chunk.spend();
