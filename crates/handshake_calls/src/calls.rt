@@ -19,7 +19,7 @@ fn helo(alloc: Global, words: &[&str]) -> Result<String> {
 }
 
 /// The verdict on a PING, and the PONG that a server answers.
-fn judged_ping(
+fn ping_verdict(
     alloc: Global,
     security: &Security,
     nonces: &Nonces,
@@ -47,12 +47,12 @@ fn ping(alloc: Global, words: &[&str]) -> Result<String> {
     };
     let nonces = nonces(nonce, auth)?;
     let security = server(alloc, host, shared, names)?;
-    let verdict = judged_ping(alloc, &security, &nonces, ping)?;
+    let verdict = ping_verdict(alloc, &security, &nonces, ping)?;
     ping_text(alloc, &verdict)
 }
 
 /// A client's answer to a HELO, under a salt.
-fn answered(alloc: Global, login: &Login, salt: &str, helo: &str) -> Result<HeloAnswer> {
+fn helo_answer(alloc: Global, login: &Login, salt: &str, helo: &str) -> Result<HeloAnswer> {
     let salt = bytes(alloc, salt)?;
     let helo = bytes(alloc, helo)?;
     let Some(salt) = Salt::new(&salt) else {
@@ -74,7 +74,7 @@ fn answer_to_helo(alloc: Global, words: &[&str]) -> Result<String> {
         bail!("no answer");
     };
     let login = client(alloc, host, shared, name, password)?;
-    match &answered(alloc, &login, salt, helo)? {
+    match &helo_answer(alloc, &login, salt, helo)? {
         HeloAnswer::Ping {
             bytes,
             nonce,
@@ -85,7 +85,7 @@ fn answer_to_helo(alloc: Global, words: &[&str]) -> Result<String> {
 }
 
 /// The verdict on a PONG.
-fn judged_pong(
+fn pong_verdict(
     alloc: Global,
     login: &Login,
     salt: &str,
@@ -113,7 +113,7 @@ fn pong(alloc: Global, words: &[&str]) -> Result<String> {
         bail!("no PONG");
     };
     let login = client(alloc, "-", shared, "-", "-")?;
-    let verdict = judged_pong(alloc, &login, salt, nonce, pong)?;
+    let verdict = pong_verdict(alloc, &login, salt, nonce, pong)?;
     Ok(String::from_str(alloc, pong_word(verdict))?)
 }
 

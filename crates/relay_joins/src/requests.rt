@@ -31,7 +31,7 @@ pub struct Request {
 }
 
 /// An entry's bytes, by its place among all.
-fn spelled(entry: usize) -> &'static [u8] {
+fn entry_bytes(entry: usize) -> &'static [u8] {
     ENTRIES.get(entry).copied().unwrap_or(b"")
 }
 
@@ -43,7 +43,7 @@ fn put_request(out: &mut Vec<u8>, tag: u8, entries: &[usize]) -> Result<()> {
     out.push(tag)?;
     write_head(out, Head::Arr(count))?;
     for entry in entries {
-        out.extend_from_slice(spelled(*entry))?;
+        out.extend_from_slice(entry_bytes(*entry))?;
     }
     Ok(())
 }
@@ -65,7 +65,7 @@ fn one_request(alloc: Global, tag: u8, entries: &[usize]) -> Result<Request> {
     put_request(&mut bytes, tag, entries)?;
     let sizes = entries
         .iter()
-        .map(|entry| spelled(*entry).len() as u64)
+        .map(|entry| entry_bytes(*entry).len() as u64)
         .collect(alloc)?;
     let batch = batch_of(alloc, &bytes)?;
     Ok(Request { tag, sizes, batch })

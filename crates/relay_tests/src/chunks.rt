@@ -77,7 +77,7 @@ fn run(number: u64, from: u64, count: u64) -> Option<Span> {
 }
 
 /// What the request of these bytes comes to.
-fn admitted(alloc: Global, buffer: &mut Buffer, bytes: &[u8]) -> Result<Answer, Fail> {
+fn admit_bytes(alloc: Global, buffer: &mut Buffer, bytes: &[u8]) -> Result<Answer, Fail> {
     let batch = batch(alloc, bytes)?;
     let origin = Origin {
         conn: 1,
@@ -104,7 +104,7 @@ fn leave(buffer: &mut Buffer, carried: Carried, fate: Fate) {
 }
 
 /// What a worker takes at a moment.
-fn taken(alloc: Global, buffer: &mut Buffer, now: u64, fate: Fate) -> Result<Answer, Fail> {
+fn take_one(alloc: Global, buffer: &mut Buffer, now: u64, fate: Fate) -> Result<Answer, Fail> {
     let Some(carried) = buffer.take(alloc, 0, now)? else {
         return Ok(Answer::TookNothing);
     };
@@ -116,9 +116,9 @@ fn taken(alloc: Global, buffer: &mut Buffer, now: u64, fate: Fate) -> Result<Ans
 /// What a call comes to.
 fn answer_of(alloc: Global, buffer: &mut Buffer, call: Call<'_>) -> Result<Answer, Fail> {
     match call {
-        Call::Admit(bytes) => admitted(alloc, buffer, bytes),
+        Call::Admit(bytes) => admit_bytes(alloc, buffer, bytes),
         Call::Flush(now, kind) => Ok(Answer::Closed(buffer.flush(now, kind))),
-        Call::Take(now, fate) => taken(alloc, buffer, now, fate),
+        Call::Take(now, fate) => take_one(alloc, buffer, now, fate),
         Call::Held => Ok(Answer::Held(buffer.held())),
     }
 }
@@ -324,15 +324,15 @@ fn a_lost_chunk_waits(rt: HostRuntime) -> Result<(), Fail> {
 }
 
 /// A buffer of a run with one chunk, which is closed.
-fn closed(alloc: Global, run: [u8; 6]) -> Result<Buffer, Fail> {
+fn closed_buffer(alloc: Global, run: [u8; 6]) -> Result<Buffer, Fail> {
     let mut buffer = Buffer::new(alloc, limits(1000, 100_000, 1), run, 0);
-    admitted(alloc, &mut buffer, THREE)?;
+    admit_bytes(alloc, &mut buffer, THREE)?;
     buffer.flush(0, FlushKind::All);
     Ok(buffer)
 }
 
 /// The chunk of such a buffer.
-fn carried(alloc: Global, buffer: &mut Buffer) -> Result<Carried, Fail> {
+fn take_chunk(alloc: Global, buffer: &mut Buffer) -> Result<Carried, Fail> {
     match buffer.take(alloc, 0, 0)? {
         None => Err(Fail::from("nothing is free")),
         Some(carried) => Ok(carried),
@@ -342,8 +342,8 @@ fn carried(alloc: Global, buffer: &mut Buffer) -> Result<Carried, Fail> {
 /// A chunk's readers.
 #[test]
 fn a_carried_chunk_is_told(rt: HostRuntime) -> Result<(), Fail> {
-    let mut buffer = closed(rt.alloc(), [0; 6])?;
-    let carried = carried(rt.alloc(), &mut buffer)?;
+    let mut buffer = closed_buffer(rt.alloc(), [0; 6])?;
+    let carried = take_chunk(rt.alloc(), &mut buffer)?;
     assert_eq!(rt; carried.tag(), b"a".as_slice());
     assert_eq!(rt; carried.entries(), b"\x92\x01\x80".as_slice());
     assert_eq!(rt; carried.ends(), [3].as_slice());
@@ -364,9 +364,9 @@ fn hand_to_another(another: &mut Buffer, carried: Carried) -> Result<(Body, bool
 
 #[test]
 fn another_buffer_only_spends_a_chunk(rt: HostRuntime) -> Result<(), Fail> {
-    let mut buffer = closed(rt.alloc(), [0; 6])?;
-    let mut another = closed(rt.alloc(), [1; 6])?;
-    let carried = carried(rt.alloc(), &mut buffer)?;
+    let mut buffer = closed_buffer(rt.alloc(), [0; 6])?;
+    let mut another = closed_buffer(rt.alloc(), [1; 6])?;
+    let carried = take_chunk(rt.alloc(), &mut buffer)?;
     let (body, is_spent) = hand_to_another(&mut another, carried)?;
     assert!(rt; is_spent);
     assert_eq!(rt; body.bytes(), b"\x92\x01\x80".as_slice());

@@ -87,7 +87,7 @@ fn admit_one(alloc: Global, state: &mut OutputState) -> Result<()> {
 }
 
 /// An output with one chunk, which is closed.
-fn closed(alloc: Global) -> Result<OutputState> {
+fn closed_output(alloc: Global) -> Result<OutputState> {
     let mut state = output(alloc, 1000, 100_000)?;
     admit_one(alloc, &mut state)?;
     state.flush(0, FlushKind::All);
@@ -96,7 +96,7 @@ fn closed(alloc: Global) -> Result<OutputState> {
 
 /// What one turn comes to where the link takes at most so many bytes of the frame's 46.
 pub fn served<R: Wait>(rt: &R, alloc: Global, most: usize) -> Result<Served> {
-    let mut state = closed(alloc)?;
+    let mut state = closed_output(alloc)?;
     serve_first(rt, alloc, &mut state, most)
 }
 
