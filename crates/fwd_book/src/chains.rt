@@ -41,21 +41,21 @@ use indexmap::IndexMap;
 use std::alloc::{AllocError, Global};
 
 /// The numbers of the earlier and of the later request of the same connection.
-#[derive(Clone, Copy, Debug)]
+#[derive(Clone, Copy)]
 pub(crate) struct Link {
     earlier: Option<u64>,
     later: Option<u64>,
 }
 
 /// The numbers of a connection's first and last request.
-#[derive(Clone, Copy, Debug)]
+#[derive(Clone, Copy)]
 pub(crate) struct Ends {
     first: u64,
     last: u64,
 }
 
 /// Each request by its connection and number, and each connection that has one.
-#[derive(Debug, Drop)]
+#[derive(Drop)]
 pub(crate) struct Chains {
     links: IndexMap<(u64, u64), Link>,
     ends: IndexMap<u64, Ends>,

@@ -9,7 +9,7 @@ use fwd_source::Origin;
 use std::marker::Model;
 
 /// A request with its connection and number, and the runs of its entries.
-#[derive(Debug, Drop)]
+#[derive(Drop)]
 pub(crate) struct Kept {
     origin: Origin,
     request: Batch,

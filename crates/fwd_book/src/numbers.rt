@@ -31,7 +31,7 @@ use std::marker::Model;
 use std::sync::Arc;
 
 /// How many requests have a number, and the chunk once it is acknowledged.
-#[derive(Debug, Drop)]
+#[derive(Drop)]
 struct Note {
     uses: usize,
     acked: Option<Arc<Acked>>,
@@ -48,7 +48,7 @@ impl Model for Note {
 }
 
 /// Notes by number. A chunk that was acknowledged is kept once, however many requests have it.
-#[derive(Debug, Drop)]
+#[derive(Drop)]
 pub(crate) struct Numbers {
     notes: IndexMap<u64, Note>,
 }

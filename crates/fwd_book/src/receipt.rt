@@ -14,7 +14,7 @@ use std::marker::Model;
 use std::sync::Arc;
 
 /// A run of a request's entries in a chunk that a server acknowledged.
-#[derive(Debug, Drop)]
+#[derive(Drop)]
 pub struct Part {
     chunk: Arc<Acked>,
     from: u64,
@@ -67,11 +67,21 @@ impl Part {
 
 /// That all entries of a request were acknowledged: those that its parts show are the request's.
 /// Only a book gives one.
-#[derive(Debug, Drop)]
 pub struct Receipt {
     origin: Origin,
     request: Batch,
     parts: Vec<Part>,
+}
+
+// A drop of its own is proved once, and not at each place where a receipt goes.
+impl Drop for Receipt {
+    fn drop(self) {
+        let Receipt {
+            origin: _,
+            request: _,
+            parts: _,
+        } = self;
+    }
 }
 
 impl Model for Receipt {

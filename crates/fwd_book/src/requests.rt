@@ -32,7 +32,7 @@ use std::marker::Model;
 /// Requests in the order in which they were entered. A slot stays, empty, until room is made anew,
 /// so that what leaves moves nothing. A connection's requests are chained by their numbers, which
 /// stay as they are when slots move.
-#[derive(Debug, Drop)]
+#[derive(Drop)]
 pub(crate) struct Requests {
     slots: IndexMap<(u64, u64), Option<Kept>>,
     chains: Chains,

@@ -26,7 +26,7 @@ use std::sync::Arc;
 
 /// The entries of a chunk. The buffer, a worker and what was acknowledged share them, so that none
 /// of them copies an entry.
-#[derive(Debug, Drop)]
+#[derive(Drop)]
 pub struct Body {
     packed: Arc<Packed>,
 }

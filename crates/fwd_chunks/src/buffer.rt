@@ -76,7 +76,6 @@ use std::marker::Model;
 
 /// The buffer of one output. Sizes are in bytes, moments in milliseconds; a moment before the
 /// greatest one handed in counts as that one.
-#[derive(Debug)]
 pub struct Buffer {
     limits: BufferLimits,
     run: [u8; 6],

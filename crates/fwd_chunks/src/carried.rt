@@ -10,7 +10,6 @@ use std::marker::Model;
 
 /// A chunk that a worker has: its number, its tag, its entries and its name. It must be spent:
 /// settled, or given back.
-#[derive(Debug)]
 pub struct Carried {
     number: u64,
     tag: Bytes,

@@ -7,7 +7,7 @@ use fwd_base::Bytes;
 use fwd_retry::Losses;
 
 /// A chunk that is not settled. Moments are in milliseconds.
-#[derive(Debug, Drop)]
+#[derive(Drop)]
 pub(crate) struct Chunk {
     pub(crate) number: u64,
     pub(crate) tag: Bytes,

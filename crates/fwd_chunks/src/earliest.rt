@@ -8,7 +8,7 @@ use std::alloc::{AllocError, Global};
 use std::marker::Model;
 
 /// Keys at places, of which the first within a limit is found in the logarithm of their count.
-#[derive(Debug, Drop)]
+#[derive(Drop)]
 pub(crate) struct Earliest {
     /// The keys, then the lesser of each two neighbours of the level before, up to one.
     levels: Vec<Vec<Option<u64>>>,

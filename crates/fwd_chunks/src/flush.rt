@@ -1,5 +1,5 @@
 /// Which open chunks a flush closes.
-#[derive(Clone, Copy, Debug, PartialEq, Eq)]
+#[derive(Clone, Copy, Debug)]
 pub enum FlushKind {
     /// Those whose first entry is at least the flush interval old.
     Due,

@@ -13,7 +13,7 @@ use std::alloc::{AllocError, Global};
 use std::marker::Model;
 
 /// By a chunk's place, when it may be given and when it began.
-#[derive(Debug, Drop)]
+#[derive(Drop)]
 pub(crate) struct Keys {
     retry: Retry,
     /// The end of a closed chunk's wait.

@@ -29,7 +29,7 @@ use std::alloc::{AllocError, Global};
 use std::marker::Model;
 
 /// Entries one after the other in one vector of less than 2^32 bytes, and where each of them ends.
-#[derive(Debug, Drop)]
+#[derive(Drop)]
 pub(crate) struct Packed {
     bytes: Vec<u8>,
     ends: Vec<u32>,

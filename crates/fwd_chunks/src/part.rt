@@ -10,7 +10,7 @@ use fwd_modes::Batch;
 
 /// Entries in a row, one after the other in less than 2^32 bytes. Their ends are told from a
 /// place that the first of them begins at.
-#[derive(Clone, Copy, Debug)]
+#[derive(Clone, Copy)]
 pub(crate) struct Part<'a> {
     pub(crate) start: u32,
     pub(crate) ends: &'a [u32],

@@ -2,7 +2,7 @@ use crate::part::Part;
 
 /// How a request's entries go into chunks: the first of them to the open chunk of their tag, if
 /// it has one, and the others to new chunks.
-#[derive(Clone, Copy, Debug)]
+#[derive(Clone, Copy)]
 pub(crate) struct Plan<'a> {
     /// The number of the tag's open chunk.
     pub(crate) joins: Option<u64>,

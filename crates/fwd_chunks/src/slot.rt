@@ -1,7 +1,7 @@
 use crate::chunk::Chunk;
 
 /// Where a chunk stands, or stood.
-#[derive(Debug, Drop)]
+#[derive(Drop)]
 pub(crate) struct Slot {
     /// The chunk's number.
     pub(crate) number: u64,

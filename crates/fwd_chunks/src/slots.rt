@@ -63,7 +63,7 @@ use std::alloc::{AllocError, Global};
 use std::marker::Model;
 
 /// Chunks by rising number, with room for more.
-#[derive(Debug, Drop)]
+#[derive(Drop)]
 pub(crate) struct Slots {
     /// By rising number. A slot is empty once its chunk left.
     slots: Vec<Slot>,

@@ -23,7 +23,7 @@ use std::alloc::{AllocError, Global};
 use std::marker::Model;
 
 /// The number of the newest chunk of each tag that has chunks, found by the tag's hash.
-#[derive(Debug, Drop)]
+#[derive(Drop)]
 pub(crate) struct Tags {
     numbers: IndexMap<Vec<u8>, u64>,
 }

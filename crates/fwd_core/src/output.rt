@@ -14,6 +14,7 @@ ghost use Rattle.std.specs.Prelude.{
   OnErr,
   IfOk,
   IfSome,
+  IsOk,
   filter,
   is_some,
   length,
@@ -87,11 +88,21 @@ use std::sync::Arc;
 /// The chunks of one output that are not yet settled, the requests that are owed an answer with
 /// what was acknowledged of them, and what was lost at its servers. What is not acknowledged of a
 /// request stands in the chunks.
-#[derive(Drop)]
 pub struct OutputState {
     buffer: Buffer,
     book: Book,
     servers: Servers,
+}
+
+// A drop of its own is proved once, and not at each place where an output goes.
+impl Drop for OutputState {
+    fn drop(self) {
+        let OutputState {
+            buffer: _,
+            book: _,
+            servers: _,
+        } = self;
+    }
 }
 
 impl Model for OutputState {
@@ -244,6 +255,9 @@ impl OutputState {
           buffer = live_takes self.old.buffer worker now;
         }) }
         ensures err { OnErr result (self.new ≡ self.old) }
+
+        // Where none is free, no memory is taken.
+        ensures none { live_given (live_looks self.old.buffer now) ≡ None → IsOk result }
     {
         self.buffer.take(alloc, worker, now)
     }

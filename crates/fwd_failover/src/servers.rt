@@ -37,7 +37,7 @@ use std::marker::Model;
 /// The servers of an output, by their numbers in file order from 0,
 /// and what was lost at each. Moments and waits are in milliseconds.
 /// A moment before the greatest one handed in counts as that one.
-#[derive(Debug, Drop)]
+#[derive(Drop)]
 pub struct Servers {
     primaries: Vec<u16>,
     standbys: Vec<u16>,

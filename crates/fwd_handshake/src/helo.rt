@@ -23,7 +23,7 @@ use fwd_msgpack::{Head, Pairs, Value, write_head, write_text};
 use std::alloc::{AllocError, Global};
 
 /// What a HELO says.
-#[derive(Clone, Copy, Debug)]
+#[derive(Clone, Copy)]
 struct Helo<'a> {
     nonce: &'a [u8],
     auth: &'a [u8],

@@ -7,7 +7,7 @@ use rand_chacha::ChaCha20Rng;
 use rand_core::utils::fill_bytes_via_u32;
 
 /// The server's random bytes of one connection: HELO's `nonce`, and its `auth` where users are set.
-#[derive(Clone, Copy, Debug, PartialEq, Eq)]
+#[derive(Clone, Copy)]
 pub struct Nonces {
     /// What the digests of the shared key are salted with.
     pub nonce: [u8; 16],

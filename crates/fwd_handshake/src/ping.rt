@@ -20,14 +20,14 @@ use fwd_msgpack::Value;
 use std::alloc::{AllocError, Global};
 
 /// The user that a client says it is.
-#[derive(Clone, Copy, Debug)]
+#[derive(Clone, Copy)]
 struct Claim<'a> {
     username: &'a [u8],
     digest: &'a [u8],
 }
 
 /// What a PING says.
-#[derive(Clone, Copy, Debug)]
+#[derive(Clone, Copy)]
 struct Ping<'a> {
     hostname: &'a [u8],
     salt: &'a [u8],

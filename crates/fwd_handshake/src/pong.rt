@@ -43,7 +43,7 @@ pub(crate) fn write_pong(
 }
 
 /// The values of a PONG.
-#[derive(Clone, Copy, Debug)]
+#[derive(Clone, Copy)]
 struct Pong<'a> {
     passed: Value<'a>,
     reason: Value<'a>,

@@ -4,7 +4,7 @@ ghost use Rattle.std.specs.Prelude.{◌≡◌, ◌<◌, ◌^◌, length};
 
 /// A client's salt, borrowed: less than 2^32 bytes, since a str has no longer spelling. What
 /// `draw_salt` gives always is one.
-#[derive(Clone, Copy, Debug)]
+#[derive(Clone, Copy)]
 pub struct Salt<'a> {
     bytes: &'a [u8],
     ghost fits: { length bytes.now < 2 ^ 32 },

@@ -5,7 +5,7 @@ ghost use Rattle.std.specs.Prelude.{◌≡◌};
 use fwd_base::Bytes;
 
 /// Why a PING is denied.
-#[derive(Clone, Copy, Debug, PartialEq, Eq)]
+#[derive(Clone, Copy, Debug)]
 pub enum Denial {
     /// Its key digest is not the one of the shared key.
     KeyMismatch,
@@ -28,7 +28,7 @@ impl Denial {
 }
 
 /// What a value is that a source sent after HELO.
-#[derive(Debug, Drop)]
+#[derive(Drop)]
 pub enum PingVerdict {
     /// A good PING, and the PONG that answers it.
     Pass(Bytes),
@@ -39,7 +39,7 @@ pub enum PingVerdict {
 }
 
 /// What a value is that the next hop sent at first.
-#[derive(Debug, Drop)]
+#[derive(Drop)]
 pub enum HeloAnswer {
     /// A HELO.
     Ping {
@@ -55,7 +55,7 @@ pub enum HeloAnswer {
 }
 
 /// What a value is that the next hop sent after PING.
-#[derive(Clone, Copy, Debug, PartialEq, Eq)]
+#[derive(Clone, Copy)]
 pub enum PongVerdict {
     /// A PONG that lets the client in, by a server that knows the shared key.
     Pass,

@@ -12,7 +12,7 @@ use std::net::{Net, SocketAddr};
 use std::sync::Wait;
 
 /// The stream failed, or it is to end.
-#[derive(Clone, Copy, Debug, PartialEq, Eq)]
+#[derive(Clone, Copy)]
 pub(crate) struct Broken;
 
 impl From<io::Error> for Broken {

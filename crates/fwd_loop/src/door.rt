@@ -8,7 +8,7 @@ use std::io::ErrorKind;
 use std::net::{Net, SocketAddr};
 
 /// Whether connections wait.
-#[derive(Clone, Copy, Debug, PartialEq, Eq)]
+#[derive(Clone, Copy)]
 enum Calling {
     /// None does, until the listener tells so.
     Quiet,

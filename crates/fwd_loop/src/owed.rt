@@ -8,7 +8,7 @@ use std::mem;
 use std::sync::Wait;
 
 /// Whose request a ticket is of: a connection's id, and the request's number there.
-#[derive(Clone, Copy, Debug, PartialEq, Eq, PartialOrd, Ord)]
+#[derive(Clone, Copy, PartialEq, Eq, PartialOrd, Ord)]
 struct Owner {
     conn: u64,
     request: u64,

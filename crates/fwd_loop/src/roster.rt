@@ -8,7 +8,7 @@ use std::alloc::{AllocError, Global};
 use std::net::SocketAddr;
 
 /// A server, by its output's number and its place in that output's list.
-#[derive(Clone, Copy, Debug, PartialEq, Eq)]
+#[derive(Clone, Copy, PartialEq, Eq)]
 struct Post {
     output: u16,
     server: u16,

@@ -9,7 +9,7 @@ use std::fmt;
 
 /// Why a text is no pattern. Of several faults the first in
 /// this order decides: no word, braces, number of words, stars.
-#[derive(Clone, Copy, Debug, PartialEq, Eq)]
+#[derive(Clone, Copy, Debug)]
 pub enum PatternFault {
     /// Memory ran out.
     Memory = 0,

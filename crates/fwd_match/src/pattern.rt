@@ -21,7 +21,7 @@ use std::marker::Model;
 /// of which one has to match. A word is split at dots into parts; `*` matches one part, `**` zero
 /// or more, any other part itself, and `{X,Y}` stands for one word with `X` and one with `Y`.
 /// Contracts see it as the list of its expanded words.
-#[derive(Debug, Drop)]
+#[derive(Drop)]
 pub struct Pattern {
     words: Vec<Bytes>,
 }

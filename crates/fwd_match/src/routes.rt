@@ -7,7 +7,7 @@ use crate::pattern::Pattern;
 use std::marker::Model;
 
 /// The patterns of the outputs, in the order of the outputs. Contracts see the list of them.
-#[derive(Debug, Drop)]
+#[derive(Drop)]
 pub struct Routes {
     patterns: Vec<Pattern>,
 }

@@ -5,7 +5,7 @@ use fwd_source::SourceFault;
 
 /// What the relay answers to an event. `out` is what the event appended to the bytes that wait to
 /// be sent.
-#[derive(Debug, Drop)]
+#[derive(Drop)]
 pub enum Answer {
     /// The connection stands. Where a shared key is set, its HELO waits to be sent.
     Accepted {

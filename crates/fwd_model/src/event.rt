@@ -3,7 +3,7 @@ use fwd_chunks::FlushKind;
 use fwd_session::OwnedSalt;
 
 /// How a worker's session ends.
-#[derive(Clone, Copy, Debug, PartialEq, Eq)]
+#[derive(Clone, Copy)]
 pub enum EndKind {
     /// The server is at fault only for what it owed: the session is down, its handshake is not
     /// done, or its chunk was loaded and not acknowledged.
@@ -13,7 +13,7 @@ pub enum EndKind {
 }
 
 /// What happens to the relay. Moments are in milliseconds.
-#[derive(Debug, Drop)]
+#[derive(Drop)]
 pub enum Event {
     /// A connection comes, with the nonce and the auth salt of its handshake.
     Accept {

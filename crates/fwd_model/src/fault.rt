@@ -1,5 +1,5 @@
 /// Why an event changed nothing.
-#[derive(Clone, Copy, Debug, PartialEq, Eq)]
+#[derive(Clone, Copy, Debug)]
 pub enum Refusal {
     /// The session is down. This is numbered among the session faults.
     NotUp = 7,

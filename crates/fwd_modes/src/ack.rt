@@ -10,7 +10,7 @@ use std::alloc::{AllocError, Global};
 
 /// A value acknowledges nothing: it is no map, or its last `ack`
 /// is no str and no bin, or it has none. This is refusal 17.
-#[derive(Clone, Copy, Debug, PartialEq, Eq)]
+#[derive(Clone, Copy, Debug)]
 pub struct NoAck;
 
 /// The acknowledgement of a chunk, whose value is handed in as its own bytes, head included.

@@ -28,7 +28,7 @@ use std::sync::Arc;
 /// A request of a source: a tag, the entries as they are kept (`92`, the time's bytes, the fields'
 /// bytes), and the value that the acknowledgement is to carry, if there is one. Its copies share
 /// the entries.
-#[derive(Debug, Drop)]
+#[derive(Drop)]
 pub struct Batch {
     tag: SmallVec<u8, 32>,
     entries: Arc<Kept>,

@@ -5,7 +5,7 @@ ghost use Rattle.std.proofs.Props.{props};
 ghost use Rattle.fwd_modes.specs.Entries.{AreCut};
 
 /// The entries of a request one by one, each as it is kept: `92`, its time, its fields.
-#[derive(Clone, Copy, Debug)]
+#[derive(Clone, Copy)]
 pub struct Entries<'a> {
     bytes: &'a [u8],
     ends: &'a [u32],

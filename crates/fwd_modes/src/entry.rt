@@ -9,7 +9,7 @@ use crate::time::is_time;
 use fwd_msgpack::Value;
 
 /// The time and the fields of an entry, as they are spelled.
-#[derive(Clone, Copy, Debug)]
+#[derive(Clone, Copy)]
 pub(crate) struct Entry<'a> {
     pub(crate) time: &'a [u8],
     pub(crate) fields: &'a [u8],

@@ -1,6 +1,6 @@
 /// Why a whole value is no request. The first whose condition holds decides, in the order of the
 /// checks: shape, tag, option, compression, entries.
-#[derive(Clone, Copy, Debug, PartialEq, Eq)]
+#[derive(Clone, Copy, Debug)]
 pub enum InputFault {
     /// No array, or one of another length or with another kind in its second place.
     BadShape = 4,

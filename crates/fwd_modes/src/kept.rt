@@ -27,7 +27,7 @@ use std::alloc::{AllocError, Global};
 use std::marker::Model;
 
 /// Entries as they are kept, one after the other, and where each of them ends.
-#[derive(Debug, Drop)]
+#[derive(Drop)]
 pub(crate) struct Kept {
     bytes: Vec<u8>,
     ends: SmallVec<u32, 2>,

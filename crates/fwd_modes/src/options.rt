@@ -12,7 +12,7 @@ use crate::limits::CHUNK_LIMIT;
 use fwd_msgpack::Value;
 
 /// What an option says.
-#[derive(Clone, Copy, Debug)]
+#[derive(Clone, Copy)]
 pub(crate) struct Said<'a> {
     /// The value that the acknowledgement is to carry, as its own bytes.
     pub(crate) chunk: Option<&'a [u8]>,

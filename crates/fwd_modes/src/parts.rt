@@ -11,7 +11,7 @@ use crate::entry::Entry;
 use fwd_msgpack::{Head, Value};
 
 /// Where the entries of a request stand.
-#[derive(Clone, Copy, Debug)]
+#[derive(Clone, Copy)]
 pub(crate) enum Given<'a> {
     /// A time and fields, if they are an entry.
     One(Option<Entry<'a>>),
@@ -22,7 +22,7 @@ pub(crate) enum Given<'a> {
 }
 
 /// The values of a request.
-#[derive(Clone, Copy, Debug)]
+#[derive(Clone, Copy)]
 pub(crate) struct Parts<'a> {
     pub(crate) tag: Value<'a>,
     pub(crate) entries: Given<'a>,

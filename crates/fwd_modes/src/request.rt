@@ -22,7 +22,7 @@ use fwd_msgpack::{Limits, Value};
 use std::alloc::{AllocError, Global};
 
 /// What a whole value says.
-#[derive(Debug, Drop)]
+#[derive(Drop)]
 pub enum Reading {
     /// Nil, which is skipped.
     Heartbeat,

@@ -9,7 +9,7 @@ use fwd_msgpack::Value;
 use std::marker::Model;
 
 /// A time with nanoseconds: an extension of type 0 with 8 bytes, however its head is spelled.
-#[derive(Clone, Copy, Debug, PartialEq, Eq)]
+#[derive(Clone, Copy)]
 pub struct EventTime {
     sec: u32,
     nanos: u32,

@@ -1,5 +1,5 @@
 /// What a connection of a monitor is told.
-#[derive(Debug, Drop)]
+#[derive(Drop)]
 pub enum Reply {
     /// Nothing yet: the bytes so far may still become a request.
     More,

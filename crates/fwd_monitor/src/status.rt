@@ -1,5 +1,5 @@
 /// The status of a reply (RFC 9110, section 15).
-#[derive(Clone, Copy, Debug, PartialEq, Eq)]
+#[derive(Clone, Copy)]
 pub(crate) enum Status {
     /// 200, to a request for the page.
     Found,

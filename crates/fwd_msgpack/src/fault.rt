@@ -1,6 +1,6 @@
 /// Why bytes begin no value within the limits. The first faulty head from the left decides, as soon
 /// as it is complete; at one head the order is that of the variants.
-#[derive(Clone, Copy, Debug, PartialEq, Eq)]
+#[derive(Clone, Copy, Debug)]
 pub enum ScanFault {
     /// The byte `c1`, which MessagePack never uses.
     Reserved = 1,

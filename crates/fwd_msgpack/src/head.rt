@@ -62,7 +62,7 @@ pub enum Head {
 }
 
 /// What the bytes begin with.
-#[derive(Clone, Copy, Debug, PartialEq, Eq)]
+#[derive(Clone, Copy)]
 pub enum HeadRead {
     /// A head, and how many bytes it takes.
     Whole(Head, usize),

@@ -10,7 +10,7 @@ use crate::plain::plain_item;
 use crate::value::{Cut, Value};
 
 /// The values that stand in a row, from the first.
-#[derive(Clone, Copy, Debug)]
+#[derive(Clone, Copy)]
 pub struct Members<'a> {
     pub(crate) rest: &'a [u8],
     pub(crate) left: u64,
@@ -62,7 +62,7 @@ fn first_len(row: &[u8], values: u64) -> usize
 }
 
 /// The pairs of a map, from the first.
-#[derive(Clone, Copy, Debug)]
+#[derive(Clone, Copy)]
 pub struct Pairs<'a> {
     pub(crate) members: Members<'a>,
 }

@@ -11,7 +11,7 @@ use crate::plain::{plain_item, plain_items};
 use crate::stack::Stack;
 
 /// How far the first value of some bytes reaches.
-#[derive(Clone, Copy, Debug, PartialEq, Eq)]
+#[derive(Clone, Copy)]
 pub enum Extent {
     /// It has so many bytes.
     Whole(usize),

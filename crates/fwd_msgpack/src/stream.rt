@@ -10,7 +10,7 @@ use crate::limits::Limits;
 use crate::value::{Cut, Value};
 
 /// What comes next in a stream.
-#[derive(Clone, Copy, Debug)]
+#[derive(Clone, Copy)]
 pub enum Next<'a> {
     /// Less than a value, and no fault.
     Unfinished,

@@ -10,7 +10,7 @@ use crate::members::{Members, Pairs};
 
 /// One whole value: its bytes, borrowed. Arrays and maps nest at most 64 deep in it, and it has
 /// less than 2^32 bytes. Reading it takes no memory.
-#[derive(Clone, Copy, Debug)]
+#[derive(Clone, Copy)]
 pub struct Value<'a> {
     pub(crate) bytes: &'a [u8],
     ghost whole: { IsWhole bytes.now } by { Prim.hlevel props },
@@ -136,7 +136,7 @@ impl<'a> Value<'a> {
 }
 
 /// What the bytes begin with.
-#[derive(Clone, Copy, Debug)]
+#[derive(Clone, Copy)]
 pub enum Cut<'a> {
     /// A whole value, and how many bytes it has.
     Whole(Value<'a>, usize),

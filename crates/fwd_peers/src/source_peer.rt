@@ -35,7 +35,7 @@ const ACK_FRONT: usize = 5;
 const UNSENT: usize = 65_536;
 
 /// How far a connection has come.
-#[derive(Clone, Copy, Debug, PartialEq, Eq)]
+#[derive(Clone, Copy)]
 enum Stage {
     /// It is read and written.
     Open,

@@ -6,7 +6,7 @@ use mio::net::TcpStream;
 use std::io::{ErrorKind, Read, Write};
 
 /// How a visit to a stream ended.
-#[derive(Clone, Copy, Debug, PartialEq, Eq)]
+#[derive(Clone, Copy)]
 pub enum Visit {
     /// The stream would wait: it tells of itself once it is ready again.
     Waits,

@@ -5,14 +5,14 @@ use fwd_workers::{AdmitRefusal, Loss};
 use std::net::SocketAddr;
 
 /// Who connects to a listener.
-#[derive(Clone, Copy, Debug, PartialEq, Eq)]
+#[derive(Clone, Copy, Debug)]
 pub enum Caller {
     Source,
     Monitor,
 }
 
 /// Why the relay closes a source that would still send.
-#[derive(Clone, Copy, Debug, PartialEq, Eq)]
+#[derive(Clone, Copy, PartialEq, Eq)]
 pub enum SourceEnd {
     /// What it sent is no request, or it is not let in.
     Fault(SourceFault),
@@ -23,7 +23,7 @@ pub enum SourceEnd {
 }
 
 /// What memory was refused for.
-#[derive(Clone, Copy, Debug, PartialEq, Eq)]
+#[derive(Clone, Copy, PartialEq, Eq)]
 pub enum Want {
     /// For a source, which is closed.
     Source(SocketAddr),
@@ -36,7 +36,7 @@ pub enum Want {
 }
 
 /// What a run tells of itself.
-#[derive(Clone, Copy, Debug, PartialEq, Eq)]
+#[derive(Clone, Copy)]
 pub enum Fact {
     /// It listens at an address.
     Listening {

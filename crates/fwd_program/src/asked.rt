@@ -8,7 +8,7 @@ ghost use Rattle.fwd_program.specs.Asked.{AsksRun, turns_of};
 use fwd_script::number;
 
 /// What a run is asked for.
-#[derive(Clone, Copy, Debug)]
+#[derive(Clone, Copy)]
 pub struct Run<'a> {
     /// The file of the settings.
     pub path: &'a str,

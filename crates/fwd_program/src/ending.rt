@@ -1,6 +1,10 @@
 //! How a run ends.
 
 ghost use Rattle.std.specs.Prelude.{◌≡◌};
+ghost use Rattle.fwd_script.specs.Statuses.{refused_status};
+ghost use Rattle.fwd_script.specs.declared.status.Status.TheVariants as statuses;
+ghost use Rattle.fwd_program.specs.Ends.{ended_by, run_code};
+ghost use Rattle.fwd_program.specs.declared.ending.RunEnd.TheVariants as ends;
 
 use fwd_loop::StartFault;
 use fwd_script::{Status, WriteFailed};
@@ -9,7 +13,7 @@ use std::alloc::AllocError;
 use std::fmt;
 
 /// How a run ended.
-#[derive(Debug, Drop)]
+#[derive(Drop)]
 pub enum RunEnd {
     /// As a check of the settings could end too, or in a failed write, or all is done.
     Ran(Status),
@@ -19,7 +23,9 @@ pub enum RunEnd {
 
 impl RunEnd {
     /// The exit status: 4 where the relay could not start.
-    pub fn exit_code(&self) -> u8 {
+    pub fn exit_code(&self) -> u8
+        ensures { result ≡ run_code self.now }
+    {
         match self {
             RunEnd::Ran(status) => status.exit_code(),
             RunEnd::Start(_) => 4,
@@ -28,30 +34,40 @@ impl RunEnd {
 }
 
 impl From<Status> for RunEnd {
+    ghost from_gives = { λ status end. end ≡ ends.Ran status };
+
     fn from(status: Status) -> RunEnd {
         RunEnd::Ran(status)
     }
 }
 
 impl From<AllocError> for RunEnd {
+    ghost from_gives = { λ _ end. end ≡ ends.Ran statuses.Memory };
+
     fn from(_error: AllocError) -> RunEnd {
         RunEnd::Ran(Status::Memory)
     }
 }
 
 impl From<WriteFailed> for RunEnd {
+    ghost from_gives = { λ _ end. end ≡ ends.Ran statuses.Output };
+
     fn from(error: WriteFailed) -> RunEnd {
         RunEnd::Ran(Status::from(error))
     }
 }
 
 impl From<SettingsFault> for RunEnd {
+    ghost from_gives = { λ fault end. end ≡ ends.Ran (refused_status fault) };
+
     fn from(fault: SettingsFault) -> RunEnd {
         RunEnd::Ran(Status::from(fault))
     }
 }
 
 impl From<StartFault> for RunEnd {
+    ghost from_gives = { λ fault end. end ≡ ended_by fault };
+
     fn from(fault: StartFault) -> RunEnd {
         match fault {
             StartFault::Memory => RunEnd::Ran(Status::Memory),

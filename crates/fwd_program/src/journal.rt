@@ -19,7 +19,7 @@ const VARIABLE: &str = "FORWARD_RELAY_LOG";
 const LINE: usize = 200;
 
 /// Whether a run says what it comes to.
-#[derive(Clone, Copy, Debug, PartialEq, Eq)]
+#[derive(Clone, Copy, Debug)]
 pub enum Log {
     /// It says nothing.
     Off,
@@ -122,7 +122,7 @@ impl<'a, R: Clock, E: Write> Watch for Journal<'a, R, E> {
 }
 
 /// How many lines of a kind were left out.
-#[derive(Clone, Copy, Debug)]
+#[derive(Clone, Copy)]
 struct LeftOut {
     kind: Kind,
     count: u64,

@@ -1,12 +1,12 @@
 //! How many lines of one kind a second has room for.
 
-ghost use Rattle.std.specs.Prelude.{◌≡◌, ◌↔◌, ◌≤◌, ◌+◌, ◌-◌, ◌^◌, ◌⊎◌, true, false, IfSome, IfNone};
+ghost use Rattle.std.specs.Prelude.{◌≡◌, ◌≢◌, ◌↔◌, ◌≤◌, ◌+◌, ◌-◌, ◌^◌, ◌⊎◌, true, false, IfSome, IfNone};
 
 /// At most so many lines of one kind are told in a second.
 const LINES: u64 = 10;
 
 /// The lines of one kind, by the seconds of a clock.
-#[derive(Clone, Copy, Debug, PartialEq, Eq)]
+#[derive(Clone, Copy)]
 pub struct Pace {
     /// The second of the last line that was told.
     second: i64,
@@ -36,6 +36,7 @@ impl Pace {
         ensures told { result ≡ true → (self.new.second ≡ second)
             × (1 ≤ self.new.told) × (self.new.told ≤ 10)
             × (self.new.left_out ≡ self.old.left_out) }
+        ensures first { result ≡ true → second ≢ self.old.second → self.new.told ≡ 1 }
         ensures one_more { result ≡ true → second ≡ self.old.second
             → self.new.told ≡ self.old.told + 1 }
         ensures left_out { result ≡ false → (second ≡ self.old.second) × (10 ≤ self.old.told)

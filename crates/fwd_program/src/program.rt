@@ -1,7 +1,9 @@
 //! The program over its words and streams.
 
-ghost use Rattle.std.specs.Prelude.{◌≡◌, ℕ, List, map, IfOk};
+ghost use Rattle.std.specs.Prelude.{◌≡◌, ◌≢◌, ℕ, List, map, IfOk, IfErr};
 ghost use Rattle.std.specs.String.{string_bytes};
+ghost use Rattle.std.specs.IoError.{error_kind};
+ghost use Rattle.std.specs.Io.KnownBytes.{Keeps};
 ghost use Rattle.fwd_script.specs.declared.program.End.{End};
 ghost use Rattle.fwd_script.specs.Program.{Performs, end_code, words_behind};
 ghost use Rattle.fwd_program.specs.Asked.{AsksRun};
@@ -12,7 +14,7 @@ use crate::journal::Log;
 use crate::running::run_file;
 use fwd_script::{Status, run_program};
 use std::io;
-use std::io::{Read, Write};
+use std::io::{ErrorKind, Read, Write};
 use std::net::{Net, TcpListener, TcpStream};
 use std::rt::{Clock, Files};
 use std::sync::Wait;
@@ -78,12 +80,17 @@ pub fn run_all<
     output: &mut W,
     errors: &mut E,
 ) -> u8
-    ensures { IfOk words (λ list.
+    ensures asked { IfOk words (λ list.
         ((path : List ℕ) (turns : ℕ)
         → ¬ AsksRun (words_behind (map string_bytes list.items)) path turns)
         → (end : End) × (result ≡ end_code end)
         × Performs (words_behind (map string_bytes list.items))
         end (I.remaining input.old) (W.contents output.old) (W.contents output.new)) }
+    ensures memory { IfErr words (λ error. error_kind error ≡ ErrorKind.OutOfMemory
+        → result ≡ 4) }
+    ensures other { IfErr words (λ error. error_kind error ≢ ErrorKind.OutOfMemory
+        → result ≡ 2) }
+    ensures kept { IfErr words (λ _. Keeps (W.contents output.old) (W.contents output.new)) }
 {
     match words {
         Ok(words) => run_words(rt, words, log, input, output, errors),

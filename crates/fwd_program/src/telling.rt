@@ -6,7 +6,7 @@ use fwd_workers::{AdmitRefusal, LinkFault, Loss};
 use std::fmt;
 
 /// The kinds of facts.
-#[derive(Clone, Copy, Debug, PartialEq, Eq)]
+#[derive(Clone, Copy)]
 pub enum Kind {
     Listening = 0,
     SourceClosed = 1,
@@ -58,7 +58,7 @@ impl fmt::Display for Kind {
 }
 
 /// A fact in words, on one line, without its line feed. No byte of a peer stands in it.
-#[derive(Clone, Copy, Debug)]
+#[derive(Clone, Copy)]
 pub struct Telling {
     pub fact: Fact,
 }

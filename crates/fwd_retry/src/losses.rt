@@ -1,5 +1,5 @@
 /// What is known of the losses of a chunk, or of a server since it last settled one.
-#[derive(Clone, Copy, Debug, PartialEq, Eq)]
+#[derive(Clone, Copy)]
 pub struct Losses {
     /// How many, where `Losses::MOST` stands for every greater count.
     pub count: u8,

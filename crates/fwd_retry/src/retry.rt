@@ -5,7 +5,7 @@ ghost use Rattle.fwd_retry.specs.Tallies.{end_of_wait, live_is_over};
 use crate::losses::Losses;
 
 /// How long what was lost is left alone, in milliseconds.
-#[derive(Clone, Copy, Debug, PartialEq, Eq)]
+#[derive(Clone, Copy)]
 pub struct Retry {
     /// The wait after the first loss. It doubles with each further one.
     pub wait: u64,

@@ -7,7 +7,7 @@ use std::io;
 use std::io::{ErrorKind, Read};
 
 /// Why the input could not be read to its end.
-#[derive(Clone, Copy, Debug, PartialEq, Eq)]
+#[derive(Clone, Copy, Debug)]
 pub enum InputError {
     /// Memory ran out.
     Memory,

@@ -16,7 +16,7 @@ use std::rt::{Env, Files};
 use std::{env, fmt, io};
 
 /// What the program's words ask for.
-#[derive(Clone, Copy, Debug)]
+#[derive(Clone, Copy)]
 pub enum Command<'a> {
     /// Answer the script on standard input.
     Replay,
@@ -25,7 +25,7 @@ pub enum Command<'a> {
 }
 
 /// How the program ended.
-#[derive(Debug, Drop)]
+#[derive(Drop)]
 pub enum End {
     /// Its words ask for nothing that it knows.
     Usage,
@@ -191,9 +191,14 @@ pub fn run_program<F: Files, R: Read, W: Write, E: Write>(
     output: &mut W,
     errors: &mut E,
 ) -> u8
-    ensures { IfOk words (λ list. (end : End) × (result ≡ end_code end)
+    ensures asked { IfOk words (λ list. (end : End) × (result ≡ end_code end)
         × Performs (words_behind (map string_bytes list.items))
         end (R.remaining input.old) (W.contents output.old) (W.contents output.new)) }
+    ensures memory { IfErr words (λ error. error_kind error ≡ ErrorKind.OutOfMemory
+        → result ≡ 4) }
+    ensures other { IfErr words (λ error. error_kind error ≢ ErrorKind.OutOfMemory
+        → result ≡ 2) }
+    ensures kept { IfErr words (λ _. Keeps (W.contents output.old) (W.contents output.new)) }
 {
     let end = perform(alloc, files, words, input, output);
     let _told = tell(errors, &end);

@@ -9,7 +9,7 @@ use std::alloc::AllocError;
 use std::{fmt, io};
 
 /// How a replay ended.
-#[derive(Debug, Drop)]
+#[derive(Drop)]
 pub enum Status {
     /// Each line of the script was answered.
     Done,

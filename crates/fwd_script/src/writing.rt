@@ -7,7 +7,7 @@ ghost use Rattle.fwd_script.specs.Writes.{AppendsFront};
 use std::io::{ErrorKind, Write};
 
 /// A write failed, or took nothing.
-#[derive(Clone, Copy, Debug, PartialEq, Eq)]
+#[derive(Clone, Copy, Debug)]
 pub struct WriteFailed;
 
 /// Writes some of the bytes, and answers how many: none where the write was interrupted.

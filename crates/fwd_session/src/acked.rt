@@ -11,7 +11,7 @@ use std::marker::Model;
 
 /// A chunk that a server acknowledged, as it was sent, and the reply. Only a session that heard the
 /// reply makes one.
-#[derive(Debug, Drop)]
+#[derive(Drop)]
 pub struct Acked {
     number: u64,
     tag: Bytes,

@@ -19,5 +19,5 @@ pub enum SessionFault {
 
 /// The session takes nothing more: it is down, or its handshake is not done, or its link may carry
 /// no further chunk. This is number 7 of the session faults.
-#[derive(Clone, Copy, Debug, PartialEq, Eq)]
+#[derive(Clone, Copy, Debug)]
 pub struct NotUp;

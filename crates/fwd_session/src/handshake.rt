@@ -2,7 +2,7 @@ use fwd_base::Bytes;
 
 /// How far the handshake with a server came (Forward Protocol Specification v1, "Handshake
 /// Messages").
-#[derive(Debug, Drop)]
+#[derive(Drop)]
 pub enum Handshake {
     /// HELO is awaited.
     AwaitsHelo,

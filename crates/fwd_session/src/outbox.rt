@@ -4,7 +4,7 @@ use std::alloc::{AllocError, Global};
 use std::marker::Model;
 
 /// Bytes that wait to be sent.
-#[derive(Debug, Drop)]
+#[derive(Drop)]
 pub(crate) struct Outbox {
     bytes: Vec<u8>,
     /// How many of them were sent.

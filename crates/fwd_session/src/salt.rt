@@ -9,7 +9,7 @@ use std::alloc::{AllocError, Global};
 use std::marker::Model;
 
 /// A client's salt, kept with its bound: less than 2^32 bytes, since a str has no longer spelling.
-#[derive(Debug, Drop)]
+#[derive(Drop)]
 pub struct OwnedSalt {
     bytes: Bytes,
 }

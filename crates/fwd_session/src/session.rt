@@ -73,7 +73,7 @@ use std::marker::Model;
 use std::sync::Arc;
 
 /// Why a chunk was not loaded.
-#[derive(Clone, Copy, Debug, PartialEq, Eq)]
+#[derive(Clone, Copy, Debug)]
 pub enum LoadError {
     /// The session takes no chunk now. This is number 7 of the session faults.
     NotUp,
@@ -82,7 +82,6 @@ pub enum LoadError {
 }
 
 /// A chunk that was not loaded, and why.
-#[derive(Debug)]
 pub struct LoadFailed {
     pub chunk: Carried,
     pub error: LoadError,

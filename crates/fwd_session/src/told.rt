@@ -18,7 +18,7 @@ pub enum Heard {
 
 /// What a piece did, and what it put behind the bytes that wait to be sent: the PING that answers a
 /// HELO, or nothing.
-#[derive(Debug, Drop)]
+#[derive(Drop)]
 pub struct Told {
     pub heard: Heard,
     pub out: Bytes,

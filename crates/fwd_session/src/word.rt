@@ -3,7 +3,7 @@ use crate::handshake::Handshake;
 use fwd_base::Bytes;
 
 /// What one value of a server says.
-#[derive(Debug, Drop)]
+#[derive(Drop)]
 pub(crate) enum Word {
     /// Nothing.
     Skipped,

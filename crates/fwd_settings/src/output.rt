@@ -16,7 +16,7 @@ use std::alloc::Global;
 use toml::{Table, Value};
 
 /// How much an output holds.
-#[derive(Clone, Copy, Debug)]
+#[derive(Clone, Copy)]
 struct Sizes {
     workers: u16,
     chunk_limit: u64,
@@ -24,7 +24,7 @@ struct Sizes {
 }
 
 /// How long an output waits, in milliseconds.
-#[derive(Clone, Copy, Debug)]
+#[derive(Clone, Copy)]
 struct Waits {
     flush_interval: u64,
     retry_wait: u64,

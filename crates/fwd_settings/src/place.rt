@@ -9,7 +9,7 @@ use std::alloc::{AllocError, Global};
 use std::fmt;
 
 /// A table of the settings.
-#[derive(Clone, Copy, Debug, PartialEq, Eq)]
+#[derive(Clone, Copy)]
 pub enum Place {
     /// The whole text.
     Root,
@@ -24,7 +24,7 @@ pub enum Place {
 }
 
 /// What is wrong with the value under a key.
-#[derive(Clone, Copy, Debug, PartialEq, Eq)]
+#[derive(Clone, Copy)]
 pub enum Flaw {
     /// There is none, and the key is required.
     Missing,

@@ -80,7 +80,7 @@ pub struct OutputSettings {
 }
 
 /// The settings of an output's server.
-#[derive(Clone, Copy, Debug, Drop)]
+#[derive(Clone, Copy, Drop)]
 pub struct ServerSettings {
     /// Where it is reached.
     pub address: SocketAddr,

@@ -5,7 +5,7 @@ use fwd_modes::InputFault;
 use fwd_msgpack::ScanFault;
 
 /// Why a connection takes no further piece.
-#[derive(Clone, Copy, Debug, PartialEq, Eq)]
+#[derive(Clone, Copy, Debug)]
 pub enum SourceFault {
     /// Its bytes begin no value within the limits.
     Scan(ScanFault),

@@ -1,5 +1,5 @@
 /// The request of a connection. A connection's requests are numbered from 1.
-#[derive(Clone, Copy, Debug, PartialEq, Eq)]
+#[derive(Clone, Copy, PartialEq, Eq)]
 pub struct Origin {
     /// The connection's id.
     pub conn: u64,

@@ -2,7 +2,7 @@ use crate::fault::SourceFault;
 use fwd_base::Bytes;
 
 /// What a piece of a connection's bytes did.
-#[derive(Clone, Copy, Debug, PartialEq, Eq)]
+#[derive(Clone, Copy)]
 pub enum Piece {
     /// So many requests wait.
     Waiting(usize),
@@ -14,7 +14,7 @@ pub enum Piece {
 
 /// What a piece did, and what it put behind the bytes that
 /// wait to be sent: the PONG of a PING, or nothing.
-#[derive(Debug, Drop)]
+#[derive(Drop)]
 pub struct Told {
     pub piece: Piece,
     pub out: Bytes,

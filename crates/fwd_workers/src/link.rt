@@ -7,7 +7,7 @@ use fwd_session::SessionFault;
 use std::sync::Wait;
 
 /// What a read of a link gave.
-#[derive(Clone, Copy, Debug, PartialEq, Eq)]
+#[derive(Clone, Copy)]
 pub enum Read {
     /// So many bytes, at the front of the room.
     Bytes(usize),
@@ -18,7 +18,7 @@ pub enum Read {
 }
 
 /// Why a link cannot go on.
-#[derive(Clone, Copy, Debug, PartialEq, Eq)]
+#[derive(Clone, Copy, Debug)]
 pub enum LinkFault {
     /// It could not be had.
     Connect = 1,
@@ -70,7 +70,7 @@ pub trait Clock {
 }
 
 /// Where a worker stands.
-#[derive(Clone, Copy, Debug, PartialEq, Eq)]
+#[derive(Clone, Copy)]
 pub enum Place {
     BeforeTake,
     BeforeLoad,
@@ -79,7 +79,7 @@ pub enum Place {
 }
 
 /// What a gate answers.
-#[derive(Clone, Copy, Debug, PartialEq, Eq)]
+#[derive(Clone, Copy)]
 pub enum Pass {
     /// The worker goes on.
     Go,
@@ -90,7 +90,7 @@ pub enum Pass {
 }
 
 /// Why a session with a server ended, and the server counts as lost.
-#[derive(Clone, Copy, Debug, PartialEq, Eq)]
+#[derive(Clone, Copy)]
 pub enum Loss {
     /// Its link could not be had, or failed.
     Link(LinkFault),
@@ -105,7 +105,7 @@ pub enum Loss {
 }
 
 /// What a worker tells as it goes on.
-#[derive(Clone, Copy, Debug, PartialEq, Eq)]
+#[derive(Clone, Copy)]
 pub enum News {
     /// The entries of the chunk of this number are settled, by this server.
     Settled { number: u64, server: u16 },

@@ -17,6 +17,7 @@ ghost use Rattle.std.specs.Prelude.{
   IfOk,
   IfErr,
   IfSome,
+  IsOk,
   OnOk,
   OnErr,
 };
@@ -260,6 +261,10 @@ impl<A: Tally, S: Tally> Locked<A, S> {
           buffer = live_takes self.old.output.buffer worker now;
         })) }
         ensures err { OnErr result (self.new ≡ self.old) }
+
+        // Where none is free, no memory is taken.
+        ensures none { live_given (live_looks self.old.output.buffer now) ≡ None
+            → IsOk result }
         ensures same { seat.new ≡ seat.old }
     {
         let _ = seat;
@@ -308,7 +313,7 @@ impl<A: Tally, S: Tally> Locked<A, S> {
 }
 
 /// What an output came to, in entries.
-#[derive(Clone, Copy, Debug, PartialEq, Eq)]
+#[derive(Clone, Copy)]
 pub struct Closing {
     pub accepted: u64,
     pub settled: u64,

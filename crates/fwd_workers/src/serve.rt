@@ -13,7 +13,7 @@ use std::sync::Wait;
 const ROOM: usize = 4_096;
 
 /// What a turn of a session came to.
-#[derive(Clone, Copy, Debug, PartialEq, Eq)]
+#[derive(Clone, Copy, Debug)]
 pub enum Served {
     /// Nothing that asks for anything.
     Quiet,

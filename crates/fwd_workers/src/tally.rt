@@ -180,7 +180,7 @@ impl<L: Ledger> Tally for Ledgered<L> {
 }
 
 /// A counter that is a plain number, whose seats keep nothing.
-#[derive(Debug, Drop)]
+#[derive(Drop)]
 pub struct Plain(u64);
 
 impl Model for Plain {

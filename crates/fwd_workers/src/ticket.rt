@@ -10,7 +10,6 @@ use std::marker::Model;
 
 /// A request that an output admitted. Only `admit` makes one. It must be spent: by a receipt, or by
 /// `abandon`.
-#[derive(Debug)]
 pub struct Ticket {
     run: [u8; 6],
     output: u16,

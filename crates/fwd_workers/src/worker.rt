@@ -17,7 +17,7 @@ use std::alloc::{AllocError, Global};
 use std::sync::{Arc, Wait};
 
 /// Why a worker's run ended.
-#[derive(Clone, Copy, Debug, PartialEq, Eq)]
+#[derive(Clone, Copy)]
 pub enum Ended {
     /// The gate stopped it.
     Stopped,
@@ -34,7 +34,7 @@ struct Line<L: Link> {
 }
 
 /// Why a session is to end.
-#[derive(Clone, Copy, Debug, PartialEq, Eq)]
+#[derive(Clone, Copy)]
 enum Ending {
     /// Its link carries no further chunk.
     Spent,

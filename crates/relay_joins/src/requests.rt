@@ -22,7 +22,7 @@ const ENTRIES: [&[u8]; 3] = [
 const MOST: u32 = 4;
 
 /// A request, as it is admitted and as the table sees it.
-#[derive(Debug, Drop)]
+#[derive(Drop)]
 pub struct Request {
     pub tag: u8,
     /// The bytes of each entry.
