@@ -165,14 +165,13 @@ impl SourcePeer {
     pub fn refuse(&mut self, why: SourceEnd)
         ensures { self.new ≡ self.old }
     {
-        if why == SourceEnd::Refused(AdmitRefusal::Memory) {
-            self.starve();
-        } else {
-            self.end();
-            self.fact = Some(Fact::SourceClosed {
-                peer: self.peer,
-                why,
-            });
+        match why {
+            SourceEnd::Refused(AdmitRefusal::Memory) => self.starve(),
+            why => {
+                self.end();
+                let peer = self.peer;
+                self.fact = Some(Fact::SourceClosed { peer, why });
+            }
         }
     }
 

@@ -12,7 +12,7 @@ pub enum Caller {
 }
 
 /// Why the relay closes a source that would still send.
-#[derive(Clone, Copy, PartialEq, Eq)]
+#[derive(Clone, Copy, Debug)]
 pub enum SourceEnd {
     /// What it sent is no request, or it is not let in.
     Fault(SourceFault),
@@ -23,7 +23,7 @@ pub enum SourceEnd {
 }
 
 /// What memory was refused for.
-#[derive(Clone, Copy, PartialEq, Eq)]
+#[derive(Clone, Copy)]
 pub enum Want {
     /// For a source, which is closed.
     Source(SocketAddr),
