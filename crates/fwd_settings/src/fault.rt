@@ -9,7 +9,7 @@ use std::fmt;
 
 /// Why settings are refused. A key is written as `relay.listen`, `output[0].match` or
 /// `output[0].server[1].address`.
-#[derive(Debug, Drop)]
+#[derive(Drop)]
 pub enum SettingsFault {
     /// Memory ran out.
     Memory,
