@@ -4,4 +4,3 @@ pub mod Asking
 pub mod Following
 pub mod Pieces
 pub mod Examples
-pub mod Keeping

@@ -1,14 +1,12 @@
 -- What the parts of a hearing show, in the words of the definitions.
-use Rattle.std.specs.Prelude.{◌≡◌, ℕ, ◌+◌, ◌-◌, ◌≤◌, false, List, [], ◌++◌, length, drop, Option, Some, None}
+use Rattle.std.specs.Prelude.{◌≡◌, ℕ, ◌+◌, ◌-◌, ◌≤◌, false, List, [], length, drop, Option, Some, None}
 use Rattle.fwd_msgpack.specs.declared.limits.Limits.{Limits}
 use Rattle.fwd_modes.specs.Requests.{Request, Reading}
 use Rattle.fwd_handshake.specs.declared.verdict.PingVerdict.{PingVerdict}
 use Rattle.fwd_handshake.specs.declared.verdict.PingVerdict.TheVariants.{Pass}
 use Rattle.fwd_source.specs.declared.fault.SourceFault.{SourceFault}
 use Rattle.fwd_source.specs.Judged.{Judged, greeted, joined, welcomed, asked, judged_of}
-use Rattle.fwd_source.specs.declared.piece.Piece.{Piece}
-use Rattle.fwd_source.specs.History.{told}
-use Rattle.fwd_source.specs.Live.{LiveSource, judged_kept, source_hears}
+use Rattle.fwd_source.specs.Live.{LiveSource}
 use Rattle.fwd_source.specs.declared.hearing.Heard.{Heard}
 use Rattle.fwd_source.specs.declared.greeting.Greeting.{Greeting}
 use Rattle.fwd_source.specs.declared.greeting.Greeting.TheVariants as greeting
@@ -26,18 +24,6 @@ shown h = record {
 -- a source as before the bytes that it keeps
 abbrev pub emptied : LiveSource → LiveSource
 emptied s = record s { rest = [] }
-
--- a source that hears the bytes that it keeps, as if they came now
-abbrev pub hears_kept : LiveSource → LiveSource
-hears_kept s = source_hears (emptied s) s.rest
-
--- what it tells of them
-abbrev pub told_kept : LiveSource → Piece
-told_kept s = told (judged_kept s).fault (length (s.waiting ++ (judged_kept s).requests))
-
--- a source that keeps more bytes behind those that it keeps
-abbrev pub keeps : LiveSource → List ℕ → LiveSource
-keeps s bytes = record s { rest = s.rest ++ bytes }
 
 -- these are the last of the bytes
 abbrev pub IsEndOf : List ℕ → List ℕ → Type 0

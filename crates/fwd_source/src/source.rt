@@ -30,7 +30,7 @@ ghost use Rattle.fwd_source.specs.Live.{
   source_drains,
   source_shuts,
 };
-ghost use Rattle.fwd_source.specs.Hearing.{shown, hears_kept, kept_of, told_kept, IsEndOf};
+ghost use Rattle.fwd_source.specs.Hearing.{shown, emptied, kept_of, IsEndOf};
 
 use crate::greeting::hear_greeting;
 use crate::hearing::{Heard, hear};
@@ -310,9 +310,12 @@ impl Source {
     #[tactic(auto, unfolding(crate::specs::Live::source_hears))]
     fn hears(&mut self, alloc: Global) -> Result<Told, AllocError>
         requires { self.old.live.closed ≡ false }
-        ensures answer { IfOk result (λ told. told.piece ≡ told_kept self.old.live) }
-        ensures out { IfOk result (λ told. told.out ≡ (judged_kept self.old.live).pong) }
-        ensures live { OnOk result (self.new.live ≡ hears_kept self.old.live) }
+        ensures answer { IfOk result (λ told.
+            told.piece ≡ live_piece_answer (emptied self.old.live) self.old.live.rest) }
+        ensures out { IfOk result (λ told.
+            told.out ≡ live_piece_out (emptied self.old.live) self.old.live.rest) }
+        ensures live { OnOk result (
+            self.new.live ≡ live_piece_next (emptied self.old.live) self.old.live.rest) }
         ensures err { OnErr result (self.new.live ≡ self.old.live) }
         ensures room { length self.old.live.unsent + self.old.room
             ≤ length self.new.live.unsent + self.new.room }
@@ -343,7 +346,7 @@ impl Source {
 
     /// More bytes come. After a fault and once shut, each further
     /// piece is refused. On an error nothing has changed.
-    #[tactic(auto, using(crate::proofs::Keeping::piece_heard))]
+    #[tactic(auto, unfolding(crate::specs::Live::source_hears))]
     pub fn piece(&mut self, alloc: Global, bytes: &[u8]) -> Result<Told, AllocError>
         ensures answer { IfOk result (λ told.
             told.piece ≡ live_piece_answer self.old.live bytes.now) }
