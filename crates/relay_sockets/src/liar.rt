@@ -35,9 +35,8 @@ fn lie<R: Clock + AllocGlobal>(rt: &R, server: &Server, said: &[u8]) -> Result<V
 /// Says the acknowledgement of a frame twice at once.
 fn say_twice(alloc: Global, link: &TcpStream, frame: &[u8]) -> Result<()> {
     let ack = ack(name_of(frame)?);
-    let mut said = [0; 60];
-    said[..30].copy_from_slice(&ack);
-    said[30..].copy_from_slice(&ack);
+    let mut said = Vec::from_slice(alloc, &ack)?;
+    said.extend_from_slice(&ack)?;
     say_last(alloc, link, &said)
 }
 
