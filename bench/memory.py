@@ -2,7 +2,7 @@
 
 memory.py PROGRAM
 
-PROGRAM is relay_buffers as it was built. For each load it runs twice: to make the requests alone, and
+PROGRAM is relay_measures as it was built. For each load it runs twice: to make the requests alone, and
 to admit them all and settle them. The most memory of the second run less that of the first, by the
 system's count of resident bytes, stands beside twice the entries' bytes, 8 bytes an entry and 256 a
 chunk.
@@ -25,7 +25,7 @@ LOADS = [
 
 def run(program, mode, load):
     """What it printed, and the most bytes that it had."""
-    words = [program, mode, *map(str, load), "0"]
+    words = [program, "buffers", mode, *map(str, load), "0"]
     child = subprocess.Popen(words, stdout=subprocess.PIPE)
     text = child.stdout.read().decode()
     _, status, usage = os.wait4(child.pid, 0)

@@ -4,8 +4,8 @@
 #     sh bench/scan.sh [TURNS [MEGABYTES]]
 #
 # Run at the top of the repository, on a quiet machine. It needs Debian's python3-msgpack and libmsgpuck-dev, which it
-# installs where they are absent, and cc. It proves and builds crates/relay_bench, writes streams to a folder that it
-# removes in the end, and prints one line a stream: MB/s of the fastest of five times TURNS turns (a MB is 10^6 bytes), and the
+# installs where they are absent, and cc. It proves and builds crates/relay_measures, writes streams to a folder that
+# it removes in the end, and prints one line a stream: MB/s of the fastest of five times TURNS turns (a MB is 10^6 bytes), and the
 # ratio to mp_check's.
 #
 # read_request is measured over values that were cut beforehand, so that its figure is its own.
@@ -21,8 +21,8 @@ megabytes=${2:-20}
     apt-get update -q && apt-get install -qy python3-msgpack libmsgpuck-dev
 } >&2
 
-(cd crates/relay_bench && rt run -- count cut 1 <stdin >/dev/null)
-bench=$PWD/crates/relay_bench/out/relay_bench
+(cd crates/relay_measures && rt run -- values count cut 1 - <stdin >/dev/null)
+bench=$PWD/crates/relay_measures/out/relay_measures
 
 folder=$(mktemp -d)
 trap 'rm -rf "$folder"' EXIT
@@ -84,9 +84,9 @@ echo "cores $(nproc), MB/s of the fastest of five times $turns turns over $megab
 printf '%-16s %10s %10s %7s %14s %7s\n' stream mp_check cut ratio read_request ratio
 for stream in message forward packed_forward packed_entries; do
     peer=$(speed "$folder/check" "$turns" "$folder/$stream")
-    cut=$(speed "$bench" speed cut "$turns" "$folder/$stream")
-    read=$(speed "$bench" speed requests "$turns" "$folder/$stream")
+    cut=$(speed "$bench" values speed cut "$turns" "$folder/$stream")
+    read=$(speed "$bench" values speed requests "$turns" "$folder/$stream")
     printf '%s %s %s %s\n' "$stream" "$peer" "$cut" "$read" |
         awk '{ printf "%-16s %10d %10d %7.2f %14d %7.2f\n", $1, $2, $3, $3 / $2, $4, $4 / $2 }'
-    "$bench" count requests 1 "$folder/$stream" | sed 's/^/    /'
+    "$bench" values count requests 1 "$folder/$stream" | sed 's/^/    /'
 done

@@ -1,7 +1,9 @@
 //! A fault behind a good request in one piece: the request's entries are sent, and the source is
 //! closed and told nothing.
 
-use crate::peer::{accept, rest_len, serve_text, shown, source, visit};
+use crate::peer::{rest_len, source, visit};
+use crate::seen::Seen;
+use crate::server::Server;
 use crate::site::Site;
 use anyhow::Result;
 use std::net::{Net, TcpListener, TcpStream};
@@ -11,25 +13,38 @@ use std::rt::Clock;
 /// begins with.
 const FAULTY: &[u8] = b"\x94\xa1a\x01\x80\x81\xa5chunk\xa1x\xc1";
 
-/// What both sides saw.
-#[derive(Debug, Drop)]
-struct Remains {
-    told: usize,
-    frame: String,
-    next: bool,
+/// How many bytes the source is told before it is closed.
+fn faulty_len<R: Net<Listener = TcpListener, Stream = TcpStream> + AllocGlobal>(
+    rt: &R,
+    site: Site,
+) -> Result<usize> {
+    let source = source(rt, site, FAULTY)?;
+    rest_len(rt.alloc(), &source)
+}
+
+/// What the server sees, and another source behind the first.
+fn look<R: Net<Listener = TcpListener, Stream = TcpStream> + AllocGlobal>(
+    rt: &R,
+    site: Site,
+    link: &TcpStream,
+    seen: &mut Seen,
+) -> Result<()> {
+    seen.put_served("frame", link)?;
+    let next = visit(rt, site, link)?;
+    seen.put("next", &next)?;
+    seen.end()
 }
 
 /// The source, its server, and another source behind it.
 pub fn play<R: Net<Listener = TcpListener, Stream = TcpStream> + Clock + AllocGlobal>(
     rt: &R,
     site: Site,
-    server: &TcpListener,
-) -> Result<String> {
-    let alloc = rt.alloc();
-    let source = source(rt, site, FAULTY)?;
-    let told = rest_len(alloc, &source)?;
-    let link = accept(rt, server)?;
-    let frame = serve_text(alloc, &link)?;
-    let next = visit(rt, site, &link)?;
-    shown(alloc, &Remains { told, frame, next })
+    server: &Server,
+    seen: &mut Seen,
+) -> Result<()> {
+    seen.begin("Remains")?;
+    let told = faulty_len(rt, site)?;
+    seen.put("told", &told)?;
+    let link = server.accept(rt)?;
+    look(rt, site, &link, seen)
 }

@@ -1,9 +1,9 @@
 //! Hostile peers, and beside each a good source, whose request is acknowledged.
 
 use crate::frame::MESSAGE;
-use crate::peer::{
-    accept, connect, is_silent, rest_len, rest_text, send, serve, shown, source, value, visit,
-};
+use crate::peer::{connect, rest_len, rest_text, send, serve, source, value, visit};
+use crate::seen::Seen;
+use crate::server::Server;
 use crate::site::Site;
 use anyhow::Result;
 use std::net::{Net, TcpListener, TcpStream};
@@ -23,18 +23,6 @@ const SUMMAND: u64 = 1_442_695_040_888_963_407;
 /// A head of a request to a monitor, of so many bytes, has no end: one more is too many.
 const HEAD: usize = 8_191;
 
-/// What hostile peers saw, and the source beside each.
-#[derive(Debug, Drop)]
-struct Attacks {
-    /// How many bytes sources of random bytes are told before they are closed.
-    random: usize,
-    beside_random: bool,
-    /// A monitor with a head that does not end is told nothing, and then this.
-    head_waits: bool,
-    head: String,
-    beside_head: bool,
-}
-
 /// Random bytes.
 fn random_bytes(seed: u64) -> [u8; BYTES] {
     let mut bytes = [0; BYTES];
@@ -46,6 +34,18 @@ fn random_bytes(seed: u64) -> [u8; BYTES] {
     bytes
 }
 
+/// How many bytes a source of random bytes is told before it is closed.
+fn random_len<R: Net<Listener = TcpListener, Stream = TcpStream> + AllocGlobal>(
+    rt: &R,
+    site: Site,
+    seed: u64,
+) -> Result<usize> {
+    let source = connect(rt, site.sources)?;
+    // The relay may close in the middle of it.
+    let _ = send(&source, &random_bytes(seed));
+    rest_len(rt.alloc(), &source)
+}
+
 /// How many bytes sources of random bytes are told before they are closed. The relay keeps of each
 /// no more than one unfinished value.
 fn random<R: Net<Listener = TcpListener, Stream = TcpStream> + AllocGlobal>(
@@ -54,62 +54,80 @@ fn random<R: Net<Listener = TcpListener, Stream = TcpStream> + AllocGlobal>(
 ) -> Result<usize> {
     let mut told = 0_usize;
     for seed in 0..SEEDS {
-        let source = connect(rt, site.sources)?;
-        // The relay may close in the middle of it.
-        let _ = send(&source, &random_bytes(seed + 1));
-        let count = rest_len(rt.alloc(), &source)?;
-        told = told.saturating_add(count);
+        told = told.saturating_add(random_len(rt, site, seed + 1)?);
     }
     Ok(told)
 }
 
+/// Whether a monitor with a head that does not end is told nothing.
+fn put_waiting_head(monitor: &TcpStream, seen: &mut Seen) -> Result<()> {
+    send(monitor, b"GET / HTTP/1.1\r\nHost: ")?;
+    send(monitor, &[b'a'; HEAD - 22])?;
+    seen.put_silence("head_waits", monitor)
+}
+
 /// A head without an end: whether it waits, and what is told at its last byte. No more bytes than
 /// these are kept of a monitor, of which there are sixteen.
-fn head<R: Net<Listener = TcpListener, Stream = TcpStream> + AllocGlobal>(
+fn put_head<R: Net<Listener = TcpListener, Stream = TcpStream> + AllocGlobal>(
     rt: &R,
     site: Site,
-) -> Result<(bool, String)> {
+    seen: &mut Seen,
+) -> Result<()> {
     let monitor = connect(rt, site.monitors)?;
-    send(&monitor, b"GET / HTTP/1.1\r\nHost: ")?;
-    send(&monitor, &[b'a'; HEAD - 22])?;
-    let waits = is_silent(&monitor)?;
+    put_waiting_head(&monitor, seen)?;
     send(&monitor, b"a")?;
     let told = rest_text(rt.alloc(), &monitor)?;
-    Ok((waits, told))
+    seen.put("head", &told)
+}
+
+/// Appends whether the request of a good source is acknowledged.
+fn put_visit<R: Net<Listener = TcpListener, Stream = TcpStream> + AllocGlobal>(
+    rt: &R,
+    site: Site,
+    link: &TcpStream,
+    field: &str,
+    seen: &mut Seen,
+) -> Result<()> {
+    let beside = visit(rt, site, link)?;
+    seen.put(field, &beside)
 }
 
 /// The first request goes to the server, over the link that serves the others.
 fn begin<R: Net<Listener = TcpListener, Stream = TcpStream> + Clock + AllocGlobal>(
     rt: &R,
     site: Site,
-    server: &TcpListener,
+    server: &Server,
 ) -> Result<TcpStream> {
-    let alloc = rt.alloc();
     let source = source(rt, site, MESSAGE)?;
-    let link = accept(rt, server)?;
-    serve(alloc, &link)?;
-    value(alloc, &source)?;
+    let link = server.accept(rt)?;
+    serve(rt.alloc(), &link)?;
+    value(rt.alloc(), &source)?;
     Ok(link)
+}
+
+/// What hostile peers see, and the source beside each.
+fn look<R: Net<Listener = TcpListener, Stream = TcpStream> + AllocGlobal>(
+    rt: &R,
+    site: Site,
+    link: &TcpStream,
+    seen: &mut Seen,
+) -> Result<()> {
+    seen.begin("Attacks")?;
+    let random = random(rt, site)?;
+    seen.put("random", &random)?;
+    put_visit(rt, site, link, "beside_random", seen)?;
+    put_head(rt, site, seen)?;
+    put_visit(rt, site, link, "beside_head", seen)?;
+    seen.end()
 }
 
 /// The hostile peers, one after the other.
 pub fn play<R: Net<Listener = TcpListener, Stream = TcpStream> + Clock + AllocGlobal>(
     rt: &R,
     site: Site,
-    server: &TcpListener,
-) -> Result<String> {
-    let alloc = rt.alloc();
+    server: &Server,
+    seen: &mut Seen,
+) -> Result<()> {
     let link = begin(rt, site, server)?;
-    let random = random(rt, site)?;
-    let beside_random = visit(rt, site, &link)?;
-    let (head_waits, head) = head(rt, site)?;
-    let beside_head = visit(rt, site, &link)?;
-    let seen = Attacks {
-        random,
-        beside_random,
-        head_waits,
-        head,
-        beside_head,
-    };
-    shown(alloc, &seen)
+    look(rt, site, &link, seen)
 }

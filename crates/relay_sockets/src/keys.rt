@@ -2,18 +2,17 @@
 //! beside them are closed, or waited for, and the source's next request is acknowledged.
 
 use crate::frame::MESSAGE;
-use crate::peer::{accept, connect, round, send, serve_text, shown, value_text};
-use crate::site::{Site, around, free_site, front, listen, output, relay};
-use crate::strangers::strangers;
+use crate::peer::{connect, round, send};
+use crate::seen::Seen;
+use crate::server::Server;
+use crate::site::Site;
+use crate::strangers::put_strangers;
 use anyhow::Result;
-use std::alloc::Global;
-use std::net::{Net, SocketAddr, TcpListener, TcpStream};
+use std::net::{Net, TcpListener, TcpStream};
 use std::rt::Clock;
-use std::sync::Wait;
-use std::thread::Threads;
 
 /// The key in the settings of the relay and of its output.
-const KEY: &str = "shared_key = \"secret\"\n";
+pub const KEY: &str = "shared_key = \"secret\"\n";
 
 /// The PING of the first source, whose hostname is `client`. Its digest is the SHA-512 of its salt,
 /// its hostname, the nonce of the relay's first HELO (the first 16 bytes of the key stream of the
@@ -32,78 +31,58 @@ const PONG: &[u8] = b"\x95\xa4PONG\xc3\xa0\xa6server\xd9\x80\
     b1d5c4c5e1d5132cc01c19e660362e763566cc498a1a3c48ac59a0a00c791df4\
     58c9576efa8f5ec0dcadf46a9729f622410bbaac46be15d7e90f19e63d1309dc";
 
-/// What both sides saw.
-#[derive(Debug, Drop)]
-struct Agreed {
-    helo: String,
-    pong: String,
-    ping: String,
-    frame: String,
-    told: String,
-    strangers: String,
-    beside: bool,
+/// The relay lets a source in, which sends a request.
+fn enter(source: &TcpStream, seen: &mut Seen) -> Result<()> {
+    seen.put_value("helo", source)?;
+    send(source, PING)?;
+    seen.put_value("pong", source)?;
+    send(source, MESSAGE)
 }
 
-/// A server lets the relay in: the relay's PING.
-fn let_in(alloc: Global, link: &TcpStream) -> Result<String> {
+/// A server lets the relay in.
+fn let_in(link: &TcpStream, seen: &mut Seen) -> Result<()> {
     send(link, HELO)?;
-    let ping = value_text(alloc, link)?;
-    send(link, PONG)?;
-    Ok(ping)
+    seen.put_value("ping", link)?;
+    send(link, PONG)
+}
+
+/// The source's request is acknowledged, and its next one beside strangers.
+fn serve<R: Net<Listener = TcpListener, Stream = TcpStream> + AllocGlobal>(
+    rt: &R,
+    site: Site,
+    source: &TcpStream,
+    link: &TcpStream,
+    seen: &mut Seen,
+) -> Result<()> {
+    seen.put_round(source, link)?;
+    put_strangers(rt, site, source, link, seen)?;
+    let beside = round(rt.alloc(), source, link)?;
+    seen.put("beside", &beside)
+}
+
+/// The server lets the relay in, and acknowledges.
+fn play_server<R: Net<Listener = TcpListener, Stream = TcpStream> + Clock + AllocGlobal>(
+    rt: &R,
+    site: Site,
+    server: &Server,
+    source: &TcpStream,
+    seen: &mut Seen,
+) -> Result<()> {
+    let link = server.accept(rt)?;
+    let_in(&link, seen)?;
+    serve(rt, site, source, &link, seen)
 }
 
 /// The source, the server and the strangers.
-fn play<R: Net<Listener = TcpListener, Stream = TcpStream> + Clock + AllocGlobal>(
+pub fn play<R: Net<Listener = TcpListener, Stream = TcpStream> + Clock + AllocGlobal>(
     rt: &R,
     site: Site,
-    server: &TcpListener,
-) -> Result<String> {
-    let alloc = rt.alloc();
+    server: &Server,
+    seen: &mut Seen,
+) -> Result<()> {
     let source = connect(rt, site.sources)?;
-    let helo = value_text(alloc, &source)?;
-    send(&source, PING)?;
-    let pong = value_text(alloc, &source)?;
-    send(&source, MESSAGE)?;
-    let link = accept(rt, server)?;
-    let ping = let_in(alloc, &link)?;
-    let frame = serve_text(alloc, &link)?;
-    let told = value_text(alloc, &source)?;
-    let strangers = strangers(rt, site, &source, &link)?;
-    let beside = round(alloc, &source, &link)?;
-    let seen = Agreed {
-        helo,
-        pong,
-        ping,
-        frame,
-        told,
-        strangers,
-        beside,
-    };
-    shown(alloc, &seen)
-}
-
-/// The settings of a relay with a key, and an output with a key to one server.
-fn settings<R: AllocGlobal>(rt: &R, site: Site, server: SocketAddr) -> Result<String> {
-    let alloc = rt.alloc();
-    let mut text = front(alloc, site, 8, KEY)?;
-    let output = output(alloc, "**", KEY, &[server])?;
-    text.push_str(&output)?;
-    Ok(text)
-}
-
-/// What both sides saw, and what the relay came to.
-pub fn keys<
-    R: Net<Listener = TcpListener, Stream = TcpStream>
-        + Threads
-        + Wait
-        + Clock
-        + AllocGlobal
-        + Sync,
->(rt: &R, host: u8) -> Result<String> {
-    let server = listen(rt, host)?;
-    let site = free_site(rt, host)?;
-    let at = server.local_addr()?;
-    let text = settings(rt, site, at)?;
-    let relay = relay(rt, &text)?;
-    around(rt, site, relay, move || play(rt, site, &server))
+    seen.begin("Agreed")?;
+    enter(&source, seen)?;
+    play_server(rt, site, server, &source, seen)?;
+    seen.end()
 }

@@ -1,66 +1,65 @@
 //! A server is down at the start, and its standby serves; it comes once the standby is gone.
 
 use crate::frame::MESSAGE;
-use crate::peer::{accept, send, serve_text, shown, source, value_text};
-use crate::site::{Site, around, free_port, free_site, listen, listen_at, relay_to_two};
+use crate::peer::{send, source};
+use crate::seen::Seen;
+use crate::server::{Server, Servers};
+use crate::site::Site;
 use anyhow::Result;
-use std::net::{Net, SocketAddr, TcpListener, TcpStream};
+use std::net::{Net, TcpListener, TcpStream};
 use std::rt::Clock;
-use std::sync::Wait;
-use std::thread::Threads;
 
-/// What both servers got, and what a source was told after each.
-#[derive(Debug, Drop)]
-struct Turns {
-    standby: String,
-    told: String,
-    late: String,
-    told_again: String,
+/// A server serves a chunk.
+fn serve<R: Clock>(rt: &R, server: &Server, field: &str, seen: &mut Seen) -> Result<()> {
+    let link = server.accept(rt)?;
+    seen.put_served(field, &link)
 }
 
 /// The standby serves a chunk, and is gone.
-fn stand_in<R: Clock + AllocGlobal>(rt: &R, standby: TcpListener) -> Result<String> {
-    let link = accept(rt, &standby)?;
-    serve_text(rt.alloc(), &link)
+fn stand_in<R: Clock>(
+    rt: &R,
+    standby: &mut Server,
+    source: &TcpStream,
+    seen: &mut Seen,
+) -> Result<()> {
+    serve(rt, standby, "standby", seen)?;
+    standby.close();
+    seen.put_value("told", source)
 }
 
-/// The source and the servers.
-fn play<R: Net<Listener = TcpListener, Stream = TcpStream> + Clock + AllocGlobal>(
+/// The server comes, and serves the next chunk.
+fn come<R: Net<Listener = TcpListener, Stream = TcpStream> + Clock>(
+    rt: &R,
+    server: &mut Server,
+    source: &TcpStream,
+    seen: &mut Seen,
+) -> Result<()> {
+    server.reopen(rt)?;
+    send(source, MESSAGE)?;
+    serve(rt, server, "late", seen)?;
+    seen.put_value("told_again", source)
+}
+
+/// What both servers get, and what a source is told after each.
+fn look<R: Net<Listener = TcpListener, Stream = TcpStream> + Clock>(
+    rt: &R,
+    servers: &mut Servers,
+    source: &TcpStream,
+    seen: &mut Seen,
+) -> Result<()> {
+    seen.begin("Turns")?;
+    stand_in(rt, &mut servers.second, source, seen)?;
+    come(rt, &mut servers.first, source, seen)?;
+    seen.end()
+}
+
+/// The source and the servers, of which the first is closed.
+pub fn play<R: Net<Listener = TcpListener, Stream = TcpStream> + Clock>(
     rt: &R,
     site: Site,
-    late: SocketAddr,
-    standby: TcpListener,
-) -> Result<String> {
-    let alloc = rt.alloc();
+    servers: &mut Servers,
+    seen: &mut Seen,
+) -> Result<()> {
     let source = source(rt, site, MESSAGE)?;
-    let standby = stand_in(rt, standby)?;
-    let told = value_text(alloc, &source)?;
-    let server = listen_at(rt, late)?;
-    send(&source, MESSAGE)?;
-    let link = accept(rt, &server)?;
-    let late = serve_text(alloc, &link)?;
-    let told_again = value_text(alloc, &source)?;
-    let seen = Turns {
-        standby,
-        told,
-        late,
-        told_again,
-    };
-    shown(alloc, &seen)
-}
-
-/// What the source and the servers saw, and what the relay came to.
-pub fn late<
-    R: Net<Listener = TcpListener, Stream = TcpStream>
-        + Threads
-        + Wait
-        + Clock
-        + AllocGlobal
-        + Sync,
->(rt: &R, host: u8) -> Result<String> {
-    let late = free_port(rt, host)?;
-    let standby = listen(rt, host)?;
-    let site = free_site(rt, host)?;
-    let relay = relay_to_two(rt, site, late, &standby)?;
-    around(rt, site, relay, move || play(rt, site, late, standby))
+    look(rt, servers, &source, seen)
 }

@@ -1,11 +1,13 @@
 //! A server lies: it names another chunk, says what is no acknowledgement, and at last says the
 //! right name twice. Each lie costs it its connection, and no source is told by one.
 
-use crate::frame::{MESSAGE, ack};
-use crate::peer::{accept, is_silent, rest, send, serve_text, shown, source, value, value_text};
+use crate::frame::{MESSAGE, ack, name_of};
+use crate::peer::{is_silent, rest, send, source, value};
+use crate::seen::Seen;
+use crate::server::Server;
 use crate::site::Site;
 use anyhow::Result;
-use hex::encode;
+use std::alloc::Global;
 use std::net::{Net, TcpListener, TcpStream};
 use std::rt::Clock;
 
@@ -15,66 +17,100 @@ const OTHER: &[u8] = b"\x81\xa3ack\xb8AAAAAAAAAAAAAAAAAAAAAg==";
 /// The bool `true`.
 const TRUE: &[u8] = b"\xc3";
 
-/// What both sides saw.
-#[derive(Debug, Drop)]
-struct Lies {
-    other: String,
-    same: bool,
-    silent: bool,
-    told: String,
-    honest: String,
-    told_again: String,
+/// A server says these bytes, and is closed with nothing further.
+fn say_last(alloc: Global, link: &TcpStream, said: &[u8]) -> Result<()> {
+    send(link, said)?;
+    rest(alloc, link)?;
+    Ok(())
 }
 
 /// A server reads a frame, says these bytes, and is closed with nothing further: the frame.
-fn lie<R: Clock + AllocGlobal>(rt: &R, server: &TcpListener, said: &[u8]) -> Result<Vec<u8>> {
-    let alloc = rt.alloc();
-    let link = accept(rt, server)?;
-    let frame = value(alloc, &link)?;
-    send(&link, said)?;
-    rest(alloc, &link)?;
+fn lie<R: Clock + AllocGlobal>(rt: &R, server: &Server, said: &[u8]) -> Result<Vec<u8>> {
+    let link = server.accept(rt)?;
+    let frame = value(rt.alloc(), &link)?;
+    say_last(rt.alloc(), &link, said)?;
     Ok(frame)
 }
 
-/// A server reads a frame, acknowledges it twice at once, and is closed with nothing further.
-fn repeat<R: Clock + AllocGlobal>(rt: &R, server: &TcpListener) -> Result<Vec<u8>> {
-    let alloc = rt.alloc();
-    let link = accept(rt, server)?;
-    let frame = value(alloc, &link)?;
-    let mut said = ack(alloc, &frame)?;
-    let again = ack(alloc, &frame)?;
-    said.extend_from_slice(&again)?;
-    send(&link, &said)?;
-    rest(alloc, &link)?;
-    Ok(frame)
+/// Says the acknowledgement of a frame twice at once.
+fn say_twice(alloc: Global, link: &TcpStream, frame: &[u8]) -> Result<()> {
+    let ack = ack(name_of(frame)?);
+    let mut said = Vec::from_slice(alloc, &ack)?;
+    said.extend_from_slice(&ack)?;
+    say_last(alloc, link, &said)
+}
+
+/// A server reads a frame, acknowledges it twice at once, and is closed with nothing further:
+/// whether it is this frame.
+fn is_repeated<R: Clock + AllocGlobal>(rt: &R, server: &Server, due: &[u8]) -> Result<bool> {
+    let link = server.accept(rt)?;
+    let frame = value(rt.alloc(), &link)?;
+    say_twice(rt.alloc(), &link, &frame)?;
+    Ok(frame.as_slice() == due)
+}
+
+/// A server says what is no acknowledgement, and then the right name twice: whether the frame is
+/// this one each time, and whether its source is told nothing in between.
+fn lie_again<R: Clock + AllocGlobal>(
+    rt: &R,
+    server: &Server,
+    source: &TcpStream,
+    due: &[u8],
+) -> Result<(bool, bool)> {
+    let is_same = lie(rt, server, TRUE)?.as_slice() == due;
+    let silent = is_silent(source)?;
+    let is_repeated = is_repeated(rt, server, due)?;
+    Ok((is_same && is_repeated, silent))
+}
+
+/// The lies.
+fn put_lies<R: Clock + AllocGlobal>(
+    rt: &R,
+    server: &Server,
+    source: &TcpStream,
+    seen: &mut Seen,
+) -> Result<()> {
+    let other = lie(rt, server, OTHER)?;
+    seen.put_bytes("other", &other)?;
+    let (same, silent) = lie_again(rt, server, source, &other)?;
+    seen.put("same", &same)?;
+    seen.put("silent", &silent)
+}
+
+/// The server is honest.
+fn put_honest<R: Clock>(
+    rt: &R,
+    server: &Server,
+    source: &TcpStream,
+    seen: &mut Seen,
+) -> Result<()> {
+    let link = server.accept(rt)?;
+    seen.put_served("honest", &link)?;
+    seen.put_value("told_again", source)
+}
+
+/// What both sides see.
+fn look<R: Clock + AllocGlobal>(
+    rt: &R,
+    server: &Server,
+    source: &TcpStream,
+    seen: &mut Seen,
+) -> Result<()> {
+    seen.begin("Lies")?;
+    put_lies(rt, server, source, seen)?;
+    seen.put_value("told", source)?;
+    send(source, MESSAGE)?;
+    put_honest(rt, server, source, seen)?;
+    seen.end()
 }
 
 /// The source and the server.
 pub fn play<R: Net<Listener = TcpListener, Stream = TcpStream> + Clock + AllocGlobal>(
     rt: &R,
     site: Site,
-    server: &TcpListener,
-) -> Result<String> {
-    let alloc = rt.alloc();
+    server: &Server,
+    seen: &mut Seen,
+) -> Result<()> {
     let source = source(rt, site, MESSAGE)?;
-    let other = lie(rt, server, OTHER)?;
-    let none = lie(rt, server, TRUE)?;
-    let silent = is_silent(&source)?;
-    let twice = repeat(rt, server)?;
-    let told = value_text(alloc, &source)?;
-    send(&source, MESSAGE)?;
-    let link = accept(rt, server)?;
-    let honest = serve_text(alloc, &link)?;
-    let told_again = value_text(alloc, &source)?;
-    let same = none == other && twice == other;
-    let other = encode(alloc, &other)?;
-    let seen = Lies {
-        other,
-        same,
-        silent,
-        told,
-        honest,
-        told_again,
-    };
-    shown(alloc, &seen)
+    look(rt, server, &source, seen)
 }

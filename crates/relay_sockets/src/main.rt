@@ -1,9 +1,14 @@
-//! A relay over sockets, with sources, servers and a monitor around it, all on this machine. It
-//! prints what holds whatever the order of the threads' turns.
+//! A relay over sockets, with sources, servers and a monitor around it, all on this machine, and
+//! what a run says of each fact, by a clock that is set by hand, how its lines are paced, which
+//! environments ask for them, and what a run tells its watch. It prints what holds whatever the
+//! order of the threads' turns.
 #![tactic(auto)]
 
+mod asking;
+mod facts;
 mod fault;
 mod frame;
+mod hand;
 mod hostile;
 mod keys;
 mod late;
@@ -11,9 +16,12 @@ mod liar;
 mod limits;
 mod monitors;
 mod outputs;
+mod pacing;
 mod peer;
 mod scenes;
 mod sealed;
+mod seen;
+mod server;
 mod site;
 mod split;
 mod standby;
@@ -21,12 +29,39 @@ mod starts;
 mod strangers;
 mod torn;
 mod unread;
+mod watched;
 mod whole_way;
 
+use crate::seen::Seen;
 use anyhow::Result;
+use std::net::{Net, TcpListener, TcpStream};
+
+/// Says what every scene saw.
+fn say_scenes(rt: &impl Print, scenes: Vec<Result<Seen>>) -> Result<()> {
+    for seen in scenes {
+        print!(rt; "{}", seen?.text)?;
+    }
+    Ok(())
+}
+
+/// Says why relays do not start.
+fn say_starts<R: Net<Listener = TcpListener, Stream = TcpStream> + Print + AllocGlobal>(
+    rt: &R,
+) -> Result<()> {
+    let mut seen = Seen::new(rt.alloc());
+    starts::put_starts(rt, 15, &mut seen)?;
+    println!(rt; "no start: {}", seen.text)?;
+    Ok(())
+}
 
 fn main(rt: HostRuntime) -> Result<()> {
-    print!(rt; "{}", scenes::play_all(&rt)?)?;
-    println!(rt; "no start: {}", starts::starts(&rt, 15)?)?;
-    Ok(())
+    say_scenes(&rt, scenes::play_all(&rt)?)?;
+    say_starts(&rt)?;
+    facts::say_each(&rt);
+    println!(rt; "--")?;
+    pacing::say_many(&rt);
+    println!(rt; "--")?;
+    asking::say_asked(&rt)?;
+    println!(rt; "--")?;
+    watched::say_run(&rt, 16)
 }

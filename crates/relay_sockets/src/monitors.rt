@@ -1,10 +1,11 @@
 //! Sixteen monitors at a time, and each status of what they are told.
 
-use crate::peer::{asked, connect, page, rest_len, rest_text, send, send_by_bytes, turn};
+use crate::peer::{asked, connect, page, rest_text, send, send_by_bytes, told_len, turn};
+use crate::seen::Seen;
 use crate::site::Site;
 use anyhow::{Result, anyhow};
 use std::alloc::Global;
-use std::net::{Net, SocketAddr, TcpListener, TcpStream};
+use std::net::{Net, TcpListener, TcpStream};
 
 /// The most monitors at a time.
 const MOST: usize = 16;
@@ -23,23 +24,12 @@ const PAGE: &[u8] = b"GET / HTTP/1.1\r\nHost: relay\r\n\r\n";
 /// Bytes of which the last makes that nothing is a head any more.
 const NONE: &[u8] = b"GET / HTTP/2";
 
-/// What monitors saw.
+/// What monitors are told: the page, of another target, and of no head.
 #[derive(Debug, Drop)]
-struct Places {
-    /// How many bytes one too many is told before it is closed.
-    seventeenth: usize,
-    /// One that came once another had left is told the page.
-    next: bool,
-    /// How many of those that stood are told the page, once they ask for it.
-    standing: usize,
-}
-
-/// Whether a head in pieces of one byte is told the same as one in one piece.
-#[derive(Debug, Drop)]
-struct ByBytes {
-    page: bool,
-    other: bool,
-    none: bool,
+struct Answers {
+    page: String,
+    other: String,
+    none: String,
 }
 
 /// So many monitors that began to ask for the page, and were taken.
@@ -75,69 +65,113 @@ fn count_told(alloc: Global, monitors: &[TcpStream], text: &str) -> Result<usize
     Ok(count)
 }
 
-/// How many bytes a monitor is told for which there is no place.
-fn one_too_many<R: Net<Listener = TcpListener, Stream = TcpStream> + AllocGlobal>(
+/// One of these monitors is told the page and leaves, and one that comes then is told it too.
+fn put_next<R: Net<Listener = TcpListener, Stream = TcpStream> + AllocGlobal>(
     rt: &R,
     site: Site,
-) -> Result<usize> {
-    let monitor = connect(rt, site.monitors)?;
-    rest_len(rt.alloc(), &monitor)
-}
-
-/// All places are taken, and one becomes free.
-fn fill<R: Net<Listener = TcpListener, Stream = TcpStream> + AllocGlobal>(
-    rt: &R,
-    site: Site,
+    standing: &mut Vec<TcpStream>,
     text: &str,
-) -> Result<Places> {
+    seen: &mut Seen,
+) -> Result<()> {
     let alloc = rt.alloc();
-    let mut standing = crowd(rt, site)?;
-    let seventeenth = one_too_many(rt, site)?;
     let Some(first) = standing.pop() else {
         return Err(anyhow!("no monitor"));
     };
     is_told(alloc, &first, text)?;
     let next = page(rt, alloc, site.monitors, "/")?;
-    let next = next.as_str() == text;
-    let standing = count_told(alloc, &standing, text)?;
-    Ok(Places {
-        seventeenth,
-        next,
-        standing,
-    })
+    seen.put("next", &(next.as_str() == text))
+}
+
+/// All places are taken, and one becomes free: how many bytes one too many is told before it is
+/// closed, and who is told the page.
+fn put_places<R: Net<Listener = TcpListener, Stream = TcpStream> + AllocGlobal>(
+    rt: &R,
+    site: Site,
+    text: &str,
+    seen: &mut Seen,
+) -> Result<()> {
+    let mut standing = crowd(rt, site)?;
+    let seventeenth = told_len(rt, site.monitors)?;
+    seen.put("seventeenth", &seventeenth)?;
+    put_next(rt, site, &mut standing, text, seen)?;
+    let count = count_told(rt.alloc(), &standing, text)?;
+    seen.put("standing", &count)
 }
 
 /// Whether a head in pieces of one byte is told this.
-fn by_bytes<R: Net<Listener = TcpListener, Stream = TcpStream> + AllocGlobal>(
+fn put_by_bytes<R: Net<Listener = TcpListener, Stream = TcpStream> + AllocGlobal>(
     rt: &R,
-    monitors: SocketAddr,
+    site: Site,
+    field: &str,
     head: &[u8],
     text: &str,
-) -> Result<bool> {
-    let monitor = connect(rt, monitors)?;
+    seen: &mut Seen,
+) -> Result<()> {
+    let monitor = connect(rt, site.monitors)?;
     send_by_bytes(&monitor, head)?;
     let told = rest_text(rt.alloc(), &monitor)?;
-    Ok(told.as_str() == text)
+    seen.put(field, &(told.as_str() == text))
 }
 
-/// What monitors saw, and what is told of another target, and of no head.
+/// Sends each head in one piece: what it is told.
+fn ask_each<R: Net<Listener = TcpListener, Stream = TcpStream> + AllocGlobal>(
+    rt: &R,
+    site: Site,
+) -> Result<Answers> {
+    let alloc = rt.alloc();
+    Ok(Answers {
+        page: asked(rt, alloc, site.monitors, PAGE)?,
+        other: asked(rt, alloc, site.monitors, OTHER)?,
+        none: asked(rt, alloc, site.monitors, NONE)?,
+    })
+}
+
+/// What so many monitors see.
+fn put_crowd<R: Net<Listener = TcpListener, Stream = TcpStream> + AllocGlobal>(
+    rt: &R,
+    site: Site,
+    page: &str,
+    seen: &mut Seen,
+) -> Result<()> {
+    seen.begin("Places")?;
+    put_places(rt, site, page, seen)?;
+    seen.end()
+}
+
+/// Whether heads in pieces of one byte are told the same as those in one piece.
+fn put_pieces<R: Net<Listener = TcpListener, Stream = TcpStream> + AllocGlobal>(
+    rt: &R,
+    site: Site,
+    answers: &Answers,
+    seen: &mut Seen,
+) -> Result<()> {
+    seen.begin("\nByBytes")?;
+    put_by_bytes(rt, site, "page", PAGE, &answers.page, seen)?;
+    put_by_bytes(rt, site, "other", OTHER, &answers.other, seen)?;
+    put_by_bytes(rt, site, "none", NONE, &answers.none, seen)?;
+    seen.end()
+}
+
+/// What monitors see, and what they are told.
+fn look<R: Net<Listener = TcpListener, Stream = TcpStream> + AllocGlobal>(
+    rt: &R,
+    site: Site,
+    answers: &Answers,
+    seen: &mut Seen,
+) -> Result<()> {
+    put_crowd(rt, site, &answers.page, seen)?;
+    put_pieces(rt, site, answers, seen)?;
+    let (page, other, none) = (&answers.page, &answers.other, &answers.none);
+    write!(seen.text, "\n{page}{other}{none}")?;
+    Ok(())
+}
+
+/// The monitors.
 pub fn play<R: Net<Listener = TcpListener, Stream = TcpStream> + AllocGlobal>(
     rt: &R,
     site: Site,
-) -> Result<String> {
-    let alloc = rt.alloc();
-    let at = site.monitors;
-    let page = asked(rt, alloc, at, PAGE)?;
-    let crowd = fill(rt, site, &page)?;
-    let other = asked(rt, alloc, at, OTHER)?;
-    let none = asked(rt, alloc, at, NONE)?;
-    let page_same = by_bytes(rt, at, PAGE, &page)?;
-    let other_same = by_bytes(rt, at, OTHER, &other)?;
-    let none_same = by_bytes(rt, at, NONE, &none)?;
-    let by_bytes = ByBytes {
-        page: page_same,
-        other: other_same,
-        none: none_same,
-    };
-    Ok(format!(in alloc; "{crowd:?}\n{by_bytes:?}\n{page}{other}{none}")?)
+    seen: &mut Seen,
+) -> Result<()> {
+    let answers = ask_each(rt, site)?;
+    look(rt, site, &answers, seen)
 }

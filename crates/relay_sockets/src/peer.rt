@@ -2,13 +2,11 @@
 
 ghost use Rattle.std.specs.Prelude.{◌≤◌, IfOk};
 
-use crate::frame::{EMPTY, MESSAGE, TOLD, ack};
+use crate::frame::{EMPTY, MESSAGE, Name, TOLD, ack, name_of};
 use crate::site::Site;
 use anyhow::{Result, anyhow};
 use fwd_msgpack::{Cut, Limits, cut};
-use hex::encode;
 use std::alloc::Global;
-use std::fmt::Debug;
 use std::io::{ErrorKind, Read, Write};
 use std::net::{Net, SocketAddr, TcpListener, TcpStream};
 use std::rt::Clock;
@@ -84,12 +82,6 @@ pub fn value(alloc: Global, stream: &TcpStream) -> Result<Vec<u8>> {
     Err(anyhow!("no value"))
 }
 
-/// The same in hexadecimal digits.
-pub fn value_text(alloc: Global, stream: &TcpStream) -> Result<String> {
-    let value = value(alloc, stream)?;
-    Ok(encode(alloc, &value)?)
-}
-
 /// All bytes up to the close. A side that closes before it has read all that came resets its
 /// connection, which is a close too.
 pub fn rest(alloc: Global, stream: &TcpStream) -> Result<Vec<u8>> {
@@ -109,6 +101,15 @@ pub fn rest(alloc: Global, stream: &TcpStream) -> Result<Vec<u8>> {
 pub fn rest_len(alloc: Global, stream: &TcpStream) -> Result<usize> {
     let rest = rest(alloc, stream)?;
     Ok(rest.len())
+}
+
+/// How many bytes a connection is told up to the close, if it says nothing.
+pub fn told_len<R: Net<Listener = TcpListener, Stream = TcpStream> + AllocGlobal>(
+    rt: &R,
+    addr: SocketAddr,
+) -> Result<usize> {
+    let stream = connect(rt, addr)?;
+    rest_len(rt.alloc(), &stream)
 }
 
 /// How many bytes come, or none at a close.
@@ -146,23 +147,21 @@ pub fn source<R: Net<Listener = TcpListener, Stream = TcpStream>>(
     Ok(source)
 }
 
-/// A server acknowledges a frame.
-pub fn acknowledge(alloc: Global, link: &TcpStream, frame: &[u8]) -> Result<()> {
-    let ack = ack(alloc, frame)?;
-    send(link, &ack)
+/// A server acknowledges a chunk.
+pub fn acknowledge(link: &TcpStream, name: Name) -> Result<()> {
+    send(link, &ack(name))
+}
+
+/// A server reads a frame: the name of its chunk.
+pub fn read_name(alloc: Global, link: &TcpStream) -> Result<Name> {
+    let frame = value(alloc, link)?;
+    name_of(&frame)
 }
 
 /// A server reads a frame and acknowledges it.
-pub fn serve(alloc: Global, link: &TcpStream) -> Result<Vec<u8>> {
-    let frame = value(alloc, link)?;
-    acknowledge(alloc, link, &frame)?;
-    Ok(frame)
-}
-
-/// The same: the frame in hexadecimal digits.
-pub fn serve_text(alloc: Global, link: &TcpStream) -> Result<String> {
-    let frame = serve(alloc, link)?;
-    Ok(encode(alloc, &frame)?)
+pub fn serve(alloc: Global, link: &TcpStream) -> Result<()> {
+    let name = read_name(alloc, link)?;
+    acknowledge(link, name)
 }
 
 /// A source sends a request, its server acknowledges the frame, and the source is told.
@@ -235,9 +234,4 @@ pub fn hurry<R: Net<Listener = TcpListener, Stream = TcpStream>>(
             return;
         }
     }
-}
-
-/// What was seen, as a text.
-pub fn shown<T: Debug>(alloc: Global, seen: &T) -> Result<String> {
-    Ok(format!(in alloc; "{seen:?}")?)
 }

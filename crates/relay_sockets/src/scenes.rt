@@ -1,19 +1,34 @@
 //! The scenes, side by side: each has a relay of its own, whose workers wait out their turns.
 
-use crate::site::beside_server;
+use crate::keys::KEY;
+use crate::peer::hurry;
+use crate::sealed::Sealed;
+use crate::seen::Seen;
+use crate::server::Servers;
+use crate::site::{SEED, Site, free_site, put_output, put_relay, relay};
 use crate::{
     fault, hostile, keys, late, liar, limits, monitors, outputs, split, standby, torn, unread,
     whole_way,
 };
-use anyhow::Result;
+use anyhow::{Result, bail};
+use fwd_chunks::Counts;
+use fwd_loop::{Loop, StartFault};
+use std::alloc::AllocError;
 use std::net::{Net, TcpListener, TcpStream};
 use std::rt::Clock;
 use std::sync::Wait;
 use std::thread;
 use std::thread::Threads;
 
+/// The turns of a relay and of each of its workers. A worker without a chunk waits 10 ms in a turn,
+/// so that it stands for twenty seconds at least.
+const TURNS: u64 = 2_000;
+
+/// What a relay came to.
+type Ended = Result<Vec<Counts>, StartFault>;
+
 /// A scene.
-#[derive(Clone, Copy, Debug)]
+#[derive(Clone, Copy, Debug, PartialEq, Eq)]
 enum Scene {
     WholeWay,
     Split,
@@ -29,6 +44,23 @@ enum Scene {
     Hostile,
     Unread,
 }
+
+/// All scenes.
+const SCENES: [Scene; 13] = [
+    Scene::WholeWay,
+    Scene::Split,
+    Scene::Outputs,
+    Scene::Keys,
+    Scene::Standby,
+    Scene::Late,
+    Scene::Liar,
+    Scene::Torn,
+    Scene::Fault,
+    Scene::Limits,
+    Scene::Monitors,
+    Scene::Hostile,
+    Scene::Unread,
+];
 
 impl Scene {
     /// What it is about.
@@ -69,126 +101,157 @@ impl Scene {
         }
     }
 
-    /// What was seen.
-    fn play<
-        R: Net<Listener = TcpListener, Stream = TcpStream>
-            + Threads
-            + Wait
-            + Clock
-            + AllocGlobal
-            + Sync,
-    >(self, rt: &R) -> Result<String> {
-        let host = self.host();
+    /// Appends the settings of its relay.
+    fn put_settings(self, text: &mut String, site: Site) -> Result<(), AllocError> {
+        let connections = if self == Scene::Limits { 2 } else { 8 };
+        let key = if self == Scene::Keys { KEY } else { "" };
+        put_relay(text, site, connections, key)?;
+        text.push_str(SEED)?;
         match self {
-            Scene::WholeWay => beside_server(
-                rt,
-                host,
-                |site, server| whole_way::play(rt, site, server),
-            ),
-            Scene::Split => beside_server(rt, host, |site, server| split::play(rt, site, server)),
-            Scene::Outputs => outputs::outputs(rt, host),
-            Scene::Keys => keys::keys(rt, host),
-            Scene::Standby => standby::standby(rt, host),
-            Scene::Late => late::late(rt, host),
-            Scene::Liar => beside_server(rt, host, |site, server| liar::play(rt, site, server)),
-            Scene::Torn => beside_server(rt, host, |site, server| torn::play(rt, site, server)),
-            Scene::Fault => beside_server(rt, host, |site, server| fault::play(rt, site, server)),
-            Scene::Limits => limits::limits(rt, host),
-            Scene::Monitors => beside_server(rt, host, |site, _server| monitors::play(rt, site)),
-            Scene::Hostile => beside_server(
-                rt,
-                host,
-                |site, server| hostile::play(rt, site, server),
-            ),
-            Scene::Unread => beside_server(rt, host, |site, _server| unread::play(rt, site)),
+            Scene::Outputs => {
+                put_output(text, "a", "", &site.servers[..1])?;
+                put_output(text, "**", "", &site.servers[1..])
+            }
+            Scene::Standby | Scene::Late => put_output(text, "**", "", &site.servers),
+            _ => put_output(text, "**", key, &site.servers[..1]),
         }
     }
 
-    /// What is printed of it. What failed is printed too, so that one scene does not hide another.
-    fn text<
+    /// Its relay.
+    fn relay<R: Net + AllocGlobal>(self, rt: &R, site: Site) -> Result<Loop> {
+        let mut text = String::new(rt.alloc());
+        self.put_settings(&mut text, site)?;
+        relay(&Sealed::new(rt), &text)
+    }
+
+    /// Its servers.
+    fn servers<R: Net<Listener = TcpListener, Stream = TcpStream>>(
+        self,
+        rt: &R,
+    ) -> Result<Servers> {
+        let mut servers = Servers::new(rt, self.host())?;
+        if self == Scene::Late {
+            servers.first.close();
+        }
+        Ok(servers)
+    }
+
+    /// What its sources, servers and monitors do and see.
+    fn play<R: Net<Listener = TcpListener, Stream = TcpStream> + Clock + AllocGlobal>(
+        self,
+        rt: &R,
+        site: Site,
+        servers: &mut Servers,
+        seen: &mut Seen,
+    ) -> Result<()> {
+        match self {
+            Scene::WholeWay => whole_way::play(rt, site, &servers.first, seen),
+            Scene::Split => split::play(rt, site, &servers.first, seen),
+            Scene::Outputs => outputs::play(rt, site, servers, seen),
+            Scene::Keys => keys::play(rt, site, &servers.first, seen),
+            Scene::Standby => standby::play(rt, site, servers, seen),
+            Scene::Late => late::play(rt, site, servers, seen),
+            Scene::Liar => liar::play(rt, site, &servers.first, seen),
+            Scene::Torn => torn::play(rt, site, &servers.first, seen),
+            Scene::Fault => fault::play(rt, site, &servers.first, seen),
+            Scene::Limits => limits::play(rt, site, seen),
+            Scene::Monitors => monitors::play(rt, site, seen),
+            Scene::Hostile => hostile::play(rt, site, &servers.first, seen),
+            Scene::Unread => unread::play(rt, site, seen),
+        }
+    }
+
+    /// Runs its relay, and plays what happens around it meanwhile: what the relay came to.
+    fn run<
         R: Net<Listener = TcpListener, Stream = TcpStream>
             + Threads
             + Wait
             + Clock
             + AllocGlobal
             + Sync,
-    >(self, rt: &R) -> Result<String> {
-        let alloc = rt.alloc();
-        let title = self.title();
-        Ok(match self.play(rt) {
-            Ok(seen) => format!(in alloc; "{title}: {seen}\n")?,
-            Err(error) => format!(in alloc; "{title} failed: {error}\n")?,
-        })
+    >(
+        self,
+        rt: &R,
+        site: Site,
+        relay: Loop,
+        servers: &mut Servers,
+        seen: &mut Seen,
+    ) -> Result<Ended> {
+        let (ended, played) = thread::join(
+            rt,
+            move || relay.run(rt, TURNS),
+            move || {
+                let played = self.play(rt, site, servers, seen);
+                hurry(rt, rt.alloc(), site.monitors);
+                played
+            },
+        );
+        played?;
+        Ok(ended)
+    }
+
+    /// The same with a relay of its own. What that came to is appended too.
+    fn put_run<
+        R: Net<Listener = TcpListener, Stream = TcpStream>
+            + Threads
+            + Wait
+            + Clock
+            + AllocGlobal
+            + Sync,
+    >(self, rt: &R, site: Site, servers: &mut Servers, seen: &mut Seen) -> Result<()> {
+        let relay = self.relay(rt, site)?;
+        let ended = self.run(rt, site, relay, servers, seen)?;
+        write!(seen.text, "\n  {ended:?}")?;
+        Ok(())
+    }
+
+    /// The same with servers of its own.
+    fn stage<
+        R: Net<Listener = TcpListener, Stream = TcpStream>
+            + Threads
+            + Wait
+            + Clock
+            + AllocGlobal
+            + Sync,
+    >(self, rt: &R, seen: &mut Seen) -> Result<()> {
+        let mut servers = self.servers(rt)?;
+        let site = free_site(rt, self.host(), servers.addresses())?;
+        self.put_run(rt, site, &mut servers, seen)
+    }
+
+    /// Appends what is printed of it. What failed is printed too, so that one scene does not hide
+    /// another.
+    fn put_text<
+        R: Net<Listener = TcpListener, Stream = TcpStream>
+            + Threads
+            + Wait
+            + Clock
+            + AllocGlobal
+            + Sync,
+    >(self, rt: &R, seen: &mut Seen) -> Result<()> {
+        write!(seen.text, "{}: ", self.title())?;
+        if let Err(error) = self.stage(rt, seen) {
+            write!(seen.text, " failed: {error}")?;
+        }
+        Ok(seen.text.push('\n')?)
     }
 }
 
-/// One text behind another.
-fn behind(first: Result<String>, second: Result<String>) -> Result<String> {
-    let mut text = first?;
-    let more = second?;
-    text.push_str(&more)?;
-    Ok(text)
-}
-
-/// What is printed of two scenes.
-fn two<
+/// What is printed of the scene at a place among all.
+fn seen_at<
     R: Net<Listener = TcpListener, Stream = TcpStream>
         + Threads
         + Wait
         + Clock
         + AllocGlobal
         + Sync,
->(rt: &R, first: Scene, second: Scene) -> Result<String> {
-    let (text, more) = thread::join(rt, move || first.text(rt), move || second.text(rt));
-    behind(text, more)
-}
-
-/// What is printed of three scenes.
-fn three<
-    R: Net<Listener = TcpListener, Stream = TcpStream>
-        + Threads
-        + Wait
-        + Clock
-        + AllocGlobal
-        + Sync,
->(rt: &R, scenes: [Scene; 3]) -> Result<String> {
-    let [first, second, third] = scenes;
-    let (text, more) = thread::join(rt, move || first.text(rt), move || two(rt, second, third));
-    behind(text, more)
-}
-
-/// What is printed of six scenes.
-fn six<
-    R: Net<Listener = TcpListener, Stream = TcpStream>
-        + Threads
-        + Wait
-        + Clock
-        + AllocGlobal
-        + Sync,
->(rt: &R, first: [Scene; 3], second: [Scene; 3]) -> Result<String> {
-    let (text, more) = thread::join(rt, move || three(rt, first), move || three(rt, second));
-    behind(text, more)
-}
-
-/// What is printed of all scenes but the last.
-fn twelve<
-    R: Net<Listener = TcpListener, Stream = TcpStream>
-        + Threads
-        + Wait
-        + Clock
-        + AllocGlobal
-        + Sync,
->(rt: &R) -> Result<String> {
-    let ways = [Scene::WholeWay, Scene::Split, Scene::Outputs];
-    let servers = [Scene::Keys, Scene::Standby, Scene::Late];
-    let faults = [Scene::Liar, Scene::Torn, Scene::Fault];
-    let peers = [Scene::Limits, Scene::Monitors, Scene::Hostile];
-    let (text, more) = thread::join(
-        rt,
-        move || six(rt, ways, servers),
-        move || six(rt, faults, peers),
-    );
-    behind(text, more)
+>(rt: &R, place: usize) -> Result<Seen> {
+    let Some(scene) = SCENES.get(place) else {
+        bail!("no scene");
+    };
+    let mut seen = Seen::new(rt.alloc());
+    scene.put_text(rt, &mut seen)?;
+    Ok(seen)
 }
 
 /// What is printed of all scenes, which are played side by side.
@@ -199,7 +262,6 @@ pub fn play_all<
         + Clock
         + AllocGlobal
         + Sync,
->(rt: &R) -> Result<String> {
-    let (text, more) = thread::join(rt, move || twelve(rt), move || Scene::Unread.text(rt));
-    behind(text, more)
+>(rt: &R) -> Result<Vec<Result<Seen>>> {
+    Ok(thread::map_indices(rt, rt.alloc(), SCENES.len(), &|place| seen_at(rt, place))?)
 }

@@ -1,59 +1,50 @@
 //! A server closes in the middle of a frame and is gone, and a standby acknowledges the chunk.
 
 use crate::frame::MESSAGE;
-use crate::peer::{accept, serve_text, shown, source, value_text};
-use crate::site::{Site, around, free_site, listen, relay_to_two};
+use crate::peer::source;
+use crate::seen::Seen;
+use crate::server::{Server, Servers};
+use crate::site::Site;
 use anyhow::Result;
 use std::io::Read;
 use std::net::{Net, TcpListener, TcpStream};
 use std::rt::Clock;
-use std::sync::Wait;
-use std::thread::Threads;
 
-/// What a source is told, and how many bytes the first server read before it closed.
-#[derive(Debug, Drop)]
-struct Rescue {
-    read: usize,
-    frame: String,
-    told: String,
-}
-
-/// A server reads the front of a frame, and closes.
-fn leave<R: Clock>(rt: &R, server: TcpListener) -> Result<usize> {
-    let mut link = accept(rt, &server)?;
+/// A server reads the front of a frame, and closes: how many bytes it read.
+fn read_front<R: Clock>(rt: &R, server: &Server) -> Result<usize> {
+    let mut link = server.accept(rt)?;
     let mut front = [0; 9];
     Ok(link.read(&mut front)?)
 }
 
-/// The source and the servers.
-fn play<R: Net<Listener = TcpListener, Stream = TcpStream> + Clock + AllocGlobal>(
-    rt: &R,
-    site: Site,
-    first: TcpListener,
-    second: &TcpListener,
-) -> Result<String> {
-    let alloc = rt.alloc();
-    let source = source(rt, site, MESSAGE)?;
-    let read = leave(rt, first)?;
-    let link = accept(rt, second)?;
-    let frame = serve_text(alloc, &link)?;
-    let told = value_text(alloc, &source)?;
-    shown(alloc, &Rescue { read, frame, told })
+/// The server's standby, and the source.
+fn stand_in<R: Clock>(rt: &R, server: &Server, source: &TcpStream, seen: &mut Seen) -> Result<()> {
+    let link = server.accept(rt)?;
+    seen.put_round(source, &link)
 }
 
-/// What the source and the servers saw, and what the relay came to.
-pub fn standby<
-    R: Net<Listener = TcpListener, Stream = TcpStream>
-        + Threads
-        + Wait
-        + Clock
-        + AllocGlobal
-        + Sync,
->(rt: &R, host: u8) -> Result<String> {
-    let first = listen(rt, host)?;
-    let second = listen(rt, host)?;
-    let site = free_site(rt, host)?;
-    let server = first.local_addr()?;
-    let relay = relay_to_two(rt, site, server, &second)?;
-    around(rt, site, relay, move || play(rt, site, first, &second))
+/// What the source and the servers see.
+fn look<R: Clock>(
+    rt: &R,
+    servers: &mut Servers,
+    source: &TcpStream,
+    seen: &mut Seen,
+) -> Result<()> {
+    seen.begin("Rescue")?;
+    let read = read_front(rt, &servers.first)?;
+    servers.first.close();
+    seen.put("read", &read)?;
+    stand_in(rt, &servers.second, source, seen)?;
+    seen.end()
+}
+
+/// The source and the servers.
+pub fn play<R: Net<Listener = TcpListener, Stream = TcpStream> + Clock>(
+    rt: &R,
+    site: Site,
+    servers: &mut Servers,
+    seen: &mut Seen,
+) -> Result<()> {
+    let source = source(rt, site, MESSAGE)?;
+    look(rt, servers, &source, seen)
 }

@@ -1,87 +1,96 @@
 //! Why a relay does not start, and what is said of it.
 
-use crate::site::{Site, free_site, listen, output, plain, try_relay, unseeded};
+use crate::sealed::Sealed;
+use crate::seen::Seen;
+use crate::server::Server;
+use crate::site::{SEED, Site, free_site, put_output, put_relay, try_relay};
 use anyhow::{Result, anyhow};
 use fwd_loop::StartFault;
-use std::alloc::Global;
+use std::alloc::{AllocError, Global};
 use std::net::{Net, SocketAddr, TcpListener, TcpStream};
 
-/// What relays say that do not start.
-#[derive(Debug, Drop)]
-struct Told {
-    /// Where sources, or monitors, cannot be listened for.
-    sources: bool,
-    monitors: bool,
-    /// Why there is no random number.
-    seed: String,
+/// Appends the settings of a relay with these keys beside, for all tags to one server.
+fn put_settings(text: &mut String, site: Site, keys: &str) -> Result<(), AllocError> {
+    put_relay(text, site, 8, keys)?;
+    put_output(text, "**", "", &site.servers[..1])
+}
+
+/// Why a relay with these keys cannot start.
+fn fault_of<R: Net + AllocGlobal>(rt: &R, site: Site, keys: &str) -> Result<StartFault> {
+    let mut text = String::new(rt.alloc());
+    put_settings(&mut text, site, keys)?;
+    match try_relay(&Sealed::new(rt), &text)? {
+        Ok(_) => Err(anyhow!("it starts")),
+        Err(fault) => Ok(fault),
+    }
+}
+
+/// What is said of a fault.
+fn text_of(alloc: Global, fault: StartFault) -> Result<String> {
+    Ok(format!(in alloc; "{fault}")?)
 }
 
 /// Whether a fault is that nobody can be listened for at this address, and says so.
 fn names(alloc: Global, fault: StartFault, taken: SocketAddr) -> Result<bool> {
-    let text = format!(in alloc; "{fault}")?;
+    let text = text_of(alloc, fault)?;
     let due = format!(in alloc; "listen: {taken}")?;
     Ok(fault == StartFault::Listen(taken) && text == due)
 }
 
-/// A fault's text.
-fn shown_fault(alloc: Global, fault: StartFault) -> Result<String> {
-    Ok(format!(in alloc; "{fault}")?)
+/// Appends whether a relay cannot start since an address is taken, and says so.
+fn put_taken<R: Net + AllocGlobal>(
+    rt: &R,
+    site: Site,
+    field: &str,
+    taken: SocketAddr,
+    seen: &mut Seen,
+) -> Result<()> {
+    let fault = fault_of(rt, site, SEED)?;
+    let is_named = names(rt.alloc(), fault, taken)?;
+    seen.put(field, &is_named)
 }
 
-/// Whether a relay cannot start since an address is taken, and says so.
-fn is_refused<R: Net<Listener = TcpListener, Stream = TcpStream> + AllocGlobal>(
+/// Appends what a relay says that has no seed, and no file to draw one from.
+fn put_unseeded<R: Net + AllocGlobal>(rt: &R, site: Site, seen: &mut Seen) -> Result<()> {
+    let fault = fault_of(rt, site, "")?;
+    let text = text_of(rt.alloc(), fault)?;
+    seen.put("seed", &text)
+}
+
+/// What relays say that do not start: where sources, or monitors, cannot be listened for, and why
+/// there is no random number.
+fn look<R: Net + AllocGlobal>(
     rt: &R,
     site: Site,
     taken: SocketAddr,
-) -> Result<bool> {
-    let alloc = rt.alloc();
-    let text = plain(alloc, site, &[taken])?;
-    match try_relay(rt, &text)? {
-        Ok(_) => Ok(false),
-        Err(fault) => names(alloc, fault, taken),
-    }
-}
-
-/// What a relay says that has no seed, and no file to draw one from.
-fn unseeded_text<R: Net<Listener = TcpListener, Stream = TcpStream> + AllocGlobal>(
-    rt: &R,
-    site: Site,
-) -> Result<String> {
-    let alloc = rt.alloc();
-    let mut text = unseeded(alloc, site, 8, "")?;
-    let output = output(alloc, "**", "", &[site.sources])?;
-    text.push_str(&output)?;
-    match try_relay(rt, &text)? {
-        Ok(_) => Err(anyhow!("it starts")),
-        Err(fault) => shown_fault(alloc, fault),
-    }
-}
-
-/// What relays say that do not start, and the texts of what no test can cause.
-pub fn starts<R: Net<Listener = TcpListener, Stream = TcpStream> + AllocGlobal>(
-    rt: &R,
-    host: u8,
-) -> Result<String> {
-    let alloc = rt.alloc();
-    let listener = listen(rt, host)?;
-    let taken = listener.local_addr()?;
-    let site = free_site(rt, host)?;
+    seen: &mut Seen,
+) -> Result<()> {
     let front = Site {
         sources: taken,
-        monitors: site.monitors,
+        ..site
     };
     let behind = Site {
-        sources: site.sources,
         monitors: taken,
+        ..site
     };
-    let sources = is_refused(rt, front, taken)?;
-    let monitors = is_refused(rt, behind, taken)?;
-    let seed = unseeded_text(rt, site)?;
-    let seen = Told {
-        sources,
-        monitors,
-        seed,
-    };
+    seen.begin("Told")?;
+    put_taken(rt, front, "sources", taken, seen)?;
+    put_taken(rt, behind, "monitors", taken, seen)?;
+    put_unseeded(rt, site, seen)?;
+    seen.end()
+}
+
+/// Appends what relays say that do not start, and the texts of what no test can cause.
+pub fn put_starts<R: Net<Listener = TcpListener, Stream = TcpStream> + AllocGlobal>(
+    rt: &R,
+    host: u8,
+    seen: &mut Seen,
+) -> Result<()> {
+    let server = Server::new(rt, host)?;
+    let taken = server.address;
+    let site = free_site(rt, host, [taken; 2])?;
+    look(rt, site, taken, seen)?;
     let (memory, poll, thread) = (StartFault::Memory, StartFault::Poll, StartFault::Thread);
-    Ok(format!(in alloc; "{seen:?}\n  {memory}\n  {poll}\n  {thread}")?)
+    write!(seen.text, "\n  {memory}\n  {poll}\n  {thread}")?;
+    Ok(())
 }

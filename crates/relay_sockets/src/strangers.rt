@@ -1,9 +1,9 @@
 //! Peers of a relay with a shared key that do not have it.
 
-use crate::peer::{connect, is_silent, rest, round, send, shown, value};
+use crate::peer::{connect, rest, round, send, value};
+use crate::seen::Seen;
 use crate::site::Site;
 use anyhow::Result;
-use hex::encode;
 use std::net::{Net, TcpListener, TcpStream};
 
 /// A PING with no digest.
@@ -20,19 +20,6 @@ const TOO_LONG: &[u8] = b"\x96\xa4PING\xdb\x00\xff\xff\xf2";
 const PIECE: usize = 4_096;
 
 const PIECES: u32 = 64;
-
-/// What strangers saw.
-#[derive(Debug, Drop)]
-struct Turned {
-    /// What one without the key is told before it is closed.
-    denied: String,
-    /// How many bytes one with too long a PING is told before it is closed.
-    too_long: usize,
-    /// One whose PING does not end is neither told anything nor closed.
-    endless_waits: bool,
-    /// Whether the source beside it is told.
-    beside: bool,
-}
 
 /// A connection that was told HELO, and sends these bytes.
 fn stranger<R: Net<Listener = TcpListener, Stream = TcpStream> + AllocGlobal>(
@@ -65,26 +52,58 @@ fn dawdle(stranger: &TcpStream) -> Result<()> {
     Ok(())
 }
 
-/// What strangers saw, beside a source and its server.
-pub fn strangers<R: Net<Listener = TcpListener, Stream = TcpStream> + AllocGlobal>(
+/// What strangers are told before they are closed: one without the key, and how many bytes one with
+/// too long a PING.
+fn put_closed<R: Net<Listener = TcpListener, Stream = TcpStream> + AllocGlobal>(
+    rt: &R,
+    site: Site,
+    seen: &mut Seen,
+) -> Result<()> {
+    let denied = told(rt, site, DENIED)?;
+    seen.put_bytes("denied", &denied)?;
+    let too_long = told(rt, site, TOO_LONG)?;
+    seen.put("too_long", &too_long.len())
+}
+
+/// Whether a source is told beside a stranger whose PING does not end, and whether that one is
+/// neither told anything nor closed.
+fn put_endless<R: Net<Listener = TcpListener, Stream = TcpStream> + AllocGlobal>(
     rt: &R,
     site: Site,
     source: &TcpStream,
     link: &TcpStream,
-) -> Result<String> {
-    let alloc = rt.alloc();
-    let denied = told(rt, site, DENIED)?;
-    let too_long = told(rt, site, TOO_LONG)?;
+    seen: &mut Seen,
+) -> Result<()> {
     let endless = stranger(rt, site, ENDLESS)?;
     dawdle(&endless)?;
-    let beside = round(alloc, source, link)?;
-    let endless_waits = is_silent(&endless)?;
-    let denied = encode(alloc, &denied)?;
-    let seen = Turned {
-        denied,
-        too_long: too_long.len(),
-        endless_waits,
-        beside,
-    };
-    shown(alloc, &seen)
+    let beside = round(rt.alloc(), source, link)?;
+    seen.put_silence("endless_waits", &endless)?;
+    seen.put("beside", &beside)
+}
+
+/// What strangers saw, beside a source and its server.
+fn look<R: Net<Listener = TcpListener, Stream = TcpStream> + AllocGlobal>(
+    rt: &R,
+    site: Site,
+    source: &TcpStream,
+    link: &TcpStream,
+    turned: &mut Seen,
+) -> Result<()> {
+    turned.begin("Turned")?;
+    put_closed(rt, site, turned)?;
+    put_endless(rt, site, source, link, turned)?;
+    turned.end()
+}
+
+/// Appends, as a text, what strangers saw beside a source and its server.
+pub fn put_strangers<R: Net<Listener = TcpListener, Stream = TcpStream> + AllocGlobal>(
+    rt: &R,
+    site: Site,
+    source: &TcpStream,
+    link: &TcpStream,
+    seen: &mut Seen,
+) -> Result<()> {
+    let mut turned = Seen::new(rt.alloc());
+    look(rt, site, source, link, &mut turned)?;
+    seen.put("strangers", &turned.text)
 }

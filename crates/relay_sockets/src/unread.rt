@@ -1,6 +1,7 @@
 //! A source that asks to be told and reads nothing.
 
-use crate::peer::{connect, shown, turn};
+use crate::peer::{connect, turn};
+use crate::seen::Seen;
 use crate::site::Site;
 use anyhow::Result;
 use std::alloc::Global;
@@ -25,17 +26,6 @@ const ACKED: usize = 264;
 const REQUESTS: usize = 256;
 
 const WRITES: u32 = 1_000;
-
-/// What the source saw.
-#[derive(Debug, Drop)]
-struct Unread {
-    /// The relay reads it no more after a while.
-    stops: bool,
-    /// Another source is told.
-    beside: bool,
-    /// It is told all once it reads.
-    told: bool,
-}
 
 /// Requests that ask to be told.
 fn asking(alloc: Global) -> Result<Vec<u8>> {
@@ -80,23 +70,32 @@ fn is_told(source: &TcpStream, sent: usize) -> Result<bool> {
     Ok(told == due)
 }
 
+/// Whether the relay reads a source no more after a while, whether another source is told, and
+/// whether the first is told all once it reads.
+fn look<R: Net<Listener = TcpListener, Stream = TcpStream> + AllocGlobal>(
+    rt: &R,
+    site: Site,
+    source: &TcpStream,
+    seen: &mut Seen,
+) -> Result<()> {
+    let sent = flood(rt.alloc(), source)?;
+    seen.begin("Unread")?;
+    seen.put("stops", &sent.is_some())?;
+    seen.put("beside", &turn(rt, site).is_ok())?;
+    let told = match sent {
+        Some(sent) => is_told(source, sent)?,
+        None => false,
+    };
+    seen.put("told", &told)?;
+    seen.end()
+}
+
 /// The source, and another beside it.
 pub fn play<R: Net<Listener = TcpListener, Stream = TcpStream> + AllocGlobal>(
     rt: &R,
     site: Site,
-) -> Result<String> {
-    let alloc = rt.alloc();
+    seen: &mut Seen,
+) -> Result<()> {
     let source = connect(rt, site.sources)?;
-    let sent = flood(alloc, &source)?;
-    let beside = turn(rt, site).is_ok();
-    let told = match sent {
-        Some(sent) => is_told(&source, sent)?,
-        None => false,
-    };
-    let seen = Unread {
-        stops: sent.is_some(),
-        beside,
-        told,
-    };
-    shown(alloc, &seen)
+    look(rt, site, &source, seen)
 }

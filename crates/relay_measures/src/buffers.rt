@@ -1,26 +1,64 @@
-//! The program: `relay_buffers requests|count|speed|output ENTRIES TAGS SIZE REQUEST TURNS`.
+//! A buffer: `buffers requests|count|speed|output ENTRIES TAGS SIZE REQUEST TURNS`.
 //!
-//! It admits requests to a buffer until it has so many entries, closes all chunks, and takes and
-//! settles each of them; and it copies the same bytes. Each request has REQUEST entries of SIZE
-//! bytes, and the requests go round TAGS tags. It prints what the buffer was left with; under
-//! `speed` also how long each part took in the fastest of the turns. Under `requests` it makes the
-//! requests alone, so that the memory of the two can be told apart. Under `output` it does the same
-//! through an output, with a session that sends each chunk and hears its reply, and collects.
-#![tactic(auto)]
+//! Requests are admitted to a buffer until it has so many entries, all chunks are closed, and each
+//! of them is taken and settled; and the same bytes are copied. Each request has REQUEST entries of
+//! SIZE bytes, and the requests go round TAGS tags. It is printed what the buffer was left with;
+//! under `speed` also how long each part took in the fastest of the turns. Under `requests` the
+//! requests alone are made, so that the memory of the two can be told apart. Under `output` the
+//! same is done through an output, with a session that sends each chunk and hears its reply, and
+//! collects.
 
-mod outputs;
-mod requests;
-mod turns;
-mod words;
-
+use crate::load::{Load, batches, next_load};
 use crate::outputs::{OutputTimes, output_turn};
-use crate::requests::batches;
 use crate::turns::{Found, Times, fastest};
-use crate::words::{Mode, Words, read_words};
-use anyhow::{Context, Result};
+use crate::words::{next_number, next_word};
+use anyhow::{Context, Result, bail};
 use fwd_modes::Batch;
+use std::env::Args;
 use std::rt::Runtime;
 use std::time::Duration;
+
+/// How much of it is done.
+#[derive(Clone, Copy, Debug, PartialEq, Eq)]
+enum Mode {
+    /// The requests are made, and no more.
+    Requests,
+    /// All of it.
+    Count,
+    /// All of it, and times are printed too.
+    Speed,
+    /// The same through an output, which also keeps who is owed an answer.
+    Output,
+}
+
+/// What is asked of a buffer.
+#[derive(Clone, Copy, Debug, PartialEq, Eq)]
+struct Asked {
+    mode: Mode,
+    load: Load,
+    /// How often all is done.
+    turns: u32,
+}
+
+/// The mode of a word.
+fn mode_of(word: &str) -> Result<Mode> {
+    match word {
+        "requests" => Ok(Mode::Requests),
+        "count" => Ok(Mode::Count),
+        "speed" => Ok(Mode::Speed),
+        "output" => Ok(Mode::Output),
+        _ => bail!("requests, count, speed or output?"),
+    }
+}
+
+/// What the next words ask.
+fn next_asked(words: &mut Args) -> Result<Asked> {
+    Ok(Asked {
+        mode: mode_of(&next_word(words, "requests, count, speed or output")?)?,
+        load: next_load(words)?,
+        turns: next_number(words, "turns")?,
+    })
+}
 
 /// Tenths of a nanosecond for each of so many.
 fn each(took: Duration, count: u64) -> u128 {
@@ -39,12 +77,12 @@ fn report(rt: &impl Print, part: &str, took: Duration, count: u64, of: &str) -> 
 /// Does it through an output, and prints how long each part took in the last of the turns.
 fn report_output<R: Runtime + AllocGlobal>(
     rt: &R,
-    words: &Words,
+    asked: Asked,
     batches: &Vec<Batch>,
 ) -> Result<()> {
-    let requests = words.load.requests();
+    let requests = asked.load.requests();
     let (mut told, mut times) = output_turn(rt, batches, requests)?;
-    for _ in 0..words.turns {
+    for _ in 0..asked.turns {
         (told, times) = output_turn(rt, batches, requests)?;
     }
     let OutputTimes {
@@ -95,26 +133,27 @@ fn report_times(rt: &impl Print, found: &Found, times: &Times) -> Result<()> {
 /// Does it with a buffer alone.
 fn report_buffer<R: Runtime + AllocGlobal>(
     rt: &R,
-    words: &Words,
+    asked: Asked,
     batches: &Vec<Batch>,
 ) -> Result<()> {
-    let (found, times) = fastest(rt, words, batches)?;
+    let (found, times) = fastest(rt, asked.load, asked.turns, batches)?;
     report_found(rt, &found)?;
-    if words.mode == Mode::Speed {
+    if asked.mode == Mode::Speed {
         report_times(rt, &found, &times)?;
     }
     Ok(())
 }
 
-fn main(rt: HostRuntime) -> Result<()> {
-    let words = read_words(&rt)?;
-    let batches = batches(rt.alloc(), words.load).context("no requests")?;
-    match words.mode {
+/// Does what the next words ask.
+pub fn measure<R: Runtime + AllocGlobal>(rt: &R, words: &mut Args) -> Result<()> {
+    let asked = next_asked(words)?;
+    let batches = batches(rt.alloc(), asked.load).context("no requests")?;
+    match asked.mode {
         Mode::Requests => {
             println!(rt; "requests {}", batches.len())?;
             Ok(())
         }
-        Mode::Output => report_output(&rt, &words, &batches),
-        Mode::Count | Mode::Speed => report_buffer(&rt, &words, &batches),
+        Mode::Output => report_output(rt, asked, &batches),
+        Mode::Count | Mode::Speed => report_buffer(rt, asked, &batches),
     }
 }

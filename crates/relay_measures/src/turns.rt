@@ -1,6 +1,6 @@
 //! What is measured.
 
-use crate::words::{Load, Words};
+use crate::load::Load;
 use anyhow::Result;
 use fwd_chunks::{Buffer, BufferLimits, Carried, Counts, FlushKind};
 use fwd_modes::Batch;
@@ -236,18 +236,19 @@ fn copy_turn<R: Runtime + AllocGlobal>(
 /// What a turn leaves, and how long each part took in the fastest.
 pub fn fastest<R: Runtime + AllocGlobal>(
     rt: &R,
-    words: &Words,
+    load: Load,
+    turns: u32,
     batches: &Vec<Batch>,
 ) -> Result<(Found, Times)> {
-    let requests = words.load.requests();
+    let requests = load.requests();
     let (mut found, mut least) = settle_turn(rt, batches, requests)?;
-    for _ in 0..words.turns {
+    for _ in 0..turns {
         let (again, times) = settle_turn(rt, batches, requests)?;
         found = again;
         least = least.min(times);
         let behind = behind_turn(rt, batches, requests)?;
         least.behind = least.behind.min(behind.mean());
-        least.copy = least.copy.min(copy_turn(rt, batches, words.load)?);
+        least.copy = least.copy.min(copy_turn(rt, batches, load)?);
     }
     Ok((found, least))
 }

@@ -1,13 +1,9 @@
 //! Joining beside a plain table of all entries: every two requests after one another, of the tags
 //! `a` and `b` with up to four entries of three to five bytes each, under every chunk limit from 2
-//! to 10 bytes. It prints how many pairs there were, and how many were joined otherwise than the
-//! table says.
-#![tactic(auto)]
+//! to 10 bytes. It is printed how many pairs there were, and how many were joined otherwise than
+//! the table says.
 
-mod requests;
-mod table;
-
-use crate::requests::{Request, requests};
+use crate::pairs::{Request, requests};
 use crate::table::Table;
 use anyhow::Result;
 use fwd_chunks::{Buffer, BufferLimits, Span};
@@ -77,7 +73,8 @@ fn wrong_under(alloc: Global, limit: u32, all: &Vec<Request>) -> Result<u64> {
     Ok(wrong)
 }
 
-fn main(rt: HostRuntime) -> Result<()> {
+/// Counts them under each limit.
+pub fn count<R: Print + AllocGlobal>(rt: &R) -> Result<()> {
     let all = requests(rt.alloc())?;
     let count = all.len() as u64;
     for limit in LEAST..GREATEST + 1 {

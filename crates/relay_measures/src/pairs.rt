@@ -1,15 +1,9 @@
-//! The requests that are admitted.
+//! The requests that are joined, two after one another.
 
-use anyhow::{Context, Result, bail};
-use fwd_modes::{Batch, Reading, read_request};
-use fwd_msgpack::{Cut, Head, Limits, cut, write_head};
+use crate::requests::{batch_of, put_front};
+use anyhow::{Context, Result};
+use fwd_modes::Batch;
 use std::alloc::Global;
-
-/// The limits of a request's bytes.
-const LIMITS: Limits = Limits {
-    bytes: 1_000_000,
-    depth: 64,
-};
 
 /// Entries of three, four and five bytes: a time and an empty record.
 const ENTRIES: [&[u8]; 3] = [
@@ -38,25 +32,11 @@ fn entry_bytes(entry: usize) -> &'static [u8] {
 /// Appends a Forward request of these entries, each told by its place among all.
 fn put_request(out: &mut Vec<u8>, tag: u8, entries: &[usize]) -> Result<()> {
     let count = u32::try_from(entries.len()).context("too many entries")?;
-    write_head(out, Head::Arr(2))?;
-    write_head(out, Head::Str(1))?;
-    out.push(tag)?;
-    write_head(out, Head::Arr(count))?;
+    put_front(out, &[tag], count)?;
     for entry in entries {
         out.extend_from_slice(entry_bytes(*entry))?;
     }
     Ok(())
-}
-
-/// What the bytes of a request ask.
-fn batch_of(alloc: Global, bytes: &[u8]) -> Result<Batch> {
-    let Cut::Whole(value, _) = cut(bytes, LIMITS) else {
-        bail!("no value");
-    };
-    match read_request(alloc, value, LIMITS)? {
-        Reading::Asks(batch) => Ok(batch),
-        _ => bail!("no request"),
-    }
 }
 
 /// A Forward request of these entries, each told by its place among all.

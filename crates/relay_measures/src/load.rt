@@ -1,16 +1,42 @@
-//! The requests that are admitted.
+//! What a buffer has to do: its requests.
 
-use crate::words::Load;
-use anyhow::{Context, Result, bail};
-use fwd_modes::{Batch, Reading, read_request};
-use fwd_msgpack::{Cut, Head, Limits, cut, write_head};
+use crate::requests::{batch_of, put_front};
+use crate::words::next_number;
+use anyhow::Result;
+use fwd_modes::Batch;
+use fwd_msgpack::{Head, write_head};
 use std::alloc::{AllocError, Global};
+use std::env::Args;
 
-/// The limits of a request's bytes.
-const LIMITS: Limits = Limits {
-    bytes: 4_000_000_000,
-    depth: 64,
-};
+/// What a buffer has to do.
+#[derive(Clone, Copy, Debug, PartialEq, Eq)]
+pub struct Load {
+    /// The entries in all.
+    pub entries: u32,
+    /// The tags that requests go round.
+    pub tags: u32,
+    /// The bytes of an entry.
+    pub size: u32,
+    /// The entries of a request.
+    pub request: u32,
+}
+
+impl Load {
+    /// The requests in all.
+    pub fn requests(self) -> u32 {
+        self.entries.checked_div(self.request).unwrap_or(0)
+    }
+}
+
+/// The load of the next four words.
+pub fn next_load(words: &mut Args) -> Result<Load> {
+    Ok(Load {
+        entries: next_number(words, "entries")?,
+        tags: next_number(words, "tags")?,
+        size: next_number(words, "bytes an entry")?,
+        request: next_number(words, "entries a request")?,
+    })
+}
 
 /// The bytes of an entry before its text: two members, the time 1, a map of one key `k`.
 const FRONT: &[u8] = b"\x92\x01\x81\xa1k";
@@ -33,34 +59,13 @@ fn put_entry(out: &mut Vec<u8>, size: u32) -> Result<(), AllocError> {
     Ok(())
 }
 
-/// Appends a Forward request's bytes before its entries.
-fn put_front(out: &mut Vec<u8>, tag: &str, count: u32) -> Result<()> {
-    let length = u32::try_from(tag.len()).context("a long tag")?;
-    write_head(out, Head::Arr(2))?;
-    write_head(out, Head::Str(length))?;
-    out.extend_from_slice(tag.as_bytes())?;
-    write_head(out, Head::Arr(count))?;
-    Ok(())
-}
-
 /// Appends a Forward request of so many entries for a tag.
 fn put_request(out: &mut Vec<u8>, tag: &str, count: u32, size: u32) -> Result<()> {
-    put_front(out, tag, count)?;
+    put_front(out, tag.as_bytes(), count)?;
     for _ in 0..count {
         put_entry(out, size)?;
     }
     Ok(())
-}
-
-/// What the bytes of a request ask.
-fn batch_of(alloc: Global, bytes: &[u8]) -> Result<Batch> {
-    let Cut::Whole(value, _) = cut(bytes, LIMITS) else {
-        bail!("no value");
-    };
-    match read_request(alloc, value, LIMITS)? {
-        Reading::Asks(batch) => Ok(batch),
-        _ => bail!("no request"),
-    }
 }
 
 /// A Forward request of so many entries for the tag of a number.

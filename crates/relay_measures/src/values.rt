@@ -1,6 +1,5 @@
-//! The loops that are measured.
+//! The loops over the values of a stream, which are measured.
 
-use crate::words::{Measure, Words};
 use fwd_modes::{Reading, read_request};
 use fwd_msgpack::{Cut, Limits, Value, cut};
 use std::alloc::{AllocError, Global};
@@ -13,6 +12,15 @@ const LIMITS: Limits = Limits {
     bytes: 16_777_216,
     depth: 64,
 };
+
+/// What is done with each value.
+#[derive(Clone, Copy, Debug, PartialEq, Eq)]
+pub enum Measure {
+    /// It is cut, and no more.
+    Cut,
+    /// It is cut and read as a request.
+    Requests,
+}
 
 /// What one turn over a stream found.
 #[derive(Clone, Copy, Debug, Default, PartialEq, Eq)]
@@ -29,7 +37,7 @@ pub struct Found {
 
 /// Cuts each value.
 #[inline(never)]
-pub fn cut_values(stream: &[u8]) -> Found {
+fn cut_values(stream: &[u8]) -> Found {
     let mut found = Found::default();
     let mut rest = stream;
     while let Cut::Whole(_, used) = cut(rest, LIMITS) {
@@ -53,7 +61,7 @@ fn values_of(alloc: Global, stream: &[u8]) -> Result<Vec<Value<'_>>, AllocError>
 
 /// Reads each value as a request: how many are one, and how many entries these have together.
 #[inline(never)]
-pub fn read_requests(alloc: Global, values: &[Value<'_>]) -> Result<(u64, u64), AllocError> {
+fn read_requests(alloc: Global, values: &[Value<'_>]) -> Result<(u64, u64), AllocError> {
     let mut requests: u64 = 0;
     let mut entries: u64 = 0;
     for value in values {
@@ -69,15 +77,16 @@ pub fn read_requests(alloc: Global, values: &[Value<'_>]) -> Result<(u64, u64), 
 /// requests are measured, the values were cut beforehand.
 pub fn fastest<R: Runtime + AllocGlobal>(
     rt: &R,
-    words: &Words,
+    measure: Measure,
+    turns: u32,
     stream: &[u8],
 ) -> io::Result<(Found, Duration)> {
     let mut found = cut_values(stream);
     let values = values_of(rt.alloc(), stream)?;
     let mut least = Duration::MAX;
-    for _ in 0..words.turns {
+    for _ in 0..turns {
         let start = Instant::now(rt)?;
-        match words.measure {
+        match measure {
             Measure::Cut => found = cut_values(stream),
             Measure::Requests => {
                 (found.requests, found.entries) = read_requests(rt.alloc(), &values)?;

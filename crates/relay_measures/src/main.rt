@@ -1,0 +1,52 @@
+//! The program: `relay_measures TASK..`. It does one task after the other, each of these:
+//!
+//!     values count|speed cut|requests TURNS FILE
+//!     joins
+//!     buffers requests|count|speed|output ENTRIES TAGS SIZE REQUEST TURNS
+//!
+//! `values` goes over the values of a stream of MessagePack, `joins` joins entries beside a plain
+//! table, and `buffers` admits requests to a buffer and settles them.
+#![tactic(auto)]
+
+mod buffers;
+mod joins;
+mod load;
+mod outputs;
+mod pairs;
+mod requests;
+mod streams;
+mod table;
+mod turns;
+mod values;
+mod words;
+
+use anyhow::{Result, bail};
+use std::env::{self, Args};
+use std::rt::Runtime;
+
+/// Does the task of this word and of those behind it.
+fn do_task<R: Runtime + AllocGlobal>(rt: &R, words: &mut Args, task: &str) -> Result<()> {
+    match task {
+        "values" => streams::measure(rt, words),
+        "joins" => joins::count(rt),
+        "buffers" => buffers::measure(rt, words),
+        _ => bail!("values, joins or buffers?"),
+    }
+}
+
+/// Does each task.
+fn do_tasks<R: Runtime + AllocGlobal>(rt: &R, words: &mut Args) -> Result<()> {
+    for _ in 0..u64::MAX {
+        let Some(task) = words.next() else {
+            break;
+        };
+        do_task(rt, words, &task)?;
+    }
+    Ok(())
+}
+
+fn main(rt: HostRuntime) -> Result<()> {
+    let mut words = env::args(&rt)?;
+    let _program = words.next();
+    do_tasks(&rt, &mut words)
+}

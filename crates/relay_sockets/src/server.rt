@@ -1,0 +1,76 @@
+//! The listeners of a scene's servers.
+
+use crate::peer::accept;
+use anyhow::{Result, anyhow};
+use std::net::{Ipv4Addr, Net, SocketAddr, TcpListener, TcpStream};
+use std::rt::Clock;
+
+/// A server, which listens until it is closed.
+#[derive(Debug, Drop)]
+pub struct Server {
+    pub address: SocketAddr,
+    listener: Option<TcpListener>,
+}
+
+impl Server {
+    /// A server at a free port of this machine's host of that number, which is a scene's own.
+    /// Connections leave from 127.0.0.1, so that none takes a port that a listener left.
+    pub fn new<R: Net<Listener = TcpListener, Stream = TcpStream>>(
+        rt: &R,
+        host: u8,
+    ) -> Result<Server> {
+        let host = Ipv4Addr::new(127, 0, 0, host);
+        let listener = TcpListener::bind(rt, SocketAddr::from((host, 0)))?;
+        let address = listener.local_addr()?;
+        Ok(Server {
+            address,
+            listener: Some(listener),
+        })
+    }
+
+    /// The next connection.
+    pub fn accept<R: Clock>(&self, rt: &R) -> Result<TcpStream> {
+        match &self.listener {
+            Some(listener) => accept(rt, listener),
+            None => Err(anyhow!("the server is closed")),
+        }
+    }
+
+    /// It is gone.
+    pub fn close(&mut self) {
+        self.listener = None;
+    }
+
+    /// It comes back to its address.
+    pub fn reopen<R: Net<Listener = TcpListener, Stream = TcpStream>>(
+        &mut self,
+        rt: &R,
+    ) -> Result<()> {
+        self.listener = Some(TcpListener::bind(rt, self.address)?);
+        Ok(())
+    }
+}
+
+/// The two servers of a scene, of which some scenes need only the first.
+#[derive(Debug, Drop)]
+pub struct Servers {
+    pub first: Server,
+    pub second: Server,
+}
+
+impl Servers {
+    /// Two servers at the host of this number.
+    pub fn new<R: Net<Listener = TcpListener, Stream = TcpStream>>(
+        rt: &R,
+        host: u8,
+    ) -> Result<Servers> {
+        let first = Server::new(rt, host)?;
+        let second = Server::new(rt, host)?;
+        Ok(Servers { first, second })
+    }
+
+    /// Where they listen.
+    pub fn addresses(&self) -> [SocketAddr; 2] {
+        [self.first.address, self.second.address]
+    }
+}
