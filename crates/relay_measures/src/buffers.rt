@@ -19,7 +19,7 @@ use std::rt::Runtime;
 use std::time::Duration;
 
 /// How much of it is done.
-#[derive(Clone, Copy, Debug, PartialEq, Eq)]
+#[derive(Clone, Copy)]
 enum Mode {
     /// The requests are made, and no more.
     Requests,
@@ -32,7 +32,7 @@ enum Mode {
 }
 
 /// What is asked of a buffer.
-#[derive(Clone, Copy, Debug, PartialEq, Eq)]
+#[derive(Clone, Copy)]
 struct Asked {
     mode: Mode,
     load: Load,

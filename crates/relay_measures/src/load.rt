@@ -9,7 +9,7 @@ use std::alloc::{AllocError, Global};
 use std::env::Args;
 
 /// What a buffer has to do.
-#[derive(Clone, Copy, Debug, PartialEq, Eq)]
+#[derive(Clone, Copy)]
 pub struct Load {
     /// The entries in all.
     pub entries: u32,

@@ -22,7 +22,7 @@ const REPLY: &[u8] = b"\x81\xa3ack\xb8";
 const HAND: usize = 100;
 
 /// How long each part took.
-#[derive(Clone, Copy, Debug, PartialEq, Eq)]
+#[derive(Clone, Copy)]
 pub struct OutputTimes {
     pub admit: Duration,
     /// The taking and the settling of the chunks.

@@ -14,7 +14,7 @@ use std::time::Duration;
 use std::{fs, io};
 
 /// What is asked of a stream.
-#[derive(Clone, Copy, Debug, PartialEq, Eq)]
+#[derive(Clone, Copy)]
 struct Asked {
     /// Whether the speed is printed too.
     speed: bool,

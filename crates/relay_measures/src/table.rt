@@ -4,7 +4,7 @@ use fwd_chunks::Span;
 use std::alloc::{AllocError, Global};
 
 /// An entry that was admitted.
-#[derive(Clone, Copy, Debug, PartialEq, Eq)]
+#[derive(Clone, Copy)]
 struct Cell {
     tag: u8,
     /// Its bytes.
@@ -15,7 +15,7 @@ struct Cell {
 
 /// All entries in the order in which they came. No chunk is closed but by an entry of its tag that
 /// does not fit.
-#[derive(Debug, Drop)]
+#[derive(Drop)]
 pub struct Table {
     cells: Vec<Cell>,
     /// The chunk limit, in bytes.

@@ -24,7 +24,7 @@ pub const LIMITS: BufferLimits = BufferLimits {
 const BEHIND: u64 = 1000;
 
 /// How long each part took.
-#[derive(Clone, Copy, Debug, PartialEq, Eq)]
+#[derive(Clone, Copy)]
 pub struct Times {
     pub admit: Duration,
     pub flush: Duration,
@@ -60,7 +60,7 @@ impl Times {
 }
 
 /// What a turn left.
-#[derive(Clone, Copy, Debug, PartialEq, Eq)]
+#[derive(Clone, Copy)]
 pub struct Found {
     pub counts: Counts,
     /// The chunks that were taken.
@@ -111,7 +111,7 @@ fn copy_all(copy: &mut Vec<u8>, batches: &Vec<Batch>, requests: u32) -> Result<(
 }
 
 /// How long it took to take chunks and to give them up.
-#[derive(Clone, Copy, Debug, Default, PartialEq, Eq)]
+#[derive(Clone, Copy, Default)]
 pub struct Rounds {
     pub chunks: u64,
     pub take: Duration,
@@ -136,7 +136,7 @@ impl Rounds {
 }
 
 /// What becomes of a chunk that was taken.
-#[derive(Clone, Copy, Debug, PartialEq, Eq)]
+#[derive(Clone, Copy)]
 enum Fate {
     Settled,
     Lost,

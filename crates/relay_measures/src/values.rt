@@ -14,7 +14,7 @@ const LIMITS: Limits = Limits {
 };
 
 /// What is done with each value.
-#[derive(Clone, Copy, Debug, PartialEq, Eq)]
+#[derive(Clone, Copy)]
 pub enum Measure {
     /// It is cut, and no more.
     Cut,
@@ -23,7 +23,7 @@ pub enum Measure {
 }
 
 /// What one turn over a stream found.
-#[derive(Clone, Copy, Debug, Default, PartialEq, Eq)]
+#[derive(Clone, Copy, Default)]
 pub struct Found {
     /// How many values the stream begins with.
     pub values: u64,

@@ -7,7 +7,7 @@ use std::alloc::{AllocError, Global};
 use std::{fmt, io};
 
 /// The first event, counted from 1, to which the answer is another one.
-#[derive(Clone, Copy, Debug)]
+#[derive(Clone, Copy)]
 pub enum Difference {
     /// In the script as it stands.
     Whole(usize),

@@ -6,7 +6,7 @@ use fwd_program::asked_log;
 use std::env::{Env, FillError};
 
 /// An environment of one variable.
-#[derive(Clone, Copy, Debug)]
+#[derive(Clone, Copy)]
 struct Variable<'a> {
     name: &'a str,
     value: &'a str,

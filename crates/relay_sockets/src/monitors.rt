@@ -25,7 +25,7 @@ const PAGE: &[u8] = b"GET / HTTP/1.1\r\nHost: relay\r\n\r\n";
 const NONE: &[u8] = b"GET / HTTP/2";
 
 /// What monitors are told: the page, of another target, and of no head.
-#[derive(Debug, Drop)]
+#[derive(Drop)]
 struct Answers {
     page: String,
     other: String,

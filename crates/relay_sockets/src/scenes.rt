@@ -28,7 +28,7 @@ const TURNS: u64 = 2_000;
 type Ended = Result<Vec<Counts>, StartFault>;
 
 /// A scene.
-#[derive(Clone, Copy, Debug, PartialEq, Eq)]
+#[derive(Clone, Copy)]
 enum Scene {
     WholeWay,
     Split,

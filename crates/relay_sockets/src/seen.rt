@@ -10,7 +10,7 @@ use std::net::TcpStream;
 
 /// A text, to which the steps of a scene append what they see, field by field, as the `Debug` of a
 /// struct would write it.
-#[derive(Debug, Drop)]
+#[derive(Drop)]
 pub struct Seen {
     alloc: Global,
     pub text: String,

@@ -6,7 +6,7 @@ use std::net::{Ipv4Addr, Net, SocketAddr, TcpListener, TcpStream};
 use std::rt::Clock;
 
 /// A server, which listens until it is closed.
-#[derive(Debug, Drop)]
+#[derive(Drop)]
 pub struct Server {
     pub address: SocketAddr,
     listener: Option<TcpListener>,
@@ -52,7 +52,7 @@ impl Server {
 }
 
 /// The two servers of a scene, of which some scenes need only the first.
-#[derive(Debug, Drop)]
+#[derive(Drop)]
 pub struct Servers {
     pub first: Server,
     pub second: Server,

@@ -13,7 +13,7 @@ pub const SEED: &str =
     "seed = \"0000000000000000000000000000000000000000000000000000000000000000\"\n";
 
 /// Where a relay listens, and its servers.
-#[derive(Clone, Copy, Debug)]
+#[derive(Clone, Copy)]
 pub struct Site {
     pub sources: SocketAddr,
     pub monitors: SocketAddr,

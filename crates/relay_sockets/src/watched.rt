@@ -20,7 +20,7 @@ const TURNS: u64 = 600;
 const MESSAGE: &[u8] = b"\x93\xa1a\x01\x80";
 
 /// What a run told so far.
-#[derive(Debug, Drop)]
+#[derive(Drop)]
 struct Heard {
     sources_at: Option<SocketAddr>,
     monitors_at: Option<SocketAddr>,

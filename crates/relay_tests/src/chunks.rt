@@ -35,7 +35,7 @@ const fn limits(chunk: u32, total: u64, first: u64) -> BufferLimits {
 }
 
 /// What becomes of a chunk that a worker takes.
-#[derive(Clone, Copy, Debug)]
+#[derive(Clone, Copy)]
 enum Fate {
     Kept,
     /// It is lost at a moment (milliseconds).
@@ -44,7 +44,7 @@ enum Fate {
 }
 
 /// A call of a buffer. Moments are in milliseconds.
-#[derive(Clone, Copy, Debug)]
+#[derive(Clone, Copy)]
 enum Call<'a> {
     /// The request of these bytes comes at the moment 0.
     Admit(&'a [u8]),

@@ -35,7 +35,7 @@ enum Answer {
 }
 
 /// An answer, and the counts after it.
-#[derive(Clone, Copy, Debug, PartialEq, Eq)]
+#[derive(Clone, Copy, PartialEq, Eq)]
 struct Note {
     answer: Answer,
     counts: Counts,
@@ -245,7 +245,7 @@ fn abandoned<O: Output>(play: &mut Play<'_, O>) {
 }
 
 /// Which calls are made.
-#[derive(Clone, Copy, Debug, PartialEq, Eq)]
+#[derive(Clone, Copy, Debug)]
 pub enum Story {
     WayBack,
     LaterFirst,
