@@ -1,8 +1,8 @@
 //! A fault behind a good request in one piece: the request's entries are sent, and the source is
 //! closed and told nothing.
 
+use crate::course::Course;
 use crate::peer::{rest_len, source, visit};
-use crate::seen::Seen;
 use crate::server::Server;
 use crate::site::Site;
 use anyhow::Result;
@@ -22,29 +22,17 @@ fn faulty_len<R: Net<Listener = TcpListener, Stream = TcpStream> + AllocGlobal>(
     rest_len(rt.alloc(), &source)
 }
 
-/// What the server sees, and another source behind the first.
-fn look<R: Net<Listener = TcpListener, Stream = TcpStream> + AllocGlobal>(
-    rt: &R,
-    site: Site,
-    link: &TcpStream,
-    seen: &mut Seen,
-) -> Result<()> {
-    seen.put_served("frame", link)?;
-    let next = visit(rt, site, link)?;
-    seen.put("next", &next)?;
-    seen.end()
-}
-
 /// The source, its server, and another source behind it.
 pub fn play<R: Net<Listener = TcpListener, Stream = TcpStream> + Clock + AllocGlobal>(
     rt: &R,
     site: Site,
     server: &Server,
-    seen: &mut Seen,
+    course: &mut Course,
 ) -> Result<()> {
-    seen.begin("Remains")?;
-    let told = faulty_len(rt, site)?;
-    seen.put("told", &told)?;
-    let link = server.accept(rt)?;
-    look(rt, site, &link, seen)
+    course.begin("Remains");
+    course.put_seen("told", faulty_len(rt, site));
+    let link = course.accept(rt, server)?;
+    course.put_served("frame", &link);
+    course.put_seen("next", visit(rt, site, &link));
+    course.end()
 }

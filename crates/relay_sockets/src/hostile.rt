@@ -1,8 +1,8 @@
 //! Hostile peers, and beside each a good source, whose request is acknowledged.
 
+use crate::course::Course;
 use crate::frame::MESSAGE;
-use crate::peer::{connect, rest_len, rest_text, send, serve, source, value, visit};
-use crate::seen::Seen;
+use crate::peer::{connect, rest_len, rest_text, send, serve_text, source, value, visit};
 use crate::server::Server;
 use crate::site::Site;
 use anyhow::Result;
@@ -59,37 +59,20 @@ fn random<R: Net<Listener = TcpListener, Stream = TcpStream> + AllocGlobal>(
     Ok(told)
 }
 
-/// Whether a monitor with a head that does not end is told nothing.
-fn put_waiting_head(monitor: &TcpStream, seen: &mut Seen) -> Result<()> {
-    send(monitor, b"GET / HTTP/1.1\r\nHost: ")?;
-    send(monitor, &[b'a'; HEAD - 22])?;
-    seen.put_silence("head_waits", monitor)
-}
-
 /// A head without an end: whether it waits, and what is told at its last byte. No more bytes than
 /// these are kept of a monitor, of which there are sixteen.
 fn put_head<R: Net<Listener = TcpListener, Stream = TcpStream> + AllocGlobal>(
     rt: &R,
     site: Site,
-    seen: &mut Seen,
+    course: &mut Course,
 ) -> Result<()> {
     let monitor = connect(rt, site.monitors)?;
-    put_waiting_head(&monitor, seen)?;
-    send(&monitor, b"a")?;
-    let told = rest_text(rt.alloc(), &monitor)?;
-    seen.put("head", &told)
-}
-
-/// Appends whether the request of a good source is acknowledged.
-fn put_visit<R: Net<Listener = TcpListener, Stream = TcpStream> + AllocGlobal>(
-    rt: &R,
-    site: Site,
-    link: &TcpStream,
-    field: &str,
-    seen: &mut Seen,
-) -> Result<()> {
-    let beside = visit(rt, site, link)?;
-    seen.put(field, &beside)
+    course.send(&monitor, b"GET / HTTP/1.1\r\nHost: ");
+    course.send(&monitor, &[b'a'; HEAD - 22]);
+    course.put_silence("head_waits", &monitor);
+    course.send(&monitor, b"a");
+    course.put_seen("head", rest_text(rt.alloc(), &monitor));
+    course.finish()
 }
 
 /// The first request goes to the server, over the link that serves the others.
@@ -100,34 +83,23 @@ fn begin<R: Net<Listener = TcpListener, Stream = TcpStream> + Clock + AllocGloba
 ) -> Result<TcpStream> {
     let source = source(rt, site, MESSAGE)?;
     let link = server.accept(rt)?;
-    serve(rt.alloc(), &link)?;
+    serve_text(rt.alloc(), &link)?;
     value(rt.alloc(), &source)?;
     Ok(link)
 }
 
-/// What hostile peers see, and the source beside each.
-fn look<R: Net<Listener = TcpListener, Stream = TcpStream> + AllocGlobal>(
-    rt: &R,
-    site: Site,
-    link: &TcpStream,
-    seen: &mut Seen,
-) -> Result<()> {
-    seen.begin("Attacks")?;
-    let random = random(rt, site)?;
-    seen.put("random", &random)?;
-    put_visit(rt, site, link, "beside_random", seen)?;
-    put_head(rt, site, seen)?;
-    put_visit(rt, site, link, "beside_head", seen)?;
-    seen.end()
-}
-
-/// The hostile peers, one after the other.
+/// The hostile peers, one after the other, and the source beside each.
 pub fn play<R: Net<Listener = TcpListener, Stream = TcpStream> + Clock + AllocGlobal>(
     rt: &R,
     site: Site,
     server: &Server,
-    seen: &mut Seen,
+    course: &mut Course,
 ) -> Result<()> {
     let link = begin(rt, site, server)?;
-    look(rt, site, &link, seen)
+    course.begin("Attacks");
+    course.put_seen("random", random(rt, site));
+    course.put_seen("beside_random", visit(rt, site, &link));
+    put_head(rt, site, course)?;
+    course.put_seen("beside_head", visit(rt, site, &link));
+    course.end()
 }

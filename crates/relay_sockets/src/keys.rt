@@ -1,9 +1,9 @@
 //! A shared key on both sides: the relay lets a source in, and is let in by a server. Strangers
 //! beside them are closed, or waited for, and the source's next request is acknowledged.
 
+use crate::course::Course;
 use crate::frame::MESSAGE;
-use crate::peer::{connect, round, send};
-use crate::seen::Seen;
+use crate::peer::{connect, round};
 use crate::server::Server;
 use crate::site::Site;
 use crate::strangers::put_strangers;
@@ -32,45 +32,19 @@ const PONG: &[u8] = b"\x95\xa4PONG\xc3\xa0\xa6server\xd9\x80\
     58c9576efa8f5ec0dcadf46a9729f622410bbaac46be15d7e90f19e63d1309dc";
 
 /// The relay lets a source in, which sends a request.
-fn enter(source: &TcpStream, seen: &mut Seen) -> Result<()> {
-    seen.put_value("helo", source)?;
-    send(source, PING)?;
-    seen.put_value("pong", source)?;
-    send(source, MESSAGE)
+fn enter(source: &TcpStream, course: &mut Course) {
+    course.begin("Agreed");
+    course.put_value("helo", source);
+    course.send(source, PING);
+    course.put_value("pong", source);
+    course.send(source, MESSAGE);
 }
 
 /// A server lets the relay in.
-fn let_in(link: &TcpStream, seen: &mut Seen) -> Result<()> {
-    send(link, HELO)?;
-    seen.put_value("ping", link)?;
-    send(link, PONG)
-}
-
-/// The source's request is acknowledged, and its next one beside strangers.
-fn serve<R: Net<Listener = TcpListener, Stream = TcpStream> + AllocGlobal>(
-    rt: &R,
-    site: Site,
-    source: &TcpStream,
-    link: &TcpStream,
-    seen: &mut Seen,
-) -> Result<()> {
-    seen.put_round(source, link)?;
-    put_strangers(rt, site, source, link, seen)?;
-    let beside = round(rt.alloc(), source, link)?;
-    seen.put("beside", &beside)
-}
-
-/// The server lets the relay in, and acknowledges.
-fn play_server<R: Net<Listener = TcpListener, Stream = TcpStream> + Clock + AllocGlobal>(
-    rt: &R,
-    site: Site,
-    server: &Server,
-    source: &TcpStream,
-    seen: &mut Seen,
-) -> Result<()> {
-    let link = server.accept(rt)?;
-    let_in(&link, seen)?;
-    serve(rt, site, source, &link, seen)
+fn let_in(link: &TcpStream, course: &mut Course) {
+    course.send(link, HELO);
+    course.put_value("ping", link);
+    course.send(link, PONG);
 }
 
 /// The source, the server and the strangers.
@@ -78,11 +52,14 @@ pub fn play<R: Net<Listener = TcpListener, Stream = TcpStream> + Clock + AllocGl
     rt: &R,
     site: Site,
     server: &Server,
-    seen: &mut Seen,
+    course: &mut Course,
 ) -> Result<()> {
     let source = connect(rt, site.sources)?;
-    seen.begin("Agreed")?;
-    enter(&source, seen)?;
-    play_server(rt, site, server, &source, seen)?;
-    seen.end()
+    enter(&source, course);
+    let link = course.accept(rt, server)?;
+    let_in(&link, course);
+    course.put_round(&source, &link);
+    put_strangers(rt, site, &source, &link, course)?;
+    course.put_seen("beside", round(rt.alloc(), &source, &link));
+    course.end()
 }

@@ -1,12 +1,13 @@
 //! A server lies: it names another chunk, says what is no acknowledgement, and at last says the
 //! right name twice. Each lie costs it its connection, and no source is told by one.
 
+use crate::course::Course;
 use crate::frame::{MESSAGE, ack, name_of};
 use crate::peer::{is_silent, rest, send, source, value};
-use crate::seen::Seen;
 use crate::server::Server;
 use crate::site::Site;
 use anyhow::Result;
+use hex::encode;
 use std::alloc::Global;
 use std::net::{Net, TcpListener, TcpStream};
 use std::rt::Clock;
@@ -63,45 +64,20 @@ fn lie_again<R: Clock + AllocGlobal>(
     Ok((is_same && is_repeated, silent))
 }
 
-/// The lies.
+/// The lies: the frame, whether it is the same each time, and whether the source is told nothing.
 fn put_lies<R: Clock + AllocGlobal>(
     rt: &R,
     server: &Server,
     source: &TcpStream,
-    seen: &mut Seen,
+    course: &mut Course,
 ) -> Result<()> {
     let other = lie(rt, server, OTHER)?;
-    seen.put_bytes("other", &other)?;
     let (same, silent) = lie_again(rt, server, source, &other)?;
-    seen.put("same", &same)?;
-    seen.put("silent", &silent)
-}
-
-/// The server is honest.
-fn put_honest<R: Clock>(
-    rt: &R,
-    server: &Server,
-    source: &TcpStream,
-    seen: &mut Seen,
-) -> Result<()> {
-    let link = server.accept(rt)?;
-    seen.put_served("honest", &link)?;
-    seen.put_value("told_again", source)
-}
-
-/// What both sides see.
-fn look<R: Clock + AllocGlobal>(
-    rt: &R,
-    server: &Server,
-    source: &TcpStream,
-    seen: &mut Seen,
-) -> Result<()> {
-    seen.begin("Lies")?;
-    put_lies(rt, server, source, seen)?;
-    seen.put_value("told", source)?;
-    send(source, MESSAGE)?;
-    put_honest(rt, server, source, seen)?;
-    seen.end()
+    let digits = encode(rt.alloc(), &other)?;
+    course.put("other", &digits);
+    course.put("same", &same);
+    course.put("silent", &silent);
+    Ok(())
 }
 
 /// The source and the server.
@@ -109,8 +85,14 @@ pub fn play<R: Net<Listener = TcpListener, Stream = TcpStream> + Clock + AllocGl
     rt: &R,
     site: Site,
     server: &Server,
-    seen: &mut Seen,
+    course: &mut Course,
 ) -> Result<()> {
     let source = source(rt, site, MESSAGE)?;
-    look(rt, server, &source, seen)
+    course.begin("Lies");
+    put_lies(rt, server, &source, course)?;
+    course.put_value("told", &source);
+    course.send(&source, MESSAGE);
+    course.put_seen("honest", server.serve(rt));
+    course.put_value("told_again", &source);
+    course.end()
 }

@@ -1,7 +1,7 @@
 //! A relay that takes two sources at a time, and its monitor's page.
 
+use crate::course::Course;
 use crate::peer::{connect, is_silent, page, told_len};
-use crate::seen::Seen;
 use crate::site::Site;
 use anyhow::Result;
 use std::net::{Net, TcpListener, TcpStream};
@@ -11,53 +11,42 @@ fn both_stand(first: &TcpStream, second: &TcpStream) -> Result<bool> {
     Ok(is_silent(first)? && is_silent(second)?)
 }
 
-/// A source and a second one stand, and a third is closed. Then the second is gone.
-fn put_third<R: Net<Listener = TcpListener, Stream = TcpStream> + AllocGlobal>(
+/// Whether a source that comes once another is gone stands.
+fn next_stands<R: Net<Listener = TcpListener, Stream = TcpStream> + AllocGlobal>(
     rt: &R,
     site: Site,
-    first: &TcpStream,
-    seen: &mut Seen,
-) -> Result<()> {
-    let second = connect(rt, site.sources)?;
-    let both_stand = both_stand(first, &second)?;
-    seen.put("both_stand", &both_stand)?;
-    let third = told_len(rt, site.sources)?;
-    seen.put("third", &third)
-}
-
-/// A source that comes once the second is gone stands.
-fn put_next<R: Net<Listener = TcpListener, Stream = TcpStream> + AllocGlobal>(
-    rt: &R,
-    site: Site,
-    seen: &mut Seen,
-) -> Result<()> {
+) -> Result<bool> {
     // A page is told behind what came before it.
     let _page = page(rt, rt.alloc(), site.monitors, "/")?;
     let next = connect(rt, site.sources)?;
-    seen.put_silence("next_stands", &next)
+    is_silent(&next)
 }
 
-/// The sources, of which the first stands all the time.
+/// Two sources stand, a third is closed, and one that comes once the second is gone stands.
 fn put_sources<R: Net<Listener = TcpListener, Stream = TcpStream> + AllocGlobal>(
     rt: &R,
     site: Site,
-    seen: &mut Seen,
+    course: &mut Course,
 ) -> Result<()> {
     let first = connect(rt, site.sources)?;
-    put_third(rt, site, &first, seen)?;
-    put_next(rt, site, seen)
+    let second = connect(rt, site.sources)?;
+    course.begin("Crowd");
+    course.put_seen("both_stand", both_stand(&first, &second));
+    course.put_seen("third", told_len(rt, site.sources));
+    drop(second);
+    course.put_seen("next_stands", next_stands(rt, site));
+    course.end()
 }
 
 /// What sources and a monitor see.
 pub fn play<R: Net<Listener = TcpListener, Stream = TcpStream> + AllocGlobal>(
     rt: &R,
     site: Site,
-    seen: &mut Seen,
+    course: &mut Course,
 ) -> Result<()> {
-    seen.begin("Crowd")?;
-    put_sources(rt, site, seen)?;
-    seen.end()?;
+    put_sources(rt, site, course)?;
     let page = page(rt, rt.alloc(), site.monitors, "/")?;
-    write!(seen.text, "\n{page}")?;
-    Ok(())
+    course.put_text("\n");
+    course.put_text(&page);
+    course.finish()
 }

@@ -5,6 +5,7 @@
 #![tactic(auto)]
 
 mod asking;
+mod course;
 mod facts;
 mod fault;
 mod frame;
@@ -20,7 +21,6 @@ mod pacing;
 mod peer;
 mod scenes;
 mod sealed;
-mod seen;
 mod server;
 mod site;
 mod split;
@@ -32,14 +32,14 @@ mod unread;
 mod watched;
 mod whole_way;
 
-use crate::seen::Seen;
+use crate::course::Course;
 use anyhow::Result;
 use std::net::{Net, TcpListener, TcpStream};
 
 /// Says what every scene saw.
-fn say_scenes(rt: &impl Print, scenes: Vec<Result<Seen>>) -> Result<()> {
-    for seen in scenes {
-        print!(rt; "{}", seen?.text)?;
+fn say_scenes(rt: &impl Print, scenes: Vec<Result<Course>>) -> Result<()> {
+    for course in scenes {
+        print!(rt; "{}", course?.text)?;
     }
     Ok(())
 }
@@ -48,9 +48,9 @@ fn say_scenes(rt: &impl Print, scenes: Vec<Result<Seen>>) -> Result<()> {
 fn say_starts<R: Net<Listener = TcpListener, Stream = TcpStream> + Print + AllocGlobal>(
     rt: &R,
 ) -> Result<()> {
-    let mut seen = Seen::new(rt.alloc());
-    starts::put_starts(rt, 15, &mut seen)?;
-    println!(rt; "no start: {}", seen.text)?;
+    let mut course = Course::new(rt.alloc());
+    starts::put_starts(rt, 15, &mut course)?;
+    println!(rt; "no start: {}", course.text)?;
     Ok(())
 }
 

@@ -1,7 +1,7 @@
 //! Sixteen monitors at a time, and each status of what they are told.
 
+use crate::course::Course;
 use crate::peer::{asked, connect, page, rest_text, send, send_by_bytes, told_len, turn};
-use crate::seen::Seen;
 use crate::site::Site;
 use anyhow::{Result, anyhow};
 use std::alloc::Global;
@@ -65,21 +65,19 @@ fn count_told(alloc: Global, monitors: &[TcpStream], text: &str) -> Result<usize
     Ok(count)
 }
 
-/// One of these monitors is told the page and leaves, and one that comes then is told it too.
-fn put_next<R: Net<Listener = TcpListener, Stream = TcpStream> + AllocGlobal>(
+/// A monitor is told this and leaves: whether one that comes then is told it too.
+fn is_next_told<R: Net<Listener = TcpListener, Stream = TcpStream> + AllocGlobal>(
     rt: &R,
     site: Site,
-    standing: &mut Vec<TcpStream>,
+    first: Option<TcpStream>,
     text: &str,
-    seen: &mut Seen,
-) -> Result<()> {
-    let alloc = rt.alloc();
-    let Some(first) = standing.pop() else {
+) -> Result<bool> {
+    let Some(first) = first else {
         return Err(anyhow!("no monitor"));
     };
-    is_told(alloc, &first, text)?;
-    let next = page(rt, alloc, site.monitors, "/")?;
-    seen.put("next", &(next.as_str() == text))
+    is_told(rt.alloc(), &first, text)?;
+    let next = page(rt, rt.alloc(), site.monitors, "/")?;
+    Ok(next.as_str() == text)
 }
 
 /// All places are taken, and one becomes free: how many bytes one too many is told before it is
@@ -88,29 +86,27 @@ fn put_places<R: Net<Listener = TcpListener, Stream = TcpStream> + AllocGlobal>(
     rt: &R,
     site: Site,
     text: &str,
-    seen: &mut Seen,
+    course: &mut Course,
 ) -> Result<()> {
     let mut standing = crowd(rt, site)?;
-    let seventeenth = told_len(rt, site.monitors)?;
-    seen.put("seventeenth", &seventeenth)?;
-    put_next(rt, site, &mut standing, text, seen)?;
-    let count = count_told(rt.alloc(), &standing, text)?;
-    seen.put("standing", &count)
+    course.begin("Places");
+    course.put_seen("seventeenth", told_len(rt, site.monitors));
+    course.put_seen("next", is_next_told(rt, site, standing.pop(), text));
+    course.put_seen("standing", count_told(rt.alloc(), &standing, text));
+    course.end()
 }
 
 /// Whether a head in pieces of one byte is told this.
-fn put_by_bytes<R: Net<Listener = TcpListener, Stream = TcpStream> + AllocGlobal>(
+fn is_told_by_bytes<R: Net<Listener = TcpListener, Stream = TcpStream> + AllocGlobal>(
     rt: &R,
     site: Site,
-    field: &str,
     head: &[u8],
     text: &str,
-    seen: &mut Seen,
-) -> Result<()> {
+) -> Result<bool> {
     let monitor = connect(rt, site.monitors)?;
     send_by_bytes(&monitor, head)?;
     let told = rest_text(rt.alloc(), &monitor)?;
-    seen.put(field, &(told.as_str() == text))
+    Ok(told.as_str() == text)
 }
 
 /// Sends each head in one piece: what it is told.
@@ -126,52 +122,32 @@ fn ask_each<R: Net<Listener = TcpListener, Stream = TcpStream> + AllocGlobal>(
     })
 }
 
-/// What so many monitors see.
-fn put_crowd<R: Net<Listener = TcpListener, Stream = TcpStream> + AllocGlobal>(
-    rt: &R,
-    site: Site,
-    page: &str,
-    seen: &mut Seen,
-) -> Result<()> {
-    seen.begin("Places")?;
-    put_places(rt, site, page, seen)?;
-    seen.end()
-}
-
-/// Whether heads in pieces of one byte are told the same as those in one piece.
+/// Whether heads in pieces of one byte are told the same as those in one piece, and what that is.
 fn put_pieces<R: Net<Listener = TcpListener, Stream = TcpStream> + AllocGlobal>(
     rt: &R,
     site: Site,
     answers: &Answers,
-    seen: &mut Seen,
+    course: &mut Course,
 ) -> Result<()> {
-    seen.begin("\nByBytes")?;
-    put_by_bytes(rt, site, "page", PAGE, &answers.page, seen)?;
-    put_by_bytes(rt, site, "other", OTHER, &answers.other, seen)?;
-    put_by_bytes(rt, site, "none", NONE, &answers.none, seen)?;
-    seen.end()
-}
-
-/// What monitors see, and what they are told.
-fn look<R: Net<Listener = TcpListener, Stream = TcpStream> + AllocGlobal>(
-    rt: &R,
-    site: Site,
-    answers: &Answers,
-    seen: &mut Seen,
-) -> Result<()> {
-    put_crowd(rt, site, &answers.page, seen)?;
-    put_pieces(rt, site, answers, seen)?;
     let (page, other, none) = (&answers.page, &answers.other, &answers.none);
-    write!(seen.text, "\n{page}{other}{none}")?;
-    Ok(())
+    course.begin("\nByBytes");
+    course.put_seen("page", is_told_by_bytes(rt, site, PAGE, page));
+    course.put_seen("other", is_told_by_bytes(rt, site, OTHER, other));
+    course.put_seen("none", is_told_by_bytes(rt, site, NONE, none));
+    course.put_text(" }\n");
+    course.put_text(page);
+    course.put_text(other);
+    course.put_text(none);
+    course.finish()
 }
 
 /// The monitors.
 pub fn play<R: Net<Listener = TcpListener, Stream = TcpStream> + AllocGlobal>(
     rt: &R,
     site: Site,
-    seen: &mut Seen,
+    course: &mut Course,
 ) -> Result<()> {
     let answers = ask_each(rt, site)?;
-    look(rt, site, &answers, seen)
+    put_places(rt, site, &answers.page, course)?;
+    put_pieces(rt, site, &answers, course)
 }

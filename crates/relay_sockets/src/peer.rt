@@ -6,6 +6,7 @@ use crate::frame::{EMPTY, MESSAGE, Name, TOLD, ack, name_of};
 use crate::site::Site;
 use anyhow::{Result, anyhow};
 use fwd_msgpack::{Cut, Limits, cut};
+use hex::encode;
 use std::alloc::Global;
 use std::io::{ErrorKind, Read, Write};
 use std::net::{Net, SocketAddr, TcpListener, TcpStream};
@@ -82,6 +83,12 @@ pub fn value(alloc: Global, stream: &TcpStream) -> Result<Vec<u8>> {
     Err(anyhow!("no value"))
 }
 
+/// The same in hexadecimal digits.
+pub fn value_text(alloc: Global, stream: &TcpStream) -> Result<String> {
+    let value = value(alloc, stream)?;
+    Ok(encode(alloc, &value)?)
+}
+
 /// All bytes up to the close. A side that closes before it has read all that came resets its
 /// connection, which is a close too.
 pub fn rest(alloc: Global, stream: &TcpStream) -> Result<Vec<u8>> {
@@ -152,22 +159,23 @@ pub fn acknowledge(link: &TcpStream, name: Name) -> Result<()> {
     send(link, &ack(name))
 }
 
-/// A server reads a frame: the name of its chunk.
-pub fn read_name(alloc: Global, link: &TcpStream) -> Result<Name> {
-    let frame = value(alloc, link)?;
-    name_of(&frame)
+/// A server acknowledges a frame's chunk.
+fn acknowledge_frame(link: &TcpStream, frame: &[u8]) -> Result<()> {
+    let name = name_of(frame)?;
+    acknowledge(link, name)
 }
 
-/// A server reads a frame and acknowledges it.
-pub fn serve(alloc: Global, link: &TcpStream) -> Result<()> {
-    let name = read_name(alloc, link)?;
-    acknowledge(link, name)
+/// A server reads a frame and acknowledges it: its bytes in hexadecimal digits.
+pub fn serve_text(alloc: Global, link: &TcpStream) -> Result<String> {
+    let frame = value(alloc, link)?;
+    acknowledge_frame(link, &frame)?;
+    Ok(encode(alloc, &frame)?)
 }
 
 /// A source sends a request, its server acknowledges the frame, and the source is told.
 pub fn round(alloc: Global, source: &TcpStream, link: &TcpStream) -> Result<bool> {
     send(source, MESSAGE)?;
-    serve(alloc, link)?;
+    serve_text(alloc, link)?;
     let told = value(alloc, source)?;
     Ok(told.as_slice() == TOLD)
 }

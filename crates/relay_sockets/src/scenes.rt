@@ -1,9 +1,9 @@
 //! The scenes, side by side: each has a relay of its own, whose workers wait out their turns.
 
+use crate::course::Course;
 use crate::keys::KEY;
 use crate::peer::hurry;
 use crate::sealed::Sealed;
-use crate::seen::Seen;
 use crate::server::Servers;
 use crate::site::{SEED, Site, free_site, put_output, put_relay, relay};
 use crate::{
@@ -142,22 +142,22 @@ impl Scene {
         rt: &R,
         site: Site,
         servers: &mut Servers,
-        seen: &mut Seen,
+        course: &mut Course,
     ) -> Result<()> {
         match self {
-            Scene::WholeWay => whole_way::play(rt, site, &servers.first, seen),
-            Scene::Split => split::play(rt, site, &servers.first, seen),
-            Scene::Outputs => outputs::play(rt, site, servers, seen),
-            Scene::Keys => keys::play(rt, site, &servers.first, seen),
-            Scene::Standby => standby::play(rt, site, servers, seen),
-            Scene::Late => late::play(rt, site, servers, seen),
-            Scene::Liar => liar::play(rt, site, &servers.first, seen),
-            Scene::Torn => torn::play(rt, site, &servers.first, seen),
-            Scene::Fault => fault::play(rt, site, &servers.first, seen),
-            Scene::Limits => limits::play(rt, site, seen),
-            Scene::Monitors => monitors::play(rt, site, seen),
-            Scene::Hostile => hostile::play(rt, site, &servers.first, seen),
-            Scene::Unread => unread::play(rt, site, seen),
+            Scene::WholeWay => whole_way::play(rt, site, &servers.first, course),
+            Scene::Split => split::play(rt, site, &servers.first, course),
+            Scene::Outputs => outputs::play(rt, site, servers, course),
+            Scene::Keys => keys::play(rt, site, &servers.first, course),
+            Scene::Standby => standby::play(rt, site, servers, course),
+            Scene::Late => late::play(rt, site, servers, course),
+            Scene::Liar => liar::play(rt, site, &servers.first, course),
+            Scene::Torn => torn::play(rt, site, &servers.first, course),
+            Scene::Fault => fault::play(rt, site, &servers.first, course),
+            Scene::Limits => limits::play(rt, site, course),
+            Scene::Monitors => monitors::play(rt, site, course),
+            Scene::Hostile => hostile::play(rt, site, &servers.first, course),
+            Scene::Unread => unread::play(rt, site, course),
         }
     }
 
@@ -175,13 +175,13 @@ impl Scene {
         site: Site,
         relay: Loop,
         servers: &mut Servers,
-        seen: &mut Seen,
+        course: &mut Course,
     ) -> Result<Ended> {
         let (ended, played) = thread::join(
             rt,
             move || relay.run(rt, TURNS),
             move || {
-                let played = self.play(rt, site, servers, seen);
+                let played = self.play(rt, site, servers, course);
                 hurry(rt, rt.alloc(), site.monitors);
                 played
             },
@@ -198,10 +198,10 @@ impl Scene {
             + Clock
             + AllocGlobal
             + Sync,
-    >(self, rt: &R, site: Site, servers: &mut Servers, seen: &mut Seen) -> Result<()> {
+    >(self, rt: &R, site: Site, servers: &mut Servers, course: &mut Course) -> Result<()> {
         let relay = self.relay(rt, site)?;
-        let ended = self.run(rt, site, relay, servers, seen)?;
-        write!(seen.text, "\n  {ended:?}")?;
+        let ended = self.run(rt, site, relay, servers, course)?;
+        write!(course.text, "\n  {ended:?}")?;
         Ok(())
     }
 
@@ -213,10 +213,10 @@ impl Scene {
             + Clock
             + AllocGlobal
             + Sync,
-    >(self, rt: &R, seen: &mut Seen) -> Result<()> {
+    >(self, rt: &R, course: &mut Course) -> Result<()> {
         let mut servers = self.servers(rt)?;
         let site = free_site(rt, self.host(), servers.addresses())?;
-        self.put_run(rt, site, &mut servers, seen)
+        self.put_run(rt, site, &mut servers, course)
     }
 
     /// Appends what is printed of it. What failed is printed too, so that one scene does not hide
@@ -228,30 +228,30 @@ impl Scene {
             + Clock
             + AllocGlobal
             + Sync,
-    >(self, rt: &R, seen: &mut Seen) -> Result<()> {
-        write!(seen.text, "{}: ", self.title())?;
-        if let Err(error) = self.stage(rt, seen) {
-            write!(seen.text, " failed: {error}")?;
+    >(self, rt: &R, course: &mut Course) -> Result<()> {
+        write!(course.text, "{}: ", self.title())?;
+        if let Err(error) = self.stage(rt, course) {
+            write!(course.text, " failed: {error}")?;
         }
-        Ok(seen.text.push('\n')?)
+        Ok(course.text.push('\n')?)
     }
 }
 
 /// What is printed of the scene at a place among all.
-fn seen_at<
+fn course_of<
     R: Net<Listener = TcpListener, Stream = TcpStream>
         + Threads
         + Wait
         + Clock
         + AllocGlobal
         + Sync,
->(rt: &R, place: usize) -> Result<Seen> {
+>(rt: &R, place: usize) -> Result<Course> {
     let Some(scene) = SCENES.get(place) else {
         bail!("no scene");
     };
-    let mut seen = Seen::new(rt.alloc());
-    scene.put_text(rt, &mut seen)?;
-    Ok(seen)
+    let mut course = Course::new(rt.alloc());
+    scene.put_text(rt, &mut course)?;
+    Ok(course)
 }
 
 /// What is printed of all scenes, which are played side by side.
@@ -262,6 +262,6 @@ pub fn play_all<
         + Clock
         + AllocGlobal
         + Sync,
->(rt: &R) -> Result<Vec<Result<Seen>>> {
-    Ok(thread::map_indices(rt, rt.alloc(), SCENES.len(), &|place| seen_at(rt, place))?)
+>(rt: &R) -> Result<Vec<Result<Course>>> {
+    Ok(thread::map_indices(rt, rt.alloc(), SCENES.len(), &|place| course_of(rt, place))?)
 }

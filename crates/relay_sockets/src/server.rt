@@ -1,6 +1,6 @@
 //! The listeners of a scene's servers.
 
-use crate::peer::accept;
+use crate::peer::{accept, serve_text};
 use anyhow::{Result, anyhow};
 use std::net::{Ipv4Addr, Net, SocketAddr, TcpListener, TcpStream};
 use std::rt::Clock;
@@ -34,6 +34,13 @@ impl Server {
             Some(listener) => accept(rt, listener),
             None => Err(anyhow!("the server is closed")),
         }
+    }
+
+    /// Takes the next connection, reads a frame there and acknowledges it: its bytes in hexadecimal
+    /// digits.
+    pub fn serve<R: Clock + AllocGlobal>(&self, rt: &R) -> Result<String> {
+        let link = self.accept(rt)?;
+        serve_text(rt.alloc(), &link)
     }
 
     /// It is gone.

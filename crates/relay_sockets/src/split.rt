@@ -1,7 +1,7 @@
 //! A request whose entries are in two chunks is told after both.
 
+use crate::course::Course;
 use crate::peer::source;
-use crate::seen::Seen;
 use crate::server::Server;
 use crate::site::Site;
 use anyhow::Result;
@@ -11,24 +11,19 @@ use std::rt::Clock;
 /// Two entries under the tag `a`, in Forward mode, that ask to be acknowledged as `x`.
 const TWO: &[u8] = b"\x93\xa1a\x92\x92\x01\x80\x92\x02\x80\x81\xa5chunk\xa1x";
 
-/// What both sides see.
-fn look(source: &TcpStream, link: &TcpStream, seen: &mut Seen) -> Result<()> {
-    seen.begin("Halves")?;
-    seen.put_served("first", link)?;
-    seen.put_silence("silent", source)?;
-    seen.put_served("second", link)?;
-    seen.put_value("told", source)?;
-    seen.end()
-}
-
 /// The source, and a server that acknowledges one chunk, and a while later the other.
 pub fn play<R: Net<Listener = TcpListener, Stream = TcpStream> + Clock>(
     rt: &R,
     site: Site,
     server: &Server,
-    seen: &mut Seen,
+    course: &mut Course,
 ) -> Result<()> {
     let source = source(rt, site, TWO)?;
     let link = server.accept(rt)?;
-    look(&source, &link, seen)
+    course.begin("Halves");
+    course.put_served("first", &link);
+    course.put_silence("silent", &source);
+    course.put_served("second", &link);
+    course.put_value("told", &source);
+    course.end()
 }

@@ -1,7 +1,7 @@
 //! Why a relay does not start, and what is said of it.
 
+use crate::course::Course;
 use crate::sealed::Sealed;
-use crate::seen::Seen;
 use crate::server::Server;
 use crate::site::{SEED, Site, free_site, put_output, put_relay, try_relay};
 use anyhow::{Result, anyhow};
@@ -37,34 +37,28 @@ fn names(alloc: Global, fault: StartFault, taken: SocketAddr) -> Result<bool> {
     Ok(fault == StartFault::Listen(taken) && text == due)
 }
 
-/// Appends whether a relay cannot start since an address is taken, and says so.
-fn put_taken<R: Net + AllocGlobal>(
-    rt: &R,
-    site: Site,
-    field: &str,
-    taken: SocketAddr,
-    seen: &mut Seen,
-) -> Result<()> {
+/// Whether a relay cannot start since an address is taken, and says so.
+fn is_refused<R: Net + AllocGlobal>(rt: &R, site: Site, taken: SocketAddr) -> Result<bool> {
     let fault = fault_of(rt, site, SEED)?;
-    let is_named = names(rt.alloc(), fault, taken)?;
-    seen.put(field, &is_named)
+    names(rt.alloc(), fault, taken)
 }
 
-/// Appends what a relay says that has no seed, and no file to draw one from.
-fn put_unseeded<R: Net + AllocGlobal>(rt: &R, site: Site, seen: &mut Seen) -> Result<()> {
+/// What a relay says that has no seed, and no file to draw one from.
+fn unseeded_text<R: Net + AllocGlobal>(rt: &R, site: Site) -> Result<String> {
     let fault = fault_of(rt, site, "")?;
-    let text = text_of(rt.alloc(), fault)?;
-    seen.put("seed", &text)
+    text_of(rt.alloc(), fault)
 }
 
-/// What relays say that do not start: where sources, or monitors, cannot be listened for, and why
-/// there is no random number.
-fn look<R: Net + AllocGlobal>(
+/// Appends what relays say that do not start: where sources, or monitors, cannot be listened for,
+/// why there is no random number, and the texts of what no test can cause.
+pub fn put_starts<R: Net<Listener = TcpListener, Stream = TcpStream> + AllocGlobal>(
     rt: &R,
-    site: Site,
-    taken: SocketAddr,
-    seen: &mut Seen,
+    host: u8,
+    course: &mut Course,
 ) -> Result<()> {
+    let server = Server::new(rt, host)?;
+    let taken = server.address;
+    let site = free_site(rt, host, [taken; 2])?;
     let front = Site {
         sources: taken,
         ..site
@@ -73,24 +67,12 @@ fn look<R: Net + AllocGlobal>(
         monitors: taken,
         ..site
     };
-    seen.begin("Told")?;
-    put_taken(rt, front, "sources", taken, seen)?;
-    put_taken(rt, behind, "monitors", taken, seen)?;
-    put_unseeded(rt, site, seen)?;
-    seen.end()
-}
-
-/// Appends what relays say that do not start, and the texts of what no test can cause.
-pub fn put_starts<R: Net<Listener = TcpListener, Stream = TcpStream> + AllocGlobal>(
-    rt: &R,
-    host: u8,
-    seen: &mut Seen,
-) -> Result<()> {
-    let server = Server::new(rt, host)?;
-    let taken = server.address;
-    let site = free_site(rt, host, [taken; 2])?;
-    look(rt, site, taken, seen)?;
+    course.begin("Told");
+    course.put_seen("sources", is_refused(rt, front, taken));
+    course.put_seen("monitors", is_refused(rt, behind, taken));
+    course.put_seen("seed", unseeded_text(rt, site));
+    course.end()?;
     let (memory, poll, thread) = (StartFault::Memory, StartFault::Poll, StartFault::Thread);
-    write!(seen.text, "\n  {memory}\n  {poll}\n  {thread}")?;
+    write!(course.text, "\n  {memory}\n  {poll}\n  {thread}")?;
     Ok(())
 }

@@ -1,9 +1,10 @@
 //! Peers of a relay with a shared key that do not have it.
 
+use crate::course::Course;
 use crate::peer::{connect, rest, round, send, value};
-use crate::seen::Seen;
 use crate::site::Site;
 use anyhow::Result;
+use hex::encode;
 use std::net::{Net, TcpListener, TcpStream};
 
 /// A PING with no digest.
@@ -34,7 +35,7 @@ fn stranger<R: Net<Listener = TcpListener, Stream = TcpStream> + AllocGlobal>(
 }
 
 /// What such a one is told before it is closed.
-fn told<R: Net<Listener = TcpListener, Stream = TcpStream> + AllocGlobal>(
+fn told_bytes<R: Net<Listener = TcpListener, Stream = TcpStream> + AllocGlobal>(
     rt: &R,
     site: Site,
     bytes: &[u8],
@@ -52,58 +53,54 @@ fn dawdle(stranger: &TcpStream) -> Result<()> {
     Ok(())
 }
 
-/// What strangers are told before they are closed: one without the key, and how many bytes one with
-/// too long a PING.
-fn put_closed<R: Net<Listener = TcpListener, Stream = TcpStream> + AllocGlobal>(
+/// What one without the key is told before it is closed, in hexadecimal digits.
+fn denied_text<R: Net<Listener = TcpListener, Stream = TcpStream> + AllocGlobal>(
     rt: &R,
     site: Site,
-    seen: &mut Seen,
-) -> Result<()> {
-    let denied = told(rt, site, DENIED)?;
-    seen.put_bytes("denied", &denied)?;
-    let too_long = told(rt, site, TOO_LONG)?;
-    seen.put("too_long", &too_long.len())
+) -> Result<String> {
+    let denied = told_bytes(rt, site, DENIED)?;
+    Ok(encode(rt.alloc(), &denied)?)
 }
 
-/// Whether a source is told beside a stranger whose PING does not end, and whether that one is
-/// neither told anything nor closed.
-fn put_endless<R: Net<Listener = TcpListener, Stream = TcpStream> + AllocGlobal>(
+/// How many bytes one with too long a PING is told before it is closed.
+fn too_long_len<R: Net<Listener = TcpListener, Stream = TcpStream> + AllocGlobal>(
     rt: &R,
     site: Site,
-    source: &TcpStream,
-    link: &TcpStream,
-    seen: &mut Seen,
-) -> Result<()> {
-    let endless = stranger(rt, site, ENDLESS)?;
-    dawdle(&endless)?;
-    let beside = round(rt.alloc(), source, link)?;
-    seen.put_silence("endless_waits", &endless)?;
-    seen.put("beside", &beside)
+) -> Result<usize> {
+    let too_long = told_bytes(rt, site, TOO_LONG)?;
+    Ok(too_long.len())
 }
 
-/// What strangers saw, beside a source and its server.
+/// What strangers see. Beside one whose PING does not end, which is neither told anything nor
+/// closed, a source is told.
 fn look<R: Net<Listener = TcpListener, Stream = TcpStream> + AllocGlobal>(
     rt: &R,
     site: Site,
     source: &TcpStream,
     link: &TcpStream,
-    turned: &mut Seen,
+    turned: &mut Course,
 ) -> Result<()> {
-    turned.begin("Turned")?;
-    put_closed(rt, site, turned)?;
-    put_endless(rt, site, source, link, turned)?;
+    turned.begin("Turned");
+    turned.put_seen("denied", denied_text(rt, site));
+    turned.put_seen("too_long", too_long_len(rt, site));
+    let endless = stranger(rt, site, ENDLESS)?;
+    dawdle(&endless)?;
+    let beside = round(rt.alloc(), source, link);
+    turned.put_silence("endless_waits", &endless);
+    turned.put_seen("beside", beside);
     turned.end()
 }
 
-/// Appends, as a text, what strangers saw beside a source and its server.
+/// Appends, as a text, what strangers see beside a source and its server.
 pub fn put_strangers<R: Net<Listener = TcpListener, Stream = TcpStream> + AllocGlobal>(
     rt: &R,
     site: Site,
     source: &TcpStream,
     link: &TcpStream,
-    seen: &mut Seen,
+    course: &mut Course,
 ) -> Result<()> {
-    let mut turned = Seen::new(rt.alloc());
+    let mut turned = Course::new(rt.alloc());
     look(rt, site, source, link, &mut turned)?;
-    seen.put("strangers", &turned.text)
+    course.put("strangers", &turned.text);
+    Ok(())
 }

@@ -1,8 +1,8 @@
 //! A source closes in the middle of a request, while another goes on in pieces.
 
+use crate::course::Course;
 use crate::frame::MESSAGE;
-use crate::peer::{send, source};
-use crate::seen::Seen;
+use crate::peer::source;
 use crate::server::Server;
 use crate::site::Site;
 use anyhow::Result;
@@ -18,22 +18,17 @@ fn second_source<R: Net<Listener = TcpListener, Stream = TcpStream>>(
     source(rt, site, &MESSAGE[..5])
 }
 
-/// What comes of the source that goes on.
-fn look(source: &TcpStream, link: &TcpStream, seen: &mut Seen) -> Result<()> {
-    seen.begin("Onward")?;
-    seen.put_round(source, link)?;
-    seen.end()
-}
-
 /// Two sources and the server.
 pub fn play<R: Net<Listener = TcpListener, Stream = TcpStream> + Clock>(
     rt: &R,
     site: Site,
     server: &Server,
-    seen: &mut Seen,
+    course: &mut Course,
 ) -> Result<()> {
     let whole = second_source(rt, site)?;
-    send(&whole, &MESSAGE[5..])?;
-    let link = server.accept(rt)?;
-    look(&whole, &link, seen)
+    course.send(&whole, &MESSAGE[5..]);
+    let link = course.accept(rt, server)?;
+    course.begin("Onward");
+    course.put_round(&whole, &link);
+    course.end()
 }

@@ -1,7 +1,7 @@
 //! A source that asks to be told and reads nothing.
 
+use crate::course::Course;
 use crate::peer::{connect, turn};
-use crate::seen::Seen;
 use crate::site::Site;
 use anyhow::Result;
 use std::alloc::Global;
@@ -70,32 +70,25 @@ fn is_told(source: &TcpStream, sent: usize) -> Result<bool> {
     Ok(told == due)
 }
 
-/// Whether the relay reads a source no more after a while, whether another source is told, and
-/// whether the first is told all once it reads.
-fn look<R: Net<Listener = TcpListener, Stream = TcpStream> + AllocGlobal>(
-    rt: &R,
-    site: Site,
-    source: &TcpStream,
-    seen: &mut Seen,
-) -> Result<()> {
-    let sent = flood(rt.alloc(), source)?;
-    seen.begin("Unread")?;
-    seen.put("stops", &sent.is_some())?;
-    seen.put("beside", &turn(rt, site).is_ok())?;
-    let told = match sent {
-        Some(sent) => is_told(source, sent)?,
-        None => false,
-    };
-    seen.put("told", &told)?;
-    seen.end()
+/// Whether a source is told all once it reads, of which the relay took so many bytes.
+fn is_told_all(source: &TcpStream, sent: Option<usize>) -> Result<bool> {
+    match sent {
+        Some(sent) => is_told(source, sent),
+        None => Ok(false),
+    }
 }
 
-/// The source, and another beside it.
+/// The source, which the relay reads no more after a while, and another beside it.
 pub fn play<R: Net<Listener = TcpListener, Stream = TcpStream> + AllocGlobal>(
     rt: &R,
     site: Site,
-    seen: &mut Seen,
+    course: &mut Course,
 ) -> Result<()> {
     let source = connect(rt, site.sources)?;
-    look(rt, site, &source, seen)
+    let sent = flood(rt.alloc(), &source)?;
+    course.begin("Unread");
+    course.put("stops", &sent.is_some());
+    course.put("beside", &turn(rt, site).is_ok());
+    course.put_seen("told", is_told_all(&source, sent));
+    course.end()
 }

@@ -1,6 +1,6 @@
 //! What a run over sockets tells its watch.
 
-use crate::peer::{hurry, rest_len, send, serve, source, told_len};
+use crate::peer::{hurry, rest_len, send, serve_text, source, told_len};
 use crate::server::Server;
 use crate::site::{Site, free_site, relay};
 use anyhow::{Result, anyhow, ensure};
@@ -102,7 +102,7 @@ fn play_server<R: Net<Listener = TcpListener, Stream = TcpStream> + Clock + Allo
 ) -> Result<()> {
     drop(server.accept(rt)?);
     let link = server.accept(rt)?;
-    serve(rt.alloc(), &link)?;
+    serve_text(rt.alloc(), &link)?;
     // The link stands until the relay has read the acknowledgement, and closes its side.
     hurry(rt, rt.alloc(), site.monitors);
     Ok(())
