@@ -1,7 +1,6 @@
 #!/usr/bin/env python3
-"""Writes calls of fwd_handshake and the answers that they must have: the input and output of the program handshake_calls.
-
-    python3 tools/handshakes.py crates/handshake_calls
+"""Writes calls of fwd_handshake and the answers that they must have: the table data/handshakes.txt of crates/relay_tables,
+and its part of the program's stdout.
 
 It stands on Python's hashlib alone: the MessagePack spelling and the verdicts below are its own, written from the Forward
 Protocol Specification v1 ("Handshake Messages") and the MessagePack specification.
@@ -16,8 +15,8 @@ A line is words with a space between them; bytes are lower-case hexadecimal digi
 USERS is NAME:PASSWORD joined by commas, or `-`. KEY is `none` where no key is set.
 """
 import hashlib
-import sys
-from pathlib import Path
+
+from tables import write_table
 
 
 class Bin(bytes):
@@ -324,6 +323,4 @@ pings_with_users()
 no_pings()
 answers()
 pongs()
-folder = Path(sys.argv[1])
-for name, lines in (("stdin", CALLS), ("stdout", ANSWERS)):
-    (folder / name).write_text("".join(line + "\n" for line in lines))
+write_table("handshakes.txt", CALLS, ANSWERS)

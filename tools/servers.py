@@ -1,13 +1,10 @@
 #!/usr/bin/env python3
-"""The calls of crates/relay_servers, and the answers that they must have.
-
-    python3 tools/servers.py crates/relay_servers
+"""The calls of data/servers.txt of crates/relay_tables, and the answers that they must have.
 
 What is chosen follows docs/FORMATS.md, "How a worker logs in, and which server it tries". Writes
-the program's stdin and stdout anew.
+the table and its part of the program's stdout anew.
 """
-import sys
-from pathlib import Path
+from tables import write_table
 
 DAY = 86_400_000
 TOP = 2**64 - 1
@@ -91,6 +88,4 @@ for unknown in (2, 16, 65_535):
     asks("choose 0 9", None)
 asks("choose 0 10", 0)
 
-folder = Path(sys.argv[1])
-folder.joinpath("stdin").write_text("".join(f"{line}\n" for line in calls))
-folder.joinpath("stdout").write_text("".join(f"{line}\n" for line in answers))
+write_table("servers.txt", calls, answers)

@@ -1,11 +1,12 @@
 #!/usr/bin/env python3
-"""The cases of crates/relay_settings: texts of settings, and what is to be told of each.
+"""The cases of data/settings.txt of crates/relay_tables: texts of settings, and what is to be told
+of each.
 
 Each key is absent, of another kind, at both ends of its range, one below and one above, and beside
 an unknown key; then tables, lists, and the order in which faults are told. What is told follows
-docs/FORMATS.md, "Settings". Writes the program's stdin and stdout anew.
+docs/FORMATS.md, "Settings". Writes the table and its part of the program's stdout anew.
 """
-import pathlib
+from tables import write_table
 
 MATCH = '[[output]]\nmatch = "**"\n'
 SERVER = '[[output.server]]\naddress = "127.0.0.1:1"\n'
@@ -326,7 +327,9 @@ sets(LARGEST + "#" * (65_536 - 1 - len(LARGEST)), RELAY | {"shared_key": "k" * 1
                for key, what in [("address", "127.0.0.1:1"), ("standby", "false")]},
      *[OUTPUT | FIRST] * 63)
 
-there = pathlib.Path(__file__).resolve().parent.parent / "crates" / "relay_settings"
-there.joinpath("stdin").write_text("".join(f"{w.rstrip(chr(10))}\n{e}\n" for w, _, e in cases))
-there.joinpath("stdout").write_text("".join(f"{told}\n" for _, told, _ in cases))
+write_table(
+    "settings.txt",
+    [f"{whole.rstrip(chr(10))}\n{end}" for whole, _, end in cases],
+    [told for _, told, _ in cases],
+)
 print(len(cases), "cases")

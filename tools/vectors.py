@@ -1,23 +1,22 @@
 #!/usr/bin/python3
-"""The cases of crates/relay_values: bytes, and what is to be read of them.
+"""The cases of data/values.txt of crates/relay_tables: bytes, and what is to be read of them.
 
-Run at the top of the repository, with Debian's python3-msgpack:
+Run with Debian's python3-msgpack:
 
-    /usr/bin/python3 tools/vectors.py crates/relay_values
+    /usr/bin/python3 tools/vectors.py
 
-It writes the program's stdin and stdout anew. The first lines are values as python3-msgpack spells them; what is to be
-read of each is what the packer was given, and the head that it wrote. Behind them stand a value of every first byte, by the
-table of formats of the MessagePack specification, and bytes that are no value within the limits of a source.
+It writes the table and its part of the program's stdout anew. The first lines are values as python3-msgpack spells them;
+what is to be read of each is what the packer was given, and the head that it wrote. Behind them stand a value of every first
+byte, by the table of formats of the MessagePack specification, and bytes that are no value within the limits of a source.
 
-A line of stdin is a front in hex, and where more follow, a unit of bytes and how many times it stands behind the front, so
-that long values stay short in the file. A line of stdout is a kind with its number, its payload's length or its count of
+A line of the table is a front in hex, and where more follow, a unit of bytes and how many times it stands behind the front,
+so that long values stay short in the file. A line of stdout is a kind with its number, its payload's length or its count of
 members, and the shortest spelling of the head, in hex; or `short`; or the fault.
 """
 
-import pathlib
-import sys
-
 import msgpack
+
+from tables import write_table
 
 SHORT = 40  # bytes: a longer tail of one repeated unit is written as a count
 NEVER = b"\xc1"  # stands in no value, so that a payload that is read as values is found out
@@ -232,9 +231,7 @@ def main():
         values += kind()
     cases = {value: words for words, value in values}
     assert len(cases) == len({*values}), "bytes with two meanings"
-    folder = pathlib.Path(sys.argv[1])
-    folder.joinpath("stdin").write_text("".join(f"{line(value)}\n" for value in cases))
-    folder.joinpath("stdout").write_text("".join(f"{told(words)}\n" for words in cases.values()))
+    write_table("values.txt", map(line, cases), map(told, cases.values()))
 
 
 if __name__ == "__main__":

@@ -1,76 +1,30 @@
-//! Replays each script of a folder, for the tests, and compares its answers: as the script stands,
-//! with the bytes of each piece in two at each byte, and with the bytes of two pieces in one.
+//! What `fwd_script` makes of scripts, of files of settings, and of lines, for the tests.
 //!
-//! `NAME.script` is what `forward_relay replay` reads. `NAME.answers` is what must come: what the
-//! program writes on standard output, and behind that what it tells on standard error. A script is
-//! these two files and nothing else.
+//! Each script of the folder that the first word names is replayed, and its answers compared: as
+//! the script stands, with the bytes of each piece in two at each byte, and with the bytes of two
+//! pieces in one. `NAME.script` is what `forward_relay replay` reads. `NAME.answers` is what must
+//! come: what the program writes on standard output, and behind that what it tells on standard
+//! error. A script is these two files and nothing else.
+//!
+//! Each file of settings that the words behind the folder name is checked, and of each line on
+//! standard input is told whether it is an event's.
 #![tactic(auto)]
 
 mod answers;
 mod differences;
 mod events;
+mod lines;
+mod scripts;
+mod settings;
 
-use crate::differences::{Difference, difference_of};
+use crate::lines::print_lines;
+use crate::scripts::judge_scripts;
+use crate::settings::print_settings;
 use std::process::ExitCode;
-use std::rt::Files;
-use std::{env, fs, io};
+use std::{env, io};
 
-/// The names of the scripts in a folder, in order.
-fn script_names<R: Files + AllocGlobal + Clone + Drop>(
-    rt: &R,
-    folder: &str,
-) -> io::Result<Vec<String>> {
-    let mut names = Vec::new(rt.alloc());
-    for entry in fs::read_dir(rt, folder)? {
-        let entry = entry?;
-        if let Some(name) = entry.file_name().strip_suffix(".script") {
-            names.push(String::from_str(rt.alloc(), name)?)?;
-        }
-    }
-    names.sort()?;
-    Ok(names)
-}
-
-/// Where the answers of the script of this name are not those that must come.
-fn judged<R: Files + AllocGlobal>(
-    rt: &R,
-    folder: &str,
-    name: &str,
-) -> io::Result<Option<Difference>> {
-    let alloc = rt.alloc();
-    let script = format!(in alloc; "{folder}/{name}.script")?;
-    let answers = format!(in alloc; "{folder}/{name}.answers")?;
-    let script = fs::read(rt, script.as_str())?;
-    let answers = fs::read(rt, answers.as_str())?;
-    difference_of(alloc, &script, &answers)
-}
-
-/// Whether all scripts of a folder have their answers. It tells on standard error which have them,
-/// and writes what is wrong with the others.
-fn have_answers<R: Files + Print + Eprint + AllocGlobal>(
-    rt: &R,
-    folder: &str,
-    names: &[String],
-) -> io::Result<bool> {
-    let mut has_all = true;
-    for name in names {
-        match judged(rt, folder, name.as_str()) {
-            Ok(None) => eprintln!(rt; "{name}: same answers")?,
-            Ok(Some(difference)) => {
-                println!(rt; "{name}: {difference}")?;
-                has_all = false;
-            }
-            Err(error) => {
-                println!(rt; "{name}: {error}")?;
-                has_all = false;
-            }
-        }
-    }
-    Ok(has_all)
-}
-
-/// Judges all scripts of the folder that the first word names. The status is 0 only where there are
-/// any and all have their answers.
+/// Judges the scripts, and where all have their answers, prints the two tables. The status is 0
+/// only where there are any scripts and all have their answers.
 fn main(rt: HostRuntime) -> io::Result<ExitCode> {
     let mut words = env::args(&rt)?;
     let _name = words.next();
@@ -78,14 +32,10 @@ fn main(rt: HostRuntime) -> io::Result<ExitCode> {
         println!(rt; "no folder")?;
         return Ok(ExitCode::FAILURE);
     };
-    let names = script_names(&rt, folder.as_str())?;
-    if names.is_empty() {
-        println!(rt; "no scripts")?;
+    if !judge_scripts(&rt, folder.as_str())? {
         return Ok(ExitCode::FAILURE);
     }
-    if !have_answers(&rt, folder.as_str(), names.as_slice())? {
-        return Ok(ExitCode::FAILURE);
-    }
-    println!(rt; "each script has its answers")?;
+    print_settings(&rt)?;
+    print_lines(&rt)?;
     Ok(ExitCode::SUCCESS)
 }

@@ -1,6 +1,6 @@
 //! Tests of what no contract says: each layer, whose calls that take memory are made once with
 //! ample memory, and events through the relay's library. Scripts are replayed by the program
-//! `relay_scripts`, and MessagePack as others spell it is read by `relay_values`.
+//! `relay_scripts`, and MessagePack as others spell it is read by `relay_tables`.
 #![tactic(auto)]
 
 #[cfg(test)]

@@ -1,31 +1,33 @@
-//! Tags and patterns on standard input, and on standard output which of the patterns a tag matches.
+//! Tags and patterns, and which of the patterns a tag matches.
 //!
 //! A line is a tag and a pattern or more, a tab before each pattern. With one pattern it is told
 //! whether the tag matches; with more, the place of the first one that does, as a relay with these
 //! outputs has it; or why the first bad one is no pattern. A text `#FRONT#UNIT#COUNT#BACK` has the
 //! unit so many times between the two ends.
-#![tactic(auto)]
 
+use crate::words::push_times;
 use anyhow::{Result, bail};
 use fwd_match::{Pattern, Routes};
 use std::alloc::Global;
 
+/// The text of these parts.
+fn text_of_parts(alloc: Global, parts: &[&str]) -> Result<String> {
+    let [front, unit, count, back] = *parts else {
+        bail!("no text of {} parts", parts.len());
+    };
+    let mut text = String::from_str(alloc, front)?;
+    push_times(&mut text, unit, count)?;
+    text.push_str(back)?;
+    Ok(text)
+}
+
 /// The text that a field spells.
-fn spelled(alloc: Global, field: &str) -> Result<String> {
+fn text_of_field(alloc: Global, field: &str) -> Result<String> {
     let Some(parts) = field.strip_prefix('#') else {
         return Ok(String::from_str(alloc, field)?);
     };
     let parts: Vec<&str> = parts.split('#').collect(alloc)?;
-    let [front, unit, count, back] = *parts.as_slice() else {
-        bail!("no text: {field}");
-    };
-    let count: u32 = count.parse()?;
-    let mut text = String::from_str(alloc, front)?;
-    for _ in 0..count {
-        text.push_str(unit)?;
-    }
-    text.push_str(back)?;
-    Ok(text)
+    text_of_parts(alloc, &parts)
 }
 
 /// What is told of a tag and one pattern.
@@ -50,12 +52,12 @@ fn route_of(alloc: Global, tag: &str, patterns: Vec<Pattern>) -> Result<String> 
 }
 
 /// What is told of a line.
-fn answer(alloc: Global, line: &str) -> Result<String> {
+fn answer_to_line(alloc: Global, line: &str) -> Result<String> {
     let mut fields = line.split('\t');
-    let tag = spelled(alloc, fields.next().unwrap_or(""))?;
+    let tag = text_of_field(alloc, fields.next().unwrap_or(""))?;
     let mut patterns = Vec::new(alloc);
     for field in fields {
-        let text = spelled(alloc, field)?;
+        let text = text_of_field(alloc, field)?;
         match Pattern::read(alloc, text.as_str()) {
             Ok(pattern) => patterns.push(pattern)?,
             Err(fault) => return Ok(format!(in alloc; "fault {}", fault.number())?),
@@ -67,10 +69,10 @@ fn answer(alloc: Global, line: &str) -> Result<String> {
     }
 }
 
-fn main(rt: HostRuntime) -> Result<()> {
-    for line in rt.lines(rt.alloc()) {
-        let line = line?;
-        let answer = answer(rt.alloc(), line.as_str())?;
+/// Prints what is told of each line, and the line.
+pub(crate) fn print_patterns<R: Print + AllocGlobal>(rt: &R, text: &str) -> Result<()> {
+    for line in text.lines() {
+        let answer = answer_to_line(rt.alloc(), line)?;
         println!(rt; "{answer}\t{line}")?;
     }
     Ok(())

@@ -1,5 +1,6 @@
 //! What good settings set, a line a key.
 
+use crate::words::word_of_bytes;
 use anyhow::Result;
 use fwd_base::Text;
 use fwd_settings::{OutputSettings, RelaySettings, Settings, UserSettings};
@@ -15,7 +16,7 @@ fn text_of(text: &Option<Text>) -> &str {
 /// Bytes that may be absent, in hex.
 fn print_bytes<R: Print + AllocGlobal>(rt: &R, key: &str, bytes: Option<&[u8]>) -> Result<()> {
     match bytes {
-        Some(bytes) => println!(rt; "{key} {}", hex::encode(rt.alloc(), bytes)?)?,
+        Some(bytes) => println!(rt; "{key} {}", word_of_bytes(rt.alloc(), bytes)?)?,
         None => println!(rt; "{key} none")?,
     }
     Ok(())

@@ -1,7 +1,8 @@
-//! What the words of a line stand for.
+//! The two ends of a handshake, as the words of a line spell them.
 
 ghost use Rattle.std.specs.Prelude.{◌<◌, ◌^◌, length, IfOk};
 
+use crate::words::bytes_of_word;
 use anyhow::{Result, bail};
 use fwd_base::{Bytes, Seq};
 use fwd_handshake::{Login, Nonces, Security, User};
@@ -9,28 +10,12 @@ use fwd_msgpack::{Cut, Limits, Value, cut};
 use hex::FromHex;
 use std::alloc::Global;
 
-/// The bytes of a word.
-pub(crate) fn bytes(alloc: Global, word: &str) -> Result<Vec<u8>> {
-    if word == "-" {
-        return Ok(Vec::new(alloc));
-    }
-    Ok(hex::decode(alloc, word)?)
-}
-
-/// The word of some bytes.
-pub(crate) fn word_of(alloc: Global, bytes: &[u8]) -> Result<String> {
-    if bytes.is_empty() {
-        return Ok(String::from_str(alloc, "-")?);
-    }
-    Ok(hex::encode(alloc, bytes)?)
-}
-
 /// The shared key of a word.
 fn key(alloc: Global, word: &str) -> Result<Option<Bytes>> {
     if word == "none" {
         return Ok(None);
     }
-    let key = bytes(alloc, word)?;
+    let key = bytes_of_word(alloc, word)?;
     Ok(Some(Bytes::from_vec(key)))
 }
 
@@ -39,8 +24,8 @@ fn user(alloc: Global, word: &str) -> Result<User> {
     let Some((name, password)) = word.split_once(':') else {
         bail!("no user: {word}");
     };
-    let name = bytes(alloc, name)?;
-    let password = bytes(alloc, password)?;
+    let name = bytes_of_word(alloc, name)?;
+    let password = bytes_of_word(alloc, password)?;
     Ok(User {
         name: Bytes::from_vec(name),
         password: Bytes::from_vec(password),
@@ -78,7 +63,7 @@ pub(crate) fn value(bytes: &[u8]) -> Result<Value<'_>> {
 fn name_of(alloc: Global, word: &str) -> Result<Bytes>
     ensures { IfOk result (λ name. length name < 2 ^ 32) }
 {
-    let name = bytes(alloc, word)?;
+    let name = bytes_of_word(alloc, word)?;
     if name.len() >= 0x1_0000_0000 {
         bail!("a name of {} bytes", name.len());
     }
@@ -108,7 +93,7 @@ pub(crate) fn client(
     let hostname = name_of(alloc, host)?;
     let shared_key = key(alloc, shared)?;
     let username = name_of(alloc, name)?;
-    let password = bytes(alloc, password)?;
+    let password = bytes_of_word(alloc, password)?;
     Ok(Login {
         hostname,
         shared_key,

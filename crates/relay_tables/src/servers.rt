@@ -1,21 +1,21 @@
-//! Calls of fwd_failover on standard input, a line each, and on standard output the answers to
-//! those that have one. tools/servers.py has the cases and writes both files.
+//! Calls of fwd_failover, a line each, and the answers to those that have one. tools/servers.py has
+//! the cases.
 //!
 //!     servers KINDS WAIT MAX    from here on these servers, `p` a primary and `s` a standby
 //!     failed SERVER MOMENT      a loss
 //!     settled SERVER            a chunk that was settled
 //!     choose WORKER MOMENT      answer: the server, or none
 //!     wait LOSSES               answer: the milliseconds after so many losses
-#![tactic(auto)]
 
 ghost use Rattle.std.specs.Prelude.{◌≤◌, length, false, Contains};
 
+use crate::words::words_of_line;
 use anyhow::{Result, bail};
 use fwd_failover::Servers;
 use std::alloc::Global;
 
 /// The servers of a line.
-fn servers(alloc: Global, kinds: &str, wait: &str, max: &str) -> Result<Servers> {
+fn servers_of_kinds(alloc: Global, kinds: &str, wait: &str, max: &str) -> Result<Servers> {
     let standby: Vec<bool> = kinds.bytes().map(|kind| kind == b's').collect(alloc)?;
     if standby.len() > 16 || !standby.contains(&false) {
         bail!("no servers: {kinds}");
@@ -43,14 +43,14 @@ fn answer(alloc: Global, servers: &mut Servers, words: &[&str]) -> Result<Option
     Ok(None)
 }
 
-fn main(rt: HostRuntime) -> Result<()> {
-    let mut all = servers(rt.alloc(), "p", "1", "1")?;
-    for line in rt.lines(rt.alloc()) {
-        let line = line?;
-        let words: Vec<&str> = line.split(' ').collect(rt.alloc())?;
+/// Prints the answer to each call that has one, and the call.
+pub(crate) fn print_servers<R: Print + AllocGlobal>(rt: &R, text: &str) -> Result<()> {
+    let mut servers = servers_of_kinds(rt.alloc(), "p", "1", "1")?;
+    for line in text.lines() {
+        let words = words_of_line(rt.alloc(), line)?;
         if let ["servers", kinds, wait, max] = *words {
-            all = servers(rt.alloc(), kinds, wait, max)?;
-        } else if let Some(answer) = answer(rt.alloc(), &mut all, &words)? {
+            servers = servers_of_kinds(rt.alloc(), kinds, wait, max)?;
+        } else if let Some(answer) = answer(rt.alloc(), &mut servers, &words)? {
             println!(rt; "{answer} {line}")?;
         }
     }

@@ -3,6 +3,7 @@
 ghost use Rattle.std.specs.Bool.{OnTrue};
 ghost use Rattle.fwd_msgpack.specs.Heads.{IsSpelled};
 
+use crate::words::word_of_bytes;
 use anyhow::{Result, bail};
 use fwd_msgpack::{Head, ScanFault, write_head};
 use std::alloc::{AllocError, Global};
@@ -50,5 +51,5 @@ pub(crate) fn shortest(alloc: Global, head: Head) -> Result<String> {
     }
     let mut out = Vec::new(alloc);
     write_head(&mut out, head)?;
-    Ok(hex::encode(alloc, &out)?)
+    word_of_bytes(alloc, &out)
 }

@@ -1,6 +1,8 @@
-//! The calls, and their answers as text.
+//! Calls of fwd_handshake, a line each, and their answers. tools/handshakes.py says what the words
+//! of a line are, and has the cases.
 
-use crate::words::{bytes, client, nonces, server, value, word_of};
+use crate::parties::{client, nonces, server, value};
+use crate::words::{bytes_of_word, word_of_bytes, words_of_line};
 use anyhow::{Result, bail};
 use fwd_handshake::{
     Denial, HeloAnswer, Login, Nonces, PingVerdict, PongVerdict, Salt, Security, answer_helo,
@@ -15,7 +17,7 @@ fn helo(alloc: Global, words: &[&str]) -> Result<String> {
     let security = server(alloc, host, "none", names)?;
     let nonces = nonces(nonce, auth)?;
     let helo = write_helo(alloc, &security, &nonces)?;
-    word_of(alloc, helo.as_slice())
+    word_of_bytes(alloc, helo.as_slice())
 }
 
 /// The verdict on a PING, and the PONG that a server answers.
@@ -25,7 +27,7 @@ fn ping_verdict(
     nonces: &Nonces,
     ping: &str,
 ) -> Result<PingVerdict> {
-    let ping = bytes(alloc, ping)?;
+    let ping = bytes_of_word(alloc, ping)?;
     Ok(judge_ping(alloc, value(&ping)?, security, nonces)?)
 }
 
@@ -37,7 +39,7 @@ fn ping_text(alloc: Global, verdict: &PingVerdict) -> Result<String> {
         PingVerdict::Deny(pong, Denial::UserMismatch) => ("user", pong),
         PingVerdict::NotPing => return Ok(String::from_str(alloc, "not_ping")?),
     };
-    let pong = word_of(alloc, pong.as_slice())?;
+    let pong = word_of_bytes(alloc, pong.as_slice())?;
     Ok(format!(in alloc; "{word} {pong}")?)
 }
 
@@ -53,8 +55,8 @@ fn ping(alloc: Global, words: &[&str]) -> Result<String> {
 
 /// A client's answer to a HELO, under a salt.
 fn helo_answer(alloc: Global, login: &Login, salt: &str, helo: &str) -> Result<HeloAnswer> {
-    let salt = bytes(alloc, salt)?;
-    let helo = bytes(alloc, helo)?;
+    let salt = bytes_of_word(alloc, salt)?;
+    let helo = bytes_of_word(alloc, helo)?;
     let Some(salt) = Salt::new(&salt) else {
         bail!("no salt");
     };
@@ -64,8 +66,8 @@ fn helo_answer(alloc: Global, login: &Login, salt: &str, helo: &str) -> Result<H
 /// The text of a PING, by the nonce and the keepalive of the HELO that it answers.
 fn ping_words(alloc: Global, ping: &[u8], nonce: &[u8], keepalive: bool) -> Result<String> {
     let word = if keepalive { "keep" } else { "close" };
-    let nonce = word_of(alloc, nonce)?;
-    let ping = word_of(alloc, ping)?;
+    let nonce = word_of_bytes(alloc, nonce)?;
+    let ping = word_of_bytes(alloc, ping)?;
     Ok(format!(in alloc; "{word} {nonce} {ping}")?)
 }
 
@@ -92,9 +94,9 @@ fn pong_verdict(
     nonce: &str,
     pong: &str,
 ) -> Result<PongVerdict> {
-    let salt = bytes(alloc, salt)?;
-    let nonce = bytes(alloc, nonce)?;
-    let pong = bytes(alloc, pong)?;
+    let salt = bytes_of_word(alloc, salt)?;
+    let nonce = bytes_of_word(alloc, nonce)?;
+    let pong = bytes_of_word(alloc, pong)?;
     Ok(judge_pong(value(&pong)?, login, &salt, &nonce))
 }
 
@@ -118,16 +120,22 @@ fn pong(alloc: Global, words: &[&str]) -> Result<String> {
 }
 
 /// Makes the call of a line.
-pub(crate) fn answer(alloc: Global, line: &str) -> Result<String> {
-    let words: Vec<&str> = line.split(' ').collect(alloc)?;
-    let Some((first, words)) = words.split_first() else {
-        bail!("an empty line");
-    };
-    match *first {
-        "helo" => helo(alloc, words),
-        "ping" => ping(alloc, words),
-        "answer" => answer_to_helo(alloc, words),
-        "pong" => pong(alloc, words),
+fn answer_to_line(alloc: Global, line: &str) -> Result<String> {
+    let words = words_of_line(alloc, line)?;
+    match words.as_slice() {
+        ["helo", words @ ..] => helo(alloc, words),
+        ["ping", words @ ..] => ping(alloc, words),
+        ["answer", words @ ..] => answer_to_helo(alloc, words),
+        ["pong", words @ ..] => pong(alloc, words),
         _ => bail!("no call: {line}"),
     }
+}
+
+/// Prints the answer to each call.
+pub(crate) fn print_handshakes<R: Print + AllocGlobal>(rt: &R, text: &str) -> Result<()> {
+    for line in text.lines() {
+        let answer = answer_to_line(rt.alloc(), line)?;
+        println!(rt; "{answer}")?;
+    }
+    Ok(())
 }

@@ -1,14 +1,12 @@
-//! Bytes on standard input, a line each, and on standard output what is read of them: the kind of
-//! their value with its number, length or count, and the shortest spelling of its head; or `short`;
-//! or the fault. A line is a front in hex, and where more follow, a unit and how many times it
-//! stands behind the front. tools/vectors.py has the cases and writes both files.
-#![tactic(auto)]
+//! Bytes, and what is read of them: the kind of their value with its number, length or count, and
+//! the shortest spelling of its head; or `short`; or the fault.
+//!
+//! A line is a front in hex, and where more follow, a unit and how many times it stands behind the
+//! front. tools/vectors.py has the cases.
 
-mod members;
-mod words;
-
+use crate::heads::{fault_word, head_words, shortest};
 use crate::members::is_read;
-use crate::words::{fault_word, head_words, shortest};
+use crate::words::{bytes_of_word, push_times};
 use anyhow::Result;
 use fwd_msgpack::{Cut, HeadRead, Limits, Value, cut, read_head};
 use std::alloc::Global;
@@ -20,15 +18,12 @@ const LIMITS: Limits = Limits {
 };
 
 /// The bytes of a line.
-fn spelled(alloc: Global, line: &str) -> Result<Vec<u8>> {
+fn bytes_of_line(alloc: Global, line: &str) -> Result<Vec<u8>> {
     let mut words = line.split(' ');
-    let mut bytes = hex::decode(alloc, words.next().unwrap_or(""))?;
-    let unit = hex::decode(alloc, words.next().unwrap_or(""))?;
-    let count: u32 = words.next().unwrap_or("0").parse()?;
-    for _ in 0..count {
-        bytes.extend_from_slice(&unit)?;
-    }
-    Ok(bytes)
+    let mut digits = String::from_str(alloc, words.next().unwrap_or(""))?;
+    let unit = words.next().unwrap_or("");
+    push_times(&mut digits, unit, words.next().unwrap_or("0"))?;
+    bytes_of_word(alloc, digits.as_str())
 }
 
 /// Whether the bytes are less than a value without the last of them.
@@ -52,8 +47,8 @@ fn is_whole(value: Value<'_>, bytes: &[u8]) -> bool {
     }
 }
 
-/// What is read of the bytes of a line.
-fn told(alloc: Global, bytes: &[u8]) -> Result<String> {
+/// What is read of some bytes.
+fn answer_to_bytes(alloc: Global, bytes: &[u8]) -> Result<String> {
     match cut(bytes, LIMITS) {
         Cut::Whole(value, used) => {
             if used != bytes.len() || !is_whole(value, bytes) {
@@ -68,11 +63,17 @@ fn told(alloc: Global, bytes: &[u8]) -> Result<String> {
     }
 }
 
-fn main(rt: HostRuntime) -> Result<()> {
-    for line in rt.lines(rt.alloc()) {
-        let line = line?;
-        let bytes = spelled(rt.alloc(), line.as_str())?;
-        rt.println(told(rt.alloc(), &bytes)?)?;
+/// What is read of the bytes of a line.
+fn answer_to_line(alloc: Global, line: &str) -> Result<String> {
+    let bytes = bytes_of_line(alloc, line)?;
+    answer_to_bytes(alloc, &bytes)
+}
+
+/// Prints what is read of the bytes of each line.
+pub(crate) fn print_values<R: Print + AllocGlobal>(rt: &R, text: &str) -> Result<()> {
+    for line in text.lines() {
+        let answer = answer_to_line(rt.alloc(), line)?;
+        println!(rt; "{answer}")?;
     }
     Ok(())
 }

@@ -1,0 +1,36 @@
+//! Texts of settings, a line `---` or `===` behind each, and what is told of them: `good`, or the
+//! first fault; behind `===` what each key is set to. tools/settings.py has the cases.
+
+use crate::keys::print_keys;
+use anyhow::Result;
+use fwd_settings::read_settings;
+use std::alloc::AllocError;
+
+/// Prints what is told of a text.
+fn print_text<R: Print + AllocGlobal>(rt: &R, text: &str, has_keys: bool) -> Result<()> {
+    match read_settings(rt.alloc(), text.as_bytes()) {
+        Ok(settings) if has_keys => print_keys(rt, &settings),
+        Ok(_) => Ok(println!(rt; "good")?),
+        Err(fault) => Ok(println!(rt; "{fault}")?),
+    }
+}
+
+/// Appends a line to a text.
+fn push_line(text: &mut String, line: &str) -> Result<(), AllocError> {
+    text.push_str(line)?;
+    text.push('\n')
+}
+
+/// Prints what is told of each text.
+pub(crate) fn print_settings<R: Print + AllocGlobal>(rt: &R, texts: &str) -> Result<()> {
+    let mut text = String::new(rt.alloc());
+    for line in texts.lines() {
+        if line == "---" || line == "===" {
+            print_text(rt, text.as_str(), line == "===")?;
+            text.clear();
+        } else {
+            push_line(&mut text, line)?;
+        }
+    }
+    Ok(())
+}
