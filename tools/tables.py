@@ -6,6 +6,7 @@ CRATE = Path(__file__).resolve().parent.parent / "crates" / "relay_tables"
 
 
 def text_of(lines):
+    """A text of these lines."""
     return "".join(f"{line}\n" for line in lines)
 
 

@@ -10,6 +10,7 @@ use fwd_handshake::{
 };
 use std::alloc::Global;
 
+/// The HELO of a server.
 fn helo(alloc: Global, words: &[&str]) -> Result<String> {
     let [host, names, nonce, auth] = *words else {
         bail!("no HELO");
@@ -43,6 +44,7 @@ fn ping_text(alloc: Global, verdict: &PingVerdict) -> Result<String> {
     Ok(format!(in alloc; "{word} {pong}")?)
 }
 
+/// A server's verdict on a PING, with the PONG that it answers.
 fn ping(alloc: Global, words: &[&str]) -> Result<String> {
     let [host, shared, names, nonce, auth, ping] = *words else {
         bail!("no PING");
@@ -71,6 +73,7 @@ fn ping_words(alloc: Global, ping: &[u8], nonce: &[u8], keepalive: bool) -> Resu
     Ok(format!(in alloc; "{word} {nonce} {ping}")?)
 }
 
+/// A client's PING in answer to a HELO.
 fn answer_to_helo(alloc: Global, words: &[&str]) -> Result<String> {
     let [host, shared, name, password, salt, helo] = *words else {
         bail!("no answer");
@@ -110,6 +113,7 @@ fn pong_word(verdict: PongVerdict) -> &'static str {
     }
 }
 
+/// A client's verdict on a PONG.
 fn pong(alloc: Global, words: &[&str]) -> Result<String> {
     let [shared, salt, nonce, pong] = *words else {
         bail!("no PONG");

@@ -22,6 +22,7 @@ fn print_bytes<R: Print + AllocGlobal>(rt: &R, key: &str, bytes: Option<&[u8]>) 
     Ok(())
 }
 
+/// Prints who may log in.
 fn print_users<R: Print>(rt: &R, users: &[UserSettings]) -> Result<()> {
     for (number, user) in users.iter().enumerate() {
         println!(rt; "relay.user[{number}].name {}", user.name.as_str())?;
@@ -30,6 +31,7 @@ fn print_users<R: Print>(rt: &R, users: &[UserSettings]) -> Result<()> {
     Ok(())
 }
 
+/// Prints what the relay's own keys are set to.
 fn print_relay<R: Print + AllocGlobal>(rt: &R, relay: &RelaySettings) -> Result<()> {
     println!(rt; "relay.listen {}", relay.listen)?;
     match relay.monitor {
@@ -52,6 +54,7 @@ fn print_relay<R: Print + AllocGlobal>(rt: &R, relay: &RelaySettings) -> Result<
     print_users(rt, relay.users.as_slice())
 }
 
+/// Prints what the keys of an output that are numbers are set to.
 fn print_numbers<R: Print>(rt: &R, place: usize, output: &OutputSettings) -> Result<()> {
     for (key, number) in [
         ("workers", u64::from(output.workers)),
@@ -67,6 +70,7 @@ fn print_numbers<R: Print>(rt: &R, place: usize, output: &OutputSettings) -> Res
     Ok(())
 }
 
+/// Prints the servers of an output.
 fn print_servers<R: Print>(rt: &R, place: usize, output: &OutputSettings) -> Result<()> {
     for (number, server) in output.servers.as_slice().iter().enumerate() {
         let at = server.address;
@@ -79,7 +83,8 @@ fn print_servers<R: Print>(rt: &R, place: usize, output: &OutputSettings) -> Res
     Ok(())
 }
 
-/// Of its pattern it is told whether the tags `a.b` and `c` come to it.
+/// Prints what the keys of an output are set to. Of its pattern it is told whether the tags `a.b`
+/// and `c` come to it.
 fn print_output<R: Print>(rt: &R, place: usize, output: &OutputSettings) -> Result<()> {
     for tag in ["a.b", "c"] {
         let is_match = output.pattern.matches(tag.as_bytes());
