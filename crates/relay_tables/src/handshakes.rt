@@ -73,13 +73,18 @@ fn ping_words(alloc: Global, ping: &[u8], nonce: &[u8], keepalive: bool) -> Resu
     Ok(format!(in alloc; "{word} {nonce} {ping}")?)
 }
 
-/// A client's PING in answer to a HELO.
-fn answer_to_helo(alloc: Global, words: &[&str]) -> Result<String> {
+/// A client's answer to the HELO of a line.
+fn client_answer(alloc: Global, words: &[&str]) -> Result<HeloAnswer> {
     let [host, shared, name, password, salt, helo] = *words else {
         bail!("no answer");
     };
     let login = client(alloc, host, shared, name, password)?;
-    match &helo_answer(alloc, &login, salt, helo)? {
+    helo_answer(alloc, &login, salt, helo)
+}
+
+/// The text of an answer to a HELO.
+fn answer_text(alloc: Global, answer: &HeloAnswer) -> Result<String> {
+    match answer {
         HeloAnswer::Ping {
             bytes,
             nonce,
@@ -87,6 +92,12 @@ fn answer_to_helo(alloc: Global, words: &[&str]) -> Result<String> {
         } => ping_words(alloc, bytes.as_slice(), nonce.as_slice(), *keepalive),
         HeloAnswer::NotHelo => Ok(String::from_str(alloc, "not_helo")?),
     }
+}
+
+/// What a client answers to the HELO of a line, as text.
+fn answer_to_helo(alloc: Global, words: &[&str]) -> Result<String> {
+    let answer = client_answer(alloc, words)?;
+    answer_text(alloc, &answer)
 }
 
 /// The verdict on a PONG.
