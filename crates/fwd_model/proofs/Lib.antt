@@ -2,7 +2,7 @@
 -- Settling, Settled and Reached say what holds of each history that a run reaches; Follows that the
 -- live part follows it, at each event and over a run; Chronicle what the events so far did, and
 -- Deliver that whoever is told was delivered. The rest stand by themselves: WayBack and Marks on
--- what is told, Refusals on what is refused, Orders on events that may come in either order, and
+-- what is told, Standing on sessions that have begun, Refusals on what is refused, Orders on events that may come in either order, and
 -- Examples with the relay at work.
 pub mod Agree
 pub mod Onward
@@ -15,6 +15,7 @@ pub mod Chronicle
 pub mod Deliver
 pub mod WayBack
 pub mod Marks
+pub mod Standing
 pub mod Refusals
 pub mod Orders
 mod Examples

@@ -69,6 +69,13 @@ NoneEnded config before later o w =
     later ≡ between ++ event.End o w kind moment ∷ rest →
     answered config (before ++ between) (event.End o w kind moment) ≡ answer.Ended number → ⊥
 
+-- after these events, none of the later ones began a session of the worker
+abbrev pub NoneBegan : Config → List Event → List Event → ℕ → ℕ → Type 0
+NoneBegan config before later o w =
+    (between rest : List Event) (server : ℕ) (salt : List ℕ) (moment : ℕ) →
+    later ≡ between ++ event.Up o w server salt moment ∷ rest →
+    answered config (before ++ between) (event.Up o w server salt moment) ≡ answer.Done → ⊥
+
 -- among the events the worker's session with a server began, and it did not end since
 pub record HasBegun (config : Config) (es : List Event) (o w : ℕ) : Type 0 where
   pub before : List Event

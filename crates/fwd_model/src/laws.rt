@@ -3,6 +3,7 @@
 ghost use Rattle.std.specs.Prelude.{
   ◌≡◌,
   ◌++◌,
+  ◌∷◌,
   ◌&&◌,
   ℕ,
   List,
@@ -29,7 +30,14 @@ ghost use Rattle.fwd_session.specs.declared.fault.SessionFault.{SessionFault};
 ghost use Rattle.fwd_session.specs.History.{SessionHistory, is_handed_on, says};
 ghost use Rattle.fwd_model.specs.History.{History, Lane, histories, source_at, counts, IsReached};
 ghost use Rattle.fwd_model.specs.Names.{Commute, are_unrelated, is_accept};
-ghost use Rattle.fwd_model.specs.Delivered.{IsTold, IsToldAmong, IsDelivered, reached};
+ghost use Rattle.fwd_model.specs.Delivered.{
+  IsTold,
+  IsToldAmong,
+  IsDelivered,
+  HasBegun,
+  NoneBegan,
+  reached,
+};
 ghost use Rattle.fwd_model.specs.Live.{LiveRelay, live, lives, live_relay_counts};
 
 /// The live part is enough: from a history that a run reaches, what an event comes to, seen in
@@ -119,6 +127,13 @@ pub fn acknowledgement_before_fault_stands()
         (step histories (state_of h (step histories h (event.Heard o w bytes)))
         (event.Settle o w))
         ≡ answer.Settled (count_at c.number l.output)) }
+{}
+
+/// A session begins once: behind its beginning, and before it has ended, no other session of its
+/// worker begins.
+pub fn session_begins_once()
+    ensures { (config : Config) (es : List Event) (o w : ℕ) (b : HasBegun config es o w) →
+        NoneBegan config (b.before ++ event.Up o w b.server b.salt b.moment ∷ []) b.later o w }
 {}
 
 /// Events that name nothing in common, and do not both accept a connection, come to the same in
