@@ -2,6 +2,7 @@
 
 ghost use Rattle.std.specs.Prelude.{◌≡◌, false, IfOk};
 
+use crate::requests::{has_entries, many_entries, many_request};
 use fwd_base::{Bytes, Seq};
 use fwd_handshake::{Nonces, Security};
 use fwd_source::{AnswerError, SOURCE_LIMITS, Source};
@@ -55,5 +56,26 @@ fn what_waits_to_be_sent_is_dropped_once_shut(rt: HostRuntime) -> Result<(), Fai
         assert_eq!(rt; source.out(), b"".as_slice());
         assert_eq!(rt; source.answer(b"told"), Err(AnswerError::Closed));
     }
+    Ok(())
+}
+
+/// Bytes come in pieces of 65,536.
+fn hear_pieces(alloc: Global, source: &mut Source, bytes: &[u8]) -> Result<(), AllocError> {
+    for piece in bytes.chunks(65_536) {
+        source.piece(alloc, piece)?;
+    }
+    Ok(())
+}
+
+/// A request nearly as long as a value may be, which comes in many pieces.
+#[test]
+fn a_request_of_the_greatest_size_comes_in_pieces(rt: HostRuntime) -> Result<(), Fail> {
+    let entries = many_entries(rt.alloc())?;
+    let bytes = many_request(rt.alloc(), &entries)?;
+    let mut source = open_source(rt.alloc())?;
+    hear_pieces(rt.alloc(), &mut source, &bytes)?;
+    assert_eq!(rt; source.waiting(), 1);
+    let taken = source.next();
+    assert!(rt; taken.is_some_and(|(_, batch)| has_entries(&batch, &entries)));
     Ok(())
 }

@@ -12,6 +12,8 @@ mod connections;
 #[cfg(test)]
 mod edges;
 #[cfg(test)]
+mod greatest;
+#[cfg(test)]
 mod handshakes;
 #[cfg(test)]
 mod monitor;
@@ -25,6 +27,8 @@ mod replays;
 mod request;
 #[cfg(test)]
 mod requests;
+#[cfg(test)]
+mod servers;
 #[cfg(test)]
 mod session;
 #[cfg(test)]

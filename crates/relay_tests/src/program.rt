@@ -1,4 +1,5 @@
 ghost use Rattle.std.specs.Prelude.{◌+◌, ℕ};
+ghost use Rattle.std.specs.Io.{WritesAtMost};
 ghost use Rattle.fwd_model.specs.declared.event.Event.{Event};
 ghost use Rattle.fwd_model.specs.declared.answer.Answer.TheVariants.{Closed};
 
@@ -6,9 +7,11 @@ use fwd_model::{Answer, Event};
 use fwd_script::{
     End, Status, Step, answer_script, check, perform, replay, run_program, split_script, tell,
 };
-use std::alloc::Global;
+use std::alloc::{AllocError, Global};
+use std::env::{Env, FillError};
 use std::io;
 use std::io::{ErrorKind, Read, Write};
+use std::test::Fail;
 
 /// Words as the system gives them.
 fn words(alloc: Global, texts: &[&str]) -> io::Result<Vec<String>> {
@@ -98,6 +101,54 @@ fn words_that_are_not_had(rt: HostRuntime) {
     ] {
         let list = Err(io::Error::from(kind));
         assert!(rt; outcome_of(&rt, list, "---\n").is(code, b"", errors));
+    }
+}
+
+/// An environment of one word behind the program's own name, and of no variable.
+#[derive(Clone, Copy)]
+struct Word<'a> {
+    bytes: &'a [u8],
+}
+
+/// Bytes at the front of a buffer.
+fn fill(bytes: &[u8], buf: &mut [u8]) -> Result<usize, FillError>
+    ensures { WritesAtMost result buf.new }
+{
+    match buf.get_mut(..bytes.len()) {
+        Some(front) => {
+            front.copy_from_slice(bytes);
+            Ok(bytes.len())
+        }
+        None => Err(FillError::TooLong),
+    }
+}
+
+impl Env for Word<'_> {
+    fn arg(&self, i: usize, buf: &mut [u8]) -> Result<usize, FillError> {
+        match i {
+            0 => fill(b"relay", buf),
+            1 => fill(self.bytes, buf),
+            _ => Err(FillError::NotPresent),
+        }
+    }
+
+    fn var(&self, _name: &str, _buf: &mut [u8]) -> Result<usize, FillError> {
+        Err(FillError::NotPresent)
+    }
+
+    fn var_at(&self, _i: usize, _buf: &mut [u8]) -> Result<usize, FillError> {
+        Err(FillError::NotPresent)
+    }
+}
+
+#[test]
+fn words_are_had_where_each_is_text(rt: HostRuntime) {
+    for (bytes, code, out, errors) in [
+        (b"replay".as_slice(), 0, b"closed 0\n".as_slice(), ""),
+        (b"\xff", 2, b"", USAGE),
+    ] {
+        let list = fwd_script::words(&(Word { bytes }, rt.alloc()));
+        assert!(rt; outcome_of(&rt, list, "---\nflush 0 0 all\n").is(code, out, errors));
     }
 }
 
@@ -217,6 +268,37 @@ fn interrupted_reads_and_writes_are_tried_again(rt: HostRuntime) {
     assert!(rt; checked(rt.alloc(), slow).is(0, GOOD_LINE.as_bytes(), ""));
     let slow = Slow::new(rt.alloc(), 1000, false);
     assert!(rt; replayed(&rt, TWO_LINES, slow).is(0, BOTH_CLOSED, ""));
+}
+
+/// A script of 5,000 events: 70,004 bytes.
+fn long_script(alloc: Global) -> Result<String, AllocError> {
+    let events = "flush 0 0 all\n".repeat(alloc, 5000)?;
+    format!(in alloc; "---\n{events}")
+}
+
+/// The good settings behind a comment of 65,536 bytes.
+fn long_settings(alloc: Global) -> Result<String, AllocError> {
+    let comment = "#".repeat(alloc, 65_536)?;
+    format!(in alloc; "{comment}\n{GOOD}")
+}
+
+#[test]
+fn each_line_of_a_long_script_is_answered(rt: HostRuntime) -> Result<(), Fail> {
+    let script = long_script(rt.alloc())?;
+    let answers = "closed 0\n".repeat(rt.alloc(), 5000)?;
+    let list = words(rt.alloc(), &["relay", "replay"]);
+    assert!(rt; outcome_of(&rt, list, script.as_str()).is(0, answers.as_bytes(), ""));
+    Ok(())
+}
+
+#[test]
+fn long_settings_are_checked(rt: HostRuntime) -> Result<(), Fail> {
+    let settings = long_settings(rt.alloc())?;
+    let mut out = Vec::new(rt.alloc());
+    let status = check(rt.alloc(), &mut settings.as_bytes(), &mut out);
+    assert_eq!(rt; status.exit_code(), 0);
+    assert_eq!(rt; out.as_slice(), GOOD_LINE.as_bytes());
+    Ok(())
 }
 
 /// What was written before a write failed is a front of all that would have been.

@@ -46,7 +46,7 @@ fn event_times_are_read(rt: HostRuntime) {
 
 /// 100,000 entries one after the other, 16,000,000 bytes in
 /// all: each a time and a map of one str of 153 bytes.
-fn many_entries(alloc: Global) -> Result<Vec<u8>, AllocError> {
+pub fn many_entries(alloc: Global) -> Result<Vec<u8>, AllocError> {
     let mut entry = vec![in alloc; b'x'; 160]?;
     for (to, from) in entry.iter_mut().zip(b"\x92\x01\x81\xa1k\xd9\x99") {
         *to = *from;
@@ -67,8 +67,21 @@ fn between(alloc: Global, front: &[u8], bytes: &[u8], back: &[u8]) -> Result<Vec
     Ok(all)
 }
 
+/// A request for 100,000 entries under the tag `a`.
+pub fn many_request(alloc: Global, entries: &[u8]) -> Result<Vec<u8>, AllocError> {
+    between(alloc, b"\x92\xa1\x61\xdd\x00\x01\x86\xa0", entries, b"")
+}
+
+/// The frame of 100,000 entries, 16,000,000 bytes in all, under the tag `a`, in the chunk with
+/// number 1 of run 0 at output 0.
+pub fn many_frame(alloc: Global, entries: &[u8]) -> Result<Vec<u8>, AllocError> {
+    let front = b"\x93\xa1\x61\xc6\x00\xf4\x24\x00";
+    let back = b"\x82\xa4size\xce\x00\x01\x86\xa0\xa5chunk\xb8AAAAAAAAAAAAAAAAAAAAAQ==";
+    between(alloc, front, entries, back)
+}
+
 /// Whether a request has the tag `a`, and these entries of 160 bytes each.
-fn has_entries(batch: &Batch, entries: &[u8]) -> bool {
+pub fn has_entries(batch: &Batch, entries: &[u8]) -> bool {
     batch.tag() == b"a".as_slice()
         && batch.entries() == entries
         && batch.len() == 100_000
@@ -79,8 +92,7 @@ fn has_entries(batch: &Batch, entries: &[u8]) -> bool {
 #[test]
 fn a_request_of_the_greatest_size(rt: HostRuntime) -> Result<(), Fail> {
     let entries = many_entries(rt.alloc())?;
-    let front = b"\x92\xa1\x61\xdd\x00\x01\x86\xa0";
-    let bytes = between(rt.alloc(), front, &entries, b"")?;
+    let bytes = many_request(rt.alloc(), &entries)?;
     let batch = request_of(rt.alloc(), &bytes);
     assert!(rt; batch.is_some_and(|batch| has_entries(&batch, &entries)));
     Ok(())
@@ -93,9 +105,7 @@ fn a_frame_of_the_greatest_size(rt: HostRuntime) -> Result<(), Fail> {
     let name = chunk_name(&[0; 6], 0, 1);
     assert!(rt; entries.len() == 16_000_000);
     let frame = write_chunk(rt.alloc(), b"a", &entries, 100_000, &name)?;
-    let front = b"\x93\xa1\x61\xc6\x00\xf4\x24\x00";
-    let back = b"\x82\xa4size\xce\x00\x01\x86\xa0\xa5chunk\xb8AAAAAAAAAAAAAAAAAAAAAQ==";
-    let expected = between(rt.alloc(), front, &entries, back)?;
+    let expected = many_frame(rt.alloc(), &entries)?;
     assert!(rt; frame == expected);
     Ok(())
 }

@@ -26,7 +26,8 @@ const LIMITS: BufferLimits = BufferLimits {
 const FRAME: &[u8] =
     b"\x93\xa1a\xc4\x03\x92\x01\x80\x82\xa4size\x01\xa5chunk\xb8AAAAAAAAAAAAAAAAAAAAAQ==";
 
-const ACK: &[u8] = b"\x81\xa3ack\xb8AAAAAAAAAAAAAAAAAAAAAQ==";
+/// The acknowledgement of that chunk.
+pub const ACK: &[u8] = b"\x81\xa3ack\xb8AAAAAAAAAAAAAAAAAAAAAQ==";
 
 const HELO: &[u8] =
     b"\x92\xa4HELO\x83\xa5nonce\xc4\x10 fox jumps over \xa4auth\xa0\xa9keepalive\xc3";
@@ -67,7 +68,7 @@ fn login(alloc: Global, key: Option<Bytes>) -> Result<Arc<Login>, Fail> {
 }
 
 /// A session that begins at the moment 0 and waits 10 seconds.
-fn session(alloc: Global, key: Option<Bytes>) -> Result<Session, Fail> {
+pub fn session(alloc: Global, key: Option<Bytes>) -> Result<Session, Fail> {
     let Some(salt) = OwnedSalt::new(Bytes::from_slice(alloc, b"The quick ")?) else {
         return Err(Fail::from("no salt"));
     };
@@ -75,12 +76,12 @@ fn session(alloc: Global, key: Option<Bytes>) -> Result<Session, Fail> {
     Ok(Session::up(alloc, 3, login(alloc, key)?, salt, 10_000, 0))
 }
 
-/// Loads the chunk of one entry at the moment 5, if the session has none.
-fn load(alloc: Global, session: &mut Session) -> Result<(), Fail> {
+/// Loads a chunk at the moment 5, if the session has none.
+pub fn load_chunk(alloc: Global, session: &mut Session, chunk: Carried) -> Result<(), Fail> {
     if session.has_chunk() {
+        chunk.spend();
         return Err(Fail::from("has a chunk"));
     }
-    let chunk = carried(alloc)?;
     match session.load(alloc, chunk, 5) {
         Ok(()) => Ok(()),
         Err(LoadFailed { chunk, error: _ }) => {
@@ -88,6 +89,12 @@ fn load(alloc: Global, session: &mut Session) -> Result<(), Fail> {
             Err(Fail::from("not loaded"))
         }
     }
+}
+
+/// Loads the chunk of one entry.
+fn load(alloc: Global, session: &mut Session) -> Result<(), Fail> {
+    let chunk = carried(alloc)?;
+    load_chunk(alloc, session, chunk)
 }
 
 /// The number, the server and the reply of the chunk that is taken out.
