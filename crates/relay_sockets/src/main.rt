@@ -1,11 +1,12 @@
 //! A relay over sockets, with sources, servers and a monitor around it, all on this machine, and
 //! what a run says of each fact, by a clock that is set by hand, how its lines are paced, which
-//! environments ask for them, and what a run tells its watch. It prints what holds whatever the
-//! order of the threads' turns.
+//! environments ask for them, how runs end, and what a run tells its watch. It prints what holds
+//! whatever the order of the threads' turns.
 #![tactic(auto)]
 
 mod asking;
 mod course;
+mod ends;
 mod facts;
 mod fault;
 mod frame;
@@ -62,6 +63,8 @@ fn main(rt: HostRuntime) -> Result<()> {
     pacing::say_many(&rt);
     println!(rt; "--")?;
     asking::say_asked(&rt)?;
+    println!(rt; "--")?;
+    ends::say_ends(&rt)?;
     println!(rt; "--")?;
     watched::say_run(&rt, 16)
 }

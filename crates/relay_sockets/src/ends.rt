@@ -1,0 +1,117 @@
+//! How runs end.
+
+use anyhow::Result;
+use fwd_program::{Log, run_all};
+use std::alloc::Global;
+use std::io::{ErrorKind, Write};
+use std::net::{Net, TcpListener, TcpStream};
+use std::rt::{Clock, Files};
+use std::sync::Wait;
+use std::thread::Threads;
+use std::{io, str};
+
+/// A call's words as the system gives them, the program's own name before them.
+fn words_of(alloc: Global, call: &[&str]) -> io::Result<Vec<String>> {
+    let mut words = Vec::new(alloc);
+    words.push(String::from_str(alloc, "relay")?)?;
+    for word in call {
+        words.push(String::from_str(alloc, word)?)?;
+    }
+    Ok(words)
+}
+
+/// A writer that takes nothing.
+#[derive(Clone, Copy)]
+struct Full;
+
+impl Write for Full {
+    fn write(&mut self, _buf: &[u8]) -> io::Result<usize> {
+        Err(io::Error::from(ErrorKind::StorageFull))
+    }
+
+    fn flush(&mut self) -> io::Result<()> {
+        Ok(())
+    }
+}
+
+/// The exit status of the whole program, called without input.
+fn status_of<
+    R: Net<Listener = TcpListener, Stream = TcpStream>
+        + Threads
+        + Wait
+        + Clock
+        + Files
+        + AllocGlobal
+        + Sync,
+    W: Write,
+>(rt: &R, call: &[&str], output: &mut W, errors: &mut Vec<u8>) -> u8 {
+    let words = words_of(rt.alloc(), call);
+    let mut input = b"".as_slice();
+    run_all(rt, words, Log::Off, &mut input, output, errors)
+}
+
+/// Says what a call came to: its exit status, what it wrote, and what it told.
+fn say(rt: &impl Print, call: &[&str], status: u8, output: &[u8], errors: &[u8]) -> Result<()> {
+    let written = str::from_utf8(output)?;
+    let told = str::from_utf8(errors)?;
+    println!(rt; "{call:?}: {status} {written:?} {told:?}")?;
+    Ok(())
+}
+
+/// Calls the whole program, and says what came of it.
+fn say_end<
+    R: Net<Listener = TcpListener, Stream = TcpStream>
+        + Threads
+        + Wait
+        + Clock
+        + Files
+        + Print
+        + AllocGlobal
+        + Sync,
+>(rt: &R, call: &[&str]) -> Result<()> {
+    let mut output = Vec::new(rt.alloc());
+    let mut errors = Vec::new(rt.alloc());
+    let status = status_of(rt, call, &mut output, &mut errors);
+    say(rt, call, status, output.as_slice(), errors.as_slice())
+}
+
+/// The same over an output that takes nothing.
+fn say_unwritten<
+    R: Net<Listener = TcpListener, Stream = TcpStream>
+        + Threads
+        + Wait
+        + Clock
+        + Files
+        + Print
+        + AllocGlobal
+        + Sync,
+>(rt: &R, call: &[&str]) -> Result<()> {
+    let mut errors = Vec::new(rt.alloc());
+    let status = status_of(rt, call, &mut Full, &mut errors);
+    say(rt, call, status, b"", errors.as_slice())
+}
+
+/// Says how runs end: by settings that are not there, that are refused, and of an address that no
+/// machine has; behind their turns; and by words that ask for no run.
+pub fn say_ends<
+    R: Net<Listener = TcpListener, Stream = TcpStream>
+        + Threads
+        + Wait
+        + Clock
+        + Files
+        + Print
+        + AllocGlobal
+        + Sync,
+>(rt: &R) -> Result<()> {
+    for call in [
+        ["run", "missing.toml", "1"],
+        ["run", "refused.toml", "1"],
+        ["run", "taken.toml", "1"],
+        ["run", "good.toml", "1"],
+        ["run", "good.toml", "01"],
+    ] {
+        say_end(rt, &call)?;
+    }
+    say_end(rt, &["run"])?;
+    say_unwritten(rt, &["run", "good.toml", "1"])
+}
