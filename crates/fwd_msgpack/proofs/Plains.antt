@@ -1,12 +1,16 @@
 -- Items that open nothing, read in one step, and many of them in a row.
-use Rattle.std.proofs.Common.{◌≡◌, ℕ, ◌+◌, ◌-◌, ◌<◌, ◌≤◌, Bool, true, false, cond, List, [], ◌∷◌, ◌++◌, length, sum, take, drop, Option, Some, None, refl, sym, ap, subst, ◌∙◌, arith, add-zero}
+use Rattle.std.proofs.Common.{add-one, get_or, ◌≡◌, ℕ, ◌+◌, ◌-◌, ◌<◌, ◌≤◌, Bool, true, false, cond, List, [], ◌∷◌, ◌++◌, length, sum, take, drop, Option, Some, None, refl, sym, ap, ◌∙◌, arith, add-zero}
 use Rattle.std.proofs.lemmas.Bool.{le-ltb}
+use Rattle.std.proofs.Math.Seq.{drop-cons}
 use Rattle.std.proofs.lemmas.List.{take_rest, take-append-drop, drop-append-le, drop-drop, length-drop, length-take}
 use Rattle.fwd_msgpack.specs.declared.head.Head.{Head}
 use Rattle.fwd_msgpack.specs.declared.head.Head.TheVariants.{Nil, Bool as Boolean, Int, Float, Str, Bin, Arr, Map, Ext}
 use Rattle.fwd_msgpack.specs.declared.head.HeadRead.{HeadRead}
 use Rattle.fwd_msgpack.specs.declared.head.HeadRead.TheVariants as read
-use Rattle.fwd_msgpack.specs.Heads.{reading_of, payload, members, opens}
+use Rattle.fwd_msgpack.specs.declared.head.HeadRead.TheVariants.{Whole}
+use Rattle.fwd_msgpack.specs.Heads.{number_at, named_rows, row_of, row_reading, reading_of, payload, members, opens}
+use Rattle.std.specs.Int.{w8, byte_len}
+use Rattle.fwd_msgpack.proofs.Readings.{read_whole}
 use Rattle.fwd_msgpack.specs.Plain.{plain_len, AreMembers}
 use Rattle.fwd_msgpack.specs.Scans.{State, Going, InHead, goes_on, fault_at}
 use Rattle.fwd_msgpack.proofs.Fronts.{scanned, item_scanned, ended_shut}
@@ -116,42 +120,29 @@ members_within bytes room items used front le inside limit deep from lacking sta
     ∙ sym (scanned-append limit deep (Going (from + used) ((lacking - items) ∷ stack) (InHead [])) (drop used (take room bytes)) (drop room bytes))
     ∙ ap (λ (xs : List ℕ). scanned limit deep (Going (from + used) ((lacking - items) ∷ stack) (InHead [])) xs) (sym (drop-append-le used (take room bytes) (drop room bytes) short) ∙ ap (λ (xs : List ℕ). drop used xs) all)
 
--- so many items were passed, and the rest is behind them
-pub record Passed (bytes rest : List ℕ) (items : ℕ) : Type 0 where
-  pub at : rest ≡ drop (length bytes - length rest) bytes
-  pub inside : length rest ≤ length bytes
-  pub none : items ≡ 0 → length rest ≡ length bytes
-  pub same : AreMembers bytes items (length bytes - length rest)
+-- the item behind a place, whose size its first byte tells
+pub told_here : (bytes : List ℕ) (at size : ℕ)
+    → ((rest : List ℕ) → size ≤ length rest + 1
+    → plain_len (reading_of (get_or bytes at 0 ∷ rest)) ≡ Some size)
+    → at < length bytes → at + size ≤ length bytes
+    → plain_len (reading_of (drop at bytes)) ≡ Some size
+told_here bytes at size told lt le =
+    let inside : size ≤ length (drop (at + 1) bytes) + 1 = omega (arith, length-drop (at + 1) bytes) in
+    let parts : drop at bytes ≡ get_or bytes at 0 ∷ drop (at + 1) bytes = rw add-one (drop-cons bytes at 0 lt) in
+    ap (λ (xs : List ℕ). plain_len (reading_of xs)) parts ∙ told (drop (at + 1) bytes) inside
 
-pub passed_none : (bytes : List ℕ) → Passed bytes bytes 0
-passed_none bytes =
-    let zero_len : 0 ≡ length bytes - length bytes = omega arith in
-    record {
-      at = ap (λ (k : ℕ). drop k bytes) zero_len;
-      inside = omega arith;
-      none = λ e. refl;
-      same = subst (λ (k : ℕ). AreMembers bytes 0 k) zero_len (members_none bytes);
-    }
-
-behind_more : (bytes rest : List ℕ) (items size : ℕ) → Passed bytes rest items
-    → plain_len (reading_of rest) ≡ Some size → size ≤ length rest
-    → Passed bytes (drop size rest) (items + 1)
-behind_more bytes rest items size p plain le =
-    let used = length bytes - length rest in
-    let len = length-drop size rest in
-    let inside = p.inside in
-    let on : used + size ≡ length bytes - length (drop size rest) = omega arith in
-    let here : plain_len (reading_of (drop used bytes)) ≡ Some size = ap (λ (xs : List ℕ). plain_len (reading_of xs)) (sym p.at) ∙ plain in
-    record {
-      at = ap (λ (xs : List ℕ). drop size xs) p.at ∙ drop-drop size used bytes ∙ ap (λ (k : ℕ). drop k bytes) on;
-      inside = omega arith;
-      none = λ e. absurd (omega (arith, e));
-      same = subst (λ (k : ℕ). AreMembers bytes (items + 1) k) on (members_more bytes items used size p.same here (omega arith));
-    }
-
--- one more is passed
-pub passed_more : (bytes rest : List ℕ) (items size : ℕ) → Passed bytes rest items
-    → plain_len (reading_of rest) ≡ Some size → size ≤ length rest
-    → Passed bytes (take (length rest - size) (drop size rest)) (items + 1)
-passed_more bytes rest items size p plain le =
-    subst (λ (xs : List ℕ). Passed bytes xs (items + 1)) (sym (take_rest rest size)) (behind_more bytes rest items size p plain le)
+-- the text behind a place, whose size its second byte tells
+pub text_here : (bytes : List ℕ) (at n : ℕ) → at < length bytes → get_or bytes at 0 ≡ 0xd9
+    → Some n ≡ number_at w8 (take (length bytes - (at + 1)) (drop (at + 1) bytes))
+    → plain_len (reading_of (drop at bytes)) ≡ Some (n + 2)
+unfolding reading_of row_of named_rows
+text_here bytes at n lt is found =
+    let first = get_or bytes at 0 in
+    let rest = drop (at + 1) bytes in
+    let here : Some n ≡ number_at w8 rest = found ∙ ap (number_at w8) (take_rest bytes (at + 1)) in
+    let reads : Whole (Str n) (byte_len w8 + 1) ≡ row_reading (row_of first) rest = read_whole w8 Str 0xd9 first rest n refl is here in
+    let size : 2 + n ≡ n + 2 = omega arith in
+    let parts : drop at bytes ≡ first ∷ rest = rw add-one (drop-cons bytes at 0 lt) in
+    ap (λ (xs : List ℕ). plain_len (reading_of xs)) parts
+    ∙ ap plain_len (sym reads)
+    ∙ ap Some size

@@ -8,7 +8,7 @@ use Rattle.fwd_msgpack.specs.declared.head.Head.TheVariants.{Nil, Bool as Boolea
 use Rattle.fwd_msgpack.specs.declared.head.HeadRead.TheVariants.{Whole, Short}
 use Rattle.fwd_msgpack.specs.declared.plain.TheConstants.{SIZES}
 use Rattle.fwd_msgpack.specs.Heads.{Row, fixed, sized, sized_ext, unsigned, signed, twos_complement, extended, named_rows, row_of, row_reading, reading_of}
-use Rattle.fwd_msgpack.specs.Plain.{plain_len}
+use Rattle.fwd_msgpack.specs.Plain.{plain_len, IsSmallOpening}
 
 -- an item of this row has just this size, or the size is 0 and says nothing
 abbrev Tells : Option Row → ℕ → Type 0
@@ -127,10 +127,25 @@ size_told first place size same is small rest lt le =
     subst (λ (n : ℕ). 0 < n → n ≤ length rest + 1 → plain_len (row_reading (row_of first) rest) ≡ Some n) (sym found) (told first rest) lt le
 
 -- a text's size is how far its first byte lies behind that of the empty one
-pub text_told : (first size : ℕ) → size ≡ first - 0xa0 + 1 → 0xa0 ≤ first → first < 0xc0
+pub text_told : (first size : ℕ) → size ≡ first - 0x9f → 0xa0 ≤ first → first < 0xc0
     → (rest : List ℕ) → 0 < size → size ≤ length rest + 1
     → plain_len (reading_of (first ∷ rest)) ≡ Some size
 unfolding reading_of
 text_told first size is low high rest lt le =
-    let found : size ≡ size_in first = is ∙ rw (le-ltb first 0x80 (omega (arith, low)), le-ltb first 0x90 (omega (arith, low)), le-ltb first 0xa0 low, lt-ltb first 0xc0 high) refl in
+    let behind : first - 0x9f ≡ first - 0xa0 + 1 = omega (arith, low) in
+    let found : size ≡ size_in first = is ∙ behind ∙ rw (le-ltb first 0x80 (omega (arith, low)), le-ltb first 0x90 (omega (arith, low)), le-ltb first 0xa0 low, lt-ltb first 0xc0 high) refl in
     subst (λ (n : ℕ). 0 < n → n ≤ length rest + 1 → plain_len (row_reading (row_of first) rest) ≡ Some n) (sym found) (told first rest) lt le
+
+-- the byte of a map of up to 15 pairs
+pub map_told : (first size : ℕ) → size ≡ 2 * (first - 0x80) → 0x80 ≤ first → first < 0x90
+    → (rest : List ℕ) → IsSmallOpening (reading_of (first ∷ rest)) size
+unfolding reading_of row_of
+map_told first size is low high rest =
+    rw (le-ltb first 0x80 low, lt-ltb first 0x90 high, le-ltb (length rest) 0 (omega arith)) (refl, refl, sym is)
+
+-- the byte of an array of up to 15 values
+pub array_told : (first size : ℕ) → size ≡ first - 0x90 → 0x90 ≤ first → first < 0xa0
+    → (rest : List ℕ) → IsSmallOpening (reading_of (first ∷ rest)) size
+unfolding reading_of row_of
+array_told first size is low high rest =
+    rw (le-ltb first 0x80 (omega (arith, low)), le-ltb first 0x90 low, lt-ltb first 0xa0 high, le-ltb (length rest) 0 (omega arith)) (refl, refl, sym is)

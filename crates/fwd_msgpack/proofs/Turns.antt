@@ -1,5 +1,5 @@
 -- One turn of the loop over items, at a place of the bytes.
-use Rattle.std.proofs.Common.{◌≡◌, ℕ, ◌+◌, ◌-◌, ◌<◌, ◌≤◌, List, [], ◌∷◌, length, sum, take, drop, Option, Some, None, refl, sym, ap, ◌∙◌, arith, zero-add}
+use Rattle.std.proofs.Common.{get_or, subst, add-one, ◌≡◌, ℕ, ◌+◌, ◌-◌, ◌<◌, ◌≤◌, List, [], ◌∷◌, length, sum, take, drop, Option, Some, None, refl, sym, ap, ◌∙◌, arith, zero-add}
 use Rattle.std.proofs.lemmas.Bool.{lt-ltb, le-ltb}
 use Rattle.std.proofs.lemmas.List.{take_rest, drop-drop, length-drop}
 use Rattle.fwd_msgpack.specs.declared.fault.ScanFault.{ScanFault}
@@ -8,10 +8,12 @@ use Rattle.fwd_msgpack.specs.declared.head.Head.{Head}
 use Rattle.fwd_msgpack.specs.declared.head.HeadRead.{HeadRead}
 use Rattle.fwd_msgpack.specs.declared.head.HeadRead.TheVariants as read
 use Rattle.fwd_msgpack.specs.Heads.{reading_of, payload, members}
-use Rattle.fwd_msgpack.specs.Plain.{plain_len, AreMembers}
+use Rattle.fwd_msgpack.specs.Plain.{plain_len, AreMembers, IsSmallOpening}
 use Rattle.fwd_msgpack.proofs.Plains.{ReadsPlain-from, no_members, shut_good}
 use Rattle.fwd_msgpack.specs.Stacks.{innermost, less_by}
 use Rattle.fwd_msgpack.proofs.Places.{sum-cons}
+use Rattle.fwd_msgpack.proofs.Within.{IsGood-none}
+use Rattle.std.proofs.Math.Seq.{drop-cons}
 use Rattle.fwd_msgpack.specs.Scans.{first_of, found_behind, Verdict, Whole, Short, Bad, State, Going, InHead, after_value, goes_on, payload_ended, fault_at, verdict_of}
 use Rattle.fwd_msgpack.proofs.Fronts.{answer, scanned, answer_short, answer_reserved, answer_fault, answer_payload, item_scanned, ended_shut, ended_opened, scanned-Ended}
 
@@ -132,3 +134,32 @@ unfolding first_of
 plain_first limit deep bytes size plain inside fits =
     let here = ap (λ (xs : List ℕ). plain_len (reading_of xs)) (take_rest bytes 0) ∙ plain in
     sym (ap Whole (sym (zero-add size)) ∙ whole_plain limit deep bytes 0 [] (first_of limit deep bytes) refl size here (omega arith) (omega arith) refl)
+
+-- behind the head of one byte of a container that has members and is within the limits
+pub behind_opening : (limit deep : ℕ) (bytes : List ℕ) (used : ℕ) (stack : List ℕ) (count : ℕ)
+    → ((rest : List ℕ) → IsSmallOpening (reading_of (get_or bytes used 0 ∷ rest)) count)
+    → 0 < count → used < length bytes → length stack < deep
+    → used + 1 + (count + sum stack) ≤ limit
+    → found_behind limit deep (used + 1) ((count - 1) ∷ stack) bytes
+    ≡ found_behind limit deep used stack bytes
+behind_opening limit deep bytes used stack count opens pos lt room fits =
+    by_reading (reading_of (drop used bytes)) refl (ap (λ (xs : List ℕ). reading_of xs) (rw add-one (drop-cons bytes used 0 lt)))
+  where
+    by_reading : (r : HeadRead) → r ≡ reading_of (drop used bytes)
+        → reading_of (drop used bytes) ≡ reading_of (get_or bytes used 0 ∷ drop (used + 1) bytes)
+        → found_behind limit deep (used + 1) ((count - 1) ∷ stack) bytes
+        ≡ found_behind limit deep used stack bytes
+    by_reading read.Short e at = absurd (subst (λ (r : HeadRead). IsSmallOpening r count) (sym (e ∙ at)) (opens (drop (used + 1) bytes)))
+    by_reading read.Reserved e at = absurd (subst (λ (r : HeadRead). IsSmallOpening r count) (sym (e ∙ at)) (opens (drop (used + 1) bytes)))
+    by_reading (read.Whole head n) e at =
+        let it : (n ≡ 1) × (payload head ≡ 0) × (members head ≡ count) = subst (λ (r : HeadRead). IsSmallOpening r count) (sym (e ∙ at)) (opens (drop (used + 1) bytes)) in
+        let one : n ≡ 1 = it.0 in
+        let bare : payload head ≡ 0 = it.1 in
+        let all : members head ≡ count = it.2 in
+        let here : read.Whole head n ≡ reading_of (take (length bytes - used) (drop used bytes)) = e ∙ ap reading_of (sym (take_rest bytes used)) in
+        let good = IsGood-none limit deep (used + n) stack head (record { shallow = λ _. room; fits = omega (arith, one, bare, all) }) in
+        let place : used + n + payload head ≡ used + 1 = omega (arith, one, bare) in
+        let less : members head - 1 ≡ count - 1 = omega (arith, all) in
+        ap (λ (k : ℕ). answer limit deep (used + 1) (k ∷ stack) (drop (used + 1) bytes)) (sym less)
+        ∙ ap (λ (k : ℕ). answer limit deep k ((members head - 1) ∷ stack) (drop k bytes)) (sym place)
+        ∙ opened_here limit deep bytes used stack (found_behind limit deep used stack bytes) refl head n here good (omega (arith, bare, one)) (omega (arith, all))

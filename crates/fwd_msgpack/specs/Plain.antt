@@ -1,8 +1,8 @@
--- Items that open nothing: how many bytes they take.
+-- Items that open nothing: how many bytes they take; and containers whose head is one byte.
 use Rattle.std.specs.Prelude.{◌≡◌, ℕ, ◌+◌, ◌-◌, ◌≤◌, if◌then◌else◌, List, [], ◌∷◌, drop, fold, sum, Option, Some, None}
 use Rattle.fwd_msgpack.specs.declared.head.HeadRead.{HeadRead}
 use Rattle.fwd_msgpack.specs.declared.head.HeadRead.TheVariants.{Whole, Short, Reserved}
-use Rattle.fwd_msgpack.specs.Heads.{payload, opens}
+use Rattle.fwd_msgpack.specs.Heads.{payload, members, opens}
 use Rattle.fwd_msgpack.specs.Scans.{Going, InHead, scan_byte}
 
 -- How many bytes the item takes that begins with what was read, its head and its payload: none
@@ -21,3 +21,10 @@ AreMembers bytes items used =
     → fold (scan_byte limit deep) (Going from (lacking ∷ stack) (InHead [])) bytes
     ≡ fold (scan_byte limit deep) (Going (from + used) ((lacking - items) ∷ stack) (InHead []))
     (drop used bytes)
+
+-- what was read is one byte, the head of an array or a map with so many members
+abbrev pub IsSmallOpening : HeadRead → ℕ → Type 0
+IsSmallOpening (Whole head used) count =
+    (used ≡ 1) × (payload head ≡ 0) × (members head ≡ count)
+IsSmallOpening Short count = ⊥
+IsSmallOpening Reserved count = ⊥

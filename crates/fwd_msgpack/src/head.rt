@@ -72,8 +72,9 @@ pub enum HeadRead {
     Reserved,
 }
 
+/// The byte at the front.
 #[inline(always)]
-fn u8_at(bytes: &[u8]) -> Option<u8>
+pub fn u8_at(bytes: &[u8]) -> Option<u8>
     ensures { result ≡ number_at w8 bytes.now }
 {
     bytes.first().copied()

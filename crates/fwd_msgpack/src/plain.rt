@@ -1,8 +1,10 @@
-//! Items whose size stands in their first byte, read without their heads.
+//! Items whose size stands in their first byte or two, read without their heads.
 
-ghost use Rattle.std.specs.Prelude.{◌≡◌, ◌≤◌, ◌<◌, ◌+◌, ◌∷◌, List, ℕ, length, Some, IfSome};
+ghost use Rattle.std.specs.Prelude.{◌≡◌, ◌≤◌, ◌<◌, ◌+◌, ◌∷◌, List, ℕ, length, drop, Some, IfSome};
 ghost use Rattle.fwd_msgpack.specs.Heads.{reading_of};
-ghost use Rattle.fwd_msgpack.specs.Plain.{plain_len, AreMembers};
+ghost use Rattle.fwd_msgpack.specs.Plain.{plain_len, AreMembers, IsSmallOpening};
+
+use crate::head::u8_at;
 
 /// How many bytes an item takes, by its first byte, where that says it: a nil, a
 /// bool, a number, a text of up to 31 bytes, or an extension of a fixed length.
@@ -34,23 +36,34 @@ const SIZES: [u8; 256] = [
     1, 1, 1, 1, 1, 1, 1, 1, 1, 1, 1, 1, 1, 1, 1, 1, 1, 1, 1, 1, 1, 1, 1, 1, 1, 1, 1, 1, 1, 1, 1, 1,
 ];
 
-/// How many bytes an item takes that begins with this byte, or 0
-/// where its head is to be read. A text's size is computed, though it
-/// stands in the table too: that takes less time than to look it up.
+/// How many bytes the item behind the first `at` takes, where its first byte
+/// says it, or the second, of a text of up to 255 bytes. A text's size is
+/// computed, though that of a short one stands in the table too: that takes
+/// less time than to look it up.
 #[inline(always)]
-#[tactic(auto, using(crate::proofs::Sizes::size_told, crate::proofs::Sizes::text_told))]
-fn plain_size(first: u8) -> usize
-    ensures { (rest : List ℕ) → 0 < result → result ≤ length rest + 1
-        → plain_len (reading_of (first ∷ rest)) ≡ Some result }
+fn plain_size(bytes: &[u8], at: usize) -> Option<usize>
+    requires { at < length bytes.now }
+    ensures plain { IfSome result (λ size. at + size ≤ length bytes.now
+        → plain_len (reading_of (drop at bytes.now)) ≡ Some size) }
+    ensures some { IfSome result (λ size. 0 < size) }
+    ensures small { IfSome result (λ size. size < 258) }
 {
-    match first {
-        0xa0..=0xbf => usize::from(first - 0xa0) + 1,
-        _ => usize::from(SIZES[usize::from(first)]),
+    let first = bytes[at];
+    if matches!(first, 0xa0..=0xbf) {
+        return Some(usize::from(first) - 0x9f);
+    }
+    if first == 0xd9 {
+        let len = u8_at(&bytes[at + 1..])?;
+        return Some(usize::from(len) + 2);
+    }
+    match SIZES[usize::from(first)] {
+        0 => None,
+        size => Some(usize::from(size)),
     }
 }
 
 /// How many bytes the item at the front takes, where its
-/// first byte says it, and it has at most `room` bytes.
+/// first bytes say it, and it has at most `room` bytes.
 #[inline(always)]
 pub fn plain_item(bytes: &[u8], room: usize) -> Option<usize>
     requires { room ≤ length bytes.now }
@@ -58,17 +71,15 @@ pub fn plain_item(bytes: &[u8], room: usize) -> Option<usize>
     ensures some { IfSome result (λ size. 0 < size) }
     ensures fits { IfSome result (λ size. size ≤ room) }
 {
-    let (first, _) = bytes.split_first()?;
-    let size = plain_size(*first);
-    if size > 0 && size <= room {
-        Some(size)
-    } else {
-        None
+    if bytes.is_empty() {
+        return None;
     }
+    let size = plain_size(bytes, 0)?;
+    if size <= room { Some(size) } else { None }
 }
 
-/// Goes over the items at the front whose first bytes say their sizes, at most so many. How many
-/// they are, and how many bytes they take.
+/// Goes over the items at the front whose first bytes say their sizes and that have bytes behind
+/// them, at most so many. How many they are, and how many bytes they take.
 #[inline(always)]
 pub fn plain_items(bytes: &[u8], most: u32) -> (u32, usize)
     ensures members { AreMembers bytes.now result.0 result.1 }
@@ -76,14 +87,37 @@ pub fn plain_items(bytes: &[u8], most: u32) -> (u32, usize)
     ensures none { result.0 ≡ 0 → result.1 ≡ 0 }
     ensures fits { result.1 ≤ length bytes.now }
 {
-    let mut rest = bytes;
-    let mut items = 0;
-    while items < most {
-        let Some(size) = plain_item(rest, rest.len()) else {
+    if bytes.is_empty() {
+        return (0, 0);
+    }
+    let mut left = most;
+    let mut used = 0;
+    while left > 0 {
+        let Some(size) = plain_size(bytes, used) else {
             break;
         };
-        items += 1;
-        rest = &rest[size..];
+        let next = used + size;
+        if next >= bytes.len() {
+            break;
+        }
+        used = next;
+        left -= 1;
     }
-    (items, bytes.len() - rest.len())
+    (most - left, used)
+}
+
+/// How many members a container has whose head is this byte alone: none
+/// where it is no such head, or that of a container with no members.
+#[inline(always)]
+#[tactic(auto, using(crate::proofs::Sizes::map_told, crate::proofs::Sizes::array_told))]
+pub fn small_members(first: u8) -> u32
+    ensures opens { 0 < result
+        → (rest : List ℕ) → IsSmallOpening (reading_of (first ∷ rest)) result }
+    ensures small { result ≤ 30 }
+{
+    match first {
+        0x81..=0x8f => 2 * u32::from(first - 0x80),
+        0x91..=0x9f => u32::from(first - 0x90),
+        _ => 0,
+    }
 }

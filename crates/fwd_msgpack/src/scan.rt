@@ -1,13 +1,13 @@
 //! How far the first value of some bytes reaches.
 
-ghost use Rattle.std.specs.Prelude.{◌≡◌, ◌+◌, ◌≤◌, ◌<◌, ◌^◌, length, sum};
+ghost use Rattle.std.specs.Prelude.{◌≡◌, ◌+◌, ◌≤◌, ◌<◌, ◌^◌, ◌∷◌, length, sum, IfSome};
 ghost use Rattle.fwd_msgpack.specs.Scans.{first_of, fault_at, found_behind};
 ghost use Rattle.fwd_msgpack.specs.Extents.{verdict_shown};
 
 use crate::fault::ScanFault;
 use crate::head::{Head, HeadRead, read_head};
 use crate::limits::Limits;
-use crate::plain::{plain_item, plain_items};
+use crate::plain::{plain_item, plain_items, small_members};
 use crate::stack::Stack;
 
 /// How far the first value of some bytes reaches.
@@ -29,6 +29,11 @@ pub fn extent_of(bytes: &[u8], limits: Limits) -> Extent
     let mut used = 0;
     loop {
         used = skip_members(bytes, used, &mut stack, limits);
+        if let Some(lacking) = small_container(bytes, used, &stack, limits) {
+            stack.push(lacking);
+            used += 1;
+            continue;
+        }
         if let Some(size) = plain_item(&bytes[used..], room_at(bytes, used, &stack, limits)) {
             used += size;
             if stack.end_value() {
@@ -55,6 +60,32 @@ pub fn extent_of(bytes: &[u8], limits: Limits) -> Extent
         } else if !stack.end_value() {
             return Extent::Whole(used);
         }
+    }
+}
+
+/// How many members the container at the front lacks after its first one, where its head is one
+/// byte, it has members, and it is within the limits.
+#[inline(always)]
+fn small_container(bytes: &[u8], used: usize, stack: &Stack, limits: Limits) -> Option<u32>
+    requires inside { used ≤ length bytes.now }
+    requires fits { used + sum stack.now ≤ limits.bytes }
+    ensures same { IfSome result (λ lacking.
+        found_behind limits.bytes limits.depth (used + 1) (lacking ∷ stack.now) bytes.now
+        ≡ found_behind limits.bytes limits.depth used stack.now bytes.now) }
+    ensures room { IfSome result (λ lacking. length stack.now < limits.depth) }
+    ensures inside { IfSome result (λ lacking. used < length bytes.now) }
+    ensures fits { IfSome result (λ lacking.
+        used + 1 + (lacking + sum stack.now) ≤ limits.bytes) }
+{
+    if used == bytes.len() {
+        return None;
+    }
+    let members = small_members(bytes[used]);
+    let left = u64::from(limits.bytes) - used as u64 - stack.owed();
+    if members > 0 && u64::from(members) < left && stack.len() < usize::from(limits.depth) {
+        Some(members - 1)
+    } else {
+        None
     }
 }
 

@@ -8,10 +8,11 @@ use std::marker::Model;
 
 /// The open containers, from the innermost: how many
 /// members each still lacks after the one in progress.
+/// The two counts stand apart, so that each is added to by itself.
 #[derive(Drop)]
 pub struct Stack {
-    lacking: [u32; 64],
     depth: usize,
+    lacking: [u32; 64],
     owed: u64,
 }
 
@@ -33,8 +34,8 @@ impl Stack {
         ensures { result ≡ [] }
     {
         Stack {
-            lacking: [0; 64],
             depth: 0,
+            lacking: [0; 64],
             owed: 0,
         }
     }

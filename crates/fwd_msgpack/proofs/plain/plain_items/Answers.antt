@@ -1,14 +1,18 @@
-use Rattle.std.proofs.Common.{arith}
-use Rattle.fwd_msgpack.proofs.Plains.{passed_none, passed_more}
+use Rattle.std.proofs.Common.{◌≡◌, ◌+◌, ◌-◌, ℕ, subst, arith}
+use Rattle.fwd_msgpack.specs.Plain.{AreMembers}
+use Rattle.fwd_msgpack.proofs.Plains.{members_more}
 use Rattle.fwd_msgpack.proofs.plain.plain_items.Goals as goal
 
-pub loop-items-init : goal.loop-items-init
-loop-items-init c = record { passed = passed_none c.args.bytes.now; most = omega arith }
-
-pub loop-items-preserved : goal.loop-items-preserved
-loop-items-preserved c =
-    let item = c.in-Some.ensures in
+pub loop-left-preserved : goal.loop-left-preserved
+loop-left-preserved c =
+    let bytes = c.args.bytes.now in
+    let before = c.loop-left.invariant in
+    let size = c.in-Some.size in
+    let one : c.args.most - c.loop-left.left + 1 ≡ c.args.most - (c.loop-left.left - 1) = omega arith in
+    let on = members_more bytes (c.args.most - c.loop-left.left) c.loop-left.used size before.same (c.in-Some.ensures.plain (omega arith)) (omega arith) in
     record {
-      passed = passed_more c.args.bytes.now c.loop-items.rest.now c.loop-items.items c.in-Some.size c.loop-items.invariant.passed item.plain item.fits;
       most = omega arith;
+      inside = omega arith;
+      none = λ e. absurd (omega (arith, e));
+      same = subst (λ (k : ℕ). AreMembers bytes k (c.loop-left.used + size)) one on;
     }

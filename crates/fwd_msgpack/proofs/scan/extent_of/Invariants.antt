@@ -2,8 +2,8 @@ use Rattle.std.proofs.Common.{◌≡◌, ◌+◌, ◌-◌, ◌<◌, ◌≤◌, �
 use Rattle.fwd_msgpack.specs.Scans.{first_of, found_behind}
 use Rattle.fwd_msgpack.proofs.scan.extent_of.Given as goal
 
-abbrev pub invariant-loop-size : goal.invariant-loop-size
-invariant-loop-size l = record {
+abbrev pub invariant-loop-lacking : goal.invariant-loop-lacking
+invariant-loop-lacking l = record {
   inside : l.used ≤ length l.bytes;
   opened : length l.stack ≤ l.limits.depth;
   owed : sum l.stack < 2 ^ 32;
@@ -12,5 +12,5 @@ invariant-loop-size l = record {
       ≡ first_of l.limits.bytes l.limits.depth l.bytes;
 }
 
-abbrev pub decreases-loop-size : goal.decreases-loop-size
-decreases-loop-size l = length l.bytes - l.used
+abbrev pub decreases-loop-lacking : goal.decreases-loop-lacking
+decreases-loop-lacking l = length l.bytes - l.used
