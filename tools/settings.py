@@ -245,6 +245,19 @@ for whole, told in [
 ]:
     text(whole, told)
 
+# ---- the most arrays and inline tables in one another, and the most parts of a key
+for count, told in [(80, "unknown zz"), (81, "not toml")]:
+    text("zz = " + "[" * count + "]" * count + "\n" + MATCH + SERVER, told)
+    text("zz = " + "{ a = " * count + "1" + " }" * count + "\n" + MATCH + SERVER, told)
+    text("zz" + ".a" * (count - 1) + " = 1\n" + MATCH + SERVER, told)
+
+# ---- a byte order mark is passed over where the text begins with it
+BOM = "\ufeff"
+text(BOM + MATCH + SERVER, "good")
+text(BOM, "missing output")
+text(BOM + BOM + MATCH + SERVER, "not toml")
+text(MATCH + BOM + SERVER, "not toml")
+
 # ---- of several faults the first is told, in the order of the table of keys
 for whole, told in [
     ("[relay]\nmonitor = 1\nlisten = 1", "wrong kind relay.listen"),
