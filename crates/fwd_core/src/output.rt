@@ -1,5 +1,5 @@
-//! One output's state, which will lie under one lock: its chunks, the requests whose entries they
-//! have, and what was lost at its servers.
+//! One output's state: its chunks, the requests whose entries they have, and what was lost at its
+//! servers. Where threads share an output, all of it lies under one lock (`fwd_workers`).
 
 ghost use Rattle.std.specs.Prelude.{
   ◌≡◌,

@@ -2,7 +2,8 @@
 
 use fwd_links::Bell;
 
-/// The least time between two flushes of an output, in milliseconds.
+/// How long after a flush an output's next one is due, in milliseconds, while chunks may be open:
+/// it is due sooner where all of them are old enough sooner.
 const STEP: u64 = 5;
 
 /// When an output is flushed next, and what calls its workers. Moments are in milliseconds.
