@@ -23,3 +23,4 @@ pub mod Within
 pub mod Slotted
 pub mod Closing
 pub mod Holding
+pub mod Freedom

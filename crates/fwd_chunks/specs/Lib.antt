@@ -1,9 +1,10 @@
--- Definitions. A reader who asks what a buffer promises must believe these six: the public calls
+-- Definitions. A reader who asks what a buffer promises must believe these seven: the public calls
 -- and laws speak of them.
 pub mod Cells
 pub mod History
 pub mod Events
 pub mod Live
+pub mod Free
 pub mod Soundness
 pub mod Spans
 -- These eight only describe how the code keeps chunks and fills them. No public clause speaks of

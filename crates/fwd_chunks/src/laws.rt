@@ -19,6 +19,7 @@ ghost use Rattle.std.specs.Prelude.{
 };
 ghost use Rattle.fwd_modes.specs.Requests.{Request};
 ghost use Rattle.fwd_source.specs.declared.origin.Origin.{Origin};
+ghost use Rattle.fwd_chunks.specs.declared.chunk.Chunk.{Chunk};
 ghost use Rattle.fwd_chunks.specs.declared.flush.FlushKind.{FlushKind};
 ghost use Rattle.fwd_chunks.specs.Cells.{is_carried};
 ghost use Rattle.fwd_chunks.specs.declared.span.Span.{Span};
@@ -52,6 +53,7 @@ ghost use Rattle.fwd_chunks.specs.Live.{
   live_opening,
   live_next,
   live_refusal,
+  live_looks,
   live_enters,
   live_spans,
   live_closing,
@@ -64,6 +66,7 @@ ghost use Rattle.fwd_chunks.specs.Live.{
   live_frees,
   live_counts,
 };
+ghost use Rattle.fwd_chunks.specs.Free.{IsLeastFree};
 ghost use Rattle.fwd_chunks.specs.Soundness.{IsSound};
 ghost use Rattle.fwd_chunks.specs.Spans.{run_in, AreRising, AreCutBy, IsHeld, AreHeld, IsGone};
 
@@ -108,6 +111,16 @@ pub fn given_is_least()
     ensures is { (h : BufferHistory) → IsGiven h (given h) }
     ensures only { (h : BufferHistory) (answer : Option ℕ) → IsGiven h answer
         → answer ≡ given h }
+{}
+
+/// The same of the live buffer, in words that share nothing with its search: at each moment the
+/// chunk that a worker is given is free, and no free chunk has a lower number; where none is given,
+/// none is free.
+pub fn live_given_is_least()
+    ensures is { (b : LiveBuffer) (now : ℕ) → IsSound b →
+        IsLeastFree (live_looks b now) (live_given (live_looks b now)) }
+    ensures only { (b : LiveBuffer) (now : ℕ) (answer : Option Chunk) → IsSound b →
+        IsLeastFree (live_looks b now) answer → answer ≡ live_given (live_looks b now) }
 {}
 
 /// Every live buffer that a run reaches is sound.

@@ -31,8 +31,8 @@ pub use counts::Counts;
 pub use fault::AdmitError;
 pub use flush::FlushKind;
 pub use laws::{
-    given_is_least, held_stays, live_answers, live_follows, numbers_rise, reached_is_sound,
-    spans_are_held,
+    given_is_least, held_stays, live_answers, live_follows, live_given_is_least, numbers_rise,
+    reached_is_sound, spans_are_held,
 };
 pub use limits::BufferLimits;
 pub use span::Span;

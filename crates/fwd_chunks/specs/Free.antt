@@ -1,0 +1,33 @@
+-- Which chunk a worker is to be given, in words of their own: the step searches for one.
+use Rattle.std.specs.Prelude.{
+  ◌≡◌,
+  ◌≢◌,
+  ◌≤◌,
+  ℕ,
+  ◌+◌,
+  Option,
+  Some,
+  None,
+  slice_get,
+}
+use Rattle.fwd_retry.specs.Waits.{wait_after}
+use Rattle.fwd_retry.specs.declared.losses.Losses.{Losses}
+use Rattle.fwd_chunks.specs.declared.chunk.Chunk.{Chunk}
+use Rattle.fwd_chunks.specs.declared.stage.Stage.TheVariants.{Open, Taken}
+use Rattle.fwd_chunks.specs.Live.{LiveBuffer}
+
+-- a chunk of the buffer is free: it takes no more entries, no worker has it, and where it was lost
+-- the newest loss with the wait behind it is not after the buffer's moment
+pub record IsFree (b : LiveBuffer) (c : Chunk) : Type 0 where
+  pub place : ℕ
+  pub stands : slice_get b.chunks place ≡ Some c
+  pub shut : c.stage ≢ Open
+  pub idle : (worker : ℕ) → c.stage ≢ Taken worker
+  pub rested : (l : Losses) → c.losses ≡ Some l
+      → l.last + wait_after b.setting.limits.retry_wait b.setting.limits.retry_max l.count
+      ≤ b.moment
+
+-- a chunk is free, and no free one has a lower number; where there is none, no chunk is free
+abbrev pub IsLeastFree : LiveBuffer → Option Chunk → Type 0
+IsLeastFree b None = (c : Chunk) → IsFree b c → ⊥
+IsLeastFree b (Some c) = IsFree b c × ((d : Chunk) → IsFree b d → c.number ≤ d.number)
