@@ -4,17 +4,16 @@ ghost use Rattle.std.specs.Prelude.{◌≡◌, ◌≤◌, ◌<◌, ◌*◌, leng
 ghost use Rattle.fwd_match.specs.Patterns.{alternatives, spellings, expanded};
 
 use crate::fields::{Mark, first_field};
+use crate::limits::WORD_LIMIT;
 
-/// The most words that a pattern may stand for.
-const WORD_LIMIT: usize = 64;
-
-/// How many texts there are with an alternative behind each of so many, if these are at most 64.
+/// How many texts there are with an alternative behind each of so many, if these are at most
+/// `WORD_LIMIT`.
 fn count_behind(texts: usize, text: &[u8], inside: bool) -> Option<usize>
-    requires { texts ≤ 64 }
+    requires { texts ≤ WORD_LIMIT }
     ensures some { IfSome result (λ count.
         count ≡ texts * length (alternatives inside text.now)) }
-    ensures bound { IfSome result (λ count. count ≤ 64) }
-    ensures none { IfNone result (64 < texts * length (alternatives inside text.now)) }
+    ensures bound { IfSome result (λ count. count ≤ WORD_LIMIT) }
+    ensures none { IfNone result (WORD_LIMIT < texts * length (alternatives inside text.now)) }
 {
     let mut count = 0;
     let mut rest = Some(text);
@@ -29,11 +28,11 @@ fn count_behind(texts: usize, text: &[u8], inside: bool) -> Option<usize>
     Some(count)
 }
 
-/// How many words a word stands for, if these are at most 64.
+/// How many words a word stands for, if these are at most `WORD_LIMIT`.
 fn count_spellings(word: &[u8]) -> Option<usize>
     ensures some { IfSome result (λ count. count ≡ length (spellings word.now)) }
-    ensures bound { IfSome result (λ count. count ≤ 64) }
-    ensures none { IfNone result (64 < length (spellings word.now)) }
+    ensures bound { IfSome result (λ count. count ≤ WORD_LIMIT) }
+    ensures none { IfNone result (WORD_LIMIT < length (spellings word.now)) }
 {
     let mut texts = 1;
     let mut rest = Some(word);
@@ -47,9 +46,9 @@ fn count_spellings(word: &[u8]) -> Option<usize>
     Some(texts)
 }
 
-/// Whether a text stands for at most 64 words.
+/// Whether a text stands for at most `WORD_LIMIT` words.
 pub fn has_few_words(text: &[u8]) -> bool
-    ensures { result ≡ nat_le (length (expanded text.now)) 64 }
+    ensures { result ≡ nat_le (length (expanded text.now)) WORD_LIMIT }
 {
     let mut count = 0;
     let mut rest = Some(text);

@@ -19,7 +19,7 @@ pub enum PatternFault {
     BadBrace = 2,
     /// A part has a `*` and is neither `*` nor `**`.
     BadStar = 3,
-    /// The words are more than 64 in all, once their braces are expanded.
+    /// The words are more than `WORD_LIMIT` in all, once their braces are expanded.
     TooMany = 4,
 }
 

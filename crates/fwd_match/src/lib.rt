@@ -6,6 +6,7 @@ mod braces;
 mod counting;
 mod fault;
 mod fields;
+mod limits;
 mod matching;
 mod pattern;
 mod routes;
@@ -13,5 +14,6 @@ mod spelling;
 mod stars;
 
 pub use fault::PatternFault;
+pub use limits::WORD_LIMIT;
 pub use pattern::Pattern;
 pub use routes::Routes;

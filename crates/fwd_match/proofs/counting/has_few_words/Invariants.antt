@@ -4,11 +4,12 @@ use Rattle.std.specs.List.{flat_map}
 use Rattle.std.specs.Option.{option_copied}
 use Rattle.fwd_match.specs.Patterns.{expanded, spellings, is_something, is_blank}
 use Rattle.fwd_match.specs.Marks.{fields_left, size_left}
+use Rattle.fwd_match.specs.declared.limits.TheConstants.{WORD_LIMIT}
 use Rattle.fwd_match.proofs.counting.has_few_words.Given as goal
 
 abbrev pub invariant-loop-rest : goal.invariant-loop-rest
 invariant-loop-rest l = record {
-  bound : l.count ≤ 64;
+  bound : l.count ≤ WORD_LIMIT;
   counted : length (expanded l.text)
       ≡ l.count
       + length
