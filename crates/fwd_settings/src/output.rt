@@ -15,6 +15,12 @@ use fwd_base::{Seq, Text};
 use std::alloc::Global;
 use toml::{Table, Value};
 
+/// The most workers of an output.
+const WORKER_LIMIT: u16 = 16;
+
+/// The most servers of an output.
+const SERVER_LIMIT: usize = 16;
+
 /// How much an output holds.
 #[derive(Clone, Copy)]
 struct Sizes {
@@ -48,7 +54,7 @@ fn sizes_in(alloc: Global, output: usize, table: &Table) -> Result<Sizes, Settin
 {
     let place = Place::Output(output);
     let section = Section { place, table };
-    let workers = section.count(alloc, "workers", 16, 1)?;
+    let workers = section.count(alloc, "workers", WORKER_LIMIT, 1)?;
     let chunk_limit = section.number(alloc, "chunk_limit", 1, 16_000_000, 8_000_000)?;
     let total_limit = section.number(alloc, "total_limit", 1, 1_000_000_000_000, 512_000_000)?;
     Ok(Sizes {
@@ -108,7 +114,7 @@ fn servers_in(
 {
     let place = Place::Output(output);
     let section = Section { place, table };
-    let listed = section.required_list(alloc, "server", 16)?;
+    let listed = section.required_list(alloc, "server", SERVER_LIMIT)?;
     check_usable(alloc, output, listed)?;
     servers_of(alloc, output, listed)
 }
