@@ -106,6 +106,8 @@ fn what_is_no_request_is_bad(rt: HostRuntime) -> Result<(), Fail> {
     let alloc = rt.alloc();
     assert!(rt; is_told(alloc, b"\x01", BAD_REQUEST)?);
     assert!(rt; is_told(alloc, b"GET  / HTTP/1.1\r\n\r\n", BAD_REQUEST)?);
+    assert!(rt; is_told(alloc, b"GET / HTTP/1.2\r\n\r\n", BAD_REQUEST)?);
+    assert!(rt; is_told(alloc, b"GET / HTTP/1.9\r\n\r\n", BAD_REQUEST)?);
     assert!(rt; is_told(alloc, b"GET / HTTP/2.0\r\n\r\n", BAD_REQUEST)?);
     assert!(rt; is_told(alloc, b"GET / HTTP/1.1\r\n: b\r\n", BAD_REQUEST)?);
     Ok(())
