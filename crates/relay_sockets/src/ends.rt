@@ -1,5 +1,6 @@
 //! How runs end.
 
+use crate::server::Server;
 use anyhow::Result;
 use fwd_program::{Log, run_all};
 use std::alloc::Global;
@@ -8,7 +9,7 @@ use std::net::{Net, TcpListener, TcpStream};
 use std::rt::{Clock, Files};
 use std::sync::Wait;
 use std::thread::Threads;
-use std::{io, str};
+use std::{fs, io, str};
 
 /// A call's words as the system gives them, the program's own name before them.
 fn words_of(alloc: Global, call: &[&str]) -> io::Result<Vec<String>> {
@@ -91,6 +92,19 @@ fn say_unwritten<
     say(rt, call, status, b"", errors.as_slice())
 }
 
+/// Writes good settings to a file: of a relay at a free port of this machine, to a server that is
+/// not there.
+fn write_good<R: Net<Listener = TcpListener, Stream = TcpStream> + Files + AllocGlobal>(
+    rt: &R,
+) -> Result<()> {
+    let address = Server::new(rt, 78)?.address;
+    let text = format!(in rt.alloc();
+        "[relay]\nlisten = \"{address}\"\n[[output]]\nmatch = \"**\"\n\
+        [[output.server]]\naddress = \"127.0.0.78:1\"\n"
+    )?;
+    Ok(fs::write(rt, "good.toml", text.as_str())?)
+}
+
 /// Says how runs end: by settings that are not there, that are refused, and of an address that no
 /// machine has; behind their turns; and by words that ask for no run.
 pub fn say_ends<
@@ -103,6 +117,7 @@ pub fn say_ends<
         + AllocGlobal
         + Sync,
 >(rt: &R) -> Result<()> {
+    write_good(rt)?;
     for call in [
         ["run", "missing.toml", "1"],
         ["run", "refused.toml", "1"],
@@ -113,5 +128,6 @@ pub fn say_ends<
         say_end(rt, &call)?;
     }
     say_end(rt, &["run"])?;
-    say_unwritten(rt, &["run", "good.toml", "1"])
+    say_unwritten(rt, &["run", "good.toml", "1"])?;
+    Ok(fs::remove_file(rt, "good.toml")?)
 }
