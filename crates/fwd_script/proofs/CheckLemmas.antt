@@ -1,11 +1,13 @@
 -- The check of settings, by what was read.
 use Rattle.std.proofs.Common.{◌≡◌, ◌≢◌, ℕ, List, Result, Ok, Err, Option, Vec, Global, inl, inr, refl}
-use Rattle.std.specs.Prelude.{IfOk, IfErr, IfSome}
+use Rattle.std.specs.Prelude.{IfOk, IfErr, IfSome, OnOk}
+use Rattle.std.specs.Io.KnownBytes.{Consumes, IsAtEnd}
 use Rattle.fwd_settings.specs.Whole.{settings_of}
 use Rattle.fwd_settings.specs.declared.settings.Settings.{Settings}
 use Rattle.fwd_settings.specs.declared.fault.SettingsFault.{SettingsFault}
 use Rattle.fwd_settings.specs.declared.fault.SettingsFault.TheVariants as faults
 use Rattle.fwd_script.specs.Checks.{Checks, TellsGood, verdict_on, unread}
+use Rattle.fwd_script.specs.Reads.{Unread, ReadsSome}
 use Rattle.fwd_script.specs.Statuses.{refused_status}
 use Rattle.fwd_script.specs.declared.input.InputError.{InputError}
 use Rattle.fwd_script.specs.declared.input.InputError.TheVariants.{Memory as NoRoom, Failed}
@@ -31,8 +33,8 @@ tells Done text s old new e h = (s, e, h)
 tells (BadSettings fault) text s old new e h = absurd h
 tells (BadLine n) text s old new e h = absurd h
 tells Memory text s old new e h = h
-tells Input text s old new e h = absurd h
-tells Output text s old new e h = (s, e, h)
+tells (Input failed) text s old new e h = absurd h
+tells (Output failed) text s old new e h = (s, e, h)
 
 pub told_checks : (read : Result (Vec ℕ Global) InputError) (known : Option (List ℕ))
     (s : Settings) (status : Status) (old new : Option (List ℕ))
@@ -44,7 +46,7 @@ pub told_checks : (read : Result (Vec ℕ Global) InputError) (known : Option (L
 told_checks (Ok bytes) known s status old new whole text failed tells_good =
     (bytes.items, whole, tells status bytes.items s old new (good_text (settings_of bytes.items) s (text (λ e. absurd cc))) tells_good)
 told_checks (Err NoRoom) known s status old new whole text failed tells_good = absurd cc
-told_checks (Err Failed) known s status old new whole text failed tells_good = absurd cc
+told_checks (Err (Failed why)) known s status old new whole text failed tells_good = absurd cc
 
 -- a text's own fault, at the status that says it
 fault_checks : (r : Result Settings SettingsFault) (text : List ℕ) (status : Status)
@@ -72,8 +74,8 @@ memory_or Memory text known h = Keeps-same known
 memory_or Done text known h = fault_checks (settings_of text) text Done known refl (h (λ e. absurd cc))
 memory_or (BadSettings fault) text known h = fault_checks (settings_of text) text (BadSettings fault) known refl (h (λ e. absurd cc))
 memory_or (BadLine n) text known h = fault_checks (settings_of text) text (BadLine n) known refl (h (λ e. absurd cc))
-memory_or Input text known h = fault_checks (settings_of text) text Input known refl (h (λ e. absurd cc))
-memory_or Output text known h = fault_checks (settings_of text) text Output known refl (h (λ e. absurd cc))
+memory_or (Input failed) text known h = fault_checks (settings_of text) text (Input failed) known refl (h (λ e. absurd cc))
+memory_or (Output failed) text known h = fault_checks (settings_of text) text (Output failed) known refl (h (λ e. absurd cc))
 
 pub refused_checks : (read : Result (Vec ℕ Global) InputError) (known : Option (List ℕ))
     (status : Status) (old : Option (List ℕ))
@@ -87,7 +89,28 @@ refused_checks (Err NoRoom) known status old whole text failed =
     let left = left_or_none known in
     let is : status ≡ Memory = cc in
     (left.0, left.1, rw is (Keeps-same old))
-refused_checks (Err Failed) known status old whole text failed =
+refused_checks (Err (Failed why)) known status old whole text failed =
     let left = left_or_none known in
     let is : status ≡ BadSettings faults.Unreadable = cc in
     (left.0, left.1, rw is (inr refl, Keeps-same old))
+
+-- ---- what was read before an answer
+
+-- good settings are those of a text that was read to its end
+pub good_reads : (read : Result (Vec ℕ Global) InputError) (s : Settings)
+    (old new : Option (List ℕ)) → IfOk read (λ bytes. Consumes old new bytes.items)
+    → OnOk read (IsAtEnd new) → IfErr read (λ error. good s ≡ verdict_on (Err (unread error)))
+    → ReadsSome old new
+good_reads (Ok bytes) s old new taken end failed = (bytes.items, taken, inr end)
+good_reads (Err NoRoom) s old new taken end failed = absurd cc
+good_reads (Err (Failed why)) s old new taken end failed = absurd cc
+
+-- a read that failed is no want of memory
+pub memory_reads : (read : Result (Vec ℕ Global) InputError) (status : Status)
+    (old new : Option (List ℕ)) → IfOk read (λ bytes. Consumes old new bytes.items)
+    → OnOk read (IsAtEnd new) → IfErr read (λ error. Unread error old new)
+    → IfErr read (λ error. refused status ≡ verdict_on (Err (unread error)))
+    → status ≡ Memory → ReadsSome old new
+memory_reads (Ok bytes) status old new taken end front failed is = (bytes.items, taken, inr end)
+memory_reads (Err NoRoom) status old new taken end front failed is = (front.0, front.1, inl front.2)
+memory_reads (Err (Failed why)) status old new taken end front failed is = absurd cc

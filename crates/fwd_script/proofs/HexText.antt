@@ -1,6 +1,6 @@
 -- Bytes as lower-case hexadecimal digits, in both directions.
 use Rattle.std.proofs.Common.{◌≡◌, ℕ, zero, suc, ◌+◌, ◌*◌, ◌^◌, ◌<◌, ◌/◌, ◌%◌, ◌==◌, ◌&&◌, ◌||◌, Bool, true, false, not, cond, nat_lt, List, [], ◌∷◌, length, slice_index, Option, Some, None, Result, Ok, Err, refl, sym, ap, ◌∙◌, arith, inl, inr, ◌⊎◌}
-use Rattle.std.specs.Prelude.{codes, option_and_then}
+use Rattle.std.specs.Prelude.{codes, option_and_then, IsSome, ◌≤◌}
 use Rattle.std.specs.Char.{is_ascii_hexdigit, is_ascii_uppercase}
 use Rattle.std.specs.List.{list_all, list_any}
 use Rattle.std.specs.Result.{result_ok}
@@ -12,7 +12,7 @@ use Rattle.hex.specs.Hex.{IsBytes, encode_lower, encode_with, lower_digits, deco
 use Rattle.hex.specs.declared.error.FromHexError.{FromHexError}
 use Rattle.hex.proofs.HexLemmas.{IsDigits-lower_digits, decode_of-digits, decode_of-encode_lower, decode_of-ok, decode_sized-encode_lower, decode_of-even, decode_sized-ok, decode_sized-twice, length-encode_with}
 use Rattle.fwd_script.specs.Words.{hex_text, is_hex, spelled, bytes_of, sixteen_of, salt_of}
-use Rattle.fwd_script.proofs.WordLemmas.{bytes_eq-same, bytes_eq-true, chosen_some}
+use Rattle.fwd_script.proofs.WordLemmas.{bytes_eq-same, bytes_eq-true, chosen_some, chosen_none}
 
 -- what an `Ok` after `>>=` shows
 bind_ok : {A B : Type 0} (r : Result A FromHexError) (f : A → Result B FromHexError) (y : B)
@@ -323,6 +323,45 @@ sixteen_of-decoded word low (Err x) e =
     cc)
 
 -- ---- a salt
+
+hex_text-length : (bytes : List ℕ)
+    → (2 * length bytes ≤ length (hex_text bytes)) × (length (hex_text bytes) ≤ 2 * length bytes + 1)
+hex_text-length [] = (omega arith, omega arith)
+hex_text-length (b ∷ bytes) =
+    let len = length-encode_with lower_digits (b ∷ bytes) in
+    (omega (arith, len), omega (arith, len))
+
+-- bytes are a salt where their word is not too long
+salt_or_none : (word : List ℕ) (o : Option (List ℕ)) → bytes_of word ≡ o
+    → (2 ^ 33 ≤ length word → salt_of word ≡ None)
+    × (length word < 2 ^ 33 → IsSome o → IsSome (salt_of word))
+unfolding salt_of
+salt_or_none word (Some bytes) e =
+    let s = bytes_of-some word bytes e in
+    let len = hex_text-length bytes in
+    let same : length word ≡ length (hex_text bytes) = ap length s.1 in (
+      (λ long. rw e (chosen_none (nat_lt (length bytes) (2 ^ 32)) bytes (λ lt. let below = ltb-true (length bytes) (2 ^ 32) lt in omega arith))),
+      (λ short some. let below : length bytes < 2 ^ 32 = omega arith in rw (e, lt-ltb (length bytes) (2 ^ 32) below) refl),
+    )
+salt_or_none word None e = ((λ long. rw e refl), (λ short some. absurd cc))
+
+pub salt_of-long : (word : List ℕ) → 2 ^ 33 ≤ length word → salt_of word ≡ None
+salt_of-long word long = (salt_or_none word (bytes_of word) refl).0 long
+
+pub salt_of-short : (word : List ℕ) → length word < 2 ^ 33 → IsSome (bytes_of word)
+    → IsSome (salt_of word)
+salt_of-short word short some = (salt_or_none word (bytes_of word) refl).1 short some
+
+-- a salt is bytes
+pub bytes_of-salt : (word : List ℕ) → IsSome (salt_of word) → IsSome (bytes_of word)
+unfolding salt_of
+bytes_of-salt word some = by (bytes_of word) some
+  where
+    by : (o : Option (List ℕ))
+        → IsSome (option_and_then (λ bytes. cond (nat_lt (length bytes) (2 ^ 32)) (Some bytes) None) o)
+        → IsSome o
+    by (Some bytes) h = refl
+    by None h = h
 
 pub salt_of-some : (word bytes : List ℕ) → salt_of word ≡ Some bytes
     → IsBytes bytes × (length bytes < 2 ^ 32) × (word ≡ hex_text bytes)

@@ -57,8 +57,8 @@ module _ (h : History) (r : LiveRelay) (shown : r ≡ live h) (law : (es : List 
         are_events = f.are_events;
         wrote = subst (λ bytes. Appends old new bytes) (same_output f.front) f.wrote;
       }
-  of_history Input count lines old new f = f
-  of_history Output count lines old new f = subst (λ bytes. AppendsFront old new bytes) (same_output lines) f
+  of_history (Input failed) count lines old new f = f
+  of_history (Output failed) count lines old new f = subst (λ bytes. AppendsFront old new bytes) (same_output lines) f
 
 -- a script that was answered by a relay that its settings opened
 pub opened_replays : (script text : List ℕ) (relay : LiveRelay) (status : Status) (count : ℕ)
@@ -88,5 +88,5 @@ opened_replays script text relay status count lines old new law opened same befo
     by (BadLine n) e = (config, good, e)
     by (BadSettings fault) e = absurd e
     by Memory e = inr (config, good, e)
-    by Input e = absurd e
-    by Output e = (config, good, e)
+    by (Input failed) e = absurd e
+    by (Output failed) e = (config, good, e)

@@ -1,5 +1,6 @@
 -- A run over lines: what was written for those so far, and how it ends.
-use Rattle.std.proofs.Common.{◌≡◌, ℕ, ◌+◌, List, [], ◌∷◌, ◌++◌, length, map, Option, Some, None, ◌⊎◌, inl, inr, refl, sym, ap, ◌∙◌, arith, append_assoc, length-append}
+use Rattle.std.proofs.Common.{◌≡◌, ℕ, ◌+◌, List, [], ◌∷◌, ◌++◌, length, map, Option, Some, None, Result, Ok, Err, ◌⊎◌, inl, inr, refl, sym, ap, ◌∙◌, arith, append_assoc, length-append}
+use Rattle.std.specs.Prelude.{IfOk, IsErr}
 use Rattle.std.specs.List.{flat_map}
 use Rattle.std.specs.Io.KnownBytes.{Appends, Keeps}
 use Rattle.std.proofs.lemmas.List.{append-nil}
@@ -10,6 +11,7 @@ use Rattle.fwd_script.specs.declared.stepping.Stop.{Stop}
 use Rattle.fwd_script.specs.declared.stepping.Stop.TheVariants as stops
 use Rattle.fwd_script.specs.declared.status.Status.{Status}
 use Rattle.fwd_script.specs.declared.status.Status.TheVariants.{Done, BadSettings, BadLine, Memory, Input, Output}
+use Rattle.fwd_script.specs.declared.writing.WriteFailed.{WriteFailed}
 use Rattle.fwd_script.specs.Lines.{event_of}
 use Rattle.fwd_script.specs.Replay.{events_of, bad_line, answers, answer_line, output, after, AllAreEvents, StopsAtLine, MeetsMemory, Ends}
 use Rattle.fwd_script.specs.Writes.{AppendsFront}
@@ -233,11 +235,11 @@ IsAnswered-memory {S = S} answer_to next first before lines old s number line re
 pub IsAnswered-output : {S : Type 0} (answer_to : S → Event → Answer) (next : S → Event
     → S) (first : S) (before : ℕ) (lines : List (List ℕ)) (old : Option (List ℕ)) (s : S)
     (number : ℕ) (line : List ℕ) (rest : List (List ℕ)) (new : Option (List ℕ))
-    (event : Event) (newer : Option (List ℕ))
+    (event : Event) (newer : Option (List ℕ)) (failed : WriteFailed)
     → IsAnswered answer_to next first before lines old s number (line ∷ rest) new
     → event_of line ≡ Some event → AppendsFront new newer (answer_line (answer_to s event))
-    → Ends Output answer_to next first before lines old newer
-IsAnswered-output {S = S} answer_to next first before lines old s number line rest new event newer a e wrote =
+    → Ends (Output failed) answer_to next first before lines old newer
+IsAnswered-output {S = S} answer_to next first before lines old s number line rest new event newer failed a e wrote =
     let here : output answer_to next s (line ∷ rest) ≡ answer_line (answer_to s event) ++ output answer_to next (next s event) rest = rw e refl in
     let text : output answer_to next first lines ≡ output answer_to next first a.front ++ (answer_line (answer_to s event) ++ output answer_to next (next s event) rest) =
     ap (output answer_to next first) a.parts
@@ -280,46 +282,64 @@ Ends-keeps answer_to next first Done before lines old new newer e keeps = (e.0, 
 Ends-keeps answer_to next first (BadLine n) before lines old new newer e keeps = (e.0, Appends-keeps old new newer _ e.1 keeps)
 Ends-keeps answer_to next first (BadSettings fault) before lines old new newer e keeps = absurd e
 Ends-keeps answer_to next first Memory before lines old new newer e keeps = StopsAtLine-keeps answer_to next first lines old new newer e keeps
-Ends-keeps answer_to next first Input before lines old new newer e keeps = absurd e
-Ends-keeps answer_to next first Output before lines old new newer e keeps = AppendsFront-keeps old new newer _ e keeps
+Ends-keeps answer_to next first (Input failed) before lines old new newer e keeps = absurd e
+Ends-keeps answer_to next first (Output failed) before lines old new newer e keeps = AppendsFront-keeps old new newer _ e keeps
 
 pub Ends-output : {S : Type 0} (answer_to : S → Event → Answer) (next : S → Event
-    → S) (first : S) (status : Status) (before : ℕ) (lines : List (List ℕ))
-    (old new : Option (List ℕ))
+    → S) (first : S) (status : Status) (failed : WriteFailed) (before : ℕ)
+    (lines : List (List ℕ)) (old new : Option (List ℕ))
     → Ends status answer_to next first before lines old new
-    → Ends Output answer_to next first before lines old new
-Ends-output answer_to next first Done before lines old new e = AppendsFront-all old new _ e.1
-Ends-output answer_to next first (BadLine n) before lines old new e = AppendsFront-all old new _ e.1
-Ends-output answer_to next first (BadSettings fault) before lines old new e = absurd e
-Ends-output answer_to next first Memory before lines old new e =
+    → Ends (Output failed) answer_to next first before lines old new
+Ends-output answer_to next first Done failed before lines old new e = AppendsFront-all old new _ e.1
+Ends-output answer_to next first (BadLine n) failed before lines old new e = AppendsFront-all old new _ e.1
+Ends-output answer_to next first (BadSettings fault) failed before lines old new e = absurd e
+Ends-output answer_to next first Memory failed before lines old new e =
     rw e.parts (output-front answer_to next first e.front (e.line ∷ e.rest) old new (AreEvents-of e.front e.are_events) e.wrote)
-Ends-output answer_to next first Input before lines old new e = absurd e
-Ends-output answer_to next first Output before lines old new e = e
+Ends-output answer_to next first (Input unread) failed before lines old new e = absurd e
+Ends-output answer_to next first (Output earlier) failed before lines old new e = e
 
 -- ---- a line that stops the run
 
-pub IsAnswered-stop : {S : Type 0} (answer_to : S → Event → Answer) (next : S → Event
-    → S) (first : S) (before : ℕ) (lines : List (List ℕ)) (old : Option (List ℕ)) (s : S)
-    (number : ℕ) (line : List ℕ) (rest : List (List ℕ)) (new : Option (List ℕ)) (t : S)
-    (newer : Option (List ℕ)) (stop : Stop)
-    → IsAnswered answer_to next first before lines old s number (line ∷ rest) new
-    → Stops stop answer_to next s t (event_of line) new newer
-    → Ends (stop_status stop (number + 1)) answer_to next first before lines old newer
-IsAnswered-stop answer_to next first before lines old s number line rest new t newer stops.Bad a h =
-    IsAnswered-bad answer_to next first before lines old s number line rest new newer a h.0 h.1
-IsAnswered-stop answer_to next first before lines old s number line rest new t newer stops.Memory a h =
-    (IsAnswered-memory answer_to next first before lines old s number line rest new t newer a h.0 h.1).stops
-IsAnswered-stop answer_to next first before lines old s number line rest new t newer stops.Output a h =
-    IsAnswered-output answer_to next first before lines old s number line rest new h.0 newer a h.1 h.2
+-- what a line was read as is what it spells
+pub read-spells : {E : Type 0} (read : Result (Option Event) E) (spelled o : Option Event)
+    → IfOk read (λ e. e ≡ spelled) → read ≡ Ok o → spelled ≡ o
+read-spells (Ok e) spelled o is same = cc
+read-spells (Err error) spelled o is same = absurd cc
 
-pub IsAnswered-met : {S : Type 0} (answer_to : S → Event → Answer) (next : S → Event
+-- the state where memory ran out
+met-state : {E S : Type 0} (next : S → Event → S) (s t : S)
+    (read : Result (Option Event) E) (spelled : Option Event) → IfOk read (λ e. e ≡ spelled)
+    → ((IsErr read × (t ≡ s))
+    ⊎ ((event : Event) × (read ≡ Ok (Some event)) × ((t ≡ s) ⊎ (t ≡ next s event))))
+    → (t ≡ s) ⊎ ((event : Event) × (spelled ≡ Some event) × (t ≡ next s event))
+met-state next s t read spelled is (inl unread) = inl unread.1
+met-state next s t read spelled is (inr (event, same, inl stays)) = inl stays
+met-state next s t read spelled is (inr (event, same, inr goes)) = inr (event, read-spells read spelled (Some event) is same, goes)
+
+pub IsAnswered-stop : {E S : Type 0} (answer_to : S → Event → Answer) (next : S → Event
     → S) (first : S) (before : ℕ) (lines : List (List ℕ)) (old : Option (List ℕ)) (s : S)
     (number : ℕ) (line : List ℕ) (rest : List (List ℕ)) (new : Option (List ℕ)) (t : S)
-    (newer : Option (List ℕ)) (stop : Stop)
+    (newer : Option (List ℕ)) (stop : Stop) (read : Result (Option Event) E)
+    → IfOk read (λ e. e ≡ event_of line)
     → IsAnswered answer_to next first before lines old s number (line ∷ rest) new
-    → Stops stop answer_to next s t (event_of line) new newer
+    → Stops stop answer_to next s t read new newer
+    → Ends (stop_status stop (number + 1)) answer_to next first before lines old newer
+IsAnswered-stop answer_to next first before lines old s number line rest new t newer stops.Bad read is a h =
+    IsAnswered-bad answer_to next first before lines old s number line rest new newer a (read-spells read (event_of line) None is h.0) h.1
+IsAnswered-stop answer_to next first before lines old s number line rest new t newer stops.Memory read is a h =
+    (IsAnswered-memory answer_to next first before lines old s number line rest new t newer a h.0 (met-state next s t read (event_of line) is h.1)).stops
+IsAnswered-stop answer_to next first before lines old s number line rest new t newer (stops.Output failed) read is a h =
+    IsAnswered-output answer_to next first before lines old s number line rest new h.0 newer failed a (read-spells read (event_of line) (Some h.0) is h.1) h.2
+
+pub IsAnswered-met : {E S : Type 0} (answer_to : S → Event → Answer) (next : S → Event
+    → S) (first : S) (before : ℕ) (lines : List (List ℕ)) (old : Option (List ℕ)) (s : S)
+    (number : ℕ) (line : List ℕ) (rest : List (List ℕ)) (new : Option (List ℕ)) (t : S)
+    (newer : Option (List ℕ)) (stop : Stop) (read : Result (Option Event) E)
+    → IfOk read (λ e. e ≡ event_of line)
+    → IsAnswered answer_to next first before lines old s number (line ∷ rest) new
+    → Stops stop answer_to next s t read new newer
     → stop_status stop (number + 1) ≡ Memory → MeetsMemory answer_to next first t lines old newer
-IsAnswered-met answer_to next first before lines old s number line rest new t newer stops.Bad a h e = absurd cc
-IsAnswered-met answer_to next first before lines old s number line rest new t newer stops.Memory a h e =
-    IsAnswered-memory answer_to next first before lines old s number line rest new t newer a h.0 h.1
-IsAnswered-met answer_to next first before lines old s number line rest new t newer stops.Output a h e = absurd cc
+IsAnswered-met answer_to next first before lines old s number line rest new t newer stops.Bad read is a h e = absurd cc
+IsAnswered-met answer_to next first before lines old s number line rest new t newer stops.Memory read is a h e =
+    IsAnswered-memory answer_to next first before lines old s number line rest new t newer a h.0 (met-state next s t read (event_of line) is h.1)
+IsAnswered-met answer_to next first before lines old s number line rest new t newer (stops.Output failed) read is a h e = absurd cc

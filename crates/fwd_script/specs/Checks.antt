@@ -21,7 +21,7 @@ verdict_on (Err fault) = Err (refused_status fault)
 -- what is wrong with settings that were not read to their end
 abbrev pub unread : InputError → SettingsFault
 unread NoRoom = faults.Memory
-unread Failed = faults.Unreadable
+unread (Failed failed) = faults.Unreadable
 
 -- the line that is told of good settings, with its line feed
 abbrev pub good_line : Settings → List ℕ
@@ -31,10 +31,10 @@ good_line s = codes "settings are good, outputs: " ++ (decimal (length s.outputs
 abbrev pub TellsGood : Status → Settings → Option (List ℕ) → Option (List ℕ) → Type 0
 TellsGood Done s old new = Appends old new (good_line s)
 TellsGood Memory s old new = Keeps old new
-TellsGood Output s old new = AppendsFront old new (good_line s)
+TellsGood (Output failed) s old new = AppendsFront old new (good_line s)
 TellsGood (BadSettings fault) s old new = ⊥
 TellsGood (BadLine n) s old new = ⊥
-TellsGood Input s old new = ⊥
+TellsGood (Input failed) s old new = ⊥
 
 -- How the check of a text ended, and what it wrote. Only a text that was not read is unreadable.
 abbrev pub Checks : Status → List ℕ → Option (List ℕ) → Option (List ℕ) → Type 0
@@ -42,7 +42,7 @@ Checks Done text old new = (s : Settings) × (settings_of text ≡ Ok s) × Tell
 Checks (BadSettings fault) text old new =
     ((settings_of text ≡ Err fault) ⊎ (fault ≡ faults.Unreadable)) × Keeps old new
 Checks Memory text old new = Keeps old new
-Checks Output text old new =
-    (s : Settings) × (settings_of text ≡ Ok s) × TellsGood Output s old new
+Checks (Output failed) text old new =
+    (s : Settings) × (settings_of text ≡ Ok s) × TellsGood (Output failed) s old new
 Checks (BadLine n) text old new = ⊥
-Checks Input text old new = ⊥
+Checks (Input failed) text old new = ⊥

@@ -91,10 +91,10 @@ Ends Done answer_to next s count lines old new =
 Ends (BadLine n) answer_to next s count lines old new =
     (bad_line count lines ≡ Some n) × Appends old new (output answer_to next s lines)
 Ends Memory answer_to next s count lines old new = StopsAtLine answer_to next s lines old new
-Ends Output answer_to next s count lines old new =
+Ends (Output failed) answer_to next s count lines old new =
     AppendsFront old new (output answer_to next s lines)
 Ends (BadSettings fault) answer_to next s count lines old new = ⊥
-Ends Input answer_to next s count lines old new = ⊥
+Ends (Input failed) answer_to next s count lines old new = ⊥
 
 -- How the replay of a script ended, and what it wrote: by its settings, the answers of the
 -- abstract relay from its opening state.
@@ -114,10 +114,10 @@ Replays Memory script old new =
     ⊎ ((config : Config) × Configures (settings_of script) (Ok config)
     × Ends Memory answer_to next (opening config) (head_len (lines_of script))
     (event_lines (lines_of script)) old new)
-Replays Input script old new = Keeps old new
-Replays Output script old new =
+Replays (Input failed) script old new = Keeps old new
+Replays (Output failed) script old new =
     (config : Config) × Configures (settings_of script) (Ok config)
-    × Ends Output answer_to next (opening config) (head_len (lines_of script))
+    × Ends (Output failed) answer_to next (opening config) (head_len (lines_of script))
     (event_lines (lines_of script)) old new
 
 -- how a relay was opened by a script's text of settings, or why it was not
@@ -128,8 +128,8 @@ Opens text (Err (BadSettings fault)) = Configures text (Err fault)
 Opens text (Err Memory) = Unit {0}
 Opens text (Err Done) = ⊥
 Opens text (Err (BadLine n)) = ⊥
-Opens text (Err Input) = ⊥
-Opens text (Err Output) = ⊥
+Opens text (Err (Input failed)) = ⊥
+Opens text (Err (Output failed)) = ⊥
 
 -- ---- what those words say together
 

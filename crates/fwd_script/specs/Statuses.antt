@@ -15,8 +15,8 @@ exit_code Done = 0
 exit_code (BadSettings fault) = 1
 exit_code (BadLine number) = 3
 exit_code Memory = 4
-exit_code Input = 5
-exit_code Output = 5
+exit_code (Input failed) = 5
+exit_code (Output failed) = 5
 
 -- the line, without its line feed
 abbrev pub status_text : Status → List ℕ
@@ -24,13 +24,13 @@ status_text Done = []
 status_text (BadSettings fault) = codes "settings: " ++ fault_text fault
 status_text (BadLine number) = codes "line " ++ (decimal number ++ codes ": bad event")
 status_text Memory = codes "memory"
-status_text Input = codes "input"
-status_text Output = codes "output"
+status_text (Input failed) = codes "input"
+status_text (Output failed) = codes "output"
 
 -- how a replay ends whose input was not read to its end
 abbrev pub unread_status : InputError → Status
 unread_status reads.Memory = Memory
-unread_status reads.Failed = Input
+unread_status (reads.Failed failed) = Input failed
 
 -- how a run ends whose settings are refused: want of memory is no fault of theirs
 abbrev pub refused_status : SettingsFault → Status

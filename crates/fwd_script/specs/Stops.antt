@@ -1,5 +1,5 @@
 -- What is known where a run over lines stops at a line.
-use Rattle.std.specs.Prelude.{◌≡◌, ◌⊎◌, ℕ, List, Option, Some, None}
+use Rattle.std.specs.Prelude.{◌≡◌, ◌⊎◌, ℕ, List, Option, Some, None, Result, Ok, IsErr}
 use Rattle.std.specs.Io.KnownBytes.{Keeps}
 use Rattle.fwd_model.specs.declared.event.Event.{Event}
 use Rattle.fwd_model.specs.declared.answer.Answer.{Answer}
@@ -10,19 +10,21 @@ use Rattle.fwd_script.specs.declared.status.Status.TheVariants as statuses
 use Rattle.fwd_script.specs.declared.stepping.Stop.{Stop}
 use Rattle.fwd_script.specs.declared.stepping.Stop.TheVariants.{Bad, Memory, Output}
 
--- at a line that may spell an event, from a state to a state, with what was written
-abbrev pub Stops : {S : Type 0} → Stop → (S → Event → Answer) → (S → Event → S) → S
-    → S → Option Event → Option (List ℕ) → Option (List ℕ) → Type 0
-Stops Bad answer_to next s t spelled old new = (spelled ≡ None) × Keeps old new
-Stops Memory answer_to next s t spelled old new =
+-- At a line that was read as an event, as none, or not for want of memory, from a state to a state,
+-- with what was written. Where memory ran out later the line is an event.
+abbrev pub Stops : {E S : Type 0} → Stop → (S → Event → Answer) → (S → Event → S) → S
+    → S → Result (Option Event) E → Option (List ℕ) → Option (List ℕ) → Type 0
+Stops Bad answer_to next s t read old new = (read ≡ Ok None) × Keeps old new
+Stops Memory answer_to next s t read old new =
     Keeps old new
-    × ((t ≡ s) ⊎ ((event : Event) × (spelled ≡ Some event) × (t ≡ next s event)))
-Stops Output answer_to next s t spelled old new =
-    (event : Event) × (spelled ≡ Some event)
+    × ((IsErr read × (t ≡ s))
+    ⊎ ((event : Event) × (read ≡ Ok (Some event)) × ((t ≡ s) ⊎ (t ≡ next s event))))
+Stops (Output failed) answer_to next s t read old new =
+    (event : Event) × (read ≡ Ok (Some event))
     × AppendsFront old new (answer_line (answer_to s event))
 
 -- how a run ends that stops so at the line of a number
 abbrev pub stop_status : Stop → ℕ → Status
 stop_status Bad number = statuses.BadLine number
 stop_status Memory number = statuses.Memory
-stop_status Output number = statuses.Output
+stop_status (Output failed) number = statuses.Output failed

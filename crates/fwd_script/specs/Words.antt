@@ -1,5 +1,5 @@
 -- The words of a script line, and the numbers and bytes that they spell.
-use Rattle.std.specs.Prelude.{ℕ, ◌%◌, ◌==◌, ◌&&◌, ◌^◌, not, Bool, nat_lt, if◌then◌else◌, List, [], ◌∷◌, length, codes, Option, Some, None, Result, Ok, Err, option_and_then}
+use Rattle.std.specs.Prelude.{ℕ, ◌%◌, ◌==◌, ◌&&◌, ◌^◌, not, Bool, nat_lt, if◌then◌else◌, List, [], ◌∷◌, length, codes, Option, Some, None, Result, Ok, Err, option_and_then, ◌⊎◌, IsSome}
 use Rattle.std.specs.Char.{is_ascii_hexdigit, is_ascii_uppercase}
 use Rattle.std.specs.List.{list_all, list_any, slice_split}
 use Rattle.std.specs.Str.{bytes_eq}
@@ -43,6 +43,11 @@ spelled word (Err e) = None
 -- the bytes that a word spells
 unfoldable pub bytes_of : List ℕ → Option (List ℕ)
 bytes_of word = if bytes_eq word (codes "-") then Some [] else spelled word (decode_of word)
+
+-- one of some words spells bytes
+abbrev pub HasBytes : List (List ℕ) → Type 0
+HasBytes [] = ⊥
+HasBytes (word ∷ words) = IsSome (bytes_of word) ⊎ HasBytes words
 
 -- the sixteen bytes that a word spells
 unfoldable pub sixteen_of : List ℕ → Option (List ℕ)

@@ -3,11 +3,13 @@
 ghost use Rattle.std.specs.Prelude.{◌≡◌, ◌≢◌, ℕ, List, Err, IfOk, IfErr, IfSome, MatchResult};
 ghost use Rattle.std.specs.String.{string_bytes};
 ghost use Rattle.fwd_settings.specs.Whole.{settings_of};
+ghost use Rattle.fwd_script.specs.Reads.{ReadsSome};
 ghost use Rattle.fwd_script.specs.Checks.{Checks, TellsGood, good_line, verdict_on, unread};
 
 use crate::input::{InputError, read_input};
+use crate::output::write_all;
 use crate::status::Status;
-use crate::writing::write_all;
+use crate::writing::flush;
 use fwd_settings::{Settings, SettingsFault, read_settings};
 use std::alloc::{AllocError, Global};
 use std::fs;
@@ -15,12 +17,14 @@ use std::io::{Read, Write};
 use std::rt::Files;
 
 /// What is wrong with settings that were not read to their end.
-fn unread(error: InputError) -> SettingsFault
-    ensures { result ≡ unread error }
-{
-    match error {
-        InputError::Memory => SettingsFault::Memory,
-        InputError::Failed => SettingsFault::Unreadable,
+impl From<InputError> for SettingsFault {
+    ghost from_gives = { λ error fault. fault ≡ unread error };
+
+    fn from(error: InputError) -> SettingsFault {
+        match error {
+            InputError::Memory => SettingsFault::Memory,
+            InputError::Failed(_) => SettingsFault::Unreadable,
+        }
     }
 }
 
@@ -33,7 +37,7 @@ fn settings_in(alloc: Global, read: Result<Vec<u8>, InputError>) -> Result<Setti
 {
     let text = match read {
         Ok(text) => text,
-        Err(error) => return Err(Status::from(unread(error))),
+        Err(error) => return Err(Status::from(SettingsFault::from(error))),
     };
     Ok(read_settings(alloc, text.as_slice())?)
 }
@@ -64,7 +68,7 @@ fn tell_good<W: Write>(alloc: Global, settings: &Settings, writer: &mut W) -> St
         Ok(()) => Status::Done,
         Err(status) => status,
     };
-    status.flushed(writer.flush())
+    status.flushed(flush(writer))
 }
 
 /// Checks the settings that the reader gives: writes `settings are good, outputs: N` and a line
@@ -72,8 +76,10 @@ fn tell_good<W: Write>(alloc: Global, settings: &Settings, writer: &mut W) -> St
 /// reads without an end, is `BadSettings(Unreadable)`, a failed write or flush `Output`, and
 /// behind it a front of the line was written. `Memory` has written nothing.
 pub fn check<R: Read, W: Write>(alloc: Global, reader: &mut R, writer: &mut W) -> Status
-    ensures { (text : List ℕ) × IfSome (R.remaining reader.old) (λ left. text ≡ left)
+    ensures checks { (text : List ℕ) × IfSome (R.remaining reader.old) (λ left. text ≡ left)
         × Checks result text (W.contents writer.old) (W.contents writer.new) }
+    ensures memory { result ≡ Status.Memory
+        → ReadsSome (R.remaining reader.old) (R.remaining reader.new) }
 {
     match settings_in(alloc, read_input(alloc, reader)) {
         Ok(settings) => tell_good(alloc, &settings, writer),

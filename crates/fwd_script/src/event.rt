@@ -1,4 +1,4 @@
-ghost use Rattle.std.specs.Prelude.{◌≡◌, ◌↔◌, ℕ, List, map, IfOk, Some};
+ghost use Rattle.std.specs.Prelude.{◌≡◌, ◌↔◌, ℕ, List, map, IfOk, IsErr, Some};
 ghost use Rattle.std.specs.Str.{IsUtf8};
 ghost use Rattle.fwd_model.specs.declared.event.Event.{Event};
 ghost use Rattle.fwd_script.specs.Lines.{
@@ -10,6 +10,7 @@ ghost use Rattle.fwd_script.specs.Lines.{
   IsLineOf,
   HasOneSpelling,
 };
+ghost use Rattle.fwd_script.specs.Words.{HasBytes};
 
 use crate::values::Words;
 use crate::word::split_words;
@@ -62,7 +63,8 @@ macro_rules! event {
 }
 
 fn event_named(alloc: Global, name: &[u8], rest: &[&[u8]]) -> Result<Option<Event>, AllocError>
-    ensures { IfOk result (λ e. e ≡ named forms name.now (map (λ w. w.now) rest.now)) }
+    ensures value { IfOk result (λ e. e ≡ named forms name.now (map (λ w. w.now) rest.now)) }
+    ensures memory { IsErr result → HasBytes (map (λ w. w.now) rest.now) }
 {
     if name == b"accept".as_slice() {
         event!(alloc, rest; Accept { conn, nonce, auth })
@@ -88,7 +90,8 @@ fn output_event_named(
     name: &[u8],
     rest: &[&[u8]],
 ) -> Result<Option<Event>, AllocError>
-    ensures { IfOk result (λ e. e ≡ named output_forms name.now (map (λ w. w.now) rest.now)) }
+    ensures value { IfOk result (λ e. e ≡ named output_forms name.now (map (λ w. w.now) rest.now)) }
+    ensures memory { IsErr result → HasBytes (map (λ w. w.now) rest.now) }
 {
     if name == b"flush".as_slice() {
         event!(alloc, rest; Flush { output, now, kind })
@@ -108,7 +111,8 @@ fn session_event_named(
     name: &[u8],
     rest: &[&[u8]],
 ) -> Result<Option<Event>, AllocError>
-    ensures { IfOk result (λ e. e ≡ named session_forms name.now (map (λ w. w.now) rest.now)) }
+    ensures value { IfOk result (λ e. e ≡ named session_forms name.now (map (λ w. w.now) rest.now)) }
+    ensures memory { IsErr result → HasBytes (map (λ w. w.now) rest.now) }
 {
     if name == b"up".as_slice() {
         event!(alloc, rest; Up { output, worker, server, salt, now })

@@ -1,10 +1,11 @@
-ghost use Rattle.std.specs.Prelude.{◌≡◌, IfOk, IfErr, IfSome};
+ghost use Rattle.std.specs.Prelude.{◌≡◌, IfOk, IfErr, IfSome, OnOk};
+ghost use Rattle.std.specs.Io.KnownBytes.{Consumes, IsAtEnd};
 ghost use Rattle.fwd_script.specs.declared.input.InputError.TheVariants.{Memory, Failed};
 ghost use Rattle.fwd_script.specs.Reads.{Unread};
 
+use crate::reading::{ReadFailed, Reads, read_some};
 use std::alloc::{AllocError, Global};
-use std::io;
-use std::io::{ErrorKind, Read};
+use std::io::Read;
 
 /// Why the input could not be read to its end.
 #[derive(Clone, Copy, Debug)]
@@ -12,7 +13,7 @@ pub enum InputError {
     /// Memory ran out.
     Memory,
     /// A read failed, or the input had no end.
-    Failed,
+    Failed(ReadFailed),
 }
 
 impl From<AllocError> for InputError {
@@ -23,16 +24,13 @@ impl From<AllocError> for InputError {
     }
 }
 
-impl From<io::Error> for InputError {
-    ghost from_gives = { λ _ error. error ≡ Failed };
+impl From<ReadFailed> for InputError {
+    ghost from_gives = { λ failed error. error ≡ Failed failed };
 
-    fn from(_error: io::Error) -> InputError {
-        InputError::Failed
+    fn from(failed: ReadFailed) -> InputError {
+        InputError::Failed(failed)
     }
 }
-
-/// The most reads that an input may take.
-const READS: u64 = 0x1_0000_0000;
 
 /// All bytes that the reader has left, in at most 2^32 reads. A read that was interrupted is tried
 /// again, as one of them.
@@ -42,21 +40,20 @@ const READS: u64 = 0x1_0000_0000;
 pub fn read_input<R: Read>(alloc: Global, reader: &mut R) -> Result<Vec<u8>, InputError>
     ensures whole { IfOk result
         (λ bytes. IfSome (R.remaining reader.old) (λ left. bytes.items ≡ left)) }
+    ensures taken { IfOk result
+        (λ bytes. Consumes (R.remaining reader.old) (R.remaining reader.new) bytes.items) }
+    ensures end { OnOk result (IsAtEnd (R.remaining reader.new)) }
     ensures unread { IfErr result
         (λ error. Unread error (R.remaining reader.old) (R.remaining reader.new)) }
 {
     let mut bytes = Vec::new(alloc);
     let mut buffer = [0; 8192];
-    for _ in 0..READS {
-        match reader.read(&mut buffer) {
-            Ok(0) => return Ok(bytes),
-            Ok(count) => bytes.extend_from_slice(&buffer[..count])?,
-            Err(error) => {
-                if error.kind() != ErrorKind::Interrupted {
-                    return Err(InputError::from(error));
-                }
-            }
+    let mut reads = Reads::all();
+    loop {
+        match read_some(reader, &mut buffer, &mut reads)? {
+            None => {}
+            Some(0) => return Ok(bytes),
+            Some(count) => bytes.extend_from_slice(&buffer[..count])?,
         }
     }
-    Err(InputError::Failed)
 }

@@ -1,7 +1,9 @@
 //! The replay of a script against the relay that runs.
 
 ghost use Rattle.std.specs.Prelude.{◌≡◌, ℕ, List, IfSome};
+ghost use Rattle.fwd_script.specs.Reads.{ReadsSome};
 ghost use Rattle.fwd_script.specs.Replay.{Opens, Replays};
+ghost use Rattle.fwd_script.specs.declared.status.Status.TheVariants as statuses;
 
 use crate::config::read_config;
 use crate::input::read_input;
@@ -46,8 +48,10 @@ fn open_relay(alloc: Global, text: &[u8]) -> Result<Relay, Status>
 /// is the answers to the lines before the one that met it, and at `Output` a front of what `Done`
 /// would have written.
 pub fn replay<R: Read, W: Write>(alloc: Global, reader: &mut R, writer: &mut W) -> Status
-    ensures { (script : List ℕ) × IfSome (R.remaining reader.old) (λ left. script ≡ left)
+    ensures replays { (script : List ℕ) × IfSome (R.remaining reader.old) (λ left. script ≡ left)
         × Replays result script (W.contents writer.old) (W.contents writer.new) }
+    ensures memory { result ≡ statuses.Memory
+        → ReadsSome (R.remaining reader.old) (R.remaining reader.new) }
 {
     live_run_follows();
     let input = match read_input(alloc, reader) {

@@ -1,12 +1,13 @@
-ghost use Rattle.std.specs.Prelude.{◌≡◌, OnOk, OnErr};
+ghost use Rattle.std.specs.Prelude.{◌≡◌, OnOk, IfErr};
 ghost use Rattle.fwd_script.specs.Statuses.{exit_code, unread_status, refused_status};
 ghost use Rattle.fwd_script.specs.declared.status.Status.TheVariants as statuses;
 
 use crate::input::InputError;
+use crate::reading::ReadFailed;
 use crate::writing::WriteFailed;
 use fwd_settings::SettingsFault;
 use std::alloc::AllocError;
-use std::{fmt, io};
+use std::fmt;
 
 /// How a replay ended.
 #[derive(Drop)]
@@ -21,9 +22,9 @@ pub enum Status {
     /// Memory ran out. Nothing was written but answers to the lines before.
     Memory,
     /// A read failed, or the input had no end.
-    Input,
-    /// A write failed.
-    Output,
+    Input(ReadFailed),
+    /// A write or a flush failed.
+    Output(WriteFailed),
 }
 
 impl Status {
@@ -36,19 +37,19 @@ impl Status {
             Status::BadSettings(_) => 1,
             Status::BadLine(_) => 3,
             Status::Memory => 4,
-            Status::Input | Status::Output => 5,
+            Status::Input(_) | Status::Output(_) => 5,
         }
     }
 
     /// How a run ends that would end so, once its writer was flushed: a flush that fails is a
     /// failed write.
-    pub fn flushed(self, flush: io::Result<()>) -> Status
+    pub fn flushed(self, flush: Result<(), WriteFailed>) -> Status
         ensures ok { OnOk flush (result ≡ self) }
-        ensures err { OnErr flush (result ≡ statuses.Output) }
+        ensures err { IfErr flush (λ failed. result ≡ statuses.Output failed) }
     {
         match flush {
             Ok(()) => self,
-            Err(_) => Status::Output,
+            Err(failed) => Status::Output(failed),
         }
     }
 }
@@ -62,10 +63,10 @@ impl From<AllocError> for Status {
 }
 
 impl From<WriteFailed> for Status {
-    ghost from_gives = { λ _ status. status ≡ statuses.Output };
+    ghost from_gives = { λ failed status. status ≡ statuses.Output failed };
 
-    fn from(_error: WriteFailed) -> Status {
-        Status::Output
+    fn from(failed: WriteFailed) -> Status {
+        Status::Output(failed)
     }
 }
 
@@ -75,7 +76,7 @@ impl From<InputError> for Status {
     fn from(error: InputError) -> Status {
         match error {
             InputError::Memory => Status::Memory,
-            InputError::Failed => Status::Input,
+            InputError::Failed(failed) => Status::Input(failed),
         }
     }
 }
@@ -104,8 +105,8 @@ impl fmt::Display for Status {
             Status::BadSettings(fault) => write!(f, "settings: {fault}"),
             Status::BadLine(number) => write!(f, "line {number}: bad event"),
             Status::Memory => write!(f, "memory"),
-            Status::Input => write!(f, "input"),
-            Status::Output => write!(f, "output"),
+            Status::Input(_) => write!(f, "input"),
+            Status::Output(_) => write!(f, "output"),
         }
     }
 }

@@ -1,10 +1,9 @@
-ghost use Rattle.std.specs.Prelude.{◌≡◌, ℕ, List, ◌^◌, ◌+◌, ◌<◌, ◌⊎◌, ◌++◌, None, Some, length, MatchResult, IfOk};
+ghost use Rattle.std.specs.Prelude.{◌≡◌, ℕ, List, ◌^◌, ◌+◌, ◌<◌, ◌⊎◌, ◌++◌, None, Some, Ok, length, MatchResult, IfOk};
 ghost use Rattle.std.specs.String.{string_bytes};
 ghost use Rattle.std.specs.Io.KnownBytes.{Appends};
 ghost use Rattle.fwd_model.specs.declared.event.Event.{Event};
 ghost use Rattle.fwd_model.specs.declared.answer.Answer.{Answer};
 ghost use Rattle.fwd_model.specs.declared.answer.Answer.TheVariants.{Memory};
-ghost use Rattle.fwd_script.specs.Lines.{event_of};
 ghost use Rattle.fwd_script.specs.Script.{lines_of};
 ghost use Rattle.fwd_script.specs.Replay.{answer_line, Ends, MeetsMemory, SplitsAtBad};
 ghost use Rattle.fwd_script.specs.Stops.{Stops, stop_status};
@@ -12,10 +11,11 @@ ghost use Rattle.fwd_script.specs.declared.status.Status.TheVariants as statuses
 ghost use Rattle.fwd_script.specs.declared.stepping.Stop.TheVariants as stops;
 
 use crate::event::read_event;
+use crate::output::write_all;
 use crate::script::{Script, next_line};
 use crate::status::Status;
 use crate::text::print_answer;
-use crate::writing::{WriteFailed, write_all};
+use crate::writing::{WriteFailed, flush};
 use fwd_model::{Answer, Event};
 use std::alloc::{AllocError, Global};
 use std::io::Write;
@@ -49,7 +49,7 @@ enum Stop {
     /// Memory ran out.
     Memory,
     /// The write of the answer failed.
-    Output,
+    Output(WriteFailed),
 }
 
 impl Stop {
@@ -60,7 +60,7 @@ impl Stop {
         match self {
             Stop::Bad => Status::BadLine(number),
             Stop::Memory => Status::Memory,
-            Stop::Output => Status::Output,
+            Stop::Output(failed) => Status::Output(failed),
         }
     }
 }
@@ -74,10 +74,10 @@ impl From<AllocError> for Stop {
 }
 
 impl From<WriteFailed> for Stop {
-    ghost from_gives = { λ _ stop. stop ≡ stops.Output };
+    ghost from_gives = { λ failed stop. stop ≡ stops.Output failed };
 
-    fn from(_error: WriteFailed) -> Stop {
-        Stop::Output
+    fn from(failed: WriteFailed) -> Stop {
+        Stop::Output(failed)
     }
 }
 
@@ -102,7 +102,7 @@ pub fn answer_lines<S: Step, W: Write>(
     let mut number = lines_before;
     while let Some((line, after)) = next_line(rest) {
         number += 1;
-        match answer_event(alloc, relay, line, writer) {
+        match answer_event(alloc, relay, read_event(alloc, line), writer) {
             Ok(()) => rest = after,
             Err(stop) => return stop.status(number),
         }
@@ -126,25 +126,25 @@ pub fn answer_script<S: Step, W: Write>(
         (lines_of script.entry.events.now) (W.contents writer.old) (W.contents writer.new) }
 {
     let status = answer_lines(alloc, relay, script.events, script.lines_before, writer);
-    status.flushed(writer.flush())
+    status.flushed(flush(writer))
 }
 
-/// Answers the event of a line, and writes the answer on a line of its own.
+/// Answers the event that a line was read as, and writes the answer on a line of its own.
 fn answer_event<S: Step, W: Write>(
     alloc: Global,
     relay: &mut S,
-    line: &[u8],
+    read: Result<Option<Event>, AllocError>,
     writer: &mut W,
 ) -> Result<(), Stop>
     ensures { MatchResult result
-        (λ _. (event : Event) × (event_of line.now ≡ Some event)
+        (λ _. (event : Event) × (read ≡ Ok (Some event))
         × (relay.new ≡ S.next relay.old event)
         × Appends (W.contents writer.old) (W.contents writer.new)
         (answer_line (S.answer_to relay.old event)))
-        (λ stop. Stops stop S.answer_to S.next relay.old relay.new (event_of line.now)
+        (λ stop. Stops stop S.answer_to S.next relay.old relay.new read
         (W.contents writer.old) (W.contents writer.new)) }
 {
-    let Some(event) = read_event(alloc, line)? else {
+    let Some(event) = read? else {
         return Err(Stop::Bad);
     };
     let answer = relay.step(alloc, &event);

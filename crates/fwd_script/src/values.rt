@@ -1,4 +1,5 @@
-ghost use Rattle.std.specs.Prelude.{◌≡◌, ℕ, List, Option, map, IfOk};
+ghost use Rattle.std.specs.Prelude.{◌≡◌, ℕ, List, Option, map, IfOk, IsErr, IsSome};
+ghost use Rattle.fwd_script.specs.Words.{HasBytes, bytes_of};
 ghost use Rattle.fwd_script.specs.Lines.{
   Long,
   Short,
@@ -23,18 +24,22 @@ use std::alloc::{AllocError, Global};
 pub trait Word: Sized + Drop {
     ghost said: { List ℕ → Option Self };
 
-    /// What the word says, if it is a spelling.
+    /// What the word says, if it is a spelling. Want of memory is answered only for one that is,
+    /// and only where it spells bytes.
     fn read_word(alloc: Global, word: &[u8]) -> Result<Option<Self>, AllocError>
-        ensures { IfOk result (λ value. value ≡ said word.now) };
+        ensures value { IfOk result (λ value. value ≡ said word.now) }
+        ensures memory { IsErr result → IsSome (said word.now) × IsSome (bytes_of word.now) };
 }
 
 /// What words in a row say: `(A, (B, ()))` is what two words say, an `A` and then a `B`.
 pub trait Words: Sized + Drop {
     ghost said_by: { List (List ℕ) → Option Self };
 
-    /// What just so many words say, if each is a spelling.
+    /// What just so many words say, if each is a spelling. Want of memory is answered only where
+    /// one of them spells bytes.
     fn read_words(alloc: Global, words: &[&[u8]]) -> Result<Option<Self>, AllocError>
-        ensures { IfOk result (λ values. values ≡ said_by (map (λ w. w.now) words.now)) };
+        ensures value { IfOk result (λ values. values ≡ said_by (map (λ w. w.now) words.now)) }
+        ensures memory { IsErr result → HasBytes (map (λ w. w.now) words.now) };
 }
 
 impl Word for u64 {

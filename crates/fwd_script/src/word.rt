@@ -120,11 +120,19 @@ pub fn sixteen(word: &[u8]) -> Option<[u8; 16]>
     <[u8; 16] as FromHex>::from_hex(word).ok()
 }
 
-/// The salt that the word spells: less than 2^32 bytes.
+/// A word of so many digits spells more bytes than a salt has: 2^32 or more.
+const TOO_LONG_FOR_SALT: usize = 0x2_0000_0000;
+
+/// The salt that the word spells: less than 2^32 bytes. Want of memory is answered only for a word
+/// that spells one.
 #[tactic(auto, unfolding(crate::specs::Words::salt_of))]
 pub fn salt(alloc: Global, word: &[u8]) -> Result<Option<OwnedSalt>, AllocError>
-    ensures { IfOk result (λ s. s ≡ salt_of word.now) }
+    ensures value { IfOk result (λ s. s ≡ salt_of word.now) }
+    ensures memory { IsErr result → IsSome (salt_of word.now) }
 {
+    if word.len() >= TOO_LONG_FOR_SALT {
+        return Ok(None);
+    }
     let Some(bytes) = bytes(alloc, word)? else {
         return Ok(None);
     };

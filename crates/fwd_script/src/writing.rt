@@ -1,44 +1,70 @@
-//! Writes that say what was written where they fail.
+//! One write and one flush of a writer. What says that one of them failed is made here alone.
 
-ghost use Rattle.std.specs.Prelude.{◌≤◌, length, take, OnOk, OnErr, MatchResult};
+ghost use Rattle.std.specs.Prelude.{◌≡◌, ◌≤◌, ◌<◌, ◌-◌, ◌^◌, length, take, MatchResult};
 ghost use Rattle.std.specs.Io.KnownBytes.{Appends, Keeps};
-ghost use Rattle.fwd_script.specs.Writes.{AppendsFront};
 
 use std::io::{ErrorKind, Write};
+use std::marker::Model;
 
-/// A write failed, or took nothing.
+/// A write failed or took nothing, or a flush failed, or 2^64 - 1 writes did not take all of some
+/// bytes. Only `write_some` and `flush` make one.
 #[derive(Clone, Copy, Debug)]
-pub struct WriteFailed;
+pub struct WriteFailed(());
 
-/// Writes some of the bytes, and answers how many: none where the write was interrupted.
-fn write_some<W: Write>(writer: &mut W, bytes: &[u8]) -> Result<usize, WriteFailed>
-    ensures { MatchResult result
-        (λ count. (count ≤ length bytes.now)
-        × Appends (W.contents writer.old) (W.contents writer.new) (take count bytes.now))
-        (λ _. Keeps (W.contents writer.old) (W.contents writer.new)) }
-{
-    match writer.write(bytes) {
-        Ok(0) => Err(WriteFailed),
-        Ok(count) => Ok(count),
-        Err(error) if error.kind() == ErrorKind::Interrupted => Ok(0),
-        Err(_) => Err(WriteFailed),
+/// How many more writes some bytes may take.
+#[derive(Drop)]
+pub struct Writes {
+    left: u64,
+}
+
+impl Model for Writes {
+    ghost use Rattle.std.specs.Prelude.{ℕ};
+
+    ghost Value = { ℕ };
+
+    ghost view = { λ writes. writes.left };
+}
+
+impl Writes {
+    /// Before the first write: 2^64 - 1.
+    pub fn all() -> Writes
+        ensures { result ≡ 2 ^ 64 - 1 }
+    {
+        Writes { left: u64::MAX }
     }
 }
 
-/// Writes all of the bytes. A write that was interrupted is tried again. Where a write fails, what
-/// was written is a front of the bytes.
-pub fn write_all<W: Write>(writer: &mut W, bytes: &[u8]) -> Result<(), WriteFailed>
-    ensures all { OnOk result (Appends (W.contents writer.old) (W.contents writer.new) bytes.now) }
-    ensures front { OnErr result
-        (AppendsFront (W.contents writer.old) (W.contents writer.new) bytes.now) }
+/// Writes some of the bytes, and answers how many: none where the write was interrupted. It is one
+/// of the writes that are left.
+pub fn write_some<W: Write>(
+    writer: &mut W,
+    bytes: &[u8],
+    writes: &mut Writes,
+) -> Result<usize, WriteFailed>
+    ensures { MatchResult result
+        (λ count. (count ≤ length bytes.now) × (writes.new < writes.old)
+        × Appends (W.contents writer.old) (W.contents writer.new) (take count bytes.now))
+        (λ _. Keeps (W.contents writer.old) (W.contents writer.new)) }
 {
-    let mut rest = bytes;
-    for _ in 0..u64::MAX {
-        if rest.is_empty() {
-            return Ok(());
-        }
-        let count = write_some(writer, rest)?;
-        rest = &rest[count..];
+    let failed = WriteFailed(());
+    if writes.left == 0 {
+        return Err(failed);
     }
-    Err(WriteFailed)
+    writes.left -= 1;
+    match writer.write(bytes) {
+        Ok(0) => Err(failed),
+        Ok(count) => Ok(count),
+        Err(error) if error.kind() == ErrorKind::Interrupted => Ok(0),
+        Err(_) => Err(failed),
+    }
+}
+
+/// Flushes the writer.
+pub fn flush<W: Write>(writer: &mut W) -> Result<(), WriteFailed>
+    ensures { Keeps (W.contents writer.old) (W.contents writer.new) }
+{
+    match writer.flush() {
+        Ok(()) => Ok(()),
+        Err(_) => Err(WriteFailed(())),
+    }
 }

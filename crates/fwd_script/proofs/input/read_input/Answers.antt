@@ -5,9 +5,10 @@ use Rattle.fwd_script.specs.Reads.{Unread}
 use Rattle.fwd_script.specs.declared.input.InputError.TheVariants.{Memory}
 use Rattle.fwd_script.proofs.input.read_input.Goals as goal
 
-pub returns-in_err-extend_from_slice-in-Ok-clause-unread : goal.returns-in_err-extend_from_slice-in-Ok-clause-unread
-returns-in_err-extend_from_slice-in-Ok-clause-unread g c =
-    let read = c.in-Ok.ensures {u = tt} in
-    let some : 0 < length (c.loop.bytes.items ++ take c.in-Ok.count c.read.new.buf) = grind (arith, nat_tests, length-append c.loop.bytes.items (take c.in-Ok.count c.read.new.buf)) in
-    match_err c.from_residual.result _ (λ e. e ≡ Memory) (λ e. Unread e (g.R.Read.remaining c.args.reader.now) (g.R.Read.remaining c.read.new.self)) c.from_residual.ensures.1
-    (λ e same. rw same (c.loop.bytes.items ++ take c.in-Ok.count c.read.new.buf, Consumes-then _ _ _ _ _ c.loop.invariant.0 read.bytes.0, some))
+pub returns-in_err-extend_from_slice-in-Some-clause-unread : goal.returns-in_err-extend_from_slice-in-Some-clause-unread
+returns-in_err-extend_from_slice-in-Some-clause-unread g c =
+    let gave = rw c.in-Some.is at (c.in_ok-read_some.ensures {u = tt}).1 in
+    let within = gave.0 in
+    let some : 0 < length (c.loop-bytes.bytes.items ++ take c.in-Some.count c.read_some.new.buffer) = grind (arith, nat_tests, length-append c.loop-bytes.bytes.items (take c.in-Some.count c.read_some.new.buffer)) in
+    match_err c.from_residual-in_err-extend_from_slice-in-Some.result _ (λ e. e ≡ Memory) (λ e. Unread e (g.R.Read.remaining c.args.reader.now) (g.R.Read.remaining c.read_some.new.reader)) c.from_residual-in_err-extend_from_slice-in-Some.ensures.1
+    (λ e same. rw same (c.loop-bytes.bytes.items ++ take c.in-Some.count c.read_some.new.buffer, Consumes-then _ _ _ _ _ c.loop-bytes.invariant.0 gave.1, some))

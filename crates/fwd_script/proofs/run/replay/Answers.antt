@@ -6,6 +6,8 @@ use Rattle.fwd_script.specs.Statuses.{unread_status}
 use Rattle.fwd_script.specs.declared.input.InputError.{InputError}
 use Rattle.fwd_script.specs.declared.input.InputError.TheVariants as reads
 use Rattle.fwd_script.specs.declared.status.Status.{Status}
+use Rattle.fwd_script.specs.declared.status.Status.TheVariants.{Memory}
+use Rattle.fwd_script.specs.Reads.{Unread, ReadsSome}
 use Rattle.fwd_script.proofs.Results.{left_or_none, Keeps-same}
 use Rattle.fwd_script.proofs.run.replay.Goals as goal
 
@@ -13,10 +15,16 @@ use Rattle.fwd_script.proofs.run.replay.Goals as goal
 ends : (error : InputError) (status : Status) (script : List ℕ) (known : Option (List ℕ))
     → status ≡ unread_status error → Replays status script known known
 ends reads.Memory status script known e = rw e (inl (Keeps-same known))
-ends reads.Failed status script known e = rw e (Keeps-same known)
+ends (reads.Failed failed) status script known e = rw e (Keeps-same known)
 
-pub returns : goal.returns
-returns g c =
+-- a read that failed is no want of memory
+some_read : (error : InputError) (status : Status) (old new : Option (List ℕ))
+    → status ≡ unread_status error → Unread error old new → status ≡ Memory → ReadsSome old new
+some_read reads.Memory status old new e front is = (front.0, front.1, inl front.2)
+some_read (reads.Failed failed) status old new e front is = absurd cc
+
+pub returns-clause-replays : goal.returns-clause-replays
+returns-clause-replays g c =
     let old = g.W.Write.contents c.args.writer.now in
     let new = g.W.Write.contents c.answer_script.new.writer in
     let script = c.split_script-script in
@@ -29,7 +37,11 @@ returns g c =
           (script.ensures.events ∙ ap (λ t. event_lines (lines_of t)) whole) c.answer_script.ensures.ends,
     )
 
-pub returns-in-Err : goal.returns-in-Err
-returns-in-Err g c =
+pub returns-in-Err-clause-replays : goal.returns-in-Err-clause-replays
+returns-in-Err-clause-replays g c =
     let left = left_or_none (g.R.Read.remaining c.args.reader.now) in
     (left.0, left.1, ends c.in-Err.error c.from.result left.0 _ c.from.ensures)
+
+pub returns-in-Err-clause-memory : goal.returns-in-Err-clause-memory
+returns-in-Err-clause-memory g c is =
+    some_read c.in-Err.error c.from.result _ _ c.from.ensures (c.in-Err.ensures {u = tt}).unread is

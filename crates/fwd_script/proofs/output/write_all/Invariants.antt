@@ -1,8 +1,11 @@
 use Rattle.std.proofs.Common.{◌≡◌, ◌++◌, ℕ, List}
 use Rattle.std.specs.Io.KnownBytes.{Appends}
-use Rattle.fwd_script.proofs.writing.write_all.Given as goal
+use Rattle.fwd_script.proofs.output.write_all.Given as goal
 
 -- what was written, and then what is left, are the bytes
-abbrev pub invariant-loop : goal.invariant-loop
-invariant-loop g l =
+abbrev pub invariant-loop-rest : goal.invariant-loop-rest
+invariant-loop-rest g l =
     (done : List ℕ) × (l.bytes ≡ done ++ l.rest) × Appends (g.W.Write.contents l.initial.writer) (g.W.Write.contents l.writer) done
+
+abbrev pub decreases-loop-rest : goal.decreases-loop-rest
+decreases-loop-rest g l = l.writes
