@@ -111,7 +111,8 @@ fn session_event_named(
     name: &[u8],
     rest: &[&[u8]],
 ) -> Result<Option<Event>, AllocError>
-    ensures value { IfOk result (λ e. e ≡ named session_forms name.now (map (λ w. w.now) rest.now)) }
+    ensures value { IfOk result
+        (λ e. e ≡ named session_forms name.now (map (λ w. w.now) rest.now)) }
     ensures memory { IsErr result → HasBytes (map (λ w. w.now) rest.now) }
 {
     if name == b"up".as_slice() {
