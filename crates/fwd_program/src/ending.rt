@@ -50,10 +50,10 @@ impl From<AllocError> for RunEnd {
 }
 
 impl From<WriteFailed> for RunEnd {
-    ghost from_gives = { λ _ end. end ≡ ends.Ran statuses.Output };
+    ghost from_gives = { λ failed end. end ≡ ends.Ran (statuses.Output failed) };
 
-    fn from(error: WriteFailed) -> RunEnd {
-        RunEnd::Ran(Status::from(error))
+    fn from(failed: WriteFailed) -> RunEnd {
+        RunEnd::Ran(Status::from(failed))
     }
 }
 

@@ -1,14 +1,16 @@
 //! A run by the settings in a file.
 
-ghost use Rattle.std.specs.Prelude.{◌≡◌, true, IfOk};
+ghost use Rattle.std.specs.Prelude.{◌≡◌, ◌≢◌, true, Err, IfOk, IfErr};
 ghost use Rattle.fwd_settings.specs.Ranges.{in_range};
+ghost use Rattle.fwd_settings.specs.Whole.{settings_of};
+ghost use Rattle.fwd_script.specs.Checks.{unread};
 
 use crate::asked::Run;
 use crate::ending::RunEnd;
 use crate::journal::{Journal, Log};
 use fwd_loop::{Loop, Watch};
 use fwd_monitor::page;
-use fwd_script::{InputError, Status, read_input, write_all};
+use fwd_script::{InputError, Status, flush, read_input, write_all};
 use fwd_settings::{Settings, SettingsFault, accepted_is_in_range, read_settings};
 use std::alloc::Global;
 use std::fs;
@@ -18,20 +20,26 @@ use std::rt::{Clock, Files};
 use std::sync::Wait;
 use std::thread::Threads;
 
-/// The settings in a file. A file that cannot be read to its end is `Unreadable`.
-fn settings_in<F: Files>(alloc: Global, files: &F, path: &str) -> Result<Settings, SettingsFault>
-    ensures { IfOk result (λ settings. in_range settings ≡ true) }
+/// The settings in what was read: what was not read to its end is `Unreadable`.
+fn settings_in(alloc: Global, read: Result<Vec<u8>, InputError>) -> Result<Settings, SettingsFault>
+    ensures range { IfOk result (λ settings. in_range settings ≡ true) }
+    ensures text { IfOk read (λ text. result ≢ Err SettingsFault.Memory
+        → result ≡ settings_of text.items) }
+    ensures unread { IfErr read (λ error. result ≡ Err (unread error)) }
 {
-    let Ok(mut file) = fs::open(files, path) else {
-        return Err(SettingsFault::Unreadable);
-    };
-    let text = match read_input(alloc, &mut file) {
-        Ok(text) => text,
-        Err(InputError::Memory) => return Err(SettingsFault::Memory),
-        Err(InputError::Failed) => return Err(SettingsFault::Unreadable),
-    };
+    let text = read?;
     accepted_is_in_range();
     read_settings(alloc, text.as_slice())
+}
+
+/// The settings in a file. A file that cannot be opened is `Unreadable`.
+fn settings_at<F: Files>(alloc: Global, files: &F, path: &str) -> Result<Settings, SettingsFault>
+    ensures { IfOk result (λ settings. in_range settings ≡ true) }
+{
+    match fs::open(files, path) {
+        Ok(mut file) => settings_in(alloc, read_input(alloc, &mut file)),
+        Err(_) => Err(SettingsFault::Unreadable),
+    }
 }
 
 /// Runs under a watch, and writes the page of the last counts.
@@ -46,7 +54,7 @@ fn try_run<
     V: Watch,
     W: Write,
 >(rt: &R, run: Run<'_>, watch: &mut V, output: &mut W) -> Result<(), RunEnd> {
-    let settings = settings_in(rt.alloc(), rt, run.path)?;
+    let settings = settings_at(rt.alloc(), rt, run.path)?;
     let relay = Loop::new(rt, settings)?;
     let counts = relay.run_watched(rt, watch, run.turns)?;
     let text = page(rt.alloc(), &counts)?;
@@ -82,7 +90,7 @@ pub fn run_file<
         Err(end) => end,
     };
     match end {
-        RunEnd::Ran(status) => RunEnd::Ran(status.flushed(output.flush())),
+        RunEnd::Ran(status) => RunEnd::Ran(status.flushed(flush(output))),
         end => end,
     }
 }
