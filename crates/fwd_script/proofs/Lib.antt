@@ -11,3 +11,4 @@ pub mod History
 pub mod Examples
 pub mod Results
 pub mod CheckLemmas
+mod OpenLemmas

@@ -28,6 +28,13 @@ impl From<InputError> for SettingsFault {
     }
 }
 
+/// The settings that were found, or how a check ends that found a fault.
+fn judged(found: Result<Settings, SettingsFault>) -> Result<Settings, Status>
+    ensures { result ≡ verdict_on found }
+{
+    Ok(found?)
+}
+
 /// The settings in what was read, or how a check of it ends: what was not read to its end is
 /// `unreadable`.
 fn settings_in(alloc: Global, read: Result<Vec<u8>, InputError>) -> Result<Settings, Status>
@@ -35,11 +42,10 @@ fn settings_in(alloc: Global, read: Result<Vec<u8>, InputError>) -> Result<Setti
         → result ≡ verdict_on (settings_of text.items)) }
     ensures unread { IfErr read (λ error. result ≡ verdict_on (Err (unread error))) }
 {
-    let text = match read {
-        Ok(text) => text,
-        Err(error) => return Err(Status::from(SettingsFault::from(error))),
-    };
-    Ok(read_settings(alloc, text.as_slice())?)
+    match read {
+        Ok(text) => judged(read_settings(alloc, text.as_slice())),
+        Err(error) => judged(Err(SettingsFault::from(error))),
+    }
 }
 
 /// What is told of good settings, with its line feed.

@@ -1,8 +1,12 @@
 //! The replay of a script against the relay that runs.
 
-ghost use Rattle.std.specs.Prelude.{◌≡◌, ℕ, List, IfSome};
+ghost use Rattle.std.specs.Prelude.{◌≡◌, ℕ, List, Ok, Err, IfOk, IfErr, IfSome};
+ghost use Rattle.fwd_model.specs.declared.config.Config.{Config};
+ghost use Rattle.fwd_model.specs.History.{opening};
+ghost use Rattle.fwd_model.specs.Live.{live};
 ghost use Rattle.fwd_script.specs.Reads.{ReadsSome};
 ghost use Rattle.fwd_script.specs.Replay.{Opens, Replays};
+ghost use Rattle.fwd_script.specs.Statuses.{refused_status};
 ghost use Rattle.fwd_script.specs.declared.status.Status.TheVariants as statuses;
 
 use crate::config::read_config;
@@ -11,7 +15,8 @@ use crate::script::split_script;
 use crate::status::Status;
 use crate::stepping::{Step, answer_script};
 use fwd_core::Relay;
-use fwd_model::{Answer, Event, live_run_follows};
+use fwd_model::{Answer, Config, Event, live_run_follows};
+use fwd_settings::SettingsFault;
 use std::alloc::Global;
 use std::io::{Read, Write};
 
@@ -29,12 +34,22 @@ impl Step for Relay {
     }
 }
 
+/// A relay before its first event, by what its settings were found to be: a fault of theirs is how
+/// a replay ends, and else only want of memory is.
+fn opened(alloc: Global, found: Result<Config, SettingsFault>) -> Result<Relay, Status>
+    ensures made { IfOk result (λ relay.
+        (config : Config) × (found ≡ Ok config) × (relay ≡ live (opening config))) }
+    ensures refused { IfErr found (λ fault. result ≡ Err (refused_status fault)) }
+    ensures memory { IfOk found (λ _. IfErr result (λ status. status ≡ statuses.Memory)) }
+{
+    Ok(Relay::new(alloc, found?)?)
+}
+
 /// A relay before its first event, by a script's text of settings.
 fn open_relay(alloc: Global, text: &[u8]) -> Result<Relay, Status>
     ensures { Opens text.now result }
 {
-    let config = read_config(alloc, text)?;
-    Ok(Relay::new(alloc, config)?)
+    opened(alloc, read_config(alloc, text))
 }
 
 /// Replays a script: reads all of the input (at most 2^32 reads), and then answers the event of

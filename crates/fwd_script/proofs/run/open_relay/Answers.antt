@@ -1,4 +1,5 @@
+use Rattle.fwd_script.proofs.OpenLemmas.{opened_opens}
 use Rattle.fwd_script.proofs.run.open_relay.Goals as goal
 
 pub returns : goal.returns
-returns c = (c.in_ok-config.config, c.in_ok-config.ensures {u = tt} (λ e. absurd cc), c.in_ok-new.ensures {u = tt})
+returns c = opened_opens c.args.text.now c.read_config.result _ c.read_config.ensures c.opened.ensures.made c.opened.ensures.refused c.opened.ensures.memory
