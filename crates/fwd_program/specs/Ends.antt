@@ -1,5 +1,6 @@
 -- How a run ends, and the exit status of each end.
-use Rattle.std.specs.Prelude.{ℕ}
+use Rattle.std.specs.Prelude.{ℕ, List, Option}
+use Rattle.std.specs.Io.KnownBytes.{Appends, Keeps}
 use Rattle.fwd_script.specs.Statuses.{exit_code}
 use Rattle.fwd_script.specs.declared.status.Status.TheVariants as statuses
 use Rattle.fwd_links.specs.declared.fault.StartFault.{StartFault}
@@ -16,3 +17,8 @@ run_code (Start fault) = 4
 abbrev pub ended_by : StartFault → RunEnd
 ended_by faults.Memory = Ran statuses.Memory
 ended_by fault = Start fault
+
+-- what a run wrote that ended before its page was: nothing, or where a write failed, a front
+abbrev pub WritesAt : RunEnd → Option (List ℕ) → Option (List ℕ) → Type 0
+WritesAt (Ran (statuses.Output failed)) old new = (front : List ℕ) × Appends old new front
+WritesAt end old new = Keeps old new

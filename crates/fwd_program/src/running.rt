@@ -4,6 +4,7 @@ ghost use Rattle.std.specs.Prelude.{◌≡◌, ◌≢◌, true, Err, IfOk, IfErr
 ghost use Rattle.fwd_settings.specs.Ranges.{in_range};
 ghost use Rattle.fwd_settings.specs.Whole.{settings_of};
 ghost use Rattle.fwd_script.specs.Checks.{unread};
+ghost use Rattle.fwd_program.specs.Ends.{WritesAt};
 
 use crate::asked::Run;
 use crate::ending::RunEnd;
@@ -42,7 +43,7 @@ fn settings_at<F: Files>(alloc: Global, files: &F, path: &str) -> Result<Setting
     }
 }
 
-/// Runs under a watch, and writes the page of the last counts.
+/// Runs under a watch, and writes the page of the last counts: nothing else is written before.
 fn try_run<
     R: Net<Listener = TcpListener, Stream = TcpStream>
         + Threads
@@ -53,7 +54,10 @@ fn try_run<
         + Sync,
     V: Watch,
     W: Write,
->(rt: &R, run: Run<'_>, watch: &mut V, output: &mut W) -> Result<(), RunEnd> {
+>(rt: &R, run: Run<'_>, watch: &mut V, output: &mut W) -> Result<(), RunEnd>
+    ensures { IfErr result
+        (λ end. WritesAt end (W.contents output.old) (W.contents output.new)) }
+{
     let settings = settings_at(rt.alloc(), rt, run.path)?;
     let relay = Loop::new(rt, settings)?;
     let counts = relay.run_watched(rt, watch, run.turns)?;
