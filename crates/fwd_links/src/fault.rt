@@ -1,5 +1,8 @@
 //! Why the relay cannot start, or cannot go on.
 
+ghost use Rattle.std.specs.Prelude.{◌≡◌};
+ghost use Rattle.fwd_links.specs.declared.fault.StartFault.TheVariants as faults;
+
 use std::alloc::{AllocError, AllocFailed};
 use std::net::SocketAddr;
 use thiserror::Error;
@@ -25,12 +28,16 @@ pub enum StartFault {
 }
 
 impl From<AllocError> for StartFault {
+    ghost from_gives = { λ _ fault. fault ≡ faults.Memory };
+
     fn from(_error: AllocError) -> StartFault {
         StartFault::Memory
     }
 }
 
 impl<T: Drop> From<AllocFailed<T>> for StartFault {
+    ghost from_gives = { λ _ fault. fault ≡ faults.Memory };
+
     fn from(_error: AllocFailed<T>) -> StartFault {
         StartFault::Memory
     }
