@@ -1,5 +1,5 @@
 -- The check of settings, by what was read.
-use Rattle.std.proofs.Common.{◌≡◌, ◌≢◌, ℕ, List, Result, Ok, Err, Option, Vec, Global, inl, inr, refl}
+use Rattle.std.proofs.Common.{◌≡◌, ◌≢◌, ℕ, List, Result, Ok, Err, Option, Vec, Global, inl, inr, refl, ap, ◌∙◌}
 use Rattle.std.specs.Prelude.{IfOk, IfErr, IfSome, OnOk}
 use Rattle.std.specs.Io.KnownBytes.{Consumes, IsAtEnd}
 use Rattle.fwd_settings.specs.Whole.{settings_of}
@@ -20,6 +20,23 @@ good s = Ok s
 
 abbrev refused : Status → Result Settings Status
 refused status = Err status
+
+-- ---- a verdict on the settings that were found
+
+pub verdict_text : (read : Result (Vec ℕ Global) InputError)
+    (found : Result Settings SettingsFault) (v : Result Settings Status)
+    → v ≡ verdict_on found
+    → IfOk read (λ text. found ≢ Err faults.Memory → found ≡ settings_of text.items)
+    → IfOk read (λ text. v ≢ refused Memory → v ≡ verdict_on (settings_of text.items))
+verdict_text (Ok bytes) found v is text = λ other. is ∙ ap verdict_on (text (λ e. other (is ∙ ap verdict_on e)))
+verdict_text (Err error) found v is text = tt
+
+pub verdict_unread : (read : Result (Vec ℕ Global) InputError)
+    (found : Result Settings SettingsFault) (v : Result Settings Status)
+    → v ≡ verdict_on found → IfErr read (λ error. found ≡ Err (unread error))
+    → IfErr read (λ error. v ≡ verdict_on (Err (unread error)))
+verdict_unread (Ok bytes) found v is failed = tt
+verdict_unread (Err error) found v is failed = is ∙ ap verdict_on failed
 
 -- what stands for good settings is their text's
 good_text : (r : Result Settings SettingsFault) (s : Settings) → good s ≡ verdict_on r

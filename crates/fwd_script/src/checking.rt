@@ -1,7 +1,8 @@
 //! Whether settings are good.
 
-ghost use Rattle.std.specs.Prelude.{◌≡◌, ◌≢◌, ℕ, List, Err, IfOk, IfErr, IfSome, MatchResult};
+ghost use Rattle.std.specs.Prelude.{◌≡◌, ◌≢◌, ℕ, List, true, Err, IfOk, IfErr, IfSome, MatchResult};
 ghost use Rattle.std.specs.String.{string_bytes};
+ghost use Rattle.fwd_settings.specs.Ranges.{in_range};
 ghost use Rattle.fwd_settings.specs.Whole.{settings_of};
 ghost use Rattle.fwd_script.specs.Reads.{ReadsSome};
 ghost use Rattle.fwd_script.specs.Checks.{Checks, TellsGood, good_line, verdict_on, unread};
@@ -10,7 +11,7 @@ use crate::input::{InputError, read_input};
 use crate::output::write_all;
 use crate::status::Status;
 use crate::writing::flush;
-use fwd_settings::{Settings, SettingsFault, read_settings};
+use fwd_settings::{Settings, SettingsFault, accepted_is_in_range, read_settings};
 use std::alloc::{AllocError, Global};
 use std::fs;
 use std::io::{Read, Write};
@@ -28,24 +29,27 @@ impl From<InputError> for SettingsFault {
     }
 }
 
+/// The settings in what was read, which are in their ranges, or their text's first fault: what was
+/// not read to its end is `Unreadable`. `Memory` is want of memory, while it was read or later.
+pub fn settings_in(
+    alloc: Global,
+    read: Result<Vec<u8>, InputError>,
+) -> Result<Settings, SettingsFault>
+    ensures range { IfOk result (λ settings. in_range settings ≡ true) }
+    ensures text { IfOk read (λ text. result ≢ Err SettingsFault.Memory
+        → result ≡ settings_of text.items) }
+    ensures unread { IfErr read (λ error. result ≡ Err (unread error)) }
+{
+    let text = read?;
+    accepted_is_in_range();
+    read_settings(alloc, text.as_slice())
+}
+
 /// The settings that were found, or how a check ends that found a fault.
 fn judged(found: Result<Settings, SettingsFault>) -> Result<Settings, Status>
     ensures { result ≡ verdict_on found }
 {
     Ok(found?)
-}
-
-/// The settings in what was read, or how a check of it ends: what was not read to its end is
-/// `unreadable`.
-fn settings_in(alloc: Global, read: Result<Vec<u8>, InputError>) -> Result<Settings, Status>
-    ensures text { IfOk read (λ text. result ≢ Err Status.Memory
-        → result ≡ verdict_on (settings_of text.items)) }
-    ensures unread { IfErr read (λ error. result ≡ verdict_on (Err (unread error))) }
-{
-    match read {
-        Ok(text) => judged(read_settings(alloc, text.as_slice())),
-        Err(error) => judged(Err(SettingsFault::from(error))),
-    }
 }
 
 /// What is told of good settings, with its line feed.
@@ -87,7 +91,7 @@ pub fn check<R: Read, W: Write>(alloc: Global, reader: &mut R, writer: &mut W) -
     ensures memory { result ≡ Status.Memory
         → ReadsSome (R.remaining reader.old) (R.remaining reader.new) }
 {
-    match settings_in(alloc, read_input(alloc, reader)) {
+    match judged(settings_in(alloc, read_input(alloc, reader))) {
         Ok(settings) => tell_good(alloc, &settings, writer),
         Err(status) => status,
     }

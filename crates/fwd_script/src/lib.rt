@@ -17,7 +17,7 @@ mod values;
 mod word;
 mod writing;
 
-pub use checking::{check, check_file};
+pub use checking::{check, check_file, settings_in};
 pub use config::read_config;
 pub use event::{events_are_text, one_form, one_spelling, read_event};
 pub use input::{InputError, read_input};
