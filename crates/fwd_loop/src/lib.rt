@@ -1,6 +1,7 @@
 //! The relay over sockets: a loop over its sources and monitors, and its workers, each in a thread
-//! of its own, over TCP. What is proved here is that the code is safe and that its loops end: all
-//! meaning stands in the crates below.
+//! of its own, over TCP. What is proved here is that the code is safe, that its loops end, and that
+//! a run counts each output once and so that it adds up: all other meaning stands in the crates
+//! below.
 #![tactic(auto)]
 
 mod desk;

@@ -1,7 +1,8 @@
 //! The relay over sockets.
 
-ghost use Rattle.std.specs.Prelude.{◌≡◌, true};
+ghost use Rattle.std.specs.Prelude.{◌≡◌, ◌≤◌, length, true, IfOk};
 ghost use Rattle.fwd_settings.specs.Ranges.{in_range};
+ghost use Rattle.fwd_loop.specs.Ends.{AddUp};
 
 use crate::desk::Desk;
 use crate::door::Door;
@@ -23,6 +24,7 @@ use fwd_settings::{OutputSettings, Settings};
 use mio::{Events, Poll, Waker};
 use rand_chacha::ChaCha20Rng;
 use std::alloc::{AllocError, Global};
+use std::marker::Model;
 use std::net::{Net, SocketAddr, TcpListener, TcpStream};
 use std::rt::{Clock, Files};
 use std::sync::{Arc, Wait};
@@ -36,7 +38,8 @@ const PIECE: usize = 65_536;
 /// How many events a wait tells at once. More are told by the next.
 const EVENTS: usize = 1_024;
 
-/// The relay, with its listeners open, before its first turn.
+/// The relay, with its listeners open, before its first turn. In contracts it is how many outputs
+/// it has.
 #[derive(Drop)]
 pub struct Loop {
     alloc: Global,
@@ -44,6 +47,14 @@ pub struct Loop {
     teams: Teams,
     board: Board,
     front: Front,
+}
+
+impl Model for Loop {
+    ghost use Rattle.std.specs.Prelude.{ℕ, length};
+
+    ghost Value = { ℕ };
+
+    ghost view = { λ relay. length relay.teams.outputs.items };
 }
 
 /// Where the relay listens, and how many sources it takes.
@@ -55,10 +66,9 @@ struct Address {
 }
 
 /// Where the servers of each output are reached.
-fn servers_of(
-    alloc: Global,
-    outputs: &[OutputSettings],
-) -> Result<Vec<Vec<SocketAddr>>, AllocError> {
+fn servers_of(alloc: Global, outputs: &[OutputSettings]) -> Result<Vec<Vec<SocketAddr>>, AllocError>
+    ensures { IfOk result (λ servers. length servers.items ≡ length outputs.now) }
+{
     let mut all = Vec::with_capacity(alloc, outputs.len())?;
     for output in outputs {
         let own = output.servers.as_slice();
@@ -67,7 +77,7 @@ fn servers_of(
     Ok(all)
 }
 
-/// The outputs with their workers, in a run of these bytes.
+/// The outputs with their servers and workers, in a run of these bytes.
 fn teams_of<R: Net>(
     rt: &R,
     alloc: Global,
@@ -75,9 +85,16 @@ fn teams_of<R: Net>(
     run: [u8; 6],
     configs: Vec<OutputConfig>,
     servers: Vec<Vec<SocketAddr>>,
-) -> Result<Teams, StartFault> {
+) -> Result<Teams, StartFault>
+    requires each { length servers.items ≡ length configs.items }
+    requires few { length configs.items ≤ 64 }
+    ensures { IfOk result (λ teams. length teams.outputs.items ≡ length configs.items) }
+{
     let mut teams = Teams::new(alloc);
-    for (number, (config, own)) in (0..u16::MAX).zip(configs.into_iter().zip(servers)) {
+    let mut configs = configs.into_iter();
+    let mut servers = servers.into_iter();
+    while let (Some(config), Some(own)) = (configs.next(), servers.next()) {
+        let number = teams.outputs.len() as u16;
         teams.add(rt, draws, run, number, config, own)?;
     }
     Ok(teams)
@@ -126,6 +143,7 @@ impl Loop {
     /// no random bytes, and with `Memory`.
     pub fn new<R: Net + Files + AllocGlobal>(rt: &R, settings: Settings) -> Result<Loop, StartFault>
         requires { in_range settings ≡ true }
+        ensures { IfOk result (λ relay. relay ≡ length settings.outputs) }
     {
         let alloc = rt.alloc();
         let relay = &settings.relay;
@@ -158,8 +176,9 @@ impl Loop {
     }
 
     /// Runs the loop for so many turns in this thread, and each worker for as many in a thread of
-    /// its own, and answers the counts of the outputs once all have ended. Whoever still waits for
-    /// an acknowledgement by then is told, if its request's entries are settled.
+    /// its own, and answers the counts of each output once all have ended, in the settings' order.
+    /// Whoever still waits for an acknowledgement by then is told, if its request's entries are
+    /// settled.
     ///
     /// It fails with `Thread` where a worker's thread cannot be had, with `Poll` where a wait
     /// failed, and with `Memory`. All threads that were started have ended then, too.
@@ -170,7 +189,10 @@ impl Loop {
             + Clock
             + AllocGlobal
             + Sync,
-    >(self, rt: &R, turns: u64) -> Result<Vec<Counts>, StartFault> {
+    >(self, rt: &R, turns: u64) -> Result<Vec<Counts>, StartFault>
+        ensures count { IfOk result (λ counts. length counts.items ≡ self) }
+        ensures add_up { IfOk result (λ counts. AddUp counts.items) }
+    {
         self.run_watched(rt, &mut (), turns)
     }
 
@@ -183,7 +205,10 @@ impl Loop {
             + AllocGlobal
             + Sync,
         W: Watch,
-    >(self, rt: &R, watch: &mut W, turns: u64) -> Result<Vec<Counts>, StartFault> {
+    >(self, rt: &R, watch: &mut W, turns: u64) -> Result<Vec<Counts>, StartFault>
+        ensures count { IfOk result (λ counts. length counts.items ≡ self) }
+        ensures add_up { IfOk result (λ counts. AddUp counts.items) }
+    {
         let Loop {
             alloc,
             routes,

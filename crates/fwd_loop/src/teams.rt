@@ -1,5 +1,7 @@
 //! The outputs and their workers, before the first turn.
 
+ghost use Rattle.std.specs.Prelude.{◌≡◌, ◌+◌, [], length, OnOk};
+
 use crate::draws::Draws;
 use crate::member::Member;
 use crate::output::Output;
@@ -33,7 +35,9 @@ struct Team<'a> {
 
 impl Teams {
     /// None.
-    pub fn new(alloc: Global) -> Teams {
+    pub fn new(alloc: Global) -> Teams
+        ensures { result.outputs.items ≡ [] }
+    {
         Teams {
             alloc,
             outputs: Vec::new(alloc),
@@ -51,7 +55,10 @@ impl Teams {
         number: u16,
         config: OutputConfig,
         servers: Vec<SocketAddr>,
-    ) -> Result<(), StartFault> {
+    ) -> Result<(), StartFault>
+        ensures { OnOk result
+            (length self.new.outputs.items ≡ length self.old.outputs.items + 1) }
+    {
         let OutputConfig {
             workers,
             standby,
@@ -76,7 +83,9 @@ impl Teams {
     }
 
     /// The workers of an output, and what calls them.
-    fn add_members<R: Net>(&mut self, rt: &R, team: &Team<'_>) -> Result<Vec<Bell>, StartFault> {
+    fn add_members<R: Net>(&mut self, rt: &R, team: &Team<'_>) -> Result<Vec<Bell>, StartFault>
+        ensures { self.new.outputs ≡ self.old.outputs }
+    {
         let mut bells = Vec::new(self.alloc);
         for number in 0..team.workers {
             let login = Arc::try_clone(&team.login)?;

@@ -1,0 +1,24 @@
+-- How many outputs a relay is set to.
+use Rattle.std.proofs.Common.{◌≡◌, ◌≤◌, ◌&&◌, true, length, sym, ap, ◌∙◌, arith}
+use Rattle.std.specs.List.{list_all}
+use Rattle.std.proofs.lemmas.Bool.{and_parts}
+use Rattle.std.proofs.lemmas.Bool.Decides.{nat_tests}
+use Rattle.std.proofs.lemmas.List.{length-map}
+use Rattle.fwd_settings.specs.Kinds.{is_within}
+use Rattle.fwd_settings.specs.Ranges.{in_range, relay_in_range, output_in_range}
+use Rattle.fwd_settings.specs.declared.settings.Settings.{Settings}
+use Rattle.fwd_model.specs.declared.config.Config.{Config}
+use Rattle.fwd_config.specs.Configs.{IsConfig, parts_known, parts_set}
+
+-- settings in their ranges have at most 64
+pub outputs_few : (s : Settings) → in_range s ≡ true → length s.outputs ≤ 64
+outputs_few s h =
+    let counted = is_within 1 64 (length s.outputs) in
+    let parts = and_parts (relay_in_range s.relay) (counted && list_all output_in_range s.outputs) h in
+    let within : is_within 1 64 (length s.outputs) ≡ true = (and_parts counted (list_all output_in_range s.outputs) parts.1).0 in
+    grind (arith, nat_tests)
+
+-- and what they set a relay to has as many
+pub outputs_count : (s : Settings) (config : Config) → IsConfig s config
+    → length config.outputs ≡ length s.outputs
+outputs_count s config is = sym (length-map config.outputs parts_known) ∙ ap length is.outputs ∙ length-map s.outputs parts_set

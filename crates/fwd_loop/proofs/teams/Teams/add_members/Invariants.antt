@@ -1,0 +1,6 @@
+use Rattle.std.specs.Prelude.{◌≡◌}
+use Rattle.fwd_loop.proofs.teams.Teams.add_members.Given as goal
+
+-- the outputs stay
+abbrev pub invariant-loop-number : goal.invariant-loop-number
+invariant-loop-number g l = l.self.outputs ≡ l.fn.self.outputs
