@@ -1,10 +1,18 @@
--- How a run ends, and the exit status of each end.
-use Rattle.std.specs.Prelude.{ℕ, List, Option}
+-- How a run ends, the exit status of each end, and what was written by then.
+use Rattle.std.specs.Prelude.{◌≡◌, ◌⊎◌, ℕ, List, length, Option, Result, Ok, Err}
 use Rattle.std.specs.Io.KnownBytes.{Appends, Keeps}
+use Rattle.fwd_chunks.specs.declared.counts.Counts.{Counts}
+use Rattle.fwd_settings.specs.Whole.{settings_of}
+use Rattle.fwd_settings.specs.declared.settings.Settings.{Settings}
+use Rattle.fwd_settings.specs.declared.fault.SettingsFault.{SettingsFault}
+use Rattle.fwd_settings.specs.declared.fault.SettingsFault.TheVariants as faults
+use Rattle.fwd_monitor.specs.Page.{page_of}
 use Rattle.fwd_script.specs.Statuses.{exit_code}
+use Rattle.fwd_script.specs.Writes.{AppendsFront}
 use Rattle.fwd_script.specs.declared.status.Status.TheVariants as statuses
 use Rattle.fwd_links.specs.declared.fault.StartFault.{StartFault}
-use Rattle.fwd_links.specs.declared.fault.StartFault.TheVariants as faults
+use Rattle.fwd_links.specs.declared.fault.StartFault.TheVariants as starts
+use Rattle.fwd_loop.specs.Ends.{AddUp}
 use Rattle.fwd_program.specs.declared.ending.RunEnd.{RunEnd}
 use Rattle.fwd_program.specs.declared.ending.RunEnd.TheVariants.{Ran, Start}
 
@@ -15,10 +23,32 @@ run_code (Start fault) = 4
 
 -- how a run ends whose relay could not start: want of memory is told as such
 abbrev pub ended_by : StartFault → RunEnd
-ended_by faults.Memory = Ran statuses.Memory
+ended_by starts.Memory = Ran statuses.Memory
 ended_by fault = Start fault
 
--- what a run wrote that ended before its page was: nothing, or where a write failed, a front
-abbrev pub WritesAt : RunEnd → Option (List ℕ) → Option (List ℕ) → Type 0
-WritesAt (Ran (statuses.Output failed)) old new = (front : List ℕ) × Appends old new front
-WritesAt end old new = Keeps old new
+-- what was found of the settings in a text: they or their first fault, and else that there was no
+-- memory, or that it was not read to its end
+abbrev pub Found : Result Settings SettingsFault → List ℕ → Type 0
+Found found text =
+    (found ≡ Err faults.Memory) ⊎ (found ≡ Err faults.Unreadable) ⊎ (found ≡ settings_of text)
+
+-- what a run by these settings may count at its end: of each output once, and so that it adds up
+abbrev pub CountsFor : Settings → List Counts → Type 0
+CountsFor settings counts = (length counts ≡ length settings.outputs) × AddUp counts
+
+-- How a run by the settings in a text ended, and what it wrote: all of the page of its counts, and
+-- where a write or a flush failed a front of it, or nothing. Only a text that was not read is
+-- unreadable. It has no script to end at.
+abbrev pub Runs : RunEnd → List ℕ → Option (List ℕ) → Option (List ℕ) → Type 0
+Runs (Ran statuses.Done) text old new =
+    (s : Settings) × (settings_of text ≡ Ok s) × (counts : List Counts) × CountsFor s counts
+    × Appends old new (page_of counts)
+Runs (Ran (statuses.BadSettings fault)) text old new =
+    ((settings_of text ≡ Err fault) ⊎ (fault ≡ faults.Unreadable)) × Keeps old new
+Runs (Ran (statuses.BadLine number)) text old new = ⊥
+Runs (Ran statuses.Memory) text old new = Keeps old new
+Runs (Ran (statuses.Input failed)) text old new = ⊥
+Runs (Ran (statuses.Output failed)) text old new =
+    Keeps old new ⊎ ((s : Settings) × (settings_of text ≡ Ok s) × (counts : List Counts)
+    × CountsFor s counts × AppendsFront old new (page_of counts))
+Runs (Start fault) text old new = (s : Settings) × (settings_of text ≡ Ok s) × Keeps old new

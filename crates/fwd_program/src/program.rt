@@ -7,6 +7,8 @@ ghost use Rattle.std.specs.Io.KnownBytes.{Keeps};
 ghost use Rattle.fwd_script.specs.declared.program.End.{End};
 ghost use Rattle.fwd_script.specs.Program.{Performs, end_code, words_behind};
 ghost use Rattle.fwd_program.specs.Asked.{AsksRun};
+ghost use Rattle.fwd_program.specs.Ends.{Runs, run_code};
+ghost use Rattle.fwd_program.specs.declared.ending.RunEnd.{RunEnd as TheEnd};
 
 use crate::asked::asked_run;
 use crate::ending::RunEnd;
@@ -41,7 +43,11 @@ fn run_words<
     W: Write,
     E: Write,
 >(rt: &R, words: Vec<String>, log: Log, input: &mut I, output: &mut W, errors: &mut E) -> u8
-    ensures { ((path : List ℕ) (turns : ℕ)
+    ensures run { (path : List ℕ) (turns : ℕ)
+        → AsksRun (words_behind (map string_bytes words.items)) path turns
+        → (end : TheEnd) × (result ≡ run_code end) × (text : List ℕ)
+        × Runs end text (W.contents output.old) (W.contents output.new) }
+    ensures other { ((path : List ℕ) (turns : ℕ)
         → ¬ AsksRun (words_behind (map string_bytes words.items)) path turns)
         → (end : End) × (result ≡ end_code end)
         × Performs (words_behind (map string_bytes words.items))
@@ -80,6 +86,10 @@ pub fn run_all<
     output: &mut W,
     errors: &mut E,
 ) -> u8
+    ensures run { IfOk words (λ list. (path : List ℕ) (turns : ℕ)
+        → AsksRun (words_behind (map string_bytes list.items)) path turns
+        → (end : TheEnd) × (result ≡ run_code end) × (text : List ℕ)
+        × Runs end text (W.contents output.old) (W.contents output.new)) }
     ensures asked { IfOk words (λ list.
         ((path : List ℕ) (turns : ℕ)
         → ¬ AsksRun (words_behind (map string_bytes list.items)) path turns)

@@ -1,0 +1,63 @@
+-- How a run ends before it writes its page.
+use Rattle.std.proofs.Common.{◌≡◌, ◌≢◌, ◌⊎◌, ℕ, List, Option, Result, Ok, Err, inl, inr, refl, sym, subst}
+use Rattle.std.specs.Prelude.{MatchResult}
+use Rattle.std.proofs.KnownBytes.{Keeps-refl}
+use Rattle.fwd_settings.specs.Whole.{settings_of}
+use Rattle.fwd_settings.specs.declared.settings.Settings.{Settings}
+use Rattle.fwd_settings.specs.declared.fault.SettingsFault.{SettingsFault}
+use Rattle.fwd_settings.specs.declared.fault.SettingsFault.TheVariants as faults
+use Rattle.fwd_script.specs.Statuses.{refused_status}
+use Rattle.fwd_script.specs.declared.status.Status.TheVariants.{Done}
+use Rattle.fwd_links.specs.declared.fault.StartFault.{StartFault}
+use Rattle.fwd_links.specs.declared.fault.StartFault.TheVariants as starts
+use Rattle.fwd_program.specs.Ends.{Found, Runs, ended_by}
+use Rattle.fwd_program.specs.declared.ending.RunEnd.{RunEnd}
+use Rattle.fwd_program.specs.declared.ending.RunEnd.TheVariants.{Ran}
+
+-- settings that were found are their text's
+pub good_text : (s : Settings) (text : List ℕ) → Found (Ok s) text → settings_of text ≡ Ok s
+good_text s text (inl e) = absurd cc
+good_text s text (inr (inl e)) = absurd cc
+good_text s text (inr (inr e)) = sym e
+
+-- refused settings end a run as they end a check
+pub refused_runs : (text : List ℕ) (fault : SettingsFault) (end : RunEnd)
+    (known : Option (List ℕ)) → Found (Err fault) text → end ≡ Ran (refused_status fault)
+    → Runs end text known known
+refused_runs text fault end known from e = rw e (by fault from)
+  where
+    own : (fault : SettingsFault) → fault ≢ faults.Memory → Found (Err fault) text
+        → (settings_of text ≡ Err fault) ⊎ (fault ≡ faults.Unreadable)
+    own fault other (inl e) = absurd (other cc)
+    own fault other (inr (inl e)) = inr cc
+    own fault other (inr (inr e)) = inl (sym e)
+
+    by : (fault : SettingsFault) → Found (Err fault) text
+        → Runs (Ran (refused_status fault)) text known known
+    by faults.Memory from = Keeps-refl known
+    by faults.Unreadable from = (inr refl, Keeps-refl known)
+    by faults.NotToml from = (own faults.NotToml (λ e. absurd cc) from, Keeps-refl known)
+    by (faults.Missing key) from = (own (faults.Missing key) (λ e. absurd cc) from, Keeps-refl known)
+    by (faults.WrongKind key) from = (own (faults.WrongKind key) (λ e. absurd cc) from, Keeps-refl known)
+    by (faults.OutOfRange key) from = (own (faults.OutOfRange key) (λ e. absurd cc) from, Keeps-refl known)
+    by (faults.Unknown key) from = (own (faults.Unknown key) (λ e. absurd cc) from, Keeps-refl known)
+    by (faults.BadPattern key) from = (own (faults.BadPattern key) (λ e. absurd cc) from, Keeps-refl known)
+
+-- a relay that cannot start, or not go on, has written nothing
+pub start_runs : (text : List ℕ) (s : Settings) (fault : StartFault) (end : RunEnd)
+    (known : Option (List ℕ)) → settings_of text ≡ Ok s → end ≡ ended_by fault
+    → Runs end text known known
+start_runs text s starts.Memory end known good e = rw e (Keeps-refl known)
+start_runs text s (starts.Listen address) end known good e = rw e (s, good, Keeps-refl known)
+start_runs text s starts.Poll end known good e = rw e (s, good, Keeps-refl known)
+start_runs text s starts.Seed end known good e = rw e (s, good, Keeps-refl known)
+start_runs text s starts.Thread end known good e = rw e (s, good, Keeps-refl known)
+
+-- ---- how a run ended, by what came of it
+
+pub ended_runs : {T : Type 0} (ran : Result T RunEnd) (end : RunEnd) (text : List ℕ)
+    (old new : Option (List ℕ)) → MatchResult ran (λ _. end ≡ Ran Done) (λ e. end ≡ e)
+    → MatchResult ran (λ _. Runs (Ran Done) text old new) (λ e. Runs e text old new)
+    → Runs end text old new
+ended_runs (Ok x) end text old new is runs = subst (λ e. Runs e text old new) (sym is) runs
+ended_runs (Err e) end text old new is runs = subst (λ e'. Runs e' text old new) (sym is) runs
