@@ -35,6 +35,30 @@ impl Write for Full {
     }
 }
 
+/// A writer that takes all and gives it on when it is flushed, which fails where it is to.
+#[derive(Drop)]
+struct Pipe {
+    held: Vec<u8>,
+    given: Vec<u8>,
+    flush_fails: bool,
+}
+
+impl Write for Pipe {
+    fn write(&mut self, buf: &[u8]) -> io::Result<usize> {
+        self.held.extend_from_slice(buf)?;
+        Ok(buf.len())
+    }
+
+    fn flush(&mut self) -> io::Result<()> {
+        if self.flush_fails {
+            return Err(io::Error::from(ErrorKind::Other));
+        }
+        self.given.extend_from_slice(self.held.as_slice())?;
+        self.held.clear();
+        Ok(())
+    }
+}
+
 /// The exit status of the whole program, called without input.
 fn status_of<
     R: Net<Listener = TcpListener, Stream = TcpStream>
@@ -59,7 +83,7 @@ fn say(rt: &impl Print, call: &[&str], status: u8, output: &[u8], errors: &[u8])
     Ok(())
 }
 
-/// Calls the whole program, and says what came of it.
+/// Calls the whole program over an output whose flush fails or not, and says what came of it.
 fn say_end<
     R: Net<Listener = TcpListener, Stream = TcpStream>
         + Threads
@@ -69,11 +93,15 @@ fn say_end<
         + Print
         + AllocGlobal
         + Sync,
->(rt: &R, call: &[&str]) -> Result<()> {
-    let mut output = Vec::new(rt.alloc());
+>(rt: &R, call: &[&str], flush_fails: bool) -> Result<()> {
+    let mut pipe = Pipe {
+        held: Vec::new(rt.alloc()),
+        given: Vec::new(rt.alloc()),
+        flush_fails,
+    };
     let mut errors = Vec::new(rt.alloc());
-    let status = status_of(rt, call, &mut output, &mut errors);
-    say(rt, call, status, output.as_slice(), errors.as_slice())
+    let status = status_of(rt, call, &mut pipe, &mut errors);
+    say(rt, call, status, pipe.given.as_slice(), errors.as_slice())
 }
 
 /// The same over an output that takes nothing.
@@ -106,7 +134,8 @@ fn write_good<R: Net<Listener = TcpListener, Stream = TcpStream> + Files + Alloc
 }
 
 /// Says how runs end: by settings that are not there, that are refused, and of an address that no
-/// machine has; behind their turns; and by words that ask for no run.
+/// machine has; behind their turns; by words that ask for no run; and where the output cannot be
+/// flushed or written.
 pub fn say_ends<
     R: Net<Listener = TcpListener, Stream = TcpStream>
         + Threads
@@ -125,9 +154,10 @@ pub fn say_ends<
         ["run", "good.toml", "1"],
         ["run", "good.toml", "01"],
     ] {
-        say_end(rt, &call)?;
+        say_end(rt, &call, false)?;
     }
-    say_end(rt, &["run"])?;
+    say_end(rt, &["run"], false)?;
+    say_end(rt, &["run", "good.toml", "1"], true)?;
     say_unwritten(rt, &["run", "good.toml", "1"])?;
     Ok(fs::remove_file(rt, "good.toml")?)
 }
