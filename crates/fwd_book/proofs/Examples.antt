@@ -1,6 +1,6 @@
 -- The definitions at work on a request that two chunks share.
 use Rattle.std.proofs.Common.{◌≡◌, [], ◌∷◌, List, ℕ, Some, None, refl}
-use Rattle.fwd_source.specs.declared.origin.Origin.{Origin}
+use Rattle.fwd_modes.specs.declared.origin.Origin.{Origin}
 use Rattle.fwd_session.specs.Evidence.{Evidence}
 use Rattle.fwd_book.specs.History.{Entered, BookHistory, opening, enters, settles, leaves, tells, forgets, untold}
 use Rattle.fwd_book.specs.Receipts.{receipts}

@@ -4,7 +4,7 @@ use Rattle.std.specs.Prelude.{not, ◌&&◌, ◌||◌, ◌==◌, nat_eq}
 use Rattle.std.specs.Bool.{Decides}
 use Rattle.fwd_chunks.specs.declared.span.Span.{Span}
 use Rattle.std.proofs.lemmas.Bool.{eqb-true, eqb-false, eq-eqb}
-use Rattle.fwd_source.specs.declared.origin.Origin.{Origin}
+use Rattle.fwd_modes.specs.declared.origin.Origin.{Origin}
 use Rattle.fwd_book.specs.History.{is_origin}
 
 pub apart : false ≡ true → ⊥

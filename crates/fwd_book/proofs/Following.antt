@@ -8,7 +8,7 @@ use Rattle.std.proofs.lemmas.List.{append-nil}
 use Rattle.std.proofs.lemmas.List.Elements.{filter-append}
 use Rattle.std.proofs.lemmas.List.Folds.{find-append}
 use Rattle.std.proofs.lemmas.Grind.{flat_map-append}
-use Rattle.fwd_source.specs.declared.origin.Origin.{Origin}
+use Rattle.fwd_modes.specs.declared.origin.Origin.{Origin}
 use Rattle.fwd_chunks.specs.declared.span.Span.{Span}
 use Rattle.fwd_session.specs.Evidence.{Evidence}
 use Rattle.fwd_book.specs.History.{BookSetting, Entered, Fate, Untold, Told, Forgotten, Admission, BookHistory, opening, is_untold, untold, is_among, is_origin, request_at, evidence_of, has_run, is_settled, is_fresh, enters, settles, becomes, is_owed, leaves, tells, forgets, CanBeTold, owed, is_of, is_owed_to, is_due, due, tells_due, forgets_of, owed_of}

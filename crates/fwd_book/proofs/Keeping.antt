@@ -6,7 +6,7 @@ use Rattle.std.specs.List.{list_any, list_all, flat_map}
 use Rattle.std.proofs.lemmas.Bool.{eqb-true, le-ltb, ltb-false, ltb-true}
 use Rattle.std.proofs.lemmas.List.{length-append, length-drop}
 use Rattle.std.proofs.lemmas.List.Elements.{filter-append}
-use Rattle.fwd_source.specs.declared.origin.Origin.{Origin}
+use Rattle.fwd_modes.specs.declared.origin.Origin.{Origin}
 use Rattle.fwd_chunks.specs.declared.span.Span.{Span}
 use Rattle.fwd_modes.specs.Requests.{Request}
 use Rattle.fwd_session.specs.Evidence.{Evidence}

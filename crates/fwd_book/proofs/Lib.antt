@@ -12,3 +12,4 @@ pub mod Following
 pub mod Right
 pub mod Sound
 pub mod Whose
+pub mod Dues

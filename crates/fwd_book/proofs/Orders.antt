@@ -1,14 +1,18 @@
 -- The numbers of each connection's requests, in their order.
-use Rattle.std.proofs.Common.{arith, ◌≡◌, ◌≤◌, length, ℕ, Bool, true, false, cond, suc, Some, None, List, [], ◌∷◌, ◌++◌, refl, sym, ap, ◌∙◌}
-use Rattle.std.specs.Prelude.{not, ◌&&◌, ◌||◌, ◌==◌, map, filter, find, option_map, slice_get}
+use Rattle.std.proofs.Common.{arith, ◌≡◌, ◌≤◌, length, ℕ, Bool, true, false, cond, suc, Option, Some, None, List, [], ◌∷◌, ◌++◌, refl, sym, ap, ◌∙◌}
+use Rattle.std.specs.Prelude.{not, ◌&&◌, ◌||◌, ◌==◌, map, filter, find, option_map, option_and_then, slice_get}
 use Rattle.std.specs.List.{list_any}
 use Rattle.std.proofs.lemmas.Bool.{eqb-true}
 use Rattle.std.proofs.lemmas.List.{map-append, append-nil}
 use Rattle.std.proofs.lemmas.List.Elements.{filter-append}
-use Rattle.fwd_source.specs.declared.origin.Origin.{Origin}
+use Rattle.std.proofs.lemmas.Option.{slice_get-map}
+use Rattle.fwd_modes.specs.declared.origin.Origin.{Origin}
+use Rattle.fwd_book.specs.declared.chains.Link.{Link}
+use Rattle.fwd_book.specs.declared.chains.Ends.{Ends}
 use Rattle.fwd_book.specs.History.{Entered, is_of, is_origin, request_at}
-use Rattle.fwd_book.specs.Links.{order_of, order_with, order_without}
-use Rattle.fwd_book.proofs.Facts.{none_some, turned}
+use Rattle.fwd_book.specs.Links.{link_at, order_of, order_with, order_without, AreChained}
+use Rattle.fwd_book.proofs.Facts.{none_some, some_is, turned}
+use Rattle.fwd_book.proofs.Linking.{later_at}
 
 abbrev numbers : List Entered → List ℕ
 numbers qs = map (λ q. q.origin.request) qs
@@ -49,6 +53,34 @@ order-first conn (q ∷ qs) = by (is_of conn q) refl (order-first conn qs)
         ≡ option_map (λ r. r.origin) (cond b (Some q) (find (is_of conn) qs))
     by true e more = ap (λ o. Some o) (own-origin conn q e)
     by false e more = more
+
+-- the number of the request at a place
+own-number : (qs : List Entered) (o : Origin) (i : ℕ)
+    → slice_get (map (λ q. q.origin) qs) i ≡ Some o
+    → slice_get (numbers qs) i ≡ Some o.request
+own-number qs o i at =
+    slice_get-map (λ (q : Entered). q.origin.request) qs i
+    ∙ by (slice_get qs i) (sym (slice_get-map (λ (q : Entered). q.origin) qs i) ∙ at)
+  where
+    by : (k : Option Entered) → option_map (λ (q : Entered). q.origin) k ≡ Some o
+        → option_map (λ (q : Entered). q.origin.request) k ≡ Some o.request
+    by None e = absurd (none_some e)
+    by (Some q) e = ap (λ (x : Origin). Some x.request) (some_is e)
+
+-- the origin behind the one at a place stands at the next place
+pub order-later : (links : List ((ℕ × ℕ) × Link)) (ends : List (ℕ × Ends)) (qs : List Entered)
+    (o : Origin) (i k : ℕ)
+    → AreChained links ends (order_of qs) → k ≡ suc i
+    → slice_get (map (λ q. q.origin) (filter (is_of o.conn) qs)) i ≡ Some o
+    → option_map (λ r. record { conn = o.conn; request = r })
+    (option_and_then (λ l. l.later) (link_at links o.conn o.request))
+    ≡ slice_get (map (λ q. q.origin) (filter (is_of o.conn) qs)) k
+order-later links ends qs o i k chained next at =
+    let rs : List ℕ = order_of qs o.conn in
+    ap (λ l. option_map (origin_of o.conn) (option_and_then (λ (x : Link). x.later) l)) (chained.linked o.conn o.request)
+    ∙ ap (option_map (origin_of o.conn)) (later_at None rs i o.request (chained.once o.conn) (own-number (filter (is_of o.conn) qs) o i at) ∙ ap (slice_get rs) (sym next))
+    ∙ sym (slice_get-map (origin_of o.conn) rs k)
+    ∙ ap (λ os. slice_get os k) (order-origins o.conn qs)
 
 -- they are not more than all requests
 pub order-few : (conn : ℕ) (qs : List Entered) → length (order_of qs conn) ≤ length qs

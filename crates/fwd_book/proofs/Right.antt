@@ -4,7 +4,7 @@ use Rattle.std.specs.Prelude.{◌⊎◌, map, find, drop, ◌==◌, is_some, sli
 use Rattle.std.specs.List.{list_any, list_all, flat_map}
 use Rattle.std.proofs.lemmas.Bool.{eqb-true, eq-eqb}
 use Rattle.std.proofs.lemmas.List.{take-append-drop}
-use Rattle.fwd_source.specs.declared.origin.Origin.{Origin}
+use Rattle.fwd_modes.specs.declared.origin.Origin.{Origin}
 use Rattle.fwd_chunks.specs.declared.span.Span.{Span}
 use Rattle.fwd_session.specs.Evidence.{Evidence}
 use Rattle.fwd_chunks.specs.Spans.{AreCutBy, AreRising}

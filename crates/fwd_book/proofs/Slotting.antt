@@ -1,11 +1,11 @@
 -- Requests in slots by their origins.
-use Rattle.std.proofs.Common.{arith, ◌≡◌, ◌≤◌, length, ℕ, Bool, true, false, cond, Option, Some, None, List, [], ◌∷◌, ◌++◌, refl, sym, ap, ◌∙◌}
+use Rattle.std.proofs.Common.{arith, ◌≡◌, ◌≤◌, length, ℕ, Bool, true, false, cond, suc, Option, Some, None, List, [], ◌∷◌, ◌++◌, refl, sym, ap, ◌∙◌}
 use Rattle.std.specs.Prelude.{IfSome, not, filter, find, ◌||◌, ◌&&◌, ◌==◌, is_some, option_to_list}
 use Rattle.std.specs.List.{list_any, AllByRecursion, IsDistinct}
 use Rattle.std.specs.Map.{keys_of, lookup, set_value, remove_entry}
 use Rattle.std.proofs.lemmas.Bool.{eqb-true}
 use Rattle.std.proofs.lemmas.Grind.{flat_map-append}
-use Rattle.fwd_source.specs.declared.origin.Origin.{Origin}
+use Rattle.fwd_modes.specs.declared.origin.Origin.{Origin}
 use Rattle.fwd_book.specs.History.{Entered, is_origin, request_at}
 use Rattle.fwd_book.specs.Slots.{Slot, key_of, is_key, present, AreKeyed}
 use Rattle.fwd_book.proofs.Facts.{none_some, neither_left, neither_right, both_left, both_right}
@@ -194,3 +194,17 @@ few_present (e ∷ slots) = by e.1 (few_present slots)
         → length (option_to_list w ++ present slots) ≤ length (e ∷ slots)
     by None more = omega (arith, more)
     by (Some q) more = omega (arith, more)
+
+-- those that are not empty are as many as the requests
+pub length-kept : (slots : List Slot)
+    → length (filter (λ e. is_some e.1) slots) ≡ length (present slots)
+length-kept [] = refl
+length-kept (e ∷ slots) = by e.1 (length-kept slots)
+  where
+    by : (w : Option Entered)
+        → length (filter (λ d. is_some d.1) slots) ≡ length (present slots)
+        → length
+        (cond (is_some w) ((e.0, w) ∷ filter (λ d. is_some d.1) slots)
+        (filter (λ d. is_some d.1) slots)) ≡ length (option_to_list w ++ present slots)
+    by None more = more
+    by (Some q) more = ap suc more

@@ -6,7 +6,7 @@ use Rattle.std.specs.Prelude.{find, ◌&&◌, ◌⊎◌, map, filter, drop, not,
 use Rattle.std.specs.List.{list_any}
 use Rattle.std.proofs.lemmas.Bool.{eqb-true, eq-eqb}
 use Rattle.fwd_modes.specs.Acks.{ack_name}
-use Rattle.fwd_source.specs.declared.origin.Origin.{Origin}
+use Rattle.fwd_modes.specs.declared.origin.Origin.{Origin}
 use Rattle.fwd_chunks.specs.declared.span.Span.{Span}
 use Rattle.fwd_session.specs.Evidence.{Evidence}
 use Rattle.fwd_chunks.specs.Spans.{AreCutBy, AreRising}

@@ -3,7 +3,7 @@ use Rattle.std.proofs.Common.{◌≡◌, ℕ, length, Bool, true, false, cond, z
 use Rattle.std.specs.Prelude.{map, filter, find, not, ◌&&◌, ◌||◌, ◌==◌, slice_get}
 use Rattle.std.specs.List.{flat_map}
 use Rattle.std.proofs.lemmas.Bool.{eq-eqb}
-use Rattle.fwd_source.specs.declared.origin.Origin.{Origin}
+use Rattle.fwd_modes.specs.declared.origin.Origin.{Origin}
 use Rattle.fwd_book.specs.History.{Entered, is_origin, is_among, is_of, request_at, evidence_of, is_settled}
 use Rattle.fwd_book.specs.Receipts.{Receipt, receipt_of, receipt_if, once, receipts}
 use Rattle.fwd_book.specs.Live.{LiveBook, live_drops, live_leaves, live_forgets_of, live_owed_of, evidence_for, AreApart}
@@ -88,7 +88,7 @@ leaves-passed b p alone = λ i. record b { requests = left i; settled = evidence
         (λ i q at. ap not (among-passed p b.requests alone i q at))
 
 -- a request is found by its origin
-found-own : (qs : List Entered) → AreApart qs → (i : ℕ) (q : Entered) → slice_get qs i ≡ Some q
+pub found-own : (qs : List Entered) → AreApart qs → (i : ℕ) (q : Entered) → slice_get qs i ≡ Some q
     → request_at qs q.origin ≡ Some q
 found-own [] alone i q at = absurd (none_some at)
 found-own (r ∷ qs) alone zero q at =

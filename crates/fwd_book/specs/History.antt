@@ -25,7 +25,7 @@ use Rattle.std.specs.Prelude.{
 use Rattle.std.specs.List.{list_all, list_any}
 use Rattle.fwd_modes.specs.Requests.{Request}
 use Rattle.fwd_modes.specs.Frames.{chunk_name}
-use Rattle.fwd_source.specs.declared.origin.Origin.{Origin}
+use Rattle.fwd_modes.specs.declared.origin.Origin.{Origin}
 use Rattle.fwd_chunks.specs.declared.span.Span.{Span}
 use Rattle.fwd_session.specs.Evidence.{Evidence}
 

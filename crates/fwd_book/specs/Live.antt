@@ -26,7 +26,7 @@ use Rattle.std.specs.Prelude.{
 use Rattle.std.specs.List.{flat_map}
 use Rattle.fwd_modes.specs.Requests.{Request}
 use Rattle.fwd_modes.specs.Acks.{ack_name}
-use Rattle.fwd_source.specs.declared.origin.Origin.{Origin}
+use Rattle.fwd_modes.specs.declared.origin.Origin.{Origin}
 use Rattle.fwd_chunks.specs.declared.span.Span.{Span}
 use Rattle.fwd_chunks.specs.Spans.{run_in, AreRising, AreCutBy}
 use Rattle.fwd_session.specs.Evidence.{Evidence}

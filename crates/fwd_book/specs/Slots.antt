@@ -2,7 +2,7 @@
 -- request left.
 use Rattle.std.specs.Prelude.{◌≡◌, ℕ, ◌&&◌, ◌==◌, Bool, List, Option, IfSome, option_to_list}
 use Rattle.std.specs.List.{flat_map, AllByRecursion}
-use Rattle.fwd_source.specs.declared.origin.Origin.{Origin}
+use Rattle.fwd_modes.specs.declared.origin.Origin.{Origin}
 use Rattle.fwd_book.specs.History.{Entered}
 
 -- a slot: the numbers of an origin, and its request if that is still there
@@ -25,7 +25,9 @@ present slots = flat_map (λ e. option_to_list e.1) slots
 abbrev pub AreKeyed : List Slot → Type 0
 AreKeyed slots = AllByRecursion (λ e. IfSome e.1 (λ q. e.0 ≡ key_of q.origin)) slots
 
--- requests, and how many more have room
+-- requests, how many more have room, how many slots there are, and how many more have a place
 pub record Held : Type 0 where
   pub items : List Entered
   pub room : ℕ
+  pub slots : ℕ
+  pub places : ℕ

@@ -21,8 +21,11 @@ ghost use Rattle.std.specs.Prelude.{
   slice_get,
   if◌then◌else◌,
   option_to_list,
+  option_copied,
+  option_and_then,
   IsSome,
   IfSome,
+  IsOk,
   IfOk,
   OnOk,
   OnErr,
@@ -57,6 +60,7 @@ ghost use Rattle.fwd_book.specs.Live.{
   live_owed_of,
   live_forgets_of,
   live_is_settled,
+  live_due,
   evidence_for,
 };
 ghost use Rattle.fwd_book.specs.Notes.{note_at, uses_in, used_more, used_less};
@@ -67,9 +71,8 @@ use crate::numbers::Numbers;
 use crate::receipt::Receipt;
 use crate::requests::Requests;
 use fwd_chunks::Span;
-use fwd_modes::Batch;
+use fwd_modes::{Batch, Origin};
 use fwd_session::Acked;
-use fwd_source::Origin;
 use indexmap::IndexSet;
 use std::alloc::{AllocError, Global};
 use std::marker::Model;
@@ -320,6 +323,46 @@ impl Book {
         }
     }
 
+    /// Whether a request of one of these origins is owed an answer, and all its entries are
+    /// acknowledged.
+    fn has_settled(&self, origins: &[Origin]) -> bool
+        ensures { result ≡ list_any (live_is_settled self.now.live) origins.now }
+    {
+        origins.iter().any(|origin| self.is_settled(*origin))
+    }
+
+    /// The origins of a connection's requests that are owed an answer and whose entries are all
+    /// acknowledged, in the order in which they were entered. The only error is want of memory,
+    /// and where there are none it takes no memory.
+    pub fn due(&self, alloc: Global, conn: u64) -> Result<Vec<Origin>, AllocError>
+        ensures due { IfOk result (λ origins. origins.items
+            ≡ map (λ q. q.origin) (live_due self.now.live conn)) }
+        ensures none { live_due self.now.live conn ≡ [] → IsOk result }
+    {
+        self.is_sound();
+        let mut due = Vec::new(alloc);
+        let mut next = self.requests.first_of(conn);
+        for _ in 0..self.requests.slots() {
+            let Some(origin) = next else {
+                break;
+            };
+            if self.is_settled(origin) {
+                due.push(origin)?;
+            }
+            next = self.requests.later_of(origin);
+        }
+        Ok(due)
+    }
+
+    /// The bytes of the option's `chunk` value of an origin's request, as they were sent, if the
+    /// request is owed an answer and has one.
+    pub fn chunk(&self, origin: Origin) -> Option<&[u8]>
+        ensures { option_copied result
+            ≡ option_and_then (λ q. q.chunk) (request_at self.now.live.requests origin) }
+    {
+        self.requests.get(origin)?.request().chunk()
+    }
+
     /// Whether this request is owed an answer under this origin, with these runs of its entries.
     pub fn shows(&self, origin: Origin, batch: &Batch, spans: &[Span]) -> bool
         ensures shown { result ≡ true → request_at self.now.live.requests origin
@@ -335,7 +378,7 @@ impl Book {
 
     /// The receipts of the requests of these origins whose entries are all acknowledged, in the
     /// order of the origins, each once; each is right for the request of its origin. The only
-    /// error is want of memory.
+    /// error is want of memory, and where there are none it takes no memory.
     pub fn gather(&self, alloc: Global, origins: &[Origin]) -> Result<Vec<Receipt>, AllocError>
         ensures given { IfOk result (λ given. given.items
             ≡ receipts self.now.live.settled self.now.live.requests origins.now) }
@@ -343,9 +386,14 @@ impl Book {
             slice_get given.items i ≡ Some r →
             (q : Entered) × (request_at self.now.live.requests r.origin ≡ Some q)
             × IsRightFor self.now.live.setting q r) }
+        ensures none { receipts self.now.live.settled self.now.live.requests origins.now ≡ []
+            → IsOk result }
     {
         self.is_sound();
         receipts_are_right();
+        if !self.has_settled(origins) {
+            return Ok(Vec::new(alloc));
+        }
         let asked = once(alloc, origins)?;
         let mut given = Vec::new(alloc);
         for origin in &asked {

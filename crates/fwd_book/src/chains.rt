@@ -36,7 +36,7 @@ ghost use Rattle.fwd_book.specs.Links.{
   AreChained,
 };
 
-use fwd_source::Origin;
+use fwd_modes::Origin;
 use indexmap::IndexMap;
 use std::alloc::{AllocError, Global};
 
@@ -199,7 +199,7 @@ impl Chains {
     }
 
     /// The number of the request behind this one, if this one is there and is not the last.
-    fn later(&self, conn: u64, request: u64) -> Option<u64>
+    pub(crate) fn later(&self, conn: u64, request: u64) -> Option<u64>
         ensures { result
             ≡ option_and_then (λ k. k.later) (link_at self.now.links.entries conn request) }
     {

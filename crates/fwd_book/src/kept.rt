@@ -4,8 +4,7 @@ ghost use Rattle.std.specs.Prelude.{◌≡◌, ◌≢◌, true, false};
 ghost use Rattle.fwd_book.specs.History.{entered_as};
 
 use fwd_chunks::Span;
-use fwd_modes::Batch;
-use fwd_source::Origin;
+use fwd_modes::{Batch, Origin};
 use std::marker::Model;
 
 /// A request with its connection and number, and the runs of its entries.

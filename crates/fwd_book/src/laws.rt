@@ -14,7 +14,7 @@ ghost use Rattle.std.specs.Prelude.{
   slice_get,
 };
 ghost use Rattle.fwd_modes.specs.Acks.{ack_name};
-ghost use Rattle.fwd_source.specs.declared.origin.Origin.{Origin};
+ghost use Rattle.fwd_modes.specs.declared.origin.Origin.{Origin};
 ghost use Rattle.fwd_session.specs.Evidence.{Evidence};
 ghost use Rattle.fwd_chunks.specs.Spans.{AreCutBy, AreRising};
 ghost use Rattle.fwd_book.specs.History.{
@@ -119,4 +119,15 @@ pub fn origins_are_enough()
         ≡ map (receipt_of b.settled) (filter (λ q. test q && is_settled b.settled q) b.requests) }
     ensures leaves { (b : LiveBook) (test : Entered → Bool) → IsSound b →
         live_leaves b (map (λ q. q.origin) (filter test b.requests)) ≡ live_drops test b }
+{}
+
+/// What a connection is to be told is found under its own origins: each request, and the receipt of
+/// each.
+pub fn due_is_found()
+    ensures requests { (b : LiveBook) (conn : ℕ) → IsSound b →
+        map (λ o. request_at b.requests o) (map (λ q. q.origin) (live_due b conn))
+        ≡ map Some (live_due b conn) }
+    ensures receipts { (b : LiveBook) (conn : ℕ) → IsSound b →
+        receipts b.settled b.requests (map (λ q. q.origin) (live_due b conn))
+        ≡ map (receipt_of b.settled) (live_due b conn) }
 {}

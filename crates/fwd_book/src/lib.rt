@@ -10,5 +10,5 @@ mod receipt;
 mod requests;
 
 pub use book::Book;
-pub use laws::{live_follows, origins_are_enough, receipts_are_right, stays_sound};
+pub use laws::{due_is_found, live_follows, origins_are_enough, receipts_are_right, stays_sound};
 pub use receipt::{Part, Receipt};

@@ -6,9 +6,8 @@ ghost use Rattle.std.specs.List.{concat, flat_map};
 ghost use Rattle.fwd_book.specs.Receipts.{shown_by};
 
 use crate::kept::Kept;
-use fwd_modes::Batch;
+use fwd_modes::{Batch, Origin};
 use fwd_session::Acked;
-use fwd_source::Origin;
 use std::alloc::{AllocError, Global};
 use std::marker::Model;
 use std::sync::Arc;

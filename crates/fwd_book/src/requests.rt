@@ -4,12 +4,15 @@ ghost use Rattle.std.specs.Prelude.{
   ◌≡◌,
   ◌<◌,
   ◌≤◌,
+  ◌+◌,
   ◌^◌,
+  ℕ,
   length,
   ◌++◌,
   ◌∷◌,
   [],
   None,
+  Some,
   is_some,
   not,
   map,
@@ -19,12 +22,13 @@ ghost use Rattle.std.specs.Prelude.{
   IfOk,
   option_copied,
   OnOk,
+  slice_get,
 };
 ghost use Rattle.fwd_book.specs.History.{is_of, is_origin, request_at};
 
 use crate::chains::Chains;
 use crate::kept::Kept;
-use fwd_source::Origin;
+use fwd_modes::Origin;
 use indexmap::IndexMap;
 use std::alloc::{AllocError, Global};
 use std::marker::Model;
@@ -39,7 +43,7 @@ pub(crate) struct Requests {
 }
 
 impl Model for Requests {
-    ghost use Rattle.std.specs.Prelude.{min};
+    ghost use Rattle.std.specs.Prelude.{min, length};
     ghost use Rattle.std.specs.Map.{keys_of};
     ghost use Rattle.std.specs.List.{IsDistinct};
     ghost use Rattle.indexmap.specs.IndexMap.{spare};
@@ -51,6 +55,8 @@ impl Model for Requests {
     ghost view = { λ r. record {
       items = present r.slots.entries;
       room = min (spare r.slots) (min (spare r.chains.links) (spare r.chains.ends));
+      slots = length r.slots.entries;
+      places = spare r.slots;
     } };
 
     ghost invariant = { λ r. AreKeyed r.slots.entries
@@ -93,11 +99,36 @@ impl Requests {
         Some(Origin { conn, request })
     }
 
-    /// Makes room for one more request. On an error nothing has changed.
+    /// The origin of the request behind this one among its connection's, if there is one.
+    pub(crate) fn later_of(&self, origin: Origin) -> Option<Origin>
+        ensures { (i : ℕ) → slice_get (map (λ q. q.origin)
+            (filter (is_of origin.conn) self.now.items)) i ≡ Some origin
+            → result ≡ slice_get (map (λ q. q.origin)
+            (filter (is_of origin.conn) self.now.items)) (i + 1) }
+    {
+        let request = self.chains.later(origin.conn, origin.request)?;
+        Some(Origin {
+            conn: origin.conn,
+            request,
+        })
+    }
+
+    /// How many slots there are: at least one for each request.
+    pub(crate) fn slots(&self) -> usize
+        ensures slots { result ≡ self.now.slots }
+        ensures all { length self.now.items ≤ result }
+    {
+        self.slots.len()
+    }
+
+    /// Makes room for one more request. No slot comes, and where no more had a place, the empty
+    /// ones leave. On an error no request has changed.
     pub(crate) fn reserve(&mut self) -> Result<(), AllocError>
         ensures ok { OnOk result (0 < self.new.room) }
         ensures same { self.new.items ≡ self.old.items }
         ensures more { self.old.room ≤ self.new.room }
+        ensures slots { self.new.slots ≤ self.old.slots }
+        ensures full { self.old.places ≡ 0 → self.new.slots ≡ length self.new.items }
     {
         if self.slots.len() == self.slots.capacity() {
             self.compact();
@@ -107,10 +138,12 @@ impl Requests {
         self.chains.reserve()
     }
 
-    /// Empty slots leave.
+    /// Empty slots leave: there are as many as requests.
     fn compact(&mut self)
         ensures same { self.new.items ≡ self.old.items }
         ensures more { self.old.room ≤ self.new.room }
+        ensures slots { self.new.slots ≡ length self.new.items }
+        ensures fewer { self.new.slots ≤ self.old.slots }
     {
         self.slots.retain(
             |_key: &(u64, u64), slot: &mut Option<Kept>| -> bool

@@ -6,7 +6,7 @@ use Rattle.std.proofs.lemmas.Bool.Decides.{nat_tests}
 use Rattle.std.proofs.lemmas.Bool.{and_parts, and_from}
 use Rattle.std.proofs.lemmas.List.{length-map, map-append, drop_at, append-nil}
 use Rattle.std.proofs.lemmas.Slice.Eq.{bytes_eq-Decides}
-use Rattle.fwd_source.specs.declared.origin.Origin.{Origin}
+use Rattle.fwd_modes.specs.declared.origin.Origin.{Origin}
 use Rattle.fwd_modes.specs.Requests.{Request}
 use Rattle.fwd_chunks.specs.declared.limits.BufferLimits.{BufferLimits}
 use Rattle.fwd_chunks.specs.declared.flush.FlushKind.{FlushKind}

@@ -13,6 +13,7 @@ pub mod Filling
 pub mod Calls
 pub mod Admission
 pub mod Taken
+pub mod Living
 pub mod Opened
 pub mod Runs
 pub mod Slotting

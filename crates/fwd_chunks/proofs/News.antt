@@ -1,11 +1,12 @@
 -- What entering a request adds to a history, and what it leaves.
-use Rattle.std.proofs.Common.{◌≡◌, ℕ, ◌+◌, Bool, true, false, cond, List, [], ◌∷◌, ◌++◌, length, drop, refl, sym, ap, ◌∙◌, subst, inl, inr, append_assoc}
+use Rattle.std.proofs.Common.{◌≡◌, ℕ, ◌+◌, Bool, true, false, cond, List, [], ◌∷◌, ◌++◌, length, drop, refl, sym, ap, ◌∙◌, subst, inl, inr, append_assoc, arith}
 use Rattle.std.specs.Prelude.{not, ◌&&◌, ◌||◌, ◌==◌}
 use Rattle.std.specs.List.{list_all}
+use Rattle.std.proofs.lemmas.Bool.Decides.{nat_tests}
 use Rattle.std.proofs.lemmas.List.{append-nil, drop_at}
 use Rattle.std.proofs.lemmas.List.Elements.{filter-append}
 use Rattle.fwd_modes.specs.Requests.{Request}
-use Rattle.fwd_source.specs.declared.origin.Origin.{Origin}
+use Rattle.fwd_modes.specs.declared.origin.Origin.{Origin}
 use Rattle.fwd_chunks.specs.declared.span.Span.{Span}
 use Rattle.fwd_chunks.specs.Cells.{Cell, entries_of, cells_at, has_number, is_carried}
 use Rattle.fwd_chunks.specs.History.{BufferHistory, joins, adds, adds_all, looks, enters, before_runs, runs_after, spans_of}
@@ -208,6 +209,22 @@ spans-unacked h origin r now own =
     ap (list_all (λ s. not (has_number s.number h.acknowledged))) (spans-runs h origin r now)
     ∙ runs-all (λ k. not (has_number k h.acknowledged)) h.cells (news h origin r now)
     ∙ news-unacked h origin r now own
+
+-- where each number of cells has what a number may have, they have it
+all_numbers : (p : ℕ → Bool) (cells : List Cell) → ((k : ℕ) → has_cell k cells ≡ true → p k ≡ true)
+    → list_all (λ c. p c.number) cells ≡ true
+all_numbers p [] all = refl
+all_numbers p (c ∷ cells) all =
+    let here : p c.number ≡ true = all c.number (grind (arith, nat_tests)) in
+    λ i. here i && all_numbers p cells (λ k has. all k (grind (arith, nat_tests, has))) i
+
+-- where its cells have what a number may have, its runs have it
+pub spans-need : (p : ℕ → Bool) (h : BufferHistory) (origin : Origin) (r : Request) (now : ℕ)
+    → ((k : ℕ) → has_cell k (news h origin r now) ≡ true → p k ≡ true)
+    → list_all (λ s. p s.number) (spans_of h origin r now) ≡ true
+spans-need p h origin r now all =
+    ap (list_all (λ s. p s.number)) (spans-runs h origin r now) ∙ runs-all p h.cells (news h origin r now)
+    ∙ all_numbers p (news h origin r now) all
 
 -- where its runs have what a number may have, its cells have it
 pub spans-give : (p : ℕ → Bool) (h : BufferHistory) (origin : Origin) (r : Request) (now k : ℕ)

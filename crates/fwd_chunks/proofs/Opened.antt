@@ -51,7 +51,7 @@ all-kept P Q p (x ∷ xs) h all = by (all-kept P Q p xs h all.1) (p x) refl
 one_number : {m n : ℕ} → Some m ≡ Some n → m ≡ n
 one_number e = cc
 
-no_number : {n : ℕ} → None ≡ Some n → ⊥
+pub no_number : {n : ℕ} → None ≡ Some n → ⊥
 no_number e = cc
 
 -- no later chunk has the number
@@ -81,7 +81,7 @@ found-same p (x ∷ xs) e h f = by (p x) refl (found-same p xs e h.1)
         ap (λ d. cond d (Some x) (find (is_at e.number) xs)) apart ∙ rest later
 
 -- an open chunk of the tag has the tag's number
-open-number : (numbers : List (List ℕ × ℕ)) (tag : List ℕ) (d : Chunk) → HasNumber numbers d
+pub open-number : (numbers : List (List ℕ × ℕ)) (tag : List ℕ) (d : Chunk) → HasNumber numbers d
     → is_open_of tag d ≡ true → tag_number tag numbers ≡ Some d.number
 open-number numbers tag d has t =
     let parts = and_parts (is_open d.stage) (bytes_eq d.tag tag) t in
@@ -157,10 +157,10 @@ newest-kept numbers after xs kept all = all-with (HasNumber numbers) (HasNumber 
 -- ---- a request's entries
 
 -- the new chunks: all of the tag, and the one that is open has the last number
-abbrev IsFresh : List ℕ → ℕ → Chunk → Type 0
+abbrev pub IsFresh : List ℕ → ℕ → Chunk → Type 0
 IsFresh tag n c = (c.tag ≡ tag) × (is_open c.stage ≡ true → c.number ≡ n)
 
-fresh-all : (limit : ℕ) (tag : List ℕ) (since n : ℕ) (current entries : List (List ℕ)) (last : ℕ)
+pub fresh-all : (limit : ℕ) (tag : List ℕ) (since n : ℕ) (current entries : List (List ℕ)) (last : ℕ)
     → last ≡ n + extra limit (size_of current) entries
     → AllByRecursion (IsFresh tag last) (fresh_from limit tag since n current entries)
 fresh-all limit tag since n current [] last e = ((refl, λ now. omega arith), tt)
@@ -185,7 +185,7 @@ fresh-all limit tag since n current (x ∷ entries) last e =
         let alone : length x ≡ length x + 0 = omega arith in
         ((refl, λ now. absurd (true_false false now refl)), two (omega (arith, f, ap (λ k. extra limit k entries) alone)))
 
-fresh-open : (limit : ℕ) (tag : List ℕ) (since n : ℕ) (current entries : List (List ℕ))
+pub fresh-open : (limit : ℕ) (tag : List ℕ) (since n : ℕ) (current entries : List (List ℕ))
     → (d : Chunk) ×
     (find (λ c. is_open c.stage) (fresh_from limit tag since n current entries) ≡ Some d)
 fresh-open limit tag since n current [] = (open_chunk tag since n current, refl)
@@ -209,7 +209,7 @@ fresh-open limit tag since n current (x ∷ entries) = by (fresh-open limit tag 
     by one two false = two
 
 -- chunks in order are before one that is found behind them
-before-found : (q : Chunk → Bool) (xs ys : List Chunk) (d : Chunk) → AreInOrder (xs ++ ys)
+pub before-found : (q : Chunk → Bool) (xs ys : List Chunk) (d : Chunk) → AreInOrder (xs ++ ys)
     → find q ys ≡ Some d → AllByRecursion (λ c. IsBefore c d) xs
 before-found q [] ys d h e = tt
 before-found q (x ∷ xs) ys d h e = (found-all (IsBefore x) q ys d e (all-right (IsBefore x) xs ys h.0), before-found q xs ys d h.1 e)

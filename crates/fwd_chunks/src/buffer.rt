@@ -56,7 +56,6 @@ ghost use Rattle.fwd_chunks.specs.Plans.{IsPlan};
 
 use crate::carried::Carried;
 use crate::chunk::Chunk;
-use crate::counts::Counts;
 use crate::entering;
 use crate::fault::AdmitError;
 use crate::flush::FlushKind;
@@ -68,9 +67,9 @@ use crate::span::Span;
 use crate::stage::Stage;
 use crate::tags::Tags;
 use fwd_base::Seq;
-use fwd_modes::{Batch, TAG_LIMIT, chunk_name};
+use fwd_counts::Counts;
+use fwd_modes::{Batch, Origin, TAG_LIMIT, chunk_name};
 use fwd_retry::Retry;
-use fwd_source::Origin;
 use std::alloc::{AllocError, Global};
 use std::marker::Model;
 

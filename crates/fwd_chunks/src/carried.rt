@@ -112,9 +112,8 @@ impl Carried {
             && self.name == *name
     }
 
-    /// The chunk is no more, and its buffer does not learn of it: for what ends together with its
-    /// buffer. Where the buffer goes on, the chunk is settled or given back.
-    pub fn spend(self) {
+    /// The chunk is no more: its buffer settled it or has it back, or another one was handed it.
+    pub(crate) fn spend(self) {
         let Carried {
             number: _,
             tag: _,

@@ -16,6 +16,7 @@ ghost use Rattle.std.specs.Prelude.{
   None,
   Some,
   IfOk,
+  IsOk,
   OnOk,
   OnErr,
   option_to_list,
@@ -168,6 +169,9 @@ pub(crate) fn fill(
           (stage_last (length fresh.items == 0)) slots.old.chunks;
     }) fresh.items) }
     ensures err { OnErr result (slots.new ≡ slots.old) }
+
+    // Where no entry goes to a chunk that is there, no memory is taken.
+    ensures sure { joins ≡ None → IsOk result }
 {
     if let Some(number) = joins {
         slots.join(number, front, fresh.is_empty())?;

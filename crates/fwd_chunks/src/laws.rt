@@ -18,7 +18,7 @@ ghost use Rattle.std.specs.Prelude.{
   if◌then◌else◌,
 };
 ghost use Rattle.fwd_modes.specs.Requests.{Request};
-ghost use Rattle.fwd_source.specs.declared.origin.Origin.{Origin};
+ghost use Rattle.fwd_modes.specs.declared.origin.Origin.{Origin};
 ghost use Rattle.fwd_chunks.specs.declared.chunk.Chunk.{Chunk};
 ghost use Rattle.fwd_chunks.specs.declared.flush.FlushKind.{FlushKind};
 ghost use Rattle.fwd_chunks.specs.Cells.{is_carried};

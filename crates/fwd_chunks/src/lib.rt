@@ -7,7 +7,6 @@ mod body;
 mod buffer;
 mod carried;
 mod chunk;
-mod counts;
 mod earliest;
 mod entering;
 mod fault;
@@ -27,9 +26,9 @@ mod tags;
 pub use body::Body;
 pub use buffer::Buffer;
 pub use carried::Carried;
-pub use counts::Counts;
 pub use fault::AdmitError;
 pub use flush::FlushKind;
+pub use fwd_counts::Counts;
 pub use laws::{
     given_is_least, held_stays, live_answers, live_follows, live_given_is_least, numbers_rise,
     reached_is_sound, spans_are_held,

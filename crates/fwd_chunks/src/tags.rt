@@ -3,6 +3,7 @@
 ghost use Rattle.std.specs.Prelude.{
   ◌≡◌,
   ◌≢◌,
+  ◌⊎◌,
   ℕ,
   List,
   [],
@@ -88,7 +89,8 @@ impl Tags {
         self.numbers.swap_remove(tag);
     }
 
-    /// The tag will have the number, if there is one. On an error it has what it had.
+    /// The tag has a number: the one that it had, or else this one, if there is one. On an error
+    /// nothing has changed.
     pub(crate) fn prepare(
         &mut self,
         alloc: Global,
@@ -98,6 +100,10 @@ impl Tags {
         ensures kept { (t : List ℕ) (n : ℕ) → tag_number t self.old ≡ Some n
             → tag_number t self.new ≡ Some n }
         ensures ok { OnOk result (IfSome number (λ n. IsSome (tag_number tag.now self.new))) }
+        ensures only { (t : List ℕ) (n : ℕ) → tag_number t self.new ≡ Some n
+            → (tag_number t self.old ≡ Some n) ⊎ ((tag.now ≡ t) × (number ≡ Some n)) }
+        ensures same { IsSome (tag_number tag.now self.old) → self.new ≡ self.old }
+        ensures err { OnErr result (self.new ≡ self.old) }
     {
         if let Some(number) = number
             && self.get(tag).is_none()
@@ -121,8 +127,11 @@ impl Tags {
 
     /// The tag has no number where it had this one.
     pub(crate) fn forget(&mut self, tag: &[u8], number: u64)
-        ensures { (t : List ℕ) (n : ℕ) → n ≢ number → tag_number t self.old ≡ Some n
+        ensures kept { (t : List ℕ) (n : ℕ) → n ≢ number → tag_number t self.old ≡ Some n
             → tag_number t self.new ≡ Some n }
+        ensures only { (t : List ℕ) (n : ℕ) → tag_number t self.new ≡ Some n
+            → tag_number t self.old ≡ Some n }
+        ensures gone { tag_number tag.now self.new ≢ Some number }
     {
         if self.get(tag) == Some(number) {
             self.remove(tag);

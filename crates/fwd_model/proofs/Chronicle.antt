@@ -5,17 +5,18 @@ pub mod Ends
 pub mod Admits
 pub mod Steps
 use Rattle.std.proofs.Common.{◌≡◌, ℕ, ◌+◌, ◌≤◌, Bool, true, false, eqb, List, [], ◌∷◌, ◌++◌, Option, Some, refl, sym, ap, subst, ◌∙◌, inl, inr, arith}
-use Rattle.std.specs.Prelude.{◌⊎◌, is_some, ◌&&◌, ◌==◌, slice_get, slice_set}
+use Rattle.std.specs.Prelude.{◌⊎◌, ◌<◌, is_some, map, ◌&&◌, ◌==◌, slice_get, slice_set}
 use Rattle.std.specs.List.{list_all, list_any}
 use Rattle.std.proofs.lemmas.Bool.Decides.{nat_tests}
 use Rattle.std.proofs.lemmas.List.{append_assoc, append-nil}
 use Rattle.fwd_modes.specs.Requests.{Request}
+use Rattle.fwd_modes.specs.declared.origin.Origin.{Origin}
 use Rattle.fwd_modes.specs.Frames.{chunk_frame, chunk_name}
 use Rattle.fwd_chunks.specs.Cells.{Cell, cells_at, contents, entries_of, first_tag, has_number}
 use Rattle.fwd_chunks.specs.History.{BufferHistory, Load, load_of}
 use Rattle.fwd_chunks.proofs.CellLemmas.{has_cell}
 use Rattle.fwd_chunks.proofs.News.{AreOf}
-use Rattle.fwd_book.specs.History.{Entered, Admission}
+use Rattle.fwd_book.specs.History.{Entered, Admission, Fate, becomes}
 use Rattle.fwd_model.specs.declared.config.Config.{Config}
 use Rattle.fwd_model.specs.declared.event.Event.{Event}
 use Rattle.fwd_model.specs.declared.event.Event.TheVariants as event
@@ -235,11 +236,58 @@ pub record RequestStory (routes : List (List (List ℕ))) (cs : List Connection)
   pub entries : entries_of mine ≡ request.entries
   pub tags : AreOf request.tag a.origin mine
   pub runs : (p : ℕ → Bool) (k : ℕ) → list_all (λ s. p s.number) a.spans ≡ true → has_cell k mine ≡ true → p k ≡ true
+  pub needs : (p : ℕ → Bool) → ((k : ℕ) → has_cell k mine ≡ true → p k ≡ true) → list_all (λ s. p s.number) a.spans ≡ true
 
 abbrev pub AllTold : List (List (List ℕ)) → List Connection → ℕ → List Cell
     → List Admission → Type 0
 AllTold routes cs o cells [] = Unit {0}
 AllTold routes cs o cells (a ∷ admissions) = RequestStory routes cs o cells a.request × AllTold routes cs o cells admissions
+
+-- each of these requests of the connection has a greater number
+abbrev pub AllAfter : Origin → List Admission → Type 0
+AllAfter origin [] = Unit {0}
+AllAfter origin (a ∷ admissions) = (a.request.origin.conn ≡ origin.conn → origin.request < a.request.origin.request) × AllAfter origin admissions
+
+-- each of these requests of the connection has a smaller number
+abbrev pub AllBefore : Origin → List Admission → Type 0
+AllBefore origin [] = Unit {0}
+AllBefore origin (a ∷ admissions) = (a.request.origin.conn ≡ origin.conn → a.request.origin.request < origin.request) × AllBefore origin admissions
+
+-- a connection's requests were entered by rising number
+abbrev pub AreNumbered : List Admission → Type 0
+AreNumbered [] = Unit {0}
+AreNumbered (a ∷ admissions) = AllAfter a.request.origin admissions × AreNumbered admissions
+
+after-push-one : (origin : Origin) (admissions : List Admission) (a : Admission)
+    → AllAfter origin admissions
+    → (a.request.origin.conn ≡ origin.conn → origin.request < a.request.origin.request)
+    → AllAfter origin (admissions ++ a ∷ [])
+after-push-one origin [] a all one = (one, tt)
+after-push-one origin (b ∷ admissions) a all one = (all.0, after-push-one origin admissions a all.1 one)
+
+pub numbered-push : (admissions : List Admission) (a : Admission) → AreNumbered admissions
+    → AllBefore a.request.origin admissions → AreNumbered (admissions ++ a ∷ [])
+numbered-push [] a own before = (tt, tt)
+numbered-push (b ∷ admissions) a own before = (after-push-one b.request.origin admissions a own.0 (λ same. before.0 (sym same)), numbered-push admissions a own.1 before.1)
+
+-- what becomes of requests leaves their numbers
+after-becomes : (fate : Fate) (p : Admission → Bool) (origin : Origin) (admissions : List Admission)
+    → AllAfter origin admissions → AllAfter origin (map (λ a. becomes fate (p a) a) admissions)
+after-becomes fate p origin [] all = tt
+after-becomes fate p origin (a ∷ admissions) all = (one (p a), after-becomes fate p origin admissions all.1)
+  where
+    one : (b : Bool) → (becomes fate b a).request.origin.conn ≡ origin.conn → origin.request < (becomes fate b a).request.origin.request
+    one true = all.0
+    one false = all.0
+
+pub numbered-becomes : (fate : Fate) (p : Admission → Bool) (admissions : List Admission)
+    → AreNumbered admissions → AreNumbered (map (λ a. becomes fate (p a) a) admissions)
+numbered-becomes fate p [] own = tt
+numbered-becomes fate p (a ∷ admissions) own = (one (p a), numbered-becomes fate p admissions own.1)
+  where
+    one : (b : Bool) → AllAfter (becomes fate b a).request.origin (map (λ x. becomes fate (p x) x) admissions)
+    one true = after-becomes fate p a.request.origin admissions own.0
+    one false = after-becomes fate p a.request.origin admissions own.0
 
 -- ---- outputs
 
@@ -248,6 +296,7 @@ pub record LaneStory (config : Config) (es : List Event) (cs : List Connection) 
   pub numbers : (k : ℕ) → has_number k l.output.buffer.acknowledged ≡ true → NumberStory config es o l.output.buffer.cells k
   pub own : (id r : ℕ) → has_origin id r l.output.buffer.cells ≡ true → Admitted cs id r
   pub requests : AllTold config.routes cs o l.output.buffer.cells l.output.book.admissions
+  pub numbered : AreNumbered l.output.book.admissions
   pub named : IsNamed config o l.output.buffer
 
 pub record Story (config : Config) (es : List Event) (h : History) : Type 0 where
@@ -339,6 +388,7 @@ request_still routes cs ds o cells a ext t =
       entries = t.entries;
       tags = t.tags;
       runs = t.runs;
+      needs = t.needs;
     }
 
 pub all_still : (routes : List (List (List ℕ))) (cs ds : List Connection) (o : ℕ)
@@ -355,6 +405,7 @@ lane_still config es e cs ds o l ext quiet t = record {
   numbers = λ k h. number_still config es e o l.output.buffer.cells k (t.numbers k h);
   own = λ id r h. admitted_still cs ds id r ext (t.own id r h);
   requests = all_still config.routes cs ds o l.output.buffer.cells l.output.book.admissions ext t.requests;
+  numbered = t.numbered;
   named = t.named;
 }
 

@@ -11,7 +11,7 @@ use Rattle.fwd_chunks.specs.Cells as cells
 use Rattle.fwd_chunks.proofs.CellLemmas.{has_cell, numbers-has}
 use Rattle.fwd_chunks.proofs.News.{AreOf}
 use Rattle.fwd_book.specs.History.{Entered, Admission, evidence_of, is_settled, is_of, is_untold, is_owed_to, is_due}
-use Rattle.fwd_source.specs.declared.origin.Origin.{Origin}
+use Rattle.fwd_modes.specs.declared.origin.Origin.{Origin}
 use Rattle.fwd_model.specs.declared.config.Config.{Config}
 use Rattle.fwd_model.specs.declared.event.Event.{Event}
 use Rattle.fwd_model.specs.declared.answer.Answer.TheVariants as answer
@@ -47,6 +47,7 @@ new_lane_story config cs o c = record {
   numbers = λ k h. absurd cc;
   own = λ id r h. absurd cc;
   requests = tt;
+  numbered = tt;
   named = (refl, refl);
 }
 

@@ -14,7 +14,7 @@ use Rattle.std.proofs.lemmas.Bool.Decides.{nat_tests}
 use Rattle.std.specs.Prelude.{map, option_map, is_some, not, ◌&&◌, nat_lt, slice_get, replicate}
 use Rattle.fwd_modes.specs.Requests.{Request}
 use Rattle.fwd_match.specs.Patterns.{route}
-use Rattle.fwd_source.specs.declared.origin.Origin.{Origin}
+use Rattle.fwd_modes.specs.declared.origin.Origin.{Origin}
 use Rattle.fwd_source.specs.declared.fault.SourceFault.{SourceFault}
 use Rattle.fwd_source.specs.declared.piece.Piece.TheVariants as verdict
 use Rattle.fwd_source.specs.History.{Setup, SourceHistory, IsSane as IsSaneSource, judged, is_closed, waiting, hears, told, new_pong}
@@ -72,7 +72,7 @@ module _ (h : History) (sane : IsSane h) where
   own_lane : (o : ℕ) (l : Lane) → slice_get h.lanes o ≡ Some l → IsSaneLane l
   own_lane o l e = AllSane-at h.lanes o l sane.lanes e
 
-  live_source_here : (id : ℕ)
+  pub live_source_here : (id : ℕ)
       → live_source_at id (live h).connections ≡ option_map live_source (source_at id h.connections)
   unfolding live
   live_source_here id = source_at-live id h.connections sane.once

@@ -1,7 +1,7 @@
 -- To be read in this order. Agree, Onward and Places are of outcomes, and of places in lists.
 -- Settling, Settled and Reached say what holds of each history that a run reaches; Follows that the
 -- live part follows it, at each event and over a run; Chronicle what the events so far did, and
--- Deliver that whoever is told was delivered. The rest stand by themselves: WayBack and Marks on
+-- Deliver that whoever is told was delivered. The rest stand by themselves: WayBack, Telling and Marks on
 -- what is told, Standing on sessions that have begun, Refusals on what is refused, Orders on events that may come in either order, and
 -- Examples with the relay at work.
 pub mod Agree
@@ -14,6 +14,8 @@ pub mod Follows
 pub mod Chronicle
 pub mod Deliver
 pub mod WayBack
+pub mod Telling
+pub mod Waiting
 pub mod Marks
 pub mod Standing
 pub mod Refusals

@@ -19,7 +19,7 @@ use Rattle.fwd_match.specs.Patterns.{route}
 use Rattle.fwd_source.specs.History as source
 use Rattle.fwd_source.specs.History.{SourceHistory}
 use Rattle.fwd_model.specs.declared.fault.Refusal.TheVariants.{NoSuch, NotNow}
-use Rattle.fwd_source.specs.declared.origin.Origin.{Origin}
+use Rattle.fwd_modes.specs.declared.origin.Origin.{Origin}
 use Rattle.fwd_model.specs.Outcome.{Outcome, Stays, Goes, state_of, chunk_answer}
 use Rattle.fwd_model.specs.Layers.{Worker}
 use Rattle.fwd_model.specs.Step as steps

@@ -37,6 +37,7 @@ use Rattle.fwd_model.specs.declared.answer.Answer.{Answer}
 use Rattle.fwd_model.specs.Outcome.{answer_of}
 use Rattle.fwd_model.specs.Step.{step, after}
 use Rattle.fwd_session.specs.History.{SessionHistory, newly_heard}
+use Rattle.fwd_book.specs.History.{Untold, Admission}
 use Rattle.fwd_model.specs.declared.event.EndKind.{EndKind}
 use Rattle.fwd_model.specs.History.{source_at, Lane, History, opening, histories}
 
@@ -170,6 +171,19 @@ pub record IsDelivered (config : Config) (es : List Event) (id r o : ℕ) : Type
       → has_number k (cells.numbers_of (cells_from id r lane.output.buffer.cells)) ≡ true →
       (w : ℕ) × WasAcknowledged config es o w
       (whole_frame config o request.tag lane.output.buffer.cells k) (chunk_name config.run o k)
+
+-- A connection's request is due at an output: the output entered it, nothing became of it yet, and
+-- each number that its entries have is acknowledged.
+pub record IsDueAt (l : Lane) (id r : ℕ) : Type 0 where
+  pub place : ℕ
+  pub admission : Admission
+  pub here : slice_get l.output.book.admissions place ≡ Some admission
+  pub conn : admission.request.origin.conn ≡ id
+  pub number : admission.request.origin.request ≡ r
+  pub untold : admission.fate ≡ Untold
+  pub settled : (k : ℕ)
+      → has_number k (cells.numbers_of (cells_from id r l.output.buffer.cells)) ≡ true
+      → has_number k l.output.buffer.acknowledged ≡ true
 
 -- among the events, the connection was told that the request's entries were all acknowledged
 pub record IsTold (config : Config) (es : List Event) (id r o : ℕ) : Type 0 where

@@ -31,7 +31,7 @@ use Rattle.fwd_source.specs.Layer.{source_histories}
 use Rattle.fwd_model.specs.declared.config.Config.{Config}
 use Rattle.fwd_model.specs.declared.config.OutputConfig.{OutputConfig}
 use Rattle.fwd_model.specs.declared.event.Event.{Event}
-use Rattle.fwd_chunks.specs.declared.counts.Counts.{Counts}
+use Rattle.fwd_counts.specs.declared.counts.Counts.{Counts}
 use Rattle.fwd_chunks.specs.History as buffer
 use Rattle.fwd_chunks.specs.History.{BufferHistory, load_of, looks}
 use Rattle.fwd_session.specs.History.{SessionHistory, unloads}

@@ -3,7 +3,7 @@
 use Rattle.std.specs.Prelude.{ℕ, Bool, List, Option}
 use Rattle.fwd_handshake.specs.declared.credentials.Security.{Security}
 use Rattle.fwd_modes.specs.Requests.{Request}
-use Rattle.fwd_source.specs.declared.origin.Origin.{Origin}
+use Rattle.fwd_modes.specs.declared.origin.Origin.{Origin}
 use Rattle.fwd_source.specs.History.{Setup}
 use Rattle.fwd_source.specs.Layer.{Sources}
 use Rattle.fwd_chunks.specs.declared.fault.AdmitError.{AdmitError}

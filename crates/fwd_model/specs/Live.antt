@@ -28,7 +28,7 @@ use Rattle.fwd_source.specs.History.{Setup}
 use Rattle.fwd_source.specs.Live.{LiveSource, live_source, opened_source}
 use Rattle.fwd_source.specs.Layer.{live_sources}
 use Rattle.fwd_model.specs.declared.config.OutputConfig.{OutputConfig}
-use Rattle.fwd_chunks.specs.declared.counts.Counts.{Counts}
+use Rattle.fwd_counts.specs.declared.counts.Counts.{Counts}
 use Rattle.fwd_chunks.specs.History.{Load}
 use Rattle.fwd_chunks.specs.Live as buffer
 use Rattle.fwd_chunks.specs.Live.{

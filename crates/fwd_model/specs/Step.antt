@@ -25,7 +25,7 @@ use Rattle.std.specs.Prelude.{
 }
 use Rattle.fwd_modes.specs.Requests.{Request}
 use Rattle.fwd_match.specs.Patterns.{route}
-use Rattle.fwd_source.specs.declared.origin.Origin.{Origin}
+use Rattle.fwd_modes.specs.declared.origin.Origin.{Origin}
 use Rattle.fwd_source.specs.History.{Setup, opening_text}
 use Rattle.fwd_model.specs.declared.event.Event.{Event}
 use Rattle.fwd_model.specs.declared.event.Event.TheVariants as event

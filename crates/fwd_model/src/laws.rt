@@ -5,16 +5,19 @@ ghost use Rattle.std.specs.Prelude.{
   ◌++◌,
   ◌∷◌,
   ◌&&◌,
+  ◌+◌,
   ℕ,
   List,
   [],
   Some,
+  None,
   true,
   false,
   is_some,
   slice_get,
 };
 ghost use Rattle.fwd_source.specs.History.{SourceHistory};
+ghost use Rattle.fwd_source.specs.Live.{LiveSource};
 ghost use Rattle.fwd_model.specs.declared.answer.Answer.TheVariants as answer;
 ghost use Rattle.fwd_model.specs.declared.config.Config.{Config};
 ghost use Rattle.fwd_model.specs.declared.event.Event.{Event};
@@ -23,22 +26,32 @@ ghost use Rattle.fwd_model.specs.declared.fault.Refusal.TheVariants.{NotNow};
 ghost use Rattle.fwd_model.specs.Outcome.{answer_of, state_of, within, is_refusal};
 ghost use Rattle.fwd_model.specs.Step.{step, answers, after};
 ghost use Rattle.fwd_chunks.specs.Cells.{has_number};
+ghost use Rattle.fwd_chunks.specs.Spans.{AreRising};
 ghost use Rattle.fwd_model.specs.Outputs.{count_at};
-ghost use Rattle.fwd_book.specs.History.{Untold, Told, Admission};
+ghost use Rattle.fwd_book.specs.History.{Untold, Told, Admission, request_at, untold};
 ghost use Rattle.fwd_chunks.specs.History.{Load};
 ghost use Rattle.fwd_session.specs.declared.fault.SessionFault.{SessionFault};
 ghost use Rattle.fwd_session.specs.History.{SessionHistory, is_handed_on, says};
 ghost use Rattle.fwd_model.specs.History.{History, Lane, histories, source_at, counts, IsReached};
 ghost use Rattle.fwd_model.specs.Names.{Commute, are_unrelated, is_accept};
 ghost use Rattle.fwd_model.specs.Delivered.{
+  IsDueAt,
   IsTold,
   IsToldAmong,
   IsDelivered,
+  answered,
   HasBegun,
   NoneBegan,
   reached,
 };
-ghost use Rattle.fwd_model.specs.Live.{LiveRelay, live, lives, live_relay_counts};
+ghost use Rattle.fwd_model.specs.Live.{
+  LiveLane,
+  LiveRelay,
+  live,
+  lives,
+  live_relay_counts,
+  live_source_at,
+};
 
 /// The live part is enough: from a history that a run reaches, what an event comes to, seen in
 /// its live part, is what it comes to at the history's live part.
@@ -87,6 +100,37 @@ pub fn marked_is_told()
         slice_get (reached config es).lanes o ≡ Some l
         → slice_get l.output.book.admissions i ≡ Some a → a.fate ≡ Told →
         IsTold config es a.request.origin.conn a.request.origin.request o }
+{}
+
+/// A collect tells its connection just the requests that are due at the output, by rising number:
+/// those that the output entered for it, of which nothing became yet, and whose entries are all
+/// acknowledged.
+pub fn collect_tells_what_is_due()
+    ensures told { (config : Config) (es : List Event) (id r o : ℕ) (numbers out : List ℕ)
+        (l : Lane) → slice_get (reached config es).lanes o ≡ Some l →
+        answered config es (event.Collect id o) ≡ answer.Told numbers out →
+        has_number r numbers ≡ true → IsDueAt l id r }
+    ensures all { (config : Config) (es : List Event) (id r o : ℕ) (numbers out : List ℕ)
+        (l : Lane) → slice_get (reached config es).lanes o ≡ Some l →
+        answered config es (event.Collect id o) ≡ answer.Told numbers out →
+        IsDueAt l id r → has_number r numbers ≡ true }
+    ensures rising { (config : Config) (es : List Event) (id o : ℕ) (numbers out : List ℕ)
+        (l : Lane) → slice_get (reached config es).lanes o ≡ Some l →
+        answered config es (event.Collect id o) ≡ answer.Told numbers out → AreRising numbers }
+{}
+
+/// The request that waits first at a connection was never entered before: no output owes an answer
+/// to a request of its connection and number.
+pub fn waiting_is_new()
+    ensures history { (config : Config) (h : History) (id o : ℕ) (s : SourceHistory) (l : Lane) →
+        IsReached config h → source_at id h.connections ≡ Some s → slice_get h.lanes o ≡ Some l →
+        request_at (untold l.output.book) (record { conn = id; request = s.admitted + 1 })
+        ≡ None }
+    ensures live { (config : Config) (h : History) (id o : ℕ) (s : LiveSource) (l : LiveLane) →
+        IsReached config h → live_source_at id (live h).connections ≡ Some s →
+        slice_get (live h).lanes o ≡ Some l →
+        request_at l.output.book.requests (record { conn = id; request = s.admitted + 1 })
+        ≡ None }
 {}
 
 /// A request without entries is told at the first collect of its connection.

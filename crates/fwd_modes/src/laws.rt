@@ -8,6 +8,8 @@ ghost use Rattle.fwd_msgpack.specs.Values.{IsValue};
 ghost use Rattle.fwd_modes.specs.Frames.{IsKept, chunk_frame, Frame, IsFrame};
 ghost use Rattle.fwd_modes.specs.Requests.{Request, Asks, request_of};
 
+use crate::limits::{CHUNK_LIMIT, TAG_LIMIT};
+
 /// A frame is one value, two containers deep.
 pub fn frame_is_value()
     ensures { (deep : ℕ) (frame : Frame) → IsFrame deep frame
@@ -48,4 +50,10 @@ pub fn only_its_frame()
 pub fn entries_are_kept()
     ensures { (deep : ℕ) (bytes : List ℕ) (r : Request) → deep ≤ most_deep → IsWhole bytes
         → request_of deep bytes ≡ Asks r → AllByRecursion (IsKept most_deep) r.entries }
+{}
+
+/// The limits of a request, in bytes.
+pub fn request_limits()
+    ensures tag { TAG_LIMIT ≡ 1024 }
+    ensures chunk { CHUNK_LIMIT ≡ 256 }
 {}

@@ -15,6 +15,7 @@ mod laws;
 mod limits;
 mod lists;
 mod options;
+mod origin;
 mod parts;
 mod request;
 mod time;
@@ -24,7 +25,11 @@ pub use batch::Batch;
 pub use entries::Entries;
 pub use fault::InputFault;
 pub use frame::{chunk_name, write_chunk};
-pub use laws::{entries_are_kept, frame_is_value, frame_reads_back, frames_differ, only_its_frame};
+pub use laws::{
+    entries_are_kept, frame_is_value, frame_reads_back, frames_differ, only_its_frame,
+    request_limits,
+};
 pub use limits::{CHUNK_LIMIT, TAG_LIMIT};
+pub use origin::Origin;
 pub use request::{Reading, read_request};
 pub use time::EventTime;

@@ -1,2 +1,4 @@
+pub mod HeadLemmas
+pub mod LineLemmas
 pub mod PageLemmas
 pub mod ReplyLemmas

@@ -21,7 +21,7 @@ use Rattle.std.proofs.Common.{
   append_assoc,
 }
 use Rattle.std.specs.List.{enumerate_from, flat_map}
-use Rattle.fwd_chunks.specs.declared.counts.Counts.{Counts}
+use Rattle.fwd_counts.specs.declared.counts.Counts.{Counts}
 use Rattle.fwd_monitor.specs.Page.{line_of, page_of}
 
 -- the lines from a place on

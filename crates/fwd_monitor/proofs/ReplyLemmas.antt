@@ -1,34 +1,13 @@
 -- The bytes of a monitor come to one reply.
-use Rattle.std.proofs.Common.{
-  ◌≡◌,
-  ℕ,
-  ◌<◌,
-  inl,
-  inr,
-  List,
-  [],
-  ◌++◌,
-  length,
-  refl,
-  sym,
-  ap,
-  subst,
-  ◌∙◌,
-  arith,
-}
-use Rattle.httparse.specs.Grammar.{RequestHead, ReadsRequest, NeverHasRequest}
-use Rattle.httparse.specs.Spans.{RequestOverflows}
-use Rattle.httparse.proofs.GrammarLemmas.{
-  request_unique,
-  request_prefix_free,
-  ReadsRequest-append,
-}
-use Rattle.fwd_chunks.specs.declared.counts.Counts.{Counts}
-use Rattle.fwd_monitor.specs.declared.limits.TheConstants.{MAX_HEADERS}
+use Rattle.std.proofs.Common.{◌≡◌, ℕ, inl, inr, List, [], ◌++◌, refl, sym, ap, ◌∙◌, arith}
+use Rattle.httparse.specs.Grammar.{RequestHead}
+use Rattle.httparse.proofs.GrammarLemmas.{request_unique, ReadsRequest-append}
+use Rattle.fwd_counts.specs.declared.counts.Counts.{Counts}
 use Rattle.fwd_monitor.specs.declared.reply.Reply.{Reply}
 use Rattle.fwd_monitor.specs.declared.reply.Reply.TheVariants.{More, Bytes}
-use Rattle.fwd_monitor.specs.Requests.{BeginsWith, IsBad, IsDue, MustWait}
+use Rattle.fwd_monitor.specs.Requests.{BeginsWith, HasManyLines, IsBad, IsDue, MustWait}
 use Rattle.fwd_monitor.specs.Replies.{IsReplyTo, IsDueText, HasReason, bad_request, reply_to}
+use Rattle.fwd_monitor.proofs.HeadLemmas.{many-fields, many-more, whole-many}
 
 -- the bytes begin with one head
 begins-one : (heard : List ℕ) (h k : RequestHead)
@@ -36,43 +15,30 @@ begins-one : (heard : List ℕ) (h k : RequestHead)
 begins-one heard h k x y =
     (request_unique heard h k x.whole.0 y.whole.0 x.whole.1 y.whole.1).0
 
--- a whole head of few headers does not overflow
-few-fits : (heard : List ℕ) (h : RequestHead)
-    → BeginsWith heard h → RequestOverflows MAX_HEADERS heard → ⊥
-few-fits heard h x over =
-    let few = x.few in
-    let many = over [] h (x.whole.0 ++ []) (ReadsRequest-append heard h x.whole.0 [] x.whole.1) in
-    omega (arith, few, many)
-
 -- a whole head of few headers is not bad
 pub begins-good : (heard : List ℕ) (h : RequestHead) → BeginsWith heard h → IsBad heard → ⊥
-begins-good heard h x bad =
-    elim bad [
-      | inl over ↦ few-fits heard h x over
-      | inr long ↦ long.unfinished h x.whole.0 x.whole.1
-    ]
+begins-good heard h x (inl never) =
+    never [] h (x.whole.0 ++ []) (ReadsRequest-append heard h x.whole.0 [] x.whole.1)
+begins-good heard h x (inr (inl over)) =
+    let few = x.few in
+    let many = many-fields heard h x.whole.0 x.whole.1 over in
+    omega (arith, few, many)
+begins-good heard h x (inr (inr long)) = long.unfinished h x.whole.0 x.whole.1
 
--- a head of too many headers overflows, whatever follows
-crowded-bad : (heard : List ℕ) (h : RequestHead) (rest : List ℕ)
-    → ReadsRequest heard h rest → MAX_HEADERS < length h.fields → IsBad heard
-crowded-bad heard h rest x many =
-    inl (λ more k q y.
-    let same = (request_prefix_free heard more h k rest q x y).0 in
-    subst (λ (v : RequestHead). MAX_HEADERS < length v.fields) same many)
-
--- bytes that nothing makes a head overflow
-never-bad : (heard : List ℕ) → NeverHasRequest heard → IsBad heard
-never-bad heard never = inl (λ more k q y. absurd (never more k q y))
+-- where bytes can follow that make a head of few headers, there are few header lines
+pub begun-few : (heard more : List ℕ) (h : RequestHead)
+    → BeginsWith (heard ++ more) h → HasManyLines heard → ⊥
+begun-few heard more h x over =
+    begins-good (heard ++ more) h x (inr (inl (many-more heard more over)))
 
 -- no reply is due to bytes that must wait
 pub must-none : (heard : List ℕ) → MustWait heard → IsDue heard → ⊥
 must-none heard must (inl (h, x)) = must.unfinished h x.whole.0 x.whole.1
-must-none heard must (inr (inl over)) =
+must-none heard must (inr (inl never)) =
     let next = must.hopeful in
-    let few = next.2.few in
-    let many = over next.0 next.1 next.2.whole.0 next.2.whole.1 in
-    omega (arith, few, many)
-must-none heard must (inr (inr long)) =
+    never next.0 next.1 next.2 next.3
+must-none heard must (inr (inr (inl over))) = must.few over
+must-none heard must (inr (inr (inr long))) =
     let short = must.short in
     let least = long.long in
     omega (arith, short, least)
@@ -109,6 +75,7 @@ pub reason-reply : (heard : List ℕ) (counts : List Counts) (reply : Reply)
 reason-reply heard counts More may = record {
   whole = λ h x. may.unfinished h x.whole.0 x.whole.1;
   crowded = λ h rest x many. may.unfinished h rest x;
+  overfull = λ many. may.few many;
   hopeless = λ never outside.
       elim may.hopeful [ inl next ↦ never next.0 next.1 [] next.2 | inr target ↦ outside target ];
   long = λ long. let short = may.short in let least = long.long in omega (arith, short, least);
@@ -116,8 +83,10 @@ reason-reply heard counts More may = record {
 }
 reason-reply heard counts (Bytes out) due = record {
   whole = λ h x. due-whole heard counts out.items h due x;
-  crowded = λ h rest x many. due-bad heard counts out.items due (crowded-bad heard h rest x many);
-  hopeless = λ never outside. due-bad heard counts out.items due (never-bad heard never);
-  long = λ long. due-bad heard counts out.items due (inr long);
+  crowded = λ h rest x many.
+      due-bad heard counts out.items due (inr (inl (whole-many heard h rest x many)));
+  overfull = λ many. due-bad heard counts out.items due (inr (inl many));
+  hopeless = λ never outside. due-bad heard counts out.items due (inl never);
+  long = λ long. due-bad heard counts out.items due (inr (inr long));
   waits = λ must. absurd (must-none heard must (due-any heard counts out.items due));
 }

@@ -1,5 +1,6 @@
 -- To be believed: Page, Replies and Requests. The public calls and laws speak of them.
--- Statuses only describes how the code judges a head before it writes the reply.
+-- Lines and Statuses only describe how the code judges a head before it writes the reply.
+pub mod Lines
 pub mod Page
 pub mod Replies
 pub mod Requests

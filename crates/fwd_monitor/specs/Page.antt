@@ -3,7 +3,7 @@ use Rattle.std.specs.Prelude.{ℕ, List, [], ◌∷◌, ◌++◌, codes}
 use Rattle.std.specs.List.{enumerate_from, flat_map, join_with_byte}
 use Rattle.std.specs.Fmt.{decimal}
 use Rattle.httparse.specs.Ascii.{line_feed, space}
-use Rattle.fwd_chunks.specs.declared.counts.Counts.{Counts}
+use Rattle.fwd_counts.specs.declared.counts.Counts.{Counts}
 
 -- an output's number and its counts in decimal, each behind its name
 abbrev pub line_words : ℕ → Counts → List (List ℕ)

@@ -15,7 +15,7 @@ use Rattle.std.specs.Prelude.{
 use Rattle.std.specs.Fmt.{decimal}
 use Rattle.httparse.specs.Ascii.{crlf_bytes}
 use Rattle.httparse.specs.Grammar.{RequestHead, ReadsRequest, NeverHasRequest, EndsInTarget}
-use Rattle.fwd_chunks.specs.declared.counts.Counts.{Counts}
+use Rattle.fwd_counts.specs.declared.counts.Counts.{Counts}
 use Rattle.fwd_monitor.specs.declared.limits.TheConstants.{MAX_HEADERS}
 use Rattle.fwd_monitor.specs.declared.reply.Reply.{Reply}
 use Rattle.fwd_monitor.specs.declared.reply.Reply.TheVariants.{More, Bytes}
@@ -24,6 +24,7 @@ use Rattle.fwd_monitor.specs.Requests.{
   is_for_page,
   BeginsWith,
   IsTooLong,
+  HasManyLines,
   IsBad,
   MayWait,
   MustWait,
@@ -74,6 +75,7 @@ pub record IsReplyTo (heard : List ℕ) (counts : List Counts) (reply : Reply) :
   pub whole : (h : RequestHead) → BeginsWith heard h → Sends reply (reply_to h counts)
   pub crowded : (h : RequestHead) (rest : List ℕ) → ReadsRequest heard h rest
       → MAX_HEADERS < length h.fields → Sends reply bad_request
+  pub overfull : HasManyLines heard → Sends reply bad_request
   pub hopeless : NeverHasRequest heard → ¬ (EndsInTarget heard) → Sends reply bad_request
   pub long : IsTooLong heard → Sends reply bad_request
   pub waits : MustWait heard → reply ≡ More

@@ -1,8 +1,14 @@
 -- What the bytes of a monitor are: a whole request, none, or not yet either.
 use Rattle.std.specs.Prelude.{ℕ, ◌<◌, ◌≤◌, ◌⊎◌, Bool, ◌&&◌, List, ◌++◌, length, codes}
 use Rattle.std.specs.Str.{bytes_eq}
-use Rattle.httparse.specs.Grammar.{RequestHead, ReadsRequest, HasNoRequest, MayBecomeRequest}
-use Rattle.httparse.specs.Spans.{RequestOverflows}
+use Rattle.httparse.specs.Grammar.{
+  RequestHead,
+  ReadsRequest,
+  HasNoRequest,
+  NeverHasRequest,
+  MayBecomeRequest,
+}
+use Rattle.httparse.specs.Spans.{RequestExceeds}
 use Rattle.fwd_monitor.specs.declared.limits.TheConstants.{HEAD_LIMIT, MAX_HEADERS}
 
 -- a method and a target ask for the page
@@ -14,27 +20,35 @@ pub record BeginsWith (heard : List ℕ) (h : RequestHead) : Type 0 where
   pub whole : (rest : List ℕ) × ReadsRequest heard h rest
   pub few : length h.fields ≤ MAX_HEADERS
 
+-- a request line and more header lines than a head may have stand in front, each with its end, and
+-- whatever follows: with an empty line in its place they would be a head
+abbrev pub HasManyLines : List ℕ → Type 0
+HasManyLines heard = RequestExceeds MAX_HEADERS heard
+
 -- no whole head yet, and too many bytes to wait for one
 pub record IsTooLong (heard : List ℕ) : Type 0 where
   pub unfinished : HasNoRequest heard
   pub long : HEAD_LIMIT ≤ length heard
 
--- whatever follows, a head at the front has too many headers; or the bytes are too many
+-- nothing makes the bytes a head, or they have too many header lines, or are too many
 abbrev pub IsBad : List ℕ → Type 0
-IsBad heard = RequestOverflows MAX_HEADERS heard ⊎ IsTooLong heard
+IsBad heard = NeverHasRequest heard ⊎ HasManyLines heard ⊎ IsTooLong heard
 
 -- a reply is due
 abbrev pub IsDue : List ℕ → Type 0
 IsDue heard = ((h : RequestHead) × BeginsWith heard h) ⊎ IsBad heard
 
--- no whole head yet, and few enough bytes to wait for one, which may still come
+-- no whole head yet, and few enough header lines and bytes to wait for one, which may still come
 pub record MayWait (heard : List ℕ) : Type 0 where
   pub unfinished : HasNoRequest heard
   pub hopeful : MayBecomeRequest heard
+  pub few : ¬ (HasManyLines heard)
   pub short : length heard < HEAD_LIMIT
 
--- no whole head yet, few enough bytes, and some can follow that make a head of few enough headers
+-- the same, where some bytes can follow that make a head
 pub record MustWait (heard : List ℕ) : Type 0 where
   pub unfinished : HasNoRequest heard
-  pub hopeful : (more : List ℕ) × (h : RequestHead) × BeginsWith (heard ++ more) h
+  pub hopeful : (more : List ℕ) × (h : RequestHead) × (rest : List ℕ)
+      × ReadsRequest (heard ++ more) h rest
+  pub few : ¬ (HasManyLines heard)
   pub short : length heard < HEAD_LIMIT

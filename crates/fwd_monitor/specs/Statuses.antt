@@ -1,7 +1,7 @@
 -- The status of a reply, and its bytes.
 use Rattle.std.specs.Prelude.{ℕ, List, Option, Some, None, IsTrue, IsFalse}
 use Rattle.httparse.specs.Grammar.{RequestHead}
-use Rattle.fwd_chunks.specs.declared.counts.Counts.{Counts}
+use Rattle.fwd_counts.specs.declared.counts.Counts.{Counts}
 use Rattle.fwd_monitor.specs.declared.status.Status.{Status}
 use Rattle.fwd_monitor.specs.declared.status.Status.TheVariants.{Found, NotFound, BadRequest}
 use Rattle.fwd_monitor.specs.Replies.{page_reply, not_found, bad_request}

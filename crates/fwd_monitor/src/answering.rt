@@ -9,14 +9,15 @@ use crate::judging::judge;
 use crate::pages::page;
 use crate::reply::Reply;
 use crate::status::Status;
-use fwd_chunks::Counts;
+use fwd_counts::Counts;
 use std::alloc::{AllocError, Global};
 
 /// What a monitor that has sent the bytes of `head` so far is told. A whole request head (RFC 9112,
 /// sections 2 to 5) of at most `MAX_HEADERS` headers is told the page where its method is `GET` and
 /// its target is `/`, and 404 otherwise, whatever stands behind it. A head of more headers is told
-/// 400, and so are bytes that nothing can make a head, and `HEAD_LIMIT` bytes or more without a
-/// whole head. The only error is want of memory, and to wait takes none.
+/// 400 once their lines have come, finished or not, and so are bytes that nothing can make a head,
+/// and `HEAD_LIMIT` bytes or more without a whole head. Others wait. The only error is want of
+/// memory, and to wait takes none.
 pub fn answer(alloc: Global, head: &[u8], counts: &[Counts]) -> Result<Reply, AllocError>
     ensures reply { IfOk result (IsReplyTo head.now counts.now) }
     ensures reason { IfOk result (HasReason head.now counts.now) }

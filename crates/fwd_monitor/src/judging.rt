@@ -1,4 +1,5 @@
-ghost use Rattle.std.specs.Prelude.{◌≡◌};
+ghost use Rattle.std.specs.Prelude.{◌≡◌, ◌+◌, nat_lt};
+ghost use Rattle.fwd_monitor.specs.Lines.{head_lines};
 ghost use Rattle.fwd_monitor.specs.Requests.{is_for_page};
 ghost use Rattle.fwd_monitor.specs.Statuses.{IsJudged};
 
@@ -20,7 +21,7 @@ pub(crate) fn judge(heard: &[u8]) -> Option<Status>
                 Some(Status::NotFound)
             }
         }
-        Ok(Parsed::Partial) if heard.len() < HEAD_LIMIT => None,
+        Ok(Parsed::Partial) if heard.len() < HEAD_LIMIT && !has_many_lines(heard) => None,
         Ok(Parsed::Partial) | Err(_) => Some(Status::BadRequest),
     }
 }
@@ -30,4 +31,27 @@ fn asks_for_page(method: &[u8], target: &[u8]) -> bool
     ensures { result ≡ is_for_page method.now target.now }
 {
     method == b"GET".as_slice() && target == b"/".as_slice()
+}
+
+/// Whether more header lines stand behind a request line than a head may have.
+fn has_many_lines(heard: &[u8]) -> bool
+    ensures { result ≡ nat_lt (MAX_HEADERS + 1) (head_lines heard.now) }
+{
+    head_lines(heard) > MAX_HEADERS + 1
+}
+
+/// How many lines of a head have come, each with its end. Empty lines in front of it do not count.
+fn head_lines(heard: &[u8]) -> usize
+    ensures { result ≡ head_lines heard.now }
+{
+    let mut lines = 0;
+    let mut begun = false;
+    for byte in heard {
+        match *byte {
+            b'\n' if begun => lines += 1,
+            b'\n' | b'\r' => {}
+            _ => begun = true,
+        }
+    }
+    lines
 }

@@ -2,9 +2,11 @@
 
 ghost use Rattle.std.specs.Prelude.{◌≡◌, ◌++◌, ℕ, List};
 ghost use Rattle.httparse.specs.Grammar.{ReadsRequest, RequestHead};
-ghost use Rattle.fwd_chunks.specs.declared.counts.Counts.{Counts as TheCounts};
+ghost use Rattle.fwd_counts.specs.declared.counts.Counts.{Counts as TheCounts};
 ghost use Rattle.fwd_monitor.specs.Replies.{IsDueText};
-ghost use Rattle.fwd_monitor.specs.Requests.{BeginsWith, IsBad, IsDue, MustWait};
+ghost use Rattle.fwd_monitor.specs.Requests.{BeginsWith, HasManyLines, IsBad, IsDue, MustWait};
+
+use crate::limits::{HEAD_LIMIT, MAX_HEADERS};
 
 /// The bytes begin with at most one whole head, and behind it stands one rest; more bytes lengthen
 /// the rest and leave the head as it is.
@@ -16,10 +18,19 @@ pub fn one_head()
 {}
 
 /// The same bytes have one reply: no whole head of few enough headers is bad, and none is due where
-/// bytes are to wait.
+/// bytes are to wait. Where bytes can follow that make a head of few enough headers, no more header
+/// lines than that have come.
 pub fn one_reply()
     ensures one { (heard : List ℕ) (counts : List TheCounts) (text other : List ℕ)
         → IsDueText heard counts text → IsDueText heard counts other → text ≡ other }
     ensures apart { (heard : List ℕ) (h : RequestHead) → BeginsWith heard h → ¬ (IsBad heard) }
     ensures early { (heard : List ℕ) → MustWait heard → ¬ (IsDue heard) }
+    ensures few { (heard more : List ℕ) (h : RequestHead) → BeginsWith (heard ++ more) h
+        → ¬ (HasManyLines heard) }
+{}
+
+/// The limits of a monitor's request head, in bytes and in header lines.
+pub fn head_limits()
+    ensures bytes { HEAD_LIMIT ≡ 8192 }
+    ensures headers { MAX_HEADERS ≡ 64 }
 {}

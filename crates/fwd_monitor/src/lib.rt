@@ -11,7 +11,7 @@ mod reply;
 mod status;
 
 pub use answering::answer;
-pub use laws::{one_head, one_reply};
+pub use laws::{head_limits, one_head, one_reply};
 pub use limits::{HEAD_LIMIT, MAX_HEADERS};
 pub use pages::page;
 pub use reply::Reply;

@@ -2,7 +2,7 @@ ghost use Rattle.std.specs.Prelude.{◌≡◌, IfOk};
 ghost use Rattle.std.specs.String.{string_bytes};
 ghost use Rattle.fwd_monitor.specs.Page.{line_of, page_of};
 
-use fwd_chunks::Counts;
+use fwd_counts::Counts;
 use std::alloc::{AllocError, Global};
 
 /// A line for each output, by rising number from 0: its number, and its counts in decimal. Its

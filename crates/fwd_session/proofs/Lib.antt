@@ -2,4 +2,4 @@ pub mod Saying
 pub mod Following
 pub mod Taking
 pub mod Pieces
-pub mod Meeting
+pub mod Framing

@@ -143,6 +143,13 @@ pub record IsSane (s : SessionHistory) : Type 0 where
       greeted s (values_of (reply_stream s.heard) ++ more)
       ≡ (said_of s.setup.login s.setup.salt (handshake_of s) None more silence).handshake
 
+-- what holds of every session that is loaded only where it is ready: where it has a chunk, the
+-- handshake is done, and all that was appended ends with that chunk's frame, whole
+pub record IsFramed (s : SessionHistory) : Type 0 where
+  pub done : is_some s.loaded ≡ true → is_done (handshake_of s) ≡ true
+  pub framed : (c : Load) → s.loaded ≡ Some c
+      → (front : List ℕ) × (s.appended ≡ front ++ frame_of c)
+
 -- ---- what happens to it
 
 -- it begins

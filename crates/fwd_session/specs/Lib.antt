@@ -5,4 +5,3 @@ pub mod Evidence
 pub mod History
 pub mod Live
 pub mod Hearing
-pub mod Meeting

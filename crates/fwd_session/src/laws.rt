@@ -3,7 +3,6 @@
 ghost use Rattle.std.specs.Prelude.{
   ◌≡◌,
   ◌≤◌,
-  ◌<◌,
   ℕ,
   List,
   ◌∷◌,
@@ -19,9 +18,6 @@ ghost use Rattle.std.specs.List.{concat};
 ghost use Rattle.fwd_msgpack.specs.declared.fault.ScanFault.{ScanFault};
 ghost use Rattle.fwd_msgpack.specs.Scans.{Whole, Short, Bad, first_of};
 ghost use Rattle.fwd_handshake.specs.declared.credentials.Login.{Login};
-ghost use Rattle.fwd_handshake.specs.declared.verdict.Denial.{Denial};
-ghost use Rattle.fwd_handshake.specs.Agreements.{IsAgreed};
-ghost use Rattle.fwd_source.specs.History.{Setup as SourceSetup};
 ghost use Rattle.fwd_chunks.specs.History.{Load};
 ghost use Rattle.fwd_session.specs.declared.fault.SessionFault.{SessionFault};
 ghost use Rattle.fwd_session.specs.declared.fault.SessionFault.TheVariants.{BadReply};
@@ -40,6 +36,7 @@ ghost use Rattle.fwd_session.specs.History.{
   Setup,
   SessionHistory,
   IsSane,
+  IsFramed,
   is_done,
   is_ready,
   is_late,
@@ -69,15 +66,6 @@ ghost use Rattle.fwd_session.specs.Live.{
   session_hears_all,
   session_unloads,
   session_looks,
-};
-ghost use Rattle.fwd_session.specs.Meeting.{
-  Meeting,
-  IsJoined,
-  AreWithin,
-  IsDenied,
-  IsReady,
-  IsRefused,
-  uncut,
 };
 
 use crate::limits::{REPLY_LIMIT, REPLY_NESTING};
@@ -149,6 +137,19 @@ pub fn stays_sane()
         IsSane (looks s now) }
 {}
 
+/// What a session appended ends with the frame of its chunk, whole, from the load until the chunk
+/// is taken out. It is loaded only where it is ready.
+pub fn stays_framed()
+    ensures begins { (setup : Setup) → IsFramed (begins setup) }
+    ensures loads { (s : SessionHistory) (c : Load) (now : ℕ) → is_ready s ≡ true
+        → IsFramed (loads s c now) }
+    ensures sends { (s : SessionHistory) (count : ℕ) → IsFramed s → IsFramed (sends s count) }
+    ensures hears { (s : SessionHistory) (bytes : List ℕ) → IsSane s → IsFramed s
+        → IsFramed (hears s bytes) }
+    ensures unloads { (s : SessionHistory) → IsFramed (unloads s) }
+    ensures looks { (s : SessionHistory) (now : ℕ) → IsFramed s → IsFramed (looks s now) }
+{}
+
 /// A fault puts a session down, and so does lateness; once it is down no piece changes anything.
 pub fn faults_put_down()
     ensures fault { (s : LiveSession) (bytes : List ℕ) (fault : SessionFault) →
@@ -162,23 +163,8 @@ pub fn faults_put_down()
     ensures not_ready { (s : LiveSession) → s.down ≡ true → live_is_ready s ≡ false }
 {}
 
-/// A session and a source that hear each other's bytes, however these are cut into pieces.
-///
-/// Where both know one key and the source lets the login in, both are past the handshake, and else
-/// as they began: a chunk may be loaded. The piece that ends PONG is told Ready. Where the source
-/// has cause to deny the PING, the piece that ends PONG is told Denied, and the session is down.
-/// The cause is said of digests, not of keys and passwords: two keys may have one digest.
-///
-/// Asked is that the pieces are all that waited to be sent; that HELO and PONG have `REPLY_LIMIT`
-/// bytes at most, and PING less than 2^32 and no more than the source's limits let be, which let an
-/// array be; and, to be ready, that hostnames, username and salt are short, as `IsAgreed` says, and
-/// that the auth salt has a byte: it has sixteen. By `uncut` any two sides have such pieces.
-pub fn agreed_sides_meet()
-    ensures ready { (m : Meeting) (key : List ℕ) →
-        IsAgreed m.client.login m.server.security m.client.salt key →
-        0 < length m.server.nonces.auth → IsJoined m → AreWithin m →
-        length (concat m.pong) ≤ REPLY_LIMIT → IsReady m }
-    ensures denied { (m : Meeting) (key : List ℕ) (denial : Denial) → IsDenied m key denial →
-        IsJoined m → AreWithin m → IsRefused m }
-    ensures uncut { (client : Setup) (server : SourceSetup) → IsJoined (uncut client server) }
+/// The limits of a server's replies, in bytes and in arrays and maps that stand one in another.
+pub fn reply_limits()
+    ensures bytes { REPLY_LIMIT ≡ 65536 }
+    ensures nesting { REPLY_NESTING ≡ 64 }
 {}

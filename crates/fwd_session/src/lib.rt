@@ -20,9 +20,11 @@ pub use fault::{NotUp, SessionFault};
 pub use frame::frame_of;
 pub use handshake::Handshake;
 pub use laws::{
-    agreed_sides_meet, faults_put_down, live_follows, pieces_are_one, said_by_front, stays_sane,
+    faults_put_down, live_follows, pieces_are_one, reply_limits, said_by_front, stays_framed,
+    stays_sane,
 };
 pub use limits::{REPLY_LIMIT, REPLY_LIMITS, REPLY_NESTING};
 pub use salt::OwnedSalt;
 pub use session::{LoadError, LoadFailed, Session};
 pub use told::{Heard, Told};
+pub use word::Word;

@@ -610,15 +610,4 @@ impl Session {
         } = self;
         loaded
     }
-
-    /// The session is no more, and neither is its chunk, of which its buffer does not learn: for
-    /// what ends together with the buffer. Where the buffer goes on, the chunk is taken out.
-    pub fn spend(mut self) {
-        if let Some((_, chunk)) = self.acked() {
-            chunk.spend();
-        }
-        if let Some(chunk) = self.end() {
-            chunk.spend();
-        }
-    }
 }

@@ -4,7 +4,7 @@ use fwd_base::Bytes;
 
 /// What one value of a server says.
 #[derive(Drop)]
-pub(crate) enum Word {
+pub enum Word {
     /// Nothing.
     Skipped,
     /// The handshake goes on: what is sent for it, and how far it came.

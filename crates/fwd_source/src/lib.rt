@@ -7,16 +7,15 @@ mod greeting;
 mod hearing;
 mod laws;
 mod limits;
-mod origin;
 mod piece;
 mod source;
 
 pub use fault::SourceFault;
+pub use fwd_modes::Origin;
 pub use laws::{
     answers_fit, faults_close, judged_by_front, live_source_follows, pieces_are_one,
-    requests_are_values, source_stays_sane,
+    requests_are_values, source_stays_sane, value_limits,
 };
 pub use limits::{NESTING_LIMIT, SOURCE_LIMITS, VALUE_LIMIT};
-pub use origin::Origin;
 pub use piece::{Piece, Told};
 pub use source::{AnswerError, Source};

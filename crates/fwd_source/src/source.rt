@@ -34,11 +34,10 @@ ghost use Rattle.fwd_source.specs.Hearing.{shown, emptied, kept_of, IsEndOf};
 
 use crate::greeting::hear_greeting;
 use crate::hearing::{Heard, hear};
-use crate::origin::Origin;
 use crate::piece::{Piece, Told};
 use fwd_base::Bytes;
 use fwd_handshake::{Nonces, Security, write_helo};
-use fwd_modes::Batch;
+use fwd_modes::{Batch, Origin};
 use fwd_msgpack::Limits;
 use std::alloc::{AllocError, AllocFailed, Global};
 use std::collections::VecDeque;

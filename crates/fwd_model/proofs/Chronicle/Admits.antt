@@ -1,17 +1,17 @@
 -- What an admitted request adds to the chronicle.
 use Rattle.std.proofs.Common.{◌≡◌, ℕ, ◌+◌, ◌≤◌, Bool, true, false, cond, eqb, List, [], ◌∷◌, ◌++◌, Some, refl, sym, ap, subst, ◌∙◌, inl, inr, arith}
-use Rattle.std.specs.Prelude.{◌⊎◌, ◌&&◌, ◌||◌, ◌==◌, slice_get}
+use Rattle.std.specs.Prelude.{◌⊎◌, ◌<◌, ◌&&◌, ◌||◌, ◌==◌, slice_get}
 use Rattle.std.proofs.lemmas.Bool.Decides.{nat_tests}
 use Rattle.std.proofs.lemmas.List.{append-nil}
 use Rattle.std.proofs.lemmas.List.Elements.{filter-append}
 use Rattle.fwd_modes.specs.Requests.{Request}
 use Rattle.fwd_modes.specs.Frames.{chunk_frame, chunk_name}
 use Rattle.fwd_match.specs.Patterns.{route}
-use Rattle.fwd_source.specs.declared.origin.Origin.{Origin}
+use Rattle.fwd_modes.specs.declared.origin.Origin.{Origin}
 use Rattle.fwd_source.specs.History.{SourceHistory, judged}
 use Rattle.fwd_chunks.specs.Cells.{Cell, cells_at, entries_of, first_tag, has_number}
 use Rattle.fwd_chunks.specs.History.{BufferHistory, looks, enters as buffer_enters, spans_of}
-use Rattle.fwd_chunks.proofs.News.{AreOf, news, enters-cells, enters-setting, acked-stays, news-entries, news-own, spans-give}
+use Rattle.fwd_chunks.proofs.News.{AreOf, news, enters-cells, enters-setting, acked-stays, news-entries, news-own, spans-give, spans-need}
 use Rattle.fwd_book.specs.History.{Entered, Untold, Admission, entered_as}
 use Rattle.fwd_model.specs.declared.config.Config.{Config}
 use Rattle.fwd_model.specs.declared.event.Event.{Event}
@@ -19,7 +19,7 @@ use Rattle.fwd_model.specs.Outputs.{output_history_enters}
 use Rattle.fwd_model.specs.History.{Connection, ever_at, Lane, with_output}
 use Rattle.fwd_model.specs.Delivered.{cells_from, WasAcknowledged}
 use Rattle.fwd_model.proofs.Reached.{IsSaneLane}
-use Rattle.fwd_model.proofs.Chronicle.{Quiet, frame_at, has_origin, Admitted, RequestStory, AllTold, LaneStory, Extends, admitted_still, lane_still}
+use Rattle.fwd_model.proofs.Chronicle.{Quiet, frame_at, has_origin, Admitted, RequestStory, AllTold, LaneStory, Extends, AllBefore, numbered-push, admitted_still, lane_still}
 
 -- ---- whose the new cells are
 
@@ -119,6 +119,7 @@ module _ (config : Config) (es : List Event) (e : Event) (cs ds : List Connectio
     entries = t.entries;
     tags = t.tags;
     runs = t.runs;
+    needs = t.needs;
   }
 
   -- the connection of a request that was entered before had admitted it
@@ -132,6 +133,22 @@ module _ (config : Config) (es : List Event) (e : Event) (cs ds : List Connectio
     where
       some_is : {x y : SourceHistory} → Some x ≡ Some y → x ≡ y
       some_is h = cc
+
+  -- its number is above those of all that its connection asked for before
+  all_before : (s : SourceHistory) → ever_at id cs ≡ Some s → number ≡ s.admitted + 1
+      → (admissions : List Admission) → AllTold config.routes cs o buffer.cells admissions
+      → AllBefore origin admissions
+  all_before s here is [] told = tt
+  all_before s here is (a ∷ admissions) told = (below, all_before s here is admissions told.1)
+    where
+      some_is : {x y : SourceHistory} → Some x ≡ Some y → x ≡ y
+      some_is h = cc
+
+      below : a.request.origin.conn ≡ id → a.request.origin.request < number
+      below f =
+          let same : told.0.source ≡ s = some_is (sym told.0.stands ∙ ap (λ x. ever_at x cs) f ∙ here) in
+          let le : a.request.origin.request ≤ s.admitted = subst (λ x. a.request.origin.request ≤ x.admitted) same told.0.admitted in
+          omega (arith, le, is)
 
   all_move : (s : SourceHistory) → ever_at id cs ≡ Some s → number ≡ s.admitted + 1
       → (admissions : List Admission) → AllTold config.routes cs o buffer.cells admissions
@@ -169,6 +186,7 @@ module _ (config : Config) (es : List Event) (e : Event) (cs ds : List Connectio
     entries = news-entries q.entries (looks buffer now) q.tag origin;
     tags = more_own;
     runs = λ p k settled has. spans-give p buffer origin q now k settled has;
+    needs = λ p all. spans-need p buffer origin q now all;
   }
     where
       some_is : {x y : SourceHistory} → Some x ≡ Some y → x ≡ y
@@ -200,6 +218,7 @@ module _ (config : Config) (es : List Event) (e : Event) (cs ds : List Connectio
             (n.0, subst (λ f. WasAcknowledged config (es ++ e ∷ []) o n.0 f (chunk_name config.run o k)) (frame_same config o k buffer.cells all (acked-stays buffer origin q now k sane.buffer (subst (λ ns. has_number k ns ≡ true) (enters_acknowledged) h))) n.1);
         own = λ i r h. by i r (either (has_origin i r buffer.cells) (has_origin i r more) (sym (ap (has_origin i r) (enters-cells buffer origin q now) ∙ has_origin-append i r buffer.cells more) ∙ h));
         requests = all_push l.output.book.admissions (record { request = entered; fate = Untold }) (all_move s here is l.output.book.admissions story.requests still.requests) (enters s t here is there grown asked first story.own);
+        numbered = numbered-push l.output.book.admissions (record { request = entered; fate = Untold }) story.numbered (all_before s here is l.output.book.admissions story.requests);
         named = (ap (λ x. x.run) setting ∙ story.named.0, ap (λ x. x.output) setting ∙ story.named.1);
       }
     where

@@ -28,6 +28,7 @@ lane_ends config es cs o w kind now l back server t = record {
       (number_still config es e o l.output.buffer.cells k (t.numbers k (ap (has_number k) (sym keeps.acknowledged) ∙ h)));
   own = λ id r h. t.own id r (ap (has_origin id r) (sym keeps.cells) ∙ h);
   requests = subst (λ cells. AllTold config.routes cs o cells l.output.book.admissions) (sym keeps.cells) t.requests;
+  numbered = t.numbered;
   named = (ap (λ s. s.run) keeps.setting ∙ t.named.0, ap (λ s. s.output) keeps.setting ∙ t.named.1);
 }
   where

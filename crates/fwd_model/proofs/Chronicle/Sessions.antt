@@ -68,6 +68,7 @@ put_session config es e o cs l w s quiet t story =
       numbers = still.numbers;
       own = still.own;
       requests = still.requests;
+      numbered = still.numbered;
       named = still.named;
     }
   where

@@ -16,7 +16,7 @@ use Rattle.fwd_model.proofs.Settling.{IsHis}
 use Rattle.fwd_book.specs.History.{Fate, Told, Forgotten, Admission, BookHistory, is_untold, is_due, is_owed_to, becomes, leaves, tells_due, forgets_of}
 use Rattle.fwd_model.specs.Outputs.{output_history_settles}
 use Rattle.fwd_model.specs.History.{Connection, Lane, with_session, with_output, with_book}
-use Rattle.fwd_model.proofs.Chronicle.{Quiet, IsNamed, frame_at, frame_is, LaneStory, NumberStory, RequestStory, AllTold, Extends, extends_same, lane_still, number_still, SessionStory}
+use Rattle.fwd_model.proofs.Chronicle.{Quiet, IsNamed, frame_at, frame_is, LaneStory, NumberStory, RequestStory, AllTold, Extends, extends_same, lane_still, number_still, SessionStory, AreNumbered, numbered-becomes}
 use Rattle.fwd_model.proofs.Chronicle.Sessions.{put_session, unloads}
 
 loaded_of : (b : Bool) (loaded : Option Load) (c : Load) → cond b loaded None ≡ Some c
@@ -58,6 +58,7 @@ lane_settles config es e cs o w server reply l s c here his is quiet t =
       ];
       own = put.own;
       requests = put.requests;
+      numbered = put.numbered;
       named = put.named;
     }
 
@@ -81,13 +82,15 @@ lane_becomes : (config : Config) (es : List Event) (e : Event) (cs ds : List Con
     →
     (AllTold config.routes ds o l.output.buffer.cells l.output.book.admissions
     → AllTold config.routes ds o l.output.buffer.cells b.admissions)
+    → (AreNumbered l.output.book.admissions → AreNumbered b.admissions)
     → LaneStory config (es ++ e ∷ []) ds o (with_book l b)
-lane_becomes config es e cs ds o l b ext quiet t same =
+lane_becomes config es e cs ds o l b ext quiet t same rising =
     let still = lane_still config es e cs ds o l ext quiet t in record {
       sessions = still.sessions;
       numbers = still.numbers;
       own = still.own;
       requests = same still.requests;
+      numbered = rising still.numbered;
       named = still.named;
     }
 
@@ -99,6 +102,7 @@ unfolding leaves
 lane_tells config es e cs ds o id l ext quiet t =
     lane_becomes config es e cs ds o l (tells_due l.output.book id) ext quiet t
     (λ all. all_become config.routes ds o l.output.buffer.cells Told (λ a. is_untold a.fate && is_due id l.output.book.settled a) l.output.book.admissions all)
+    (λ own. numbered-becomes Told (λ a. is_untold a.fate && is_due id l.output.book.settled a) l.output.book.admissions own)
 
 pub lane_forgets : (config : Config) (es : List Event) (e : Event) (cs : List Connection)
     (o id : ℕ) (l : Lane) → Quiet config es e o → LaneStory config es cs o l
@@ -107,3 +111,4 @@ unfolding leaves
 lane_forgets config es e cs o id l quiet t =
     lane_becomes config es e cs cs o l (forgets_of l.output.book id) (extends_same cs) quiet t
     (λ all. all_become config.routes cs o l.output.buffer.cells Forgotten (λ a. is_untold a.fate && is_owed_to id a) l.output.book.admissions all)
+    (λ own. numbered-becomes Forgotten (λ a. is_untold a.fate && is_owed_to id a) l.output.book.admissions own)

@@ -243,7 +243,7 @@ module _ (config : Config) (es : List Event) (sane : IsSane (reached config es))
       (with_buffer l (buffer.flushes l.output.buffer now kind))
   flushed_story e calm o now kind l lane =
       let s = still config es e t h.connections o l (extends_same h.connections) (calm o) lane in
-      record { sessions = s.sessions; numbers = s.numbers; own = s.own; requests = s.requests; named = s.named }
+      record { sessions = s.sessions; numbers = s.numbers; own = s.own; requests = s.requests; numbered = s.numbered; named = s.named }
 
   flush_on : (e : Event) → Calm config es e t → (o now : ℕ) (kind : FlushKind)
       → Onward (λ a k. Story config (es ++ e ∷ []) k)
@@ -256,7 +256,7 @@ module _ (config : Config) (es : List Event) (sane : IsSane (reached config es))
       (with_buffer l (buffer.takes l.output.buffer w now))
   taken_story e calm o w now l lane =
       let s = still config es e t h.connections o l (extends_same h.connections) (calm o) lane in
-      record { sessions = s.sessions; numbers = s.numbers; own = s.own; requests = s.requests; named = s.named }
+      record { sessions = s.sessions; numbers = s.numbers; own = s.own; requests = s.requests; numbered = s.numbered; named = s.named }
 
   take_on : (e : Event) → Calm config es e t → (o w now : ℕ)
       → Onward (λ a k. Story config (es ++ e ∷ []) k)
@@ -270,7 +270,7 @@ module _ (config : Config) (es : List Event) (sane : IsSane (reached config es))
       (with_output l (output_history_looks l.output now))
   watched_story e calm o now l lane =
       let s = still config es e t h.connections o l (extends_same h.connections) (calm o) lane in
-      record { sessions = s.sessions; numbers = s.numbers; own = s.own; requests = s.requests; named = s.named }
+      record { sessions = s.sessions; numbers = s.numbers; own = s.own; requests = s.requests; numbered = s.numbered; named = s.named }
 
   choose_on : (e : Event) → Calm config es e t → (o w now : ℕ)
       → Onward (λ a k. Story config (es ++ e ∷ []) k)

@@ -4,7 +4,7 @@ use Rattle.std.specs.Prelude.{option_map, not}
 use Rattle.std.specs.List.{list_all}
 use Rattle.fwd_modes.specs.Requests.{Request}
 use Rattle.fwd_modes.specs.Frames.{chunk_name}
-use Rattle.fwd_source.specs.declared.origin.Origin.{Origin}
+use Rattle.fwd_modes.specs.declared.origin.Origin.{Origin}
 use Rattle.fwd_chunks.specs.Cells.{Carry, entries_of, first_tag, has_number, is_carried}
 use Rattle.fwd_chunks.specs.History.{BufferHistory, load_of, enters, spans_of}
 use Rattle.fwd_chunks.proofs.Follows as buffer

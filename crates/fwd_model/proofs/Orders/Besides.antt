@@ -6,7 +6,7 @@ use Rattle.std.proofs.lemmas.Bool.{or_parts}
 use Rattle.std.specs.Prelude.{option_map, slice_get, is_some, not, ◌&&◌, ◌||◌}
 use Rattle.fwd_modes.specs.Requests.{Request}
 use Rattle.fwd_match.specs.Patterns.{route}
-use Rattle.fwd_source.specs.declared.origin.Origin.{Origin}
+use Rattle.fwd_modes.specs.declared.origin.Origin.{Origin}
 use Rattle.fwd_source.specs.History.{Setup, SourceHistory, opened, waiting}
 use Rattle.fwd_chunks.specs.declared.flush.FlushKind.{FlushKind}
 use Rattle.fwd_chunks.specs.declared.fault.AdmitError.{AdmitError}

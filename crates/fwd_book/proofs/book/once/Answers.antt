@@ -3,7 +3,7 @@ use Rattle.std.specs.Prelude.{not, slice_index_or, if◌then◌else◌}
 use Rattle.std.specs.List.{list_any}
 use Rattle.std.proofs.lemmas.List.{append-nil}
 use Rattle.std.proofs.Math.Seq.{take-suc}
-use Rattle.fwd_source.specs.declared.origin.Origin.{Origin}
+use Rattle.fwd_modes.specs.declared.origin.Origin.{Origin}
 use Rattle.fwd_book.specs.History.{is_origin, is_among}
 use Rattle.fwd_book.specs.Receipts.{once}
 use Rattle.fwd_book.specs.Slots.{key_of, is_key}

@@ -2,7 +2,7 @@ use Rattle.std.proofs.Common.{rules, arith, ◌≡◌, ◌≤◌, ◌+◌, ℕ, 
 use Rattle.std.specs.Prelude.{is_some, slice_index_or, if◌then◌else◌}
 use Rattle.std.proofs.lemmas.List.{take_all}
 use Rattle.std.proofs.Math.Seq.{take-suc}
-use Rattle.fwd_source.specs.declared.origin.Origin.{Origin}
+use Rattle.fwd_modes.specs.declared.origin.Origin.{Origin}
 use Rattle.fwd_book.specs.History.{request_at}
 use Rattle.fwd_book.specs.Live.{LiveBook, BookState, live_left, live_leaves, live_owed}
 use Rattle.fwd_book.proofs.Keeping.{leaves-none, leaves-then, owed-none, owed-then}

@@ -1,6 +1,6 @@
 use Rattle.std.proofs.Common.{arith, ◌≡◌, ◌≤◌, ℕ, suc, Bool, true, false, cond, Option, Some, None, List, [], ◌∷◌, length, refl, sym, ap, ◌∙◌}
 use Rattle.std.specs.Prelude.{filter, find, option_map}
-use Rattle.fwd_source.specs.declared.origin.Origin.{Origin}
+use Rattle.fwd_modes.specs.declared.origin.Origin.{Origin}
 use Rattle.fwd_book.specs.History.{Entered, is_of}
 use Rattle.fwd_book.specs.Live.{LiveBook, BookState, IsSound, live_leaves, live_forgets_of, live_owed_of}
 use Rattle.fwd_book.proofs.Whose.{forgets-then, owed-less, none-forgotten}

@@ -1,7 +1,7 @@
 use Rattle.std.proofs.Common.{arith, ◌≡◌, ℕ, Some, None, cond, List, ◌∷◌, [], filter, sym, ap, subst, ◌∙◌}
 use Rattle.std.specs.Prelude.{not, map, ◌==◌}
 use Rattle.std.specs.List.{list_any}
-use Rattle.fwd_source.specs.declared.origin.Origin.{Origin}
+use Rattle.fwd_modes.specs.declared.origin.Origin.{Origin}
 use Rattle.fwd_session.specs.Evidence.{Evidence}
 use Rattle.fwd_chunks.specs.Spans.{AreRising}
 use Rattle.fwd_book.specs.History.{BookSetting, Entered, is_origin, request_at}

@@ -1,7 +1,7 @@
 use Rattle.std.proofs.Common.{arith, ◌≡◌, ◌+◌, ℕ, suc, List, ◌++◌, ◌∷◌, [], Some, take, sym, ap, ◌∙◌}
 use Rattle.std.specs.Prelude.{map, slice_get, option_and_then}
 use Rattle.std.proofs.lemmas.List.{take_all, map-append}
-use Rattle.fwd_source.specs.declared.origin.Origin.{Origin}
+use Rattle.fwd_modes.specs.declared.origin.Origin.{Origin}
 use Rattle.fwd_book.specs.declared.chains.Link.{Link}
 use Rattle.fwd_book.proofs.Linking.{later_at, take_next, take_whole}
 use Rattle.fwd_book.proofs.chains.Chains.origins.Goals as goal

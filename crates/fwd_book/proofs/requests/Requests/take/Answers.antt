@@ -1,7 +1,7 @@
 use Rattle.std.proofs.Common.{◌≡◌, None, List, filter, sym, ap, subst, ◌∙◌}
 use Rattle.std.specs.Prelude.{not}
 use Rattle.std.specs.Map.{set_value}
-use Rattle.fwd_source.specs.declared.origin.Origin.{Origin}
+use Rattle.fwd_modes.specs.declared.origin.Origin.{Origin}
 use Rattle.fwd_book.specs.History.{is_origin, request_at}
 use Rattle.fwd_book.specs.Slots.{Held, Slot, AreKeyed, present, key_of, is_key}
 use Rattle.fwd_book.specs.Links.{order_of, AreChained}

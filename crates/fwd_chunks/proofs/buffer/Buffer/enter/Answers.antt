@@ -1,5 +1,5 @@
-use Rattle.std.proofs.Common.{rules, ◌≡◌, ℕ, List, cond, ◌+◌, ◌-◌, ◌≤◌, ◌<◌, ◌^◌, ◌++◌, length, max, Some, None, sym, ap, ◌∙◌, subst, arith}
-use Rattle.std.specs.Prelude.{find, map, ◌==◌, IfSome, IfNone, option_copied}
+use Rattle.std.proofs.Common.{rules, ◌≡◌, ◌⊎◌, ℕ, List, cond, ◌+◌, ◌-◌, ◌≤◌, ◌<◌, ◌^◌, ◌++◌, length, max, Some, None, sym, ap, ◌∙◌, subst, arith}
+use Rattle.std.specs.Prelude.{find, map, ◌==◌, IfSome, IfNone, IsSome, option_copied}
 use Rattle.std.specs.Str.{bytes_eq}
 use Rattle.fwd_modes.specs.declared.limits.TheConstants.{TAG_LIMIT}
 use Rattle.fwd_chunks.specs.Cells.{size_of}
@@ -10,11 +10,12 @@ use Rattle.fwd_chunks.specs.Plans.{IsPlan}
 use Rattle.fwd_chunks.specs.Filling.{fresh_of, needed, joining_to, joined_span, span_of, stage_last, filled_in}
 use Rattle.fwd_chunks.specs.Slots.{Held, AreAbove, last_of}
 use Rattle.fwd_chunks.specs.Parts.{entries_in}
-use Rattle.fwd_chunks.specs.Newest.{tag_number, AreNewest}
+use Rattle.fwd_chunks.specs.Newest.{tag_number, AreNewest, AreLiving}
 use Rattle.fwd_chunks.proofs.Packing.{size_joined}
 use Rattle.fwd_chunks.proofs.Closing.{number-found}
 use Rattle.fwd_chunks.proofs.Admission.{numbers-fit, first-is, room-left, fresh-above, entered, entered-spans, joining-fits, size-drop, enters-stored}
 use Rattle.fwd_chunks.proofs.Opened.{newest-kept, newest-entered, found-same}
+use Rattle.fwd_chunks.proofs.Living.{joined-has, living-entered}
 use Rattle.fwd_chunks.proofs.Calls.{chunk_of_some}
 use Rattle.fwd_chunks.specs.contracts.buffer.Buffer.{the_view}
 use Rattle.fwd_chunks.proofs.buffer.Buffer.enter.Goals as goal
@@ -64,9 +65,10 @@ invariant_of-self-in_err-prepare c =
     let kept : c.reserve.new.self.chunks ≡ c.self.inside.slots.chunks = ap (λ (h : Held). h.chunks) c.in_ok-reserve.ensures.kept in
     let kept_last : c.reserve.new.self.last ≡ c.self.inside.slots.last = ap (λ (h : Held). h.last) c.in_ok-reserve.ensures.kept in
     let kept_retry : c.reserve.new.self.retry ≡ c.self.inside.slots.retry = ap (λ (h : Held). h.retry) c.in_ok-reserve.ensures.kept in
-    rw (kept, kept_last, kept_retry) (record {
+    rw (kept, kept_last, kept_retry, c.in_err-prepare.ensures.err) (record {
       stored = c.self.invariant.stored;
-      newest = newest-kept c.self.inside.tags c.prepare.new.self c.self.inside.slots.chunks c.in_err-prepare.ensures.kept c.self.invariant.newest;
+      newest = c.self.invariant.newest;
+      living = c.self.invariant.living;
       waits = c.self.invariant.waits;
     })
 
@@ -111,12 +113,17 @@ fill-requires-clause-fits c = λ n d joins at small.
 
 pub invariant_of-self-in_err-fill : goal.invariant_of-self-in_err-fill
 invariant_of-self-in_err-fill c =
+    let r = c.args.batch.now in
+    let plan : IsPlan (the_view c.self.inside) c.args.batch.now c.args.plan = subst (λ (x : LiveBuffer). IsPlan x c.args.batch.now c.args.plan) (sym c.self.view_is) c.requires.planned in
     let kept : c.reserve.new.self.chunks ≡ c.self.inside.slots.chunks = ap (λ (h : Held). h.chunks) c.in_ok-reserve.ensures.kept in
     let kept_last : c.reserve.new.self.last ≡ c.self.inside.slots.last = ap (λ (h : Held). h.last) c.in_ok-reserve.ensures.kept in
     let kept_retry : c.reserve.new.self.retry ≡ c.self.inside.slots.retry = ap (λ (h : Held). h.retry) c.in_ok-reserve.ensures.kept in
-    rw (c.in_err-fill.ensures.err, kept, kept_last, kept_retry) (record {
+    let there : IsSome (tag_number r.tag c.self.inside.tags) = joined-has c.self.inside.tags c.self.inside.slots.chunks r.tag c.args.plan.joins c.self.invariant.newest plan.joins c.in_err-fill.ensures.sure in
+    let tags : c.prepare.new.self ≡ c.self.inside.tags = c.prepare.ensures.same (subst (λ t. IsSome (tag_number t c.self.inside.tags)) (sym c.tag-tag.ensures.value) there) in
+    rw (c.in_err-fill.ensures.err, kept, kept_last, kept_retry, tags) (record {
       stored = c.self.invariant.stored;
-      newest = newest-kept c.self.inside.tags c.prepare.new.self c.self.inside.slots.chunks c.prepare.ensures.kept c.self.invariant.newest;
+      newest = c.self.invariant.newest;
+      living = c.self.invariant.living;
       waits = c.self.invariant.waits;
     })
 
@@ -180,6 +187,12 @@ invariant_of-self-2 c =
       stored = subst (λ x. IsStored x (c.self.inside.bytes + size_of r.entries)) (sym same) next_stored;
       newest = subst (AreNewest c.put.new.self) (sym all) (newest-entered c.prepare.new.self c.put.new.self items p.joins (entries_in p.front) back c.self.inside.limits.chunk r.tag (max c.self.inside.moment c.args.now) c.unwrap_or-first.result number
           (newest-kept c.self.inside.tags c.prepare.new.self items c.prepare.ensures.kept c.self.invariant.newest) own.sound.in_order plan.joins
+          (subst (λ k. 0 < k → c.newest_of-newest.result ≡ Some (c.unwrap_or-first.result + (k - 1))) plan.needs c.newest_of-newest.ensures.some)
+          (subst (λ k. k ≤ 0 → c.newest_of-newest.result ≡ None) plan.needs c.newest_of-newest.ensures.none)
+          told c.put.ensures.none (subst AreInOrder (sym (ap (λ (x : LiveBuffer). x.chunks) same) ∙ all) next_stored.sound.in_order));
+      living = subst (AreLiving c.put.new.self) (sym all) (living-entered c.self.inside.tags c.prepare.new.self c.put.new.self items p.joins (entries_in p.front) back c.self.inside.limits.chunk r.tag (max c.self.inside.moment c.args.now) c.unwrap_or-first.result number
+          c.self.invariant.living
+          (subst (λ l. (t : List ℕ) (n : ℕ) → tag_number t c.prepare.new.self ≡ Some n → (tag_number t c.self.inside.tags ≡ Some n) ⊎ ((l ≡ t) × (c.newest_of-newest.result ≡ Some n))) c.tag-tag.ensures.value c.prepare.ensures.only)
           (subst (λ k. 0 < k → c.newest_of-newest.result ≡ Some (c.unwrap_or-first.result + (k - 1))) plan.needs c.newest_of-newest.ensures.some)
           (subst (λ k. k ≤ 0 → c.newest_of-newest.result ≡ None) plan.needs c.newest_of-newest.ensures.none)
           told c.put.ensures.none (subst AreInOrder (sym (ap (λ (x : LiveBuffer). x.chunks) same) ∙ all) next_stored.sound.in_order));

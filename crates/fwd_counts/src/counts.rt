@@ -1,4 +1,4 @@
-/// What a buffer has to do with.
+/// What an output has to do with: its entries, in numbers, their bytes, and its chunks.
 #[derive(Clone, Copy, Debug, PartialEq, Eq)]
 pub struct Counts {
     /// The entries ever accepted.

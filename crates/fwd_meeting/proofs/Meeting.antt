@@ -44,7 +44,7 @@ use Rattle.fwd_session.specs.declared.word.Word.TheVariants.{Skipped, Greets, Fa
 use Rattle.fwd_session.specs.Said.{Said, helo_word, pong_word, spoken, word_of, word_then, said_of, said_in, silence, failing, sending, reply_stream, rest_of}
 use Rattle.fwd_session.specs.History.{Setup, first_handshake, told_of}
 use Rattle.fwd_session.specs.Live.{LiveSession, live_is_ready, live_piece_told, session_begins, session_sends, session_takes, session_hears, session_hears_all}
-use Rattle.fwd_session.specs.Meeting.{Meeting, IsJoined, AreWithin, IsToldOnce, IsReady, IsRefused, said_by_ping, pieces_told, pong_told, heard_helo, heard_ping, uncut, source_after_helo, session_after_helo, session_after_ping, source_after_ping, source_after_pong, session_after_pong, done_session, done_source}
+use Rattle.fwd_meeting.specs.Meeting.{Meeting, IsJoined, AreWithin, IsToldOnce, IsReady, IsRefused, said_by_ping, pieces_told, pong_told, heard_helo, heard_ping, uncut, source_after_helo, session_after_helo, session_after_ping, source_after_ping, source_after_pong, session_after_pong, done_session, done_source}
 use Rattle.fwd_session.proofs.Pieces.{hears_many}
 
 -- ---- each text is one value

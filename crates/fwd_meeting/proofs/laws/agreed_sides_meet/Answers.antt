@@ -1,7 +1,7 @@
 use Rattle.std.proofs.Common.{ap}
 use Rattle.std.specs.Prelude.{is_some}
-use Rattle.fwd_session.proofs.Meeting.{both_ready, both_refused, one_piece}
-use Rattle.fwd_session.proofs.laws.agreed_sides_meet.Goals as goal
+use Rattle.fwd_meeting.proofs.Meeting.{both_ready, both_refused, one_piece}
+use Rattle.fwd_meeting.proofs.laws.agreed_sides_meet.Goals as goal
 
 pub returns-clause-ready : goal.returns-clause-ready
 returns-clause-ready c m key agreed some joined within sized =
