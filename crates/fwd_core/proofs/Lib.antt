@@ -7,3 +7,4 @@ pub mod CollectLemmas
 pub mod HeldLemmas
 pub mod LaneLemmas
 pub mod SpanLemmas
+pub mod StandingLemmas

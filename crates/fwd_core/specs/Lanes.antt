@@ -1,6 +1,8 @@
 -- An output with its workers: before its first event, a worker once its chunk is settled, and what
 -- holds of all workers.
-use Rattle.std.specs.Prelude.{◌≡◌, ℕ, suc, List, [], ◌∷◌, Option, Some, None, replicate, slice_get}
+use Rattle.std.specs.Prelude.{◌≡◌, ℕ, suc, List, [], ◌∷◌, Option, Some, None, option_and_then, replicate, slice_get}
+use Rattle.fwd_modes.specs.declared.origin.Origin.{Origin}
+use Rattle.fwd_book.specs.History.{Entered, request_at}
 use Rattle.fwd_chunks.specs.History.{Load}
 use Rattle.fwd_chunks.specs.Live.{LiveBuffer, live_carried, IsCarried}
 use Rattle.fwd_model.specs.declared.config.OutputConfig.{OutputConfig}
@@ -52,6 +54,10 @@ evidence_in (Some s) c = Some (evidence_of c s.setup.server s.reply)
 abbrev pub worker_settled : Option LiveSession → Worker LiveSession
 worker_settled None = no_work
 worker_settled (Some s) = record { chunk = None; session = Some (session_unloads s) }
+
+-- the `chunk` of the request of an origin, if there is the request and it has one
+abbrev pub chunk_at : List Entered → Origin → Option (List ℕ)
+chunk_at qs origin = option_and_then (λ (q : Entered). q.chunk) (request_at qs origin)
 
 -- each worker's chunk is one of the buffer, and no two workers have the same one
 pub record AreHeld (b : LiveBuffer) (workers : List (Worker LiveSession)) : Type 0 where

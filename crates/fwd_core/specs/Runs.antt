@@ -20,6 +20,7 @@ use Rattle.fwd_model.specs.declared.answer.Answer.TheVariants.{
   Full,
   NumbersSpent,
   TookNothing,
+  Told,
 }
 use Rattle.fwd_model.specs.Outcome.{answer_of}
 use Rattle.fwd_model.specs.Step.{step}
@@ -53,13 +54,15 @@ takes_none (Drained conn count) = true
 takes_none (Shut conn) = true
 takes_none _ = false
 
--- the answers that take no memory: refusals, the faults of an admission, and that no chunk is free
+-- the answers that take no memory: refusals, the faults of an admission, that no chunk is free, and
+-- that nothing is told
 abbrev pub is_free : Answer → Bool
 is_free (Refused why) = true
 is_free NoRoute = true
 is_free Full = true
 is_free NumbersSpent = true
 is_free TookNothing = true
+is_free (Told [] out) = true
 is_free _ = false
 
 -- what the event is answered takes no memory

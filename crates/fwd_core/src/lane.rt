@@ -13,17 +13,19 @@ ghost use Rattle.std.specs.Prelude.{
   IfSome,
   None,
   true,
-  filter,
+  [],
   map,
   option_map,
 };
+ghost use Rattle.std.specs.List.{concat};
 ghost use Rattle.fwd_chunks.specs.Live.{live_refusal, live_counts};
 ghost use Rattle.fwd_model.specs.Outputs.{output_enters};
 ghost use Rattle.fwd_model.specs.Live.{with_live_output, with_live_book, lives};
-ghost use Rattle.fwd_book.specs.History.{is_of};
+ghost use Rattle.fwd_book.specs.History.{request_at};
 ghost use Rattle.fwd_book.specs.Receipts.{receipts};
-ghost use Rattle.fwd_book.specs.Live.{IsSound, live_leaves};
-ghost use Rattle.fwd_core.specs.Lanes.{new_live_lane};
+ghost use Rattle.fwd_book.specs.Live.{IsSound, evidence_for, live_due, live_leaves};
+ghost use Rattle.fwd_model.specs.Books.{ack_asked};
+ghost use Rattle.fwd_core.specs.Lanes.{chunk_at, new_live_lane};
 ghost use Rattle.fwd_core.specs.Runs.{is_free};
 ghost use Rattle.fwd_model.specs.Outcome.{answer_of, state_of, chunk_answer};
 ghost use Rattle.fwd_model.specs.Step.{
@@ -41,6 +43,7 @@ ghost use Rattle.fwd_model.specs.Step.{
   forget,
 };
 
+use crate::due::Due;
 use crate::lane_config::LaneConfig;
 use crate::leaving::Leaving;
 use crate::output::OutputState;
@@ -53,11 +56,26 @@ use std::alloc::{AllocError, Global};
 use std::marker::Model;
 
 /// One output.
-#[derive(Drop)]
 pub(crate) struct Lane {
     config: LaneConfig,
     output: OutputState,
     workers: Vec<Worker>,
+}
+
+/// An output ends with its workers, which give back what they have.
+impl Drop for Lane {
+    fn drop(self) {
+        let Lane {
+            config: _,
+            mut output,
+            workers,
+        } = self;
+        let mut rest = workers.into_iter();
+        while let Some(worker) = rest.next() {
+            worker.close(&mut output);
+        }
+        rest.destroy_empty();
+    }
 }
 
 impl Model for Lane {
@@ -106,12 +124,12 @@ impl Lane {
         ensures { IfOk result (λ l. l ≡ new_live_lane run output config) }
     {
         let config = LaneConfig::new(alloc, config)?;
-        let mut workers = Vec::new(alloc);
-        for _ in 0..config.workers {
-            workers.push(Worker::new())?;
-        }
         let standby = config.standby.as_slice();
         let state = OutputState::new(alloc, config.limits, run, output, standby)?;
+        let mut workers = Vec::with_capacity(alloc, usize::from(config.workers))?;
+        for _ in 0..config.workers {
+            workers.push_reserved(Worker::new());
+        }
         Ok(Lane {
             config,
             output: state,
@@ -134,6 +152,7 @@ impl Lane {
         batch: &Batch,
         now: u64,
     ) -> Result<(), AdmitError>
+        requires { request_at self.old.output.book.requests origin ≡ None }
         ensures refused { IfSome (live_refusal self.old.output.buffer batch.now now) (λ fault.
             result ≡ Err fault) }
         ensures ok { OnOk result (self.new
@@ -323,36 +342,46 @@ impl Lane {
         Answer::Ended { number }
     }
 
-    /// What is true of every output's requests.
+    /// What is true of every output's requests. And what it shows as acknowledged is what they need
+    /// of it.
     pub fn is_sound(&self)
-        ensures { IsSound self.now.output.book }
+        ensures sound { IsSound self.now.output.book }
+        ensures kept { evidence_for self.now.output.book.requests self.now.output.book.settled
+            ≡ self.now.output.book.settled }
     {
         self.output.is_sound();
     }
 
-    /// The origins of a connection's requests that are owed an answer, in the order in which they
-    /// were entered.
-    pub fn untold(&self, alloc: Global, conn: u64) -> Result<Vec<Origin>, AllocError>
-        ensures { IfOk result (λ origins. origins.items
-            ≡ map (λ q. q.origin) (filter (is_of conn) self.now.output.book.requests)) }
+    /// The origins of a connection's requests that are owed an answer and whose entries are all
+    /// acknowledged, in the order in which they were entered.
+    pub fn due(&self, alloc: Global, conn: u64) -> Result<Vec<Origin>, AllocError>
+        ensures due { IfOk result (λ origins. origins.items
+            ≡ map (λ q. q.origin) (live_due self.now.output.book conn)) }
+        ensures none { live_due self.now.output.book conn ≡ [] → IsOk result }
     {
-        self.output.untold(alloc, conn)
+        self.output.due(alloc, conn)
     }
 
-    /// The receipts of the requests of these origins whose entries are all acknowledged.
-    pub fn gather(&self, alloc: Global, origins: &[Origin]) -> Result<Vec<Receipt>, AllocError>
-        ensures { IfOk result (λ given. given.items
-            ≡ receipts self.now.output.book.settled self.now.output.book.requests origins.now) }
+    /// What is told of the requests of these origins.
+    pub fn telling(&self, alloc: Global, origins: &[Origin]) -> Result<Due, AllocError>
+        ensures requests { IfOk result (λ due.
+            due.requests ≡ map (λ o. o.request) origins.now) }
+        ensures out { IfOk result (λ due. due.out ≡ concat
+            (map (λ o. ack_asked (chunk_at self.now.output.book.requests o)) origins.now)) }
     {
-        self.output.gather(alloc, origins)
+        Due::of(alloc, &self.output, origins)
     }
 
-    /// The requests of these origins were told: they leave.
-    pub fn tell(&mut self, origins: &[Origin])
-        ensures { self.new ≡ with_live_book self.old
-            (live_leaves self.old.output.book origins.now) }
+    /// Of the requests of these origins those whose entries are all acknowledged are told: they
+    /// leave, and their receipts are answered. On an error nothing has changed.
+    pub fn collect(&mut self, alloc: Global, origins: &[Origin]) -> Result<Vec<Receipt>, AllocError>
+        ensures given { IfOk result (λ given. given.items
+            ≡ receipts self.old.output.book.settled self.old.output.book.requests origins.now) }
+        ensures told { IfOk result (λ given. self.new ≡ with_live_book self.old
+            (live_leaves self.old.output.book (map (λ r. r.origin) given.items))) }
+        ensures err { OnErr result (self.new ≡ self.old) }
     {
-        self.output.forget(origins);
+        self.output.collect(alloc, origins)
     }
 
     /// Nobody is to be told of a connection's requests any more.

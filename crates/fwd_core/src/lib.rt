@@ -8,6 +8,7 @@ mod lane_config;
 mod leaving;
 mod output;
 mod relay;
+mod state;
 mod worker;
 
 pub use fwd_chunks::{AdmitError, BufferLimits, Carried, Counts};

@@ -19,6 +19,7 @@ ghost use Rattle.std.specs.Prelude.{
   is_some,
   length,
   map,
+  option_copied,
   option_map,
   option_to_list,
   slice_get,
@@ -57,10 +58,12 @@ ghost use Rattle.fwd_book.specs.Receipts.{
 ghost use Rattle.fwd_book.specs.Live.{
   IsSound as IsSoundBook,
   evidence_for,
+  live_due,
   live_leaves,
   live_owed,
   live_owed_of,
   live_forgets_of,
+  live_is_settled,
 };
 ghost use Rattle.fwd_model.specs.Outputs.{
   no_requests,
@@ -72,7 +75,7 @@ ghost use Rattle.fwd_model.specs.Outputs.{
   returned,
   live_count_at,
 };
-ghost use Rattle.fwd_core.specs.Lanes.{IsHere};
+ghost use Rattle.fwd_core.specs.Lanes.{chunk_at, IsHere};
 
 use fwd_base::Seq;
 use fwd_book::{Book, Receipt};
@@ -126,11 +129,8 @@ fn put_back(buffer: &mut Buffer, carried: Carried, loss: Option<u64>)
     ensures either { (buffer.new ≡ live_frees buffer.old carried.number loss)
         ⊎ (buffer.new ≡ buffer.old) }
 {
-    if buffer.carries(&carried) {
-        buffer.free(carried, loss);
-    } else {
-        carried.spend();
-    }
+    let _is_here = buffer.carries(&carried);
+    buffer.free(carried, loss);
 }
 
 /// Runs, in room that was made for them. Room that is left over is given back.
@@ -145,6 +145,18 @@ fn copied_into(room: Vec<Span>, spans: &[Span]) -> Vec<Span>
     }
     copy.shrink_to_fit();
     copy
+}
+
+/// The requests of these receipts leave.
+fn tell(book: &mut Book, given: &[Receipt])
+    ensures { book.new ≡ record book.old {
+      live = live_leaves book.old.live (map (λ r. r.origin) given.now);
+    } }
+{
+    book.is_sound();
+    for receipt in given {
+        book.forget(&[receipt.origin()]);
+    }
 }
 
 impl OutputState {
@@ -197,9 +209,8 @@ impl OutputState {
     /// Enters a request at a moment (milliseconds): each of its entries joins its tag's open
     /// chunk, or begins a new one. It is refused as `Full` where the bytes held would be more
     /// than the total limit, and then as `NumbersSpent`. On an error nothing has changed. Answers
-    /// the runs of the entries in their chunks. No relay hands in an origin whose request is still
-    /// owed an answer, since a connection's requests are numbered upward: there is no room for a
-    /// second one.
+    /// the runs of the entries in their chunks. Asked is that the origin's request is not owed an
+    /// answer already: `holds` tells.
     pub fn admit(
         &mut self,
         alloc: Global,
@@ -207,6 +218,7 @@ impl OutputState {
         batch: &Batch,
         now: u64,
     ) -> Result<Seq<Span>, AdmitError>
+        requires { request_at self.old.book.requests origin ≡ None }
         ensures refused { IfSome (live_refusal self.old.buffer batch.now now) (λ fault.
             result ≡ Err fault) }
         ensures ok { OnOk result (self.new ≡ output_enters self.old origin batch.now now) }
@@ -216,9 +228,6 @@ impl OutputState {
         ensures err { OnErr result (self.new ≡ self.old) }
     {
         self.buffer.is_sound();
-        if self.book.holds(origin) {
-            return Err(self.buffer.fault(batch).unwrap_or(AdmitError::Memory));
-        }
         let Ok(()) = self.book.prepare(alloc, batch) else {
             return Err(self.buffer.fault(batch).unwrap_or(AdmitError::Memory));
         };
@@ -363,6 +372,13 @@ impl OutputState {
         self.book.holds(origin)
     }
 
+    /// Whether the request of an origin is owed an answer, and all its entries are acknowledged.
+    pub fn is_settled(&self, origin: Origin) -> bool
+        ensures { result ≡ live_is_settled self.now.book origin }
+    {
+        self.book.is_settled(origin)
+    }
+
     /// The origins of a connection's requests that are owed an answer, in the order in which they
     /// were entered. The only error is want of memory.
     pub fn untold(&self, alloc: Global, conn: u64) -> Result<Vec<Origin>, AllocError>
@@ -372,9 +388,28 @@ impl OutputState {
         self.book.untold(alloc, conn)
     }
 
+    /// The origins of a connection's requests that are owed an answer and whose entries are all
+    /// acknowledged, in the order in which they were entered. The only error is want of memory;
+    /// where there are none no memory is taken.
+    pub fn due(&self, alloc: Global, conn: u64) -> Result<Vec<Origin>, AllocError>
+        ensures due { IfOk result (λ origins. origins.items
+            ≡ map (λ q. q.origin) (live_due self.now.book conn)) }
+        ensures none { live_due self.now.book conn ≡ [] → IsOk result }
+    {
+        self.book.due(alloc, conn)
+    }
+
+    /// The `chunk` value of the request of an origin, as it was sent, if it is owed an answer and
+    /// asked for an acknowledgement.
+    pub fn chunk(&self, origin: Origin) -> Option<&[u8]>
+        ensures { option_copied result ≡ chunk_at self.now.book.requests origin }
+    {
+        self.book.chunk(origin)
+    }
+
     /// The receipts of the requests of these origins whose entries are all acknowledged, in the
     /// order of the origins, each once; each is right for the request of its origin. The only
-    /// error is want of memory.
+    /// error is want of memory, and where there are none no memory is taken.
     pub fn gather(&self, alloc: Global, origins: &[Origin]) -> Result<Vec<Receipt>, AllocError>
         ensures given { IfOk result (λ given. given.items
             ≡ receipts self.now.book.settled self.now.book.requests origins.now) }
@@ -382,8 +417,32 @@ impl OutputState {
             slice_get given.items i ≡ Some r →
             (q : Entered) × (request_at self.now.book.requests r.origin ≡ Some q)
             × IsRightFor self.now.book.setting q r) }
+        ensures none { receipts self.now.book.settled self.now.book.requests origins.now ≡ []
+            → IsOk result }
     {
         self.book.gather(alloc, origins)
+    }
+
+    /// Who is told: of the requests of these origins those whose entries are all acknowledged leave,
+    /// and each is answered with its receipt, in the order of the origins, each once. The only error
+    /// is want of memory, and then nothing has changed; where nobody is told no memory is taken.
+    pub fn collect(&mut self, alloc: Global, origins: &[Origin]) -> Result<Vec<Receipt>, AllocError>
+        ensures given { IfOk result (λ given. given.items
+            ≡ receipts self.old.book.settled self.old.book.requests origins.now) }
+        ensures right { IfOk result (λ given. (i : ℕ) (r : AbstractReceipt) →
+            slice_get given.items i ≡ Some r →
+            (q : Entered) × (request_at self.old.book.requests r.origin ≡ Some q)
+            × IsRightFor self.old.book.setting q r) }
+        ensures told { IfOk result (λ given. self.new ≡ record self.old {
+          book = live_leaves self.old.book (map (λ r. r.origin) given.items);
+        }) }
+        ensures none { receipts self.old.book.settled self.old.book.requests origins.now ≡ []
+            → IsOk result }
+        ensures err { OnErr result (self.new ≡ self.old) }
+    {
+        let given = self.gather(alloc, origins)?;
+        tell(&mut self.book, &given);
+        Ok(given)
     }
 
     /// The requests of these origins leave: they were told, or nobody is to be told any more.

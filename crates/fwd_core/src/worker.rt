@@ -39,6 +39,7 @@ ghost use Rattle.fwd_core.specs.Runs.{is_free};
 
 use crate::lane_config::LaneConfig;
 use crate::leaving::{Leaving, leave};
+use crate::output::OutputState;
 use fwd_base::Bytes;
 use fwd_chunks::Carried;
 use fwd_model::{Answer, EndKind, OwnedSalt, Refusal};
@@ -68,19 +69,6 @@ impl Model for Worker {
     } };
 
     ghost invariant = { λ w. (c : Load) → w.chunk ≡ Some c → loaded_in w.session ≡ None };
-}
-
-/// A worker ends together with its output, and so do its chunk and its session.
-impl Drop for Worker {
-    fn drop(self) {
-        let Worker { chunk, session } = self;
-        if let Some(carried) = chunk {
-            carried.spend();
-        }
-        if let Some(session) = session {
-            session.spend();
-        }
-    }
 }
 
 /// What a piece did, as an answer.
@@ -116,6 +104,18 @@ impl Worker {
         Worker {
             chunk: None,
             session: None,
+        }
+    }
+
+    /// The worker is no more, and what it has goes back to its output.
+    pub fn close(self, output: &mut OutputState) {
+        let Worker { chunk, session } = self;
+        output.end(chunk, false, None, 0);
+        if let Some(mut session) = session {
+            if let Some((acked, chunk)) = session.acked() {
+                output.settle(acked, chunk);
+            }
+            output.end(session.end(), false, None, 0);
         }
     }
 

@@ -7,7 +7,7 @@ use crate::pairs::{Request, requests};
 use crate::table::Table;
 use anyhow::Result;
 use fwd_chunks::{Buffer, BufferLimits, Span};
-use fwd_source::Origin;
+use fwd_modes::Origin;
 use std::alloc::Global;
 
 /// The least and the greatest chunk limit, in bytes.

@@ -3,12 +3,11 @@
 use crate::turns::{LIMITS, Rounds};
 use anyhow::{Context, Result, bail};
 use fwd_base::Bytes;
-use fwd_chunks::{Carried, FlushKind};
+use fwd_chunks::{Buffer, Carried, FlushKind};
 use fwd_core::OutputState;
 use fwd_handshake::Login;
-use fwd_modes::Batch;
+use fwd_modes::{Batch, Origin};
 use fwd_session::{LoadFailed, OwnedSalt, Session};
-use fwd_source::Origin;
 use std::alloc::{AllocError, Global};
 use std::rt::Runtime;
 use std::sync::Arc;
@@ -28,6 +27,23 @@ pub struct OutputTimes {
     /// The taking and the settling of the chunks.
     pub rounds: Rounds,
     pub collect: Duration,
+}
+
+/// The chunk is no more: a buffer that did not give it only spends it.
+fn drop_chunk(alloc: Global, chunk: Carried) {
+    let mut buffer = Buffer::new(alloc, LIMITS, [0; 6], 0);
+    buffer.free(chunk, None);
+}
+
+/// The session is no more, and neither is its chunk.
+fn drop_session(alloc: Global, session: Session) {
+    let mut session = session;
+    if let Some((_, chunk)) = session.acked() {
+        drop_chunk(alloc, chunk);
+    }
+    if let Some(chunk) = session.end() {
+        drop_chunk(alloc, chunk);
+    }
 }
 
 /// A session without a login, which takes chunks at once.
@@ -56,11 +72,11 @@ fn reply_to(alloc: Global, chunk: &Carried) -> Result<Vec<u8>, AllocError> {
 fn send(alloc: Global, session: &mut Session, chunk: Carried) -> Result<()> {
     let reply = reply_to(alloc, &chunk);
     if session.has_chunk() {
-        chunk.spend();
+        drop_chunk(alloc, chunk);
         bail!("the session has a chunk");
     }
     if let Err(LoadFailed { chunk, error: _ }) = session.load(alloc, chunk, 0) {
-        chunk.spend();
+        drop_chunk(alloc, chunk);
         bail!("not loaded");
     }
     session.wrote(session.out().len());
@@ -114,7 +130,9 @@ fn admit_all(
 ) -> Result<()> {
     let mut place: usize = 0;
     for origin in origins {
-        if let Some(batch) = batches.get(place) {
+        if let Some(batch) = batches.get(place)
+            && !output.holds(*origin)
+        {
             let _spans = output.admit(alloc, *origin, batch, 0)?;
         }
         place = place.saturating_add(1);
@@ -125,14 +143,13 @@ fn admit_all(
     Ok(())
 }
 
-/// Gathers the receipts of all requests, so many at a time, and has the requests forgotten.
+/// Collects the receipts of all requests, so many at a time.
 #[inline(never)]
 fn collect_all(alloc: Global, output: &mut OutputState, origins: &[Origin]) -> Result<u64> {
     let mut told: u64 = 0;
     for hand in origins.chunks(HAND) {
-        let receipts = output.gather(alloc, hand)?;
+        let receipts = output.collect(alloc, hand)?;
         told = told.saturating_add(receipts.len() as u64);
-        output.forget(hand);
     }
     Ok(told)
 }
@@ -150,7 +167,7 @@ fn origins_of(alloc: Global, requests: u32) -> Result<Vec<Origin>, AllocError> {
 fn settle_through<R: Runtime + AllocGlobal>(rt: &R, output: &mut OutputState) -> Result<Rounds> {
     let mut session = session(rt.alloc())?;
     let rounds = settle_all(rt, output, &mut session);
-    session.spend();
+    drop_session(rt.alloc(), session);
     rounds
 }
 

@@ -3,8 +3,7 @@
 use crate::load::Load;
 use anyhow::Result;
 use fwd_chunks::{Buffer, BufferLimits, Carried, Counts, FlushKind};
-use fwd_modes::Batch;
-use fwd_source::Origin;
+use fwd_modes::{Batch, Origin};
 use std::alloc::{AllocError, Global};
 use std::rt::Runtime;
 use std::time::{Duration, Instant};

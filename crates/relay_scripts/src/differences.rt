@@ -6,6 +6,12 @@ use fwd_script::{End, tell};
 use std::alloc::{AllocError, Global};
 use std::{fmt, io};
 
+/// The most bytes of a piece that is cut at each of them. A longer one is cut near its ends.
+const CUT_WHOLE: usize = 4096;
+
+/// How near its ends a longer piece is cut, in bytes.
+const NEAR: usize = 64;
+
 /// The first event, counted from 1, to which the answer is another one.
 #[derive(Clone, Copy)]
 pub enum Difference {
@@ -87,6 +93,11 @@ fn cut_difference(
     Ok(None)
 }
 
+/// Whether a piece of so many bytes is cut behind this many.
+fn is_cut(count: usize, bytes: usize) -> bool {
+    count <= CUT_WHOLE || bytes <= NEAR || count.saturating_sub(bytes) <= NEAR
+}
+
 /// The first cut of a piece, by the bytes before it, after which the answers are others.
 fn bad_cut(
     alloc: Global,
@@ -96,6 +107,9 @@ fn bad_cut(
     piece: Piece<'_>,
 ) -> Result<Option<usize>, AllocError> {
     for bytes in 1..piece.count() {
+        if !is_cut(piece.count(), bytes) {
+            continue;
+        }
         let text = events.cut(alloc, place, piece, bytes)?;
         let (written, _status) = replayed(alloc, &text);
         if !are_parts_of(&lines_of(alloc, &written)?, answers, place) {

@@ -1,10 +1,11 @@
 //! What `fwd_script` makes of scripts, of files of settings, and of lines, for the tests.
 //!
 //! Each script of the folder that the first word names is replayed, and its answers compared: as
-//! the script stands, with the bytes of each piece in two at each byte, and with the bytes of two
-//! pieces in one. `NAME.script` is what `forward_relay replay` reads. `NAME.answers` is what must
-//! come: what the program writes on standard output, and behind that what it tells on standard
-//! error. A script is these two files and nothing else.
+//! the script stands, with the bytes of each piece in two at each byte (of a piece above 4,096
+//! bytes near its ends alone), and with the bytes of two pieces in one. `NAME.script` is what
+//! `forward_relay replay` reads. `NAME.answers` is what must come: what the program writes on
+//! standard output, and behind that what it tells on standard error. A script is these two files
+//! and nothing else.
 //!
 //! Each file of settings that the words behind the folder name is checked, and of each line on
 //! standard input is told whether it is an event's.

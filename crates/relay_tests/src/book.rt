@@ -4,8 +4,7 @@ ghost use Rattle.std.specs.Prelude.{◌≡◌, []};
 
 use crate::request::batch;
 use fwd_book::{Book, Receipt};
-use fwd_modes::Batch;
-use fwd_source::Origin;
+use fwd_modes::{Batch, Origin};
 use std::alloc::Global;
 use std::test::Fail;
 
@@ -66,5 +65,45 @@ fn a_request_without_entries_has_its_receipt(rt: HostRuntime) -> Result<(), Fail
         return Err(Fail::from("entries"));
     }
     assert_eq!(rt; told(rt.alloc(), &batch), Some((1, 1)));
+    Ok(())
+}
+
+/// What a book of one request that is owed an answer tells of the connection: the origins of what is
+/// due, and how many receipts of an origin that it does not hold.
+fn due(alloc: Global, book: &Book, conn: u64) -> Option<(Vec<Origin>, usize)> {
+    let origins = book.due(alloc, conn).ok()?;
+    let none = book.gather(alloc, &[Origin { conn, request: 9 }]).ok()?;
+    Some((origins, none.len()))
+}
+
+/// Whether a new book that a request without entries is entered in tells that just it is due to its
+/// connection, and the `chunk` value of the request, which carries `x`.
+fn tells_what_is_due(alloc: Global, batch: &Batch) -> bool
+    requires { batch.now.entries ≡ [] }
+{
+    let mut book = Book::new(alloc, [0; 6], 0);
+    if book.prepare(alloc, batch).is_err() {
+        return false;
+    }
+    book.enter(ORIGIN, Vec::new(alloc));
+    let own = due(alloc, &book, 1).is_some_and(|due| due.0.as_slice() == [ORIGIN].as_slice()
+        && due.1 == 0);
+    let other = due(alloc, &book, 2).is_some_and(|due| due.0.is_empty() && due.1 == 0);
+    let other_request = Origin {
+        conn: 1,
+        request: 3,
+    };
+    own && other
+        && book.chunk(ORIGIN) == Some(b"\xa1x".as_slice())
+        && book.chunk(other_request).is_none()
+}
+
+#[test]
+fn a_request_without_entries_is_due(rt: HostRuntime) -> Result<(), Fail> {
+    let batch = batch(rt.alloc(), NOTHING)?;
+    if !batch.is_empty() {
+        return Err(Fail::from("entries"));
+    }
+    assert!(rt; tells_what_is_due(rt.alloc(), &batch));
     Ok(())
 }

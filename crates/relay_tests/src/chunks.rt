@@ -4,7 +4,7 @@ ghost use Rattle.std.specs.Prelude.{◌≡◌};
 
 use crate::request::batch;
 use fwd_chunks::{AdmitError, Body, Buffer, BufferLimits, Carried, Counts, FlushKind, Span};
-use fwd_source::Origin;
+use fwd_modes::Origin;
 use std::alloc::Global;
 use std::test::Fail;
 
@@ -349,7 +349,7 @@ fn a_carried_chunk_is_told(rt: HostRuntime) -> Result<(), Fail> {
     assert_eq!(rt; carried.ends(), [3].as_slice());
     assert_eq!(rt; carried.name(), b"AAAAAAAAAAAAAAAAAAAAAQ==".as_slice());
     assert!(rt; buffer.carries(&carried));
-    carried.spend();
+    buffer.settle(carried);
     Ok(())
 }
 

@@ -4,12 +4,12 @@ ghost use Rattle.std.specs.Prelude.{◌≡◌};
 
 use crate::request::batch;
 use crate::requests::{many_entries, many_frame, many_request};
-use crate::session::{ACK, load_chunk, session};
+use crate::session::{ACK, drop_chunk, drop_session, load_chunk, session};
 use fwd_book::Receipt;
 use fwd_chunks::{BufferLimits, Carried, FlushKind};
 use fwd_core::OutputState;
+use fwd_modes::Origin;
 use fwd_session::Session;
-use fwd_source::Origin;
 use std::alloc::Global;
 use std::test::Fail;
 
@@ -44,7 +44,7 @@ fn take_chunk(alloc: Global, output: &mut OutputState, entries: &[u8]) -> Result
         return Err(Fail::from("no chunk"));
     };
     if chunk.count() != 100_000 || chunk.entries() != entries {
-        chunk.spend();
+        drop_chunk(alloc, chunk);
         return Err(Fail::from("another chunk"));
     }
     Ok(chunk)
@@ -84,7 +84,7 @@ fn carry(
 fn settled(alloc: Global, output: &mut OutputState, entries: &[u8]) -> Result<usize, Fail> {
     let mut session = session(alloc, None)?;
     let settled = carry(alloc, output, &mut session, entries);
-    session.spend();
+    drop_session(alloc, session);
     match settled? {
         None => Err(Fail::from("not acknowledged")),
         Some(count) => Ok(count),

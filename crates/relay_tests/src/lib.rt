@@ -10,6 +10,8 @@ mod chunks;
 #[cfg(test)]
 mod connections;
 #[cfg(test)]
+mod counts;
+#[cfg(test)]
 mod edges;
 #[cfg(test)]
 mod greatest;
@@ -31,5 +33,7 @@ mod requests;
 mod servers;
 #[cfg(test)]
 mod session;
+#[cfg(test)]
+mod untold;
 #[cfg(test)]
 mod values;

@@ -50,14 +50,36 @@ fn waits(alloc: Global, head: &[u8]) -> Result<bool, AllocError> {
     }
 }
 
-/// A head for the page, with so many headers.
-fn with_headers(alloc: Global, count: usize) -> Result<Vec<u8>, AllocError> {
+/// The lines of a head for the page, with so many headers: its empty line has not come.
+fn header_lines(alloc: Global, count: usize) -> Result<Vec<u8>, AllocError> {
     let mut head = b"GET / HTTP/1.1\r\n".to_vec(alloc)?;
     for _ in 0..count {
         head.extend_from_slice(b"a: b\r\n")?;
     }
+    Ok(head)
+}
+
+/// A head for the page, with so many headers.
+fn with_headers(alloc: Global, count: usize) -> Result<Vec<u8>, AllocError> {
+    let mut head = header_lines(alloc, count)?;
     head.extend_from_slice(b"\r\n")?;
     Ok(head)
+}
+
+/// Whether so many header lines wait for their empty line, and do so with a further line's front.
+fn lines_wait(alloc: Global, count: usize) -> Result<bool, AllocError> {
+    let mut head = header_lines(alloc, count)?;
+    let is_let = waits(alloc, &head)?;
+    head.extend_from_slice(b"a: b")?;
+    Ok(is_let && waits(alloc, &head)?)
+}
+
+/// Whether so many header lines are refused before their empty line, and with a further line's front.
+fn lines_are_refused(alloc: Global, count: usize) -> Result<bool, AllocError> {
+    let mut head = header_lines(alloc, count)?;
+    let is_refused = is_told(alloc, &head, BAD_REQUEST)?;
+    head.extend_from_slice(b"a: b")?;
+    Ok(is_refused && is_told(alloc, &head, BAD_REQUEST)?)
 }
 
 /// The front of a head for the page: 19 bytes, and so many of its first header's value.
@@ -118,6 +140,16 @@ fn headers_are_counted(rt: HostRuntime) -> Result<(), Fail> {
     let alloc = rt.alloc();
     assert!(rt; is_told(alloc, &with_headers(alloc, 64)?, PAGE)?);
     assert!(rt; is_told(alloc, &with_headers(alloc, 65)?, BAD_REQUEST)?);
+    Ok(())
+}
+
+#[test]
+fn unfinished_headers_are_counted(rt: HostRuntime) -> Result<(), Fail> {
+    let alloc = rt.alloc();
+    assert!(rt; lines_wait(alloc, 63)?);
+    assert!(rt; lines_wait(alloc, 64)?);
+    assert!(rt; lines_are_refused(alloc, 65)?);
+    assert!(rt; lines_are_refused(alloc, 66)?);
     Ok(())
 }
 

@@ -7,13 +7,15 @@ use std::alloc::{AllocError, Global};
 use std::process::Abort;
 use std::test::Fail;
 
-/// The first output takes the tag `a`, the second each other.
-const TWO_OUTPUTS: &str =
+/// Settings whose first output takes the tag `a`, and the second each other.
+pub const TWO_OUTPUTS: &str =
     "[relay]\nrun_id = \"ffffffffffff\"\n[[output]]\nmatch = \"a\"\nworkers = 2\n\
     [[output.server]]\naddress = \"127.0.0.1:1\"\n[[output]]\nmatch = \"**\"\n[[output.server]]\n\
     address = \"127.0.0.1:2\"\n";
 
-const ACCEPT: &str = "accept 1 00000000000000000000000000000000 00000000000000000000000000000000";
+/// A connection comes.
+pub const ACCEPT: &str =
+    "accept 1 00000000000000000000000000000000 00000000000000000000000000000000";
 
 /// From a source's bytes to the frame: a request for the one entry `[1, {}]` under the tag `a`,
 /// which asks for an acknowledgement with the text `x`.
@@ -67,7 +69,7 @@ fn run_of(alloc: Global, relay: &mut Relay, lines: &str) -> Result<String, Alloc
 }
 
 /// Whether the answers to the events of these lines, in one run, are these lines.
-fn answers_with(alloc: Global, relay: &mut Relay, lines: &str, wanted: &str) -> bool {
+pub fn answers_with(alloc: Global, relay: &mut Relay, lines: &str, wanted: &str) -> bool {
     match run_of(alloc, relay, lines) {
         Ok(told) => told.as_str() == wanted,
         Err(_) => false,

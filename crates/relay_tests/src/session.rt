@@ -6,8 +6,8 @@ use crate::request::batch;
 use fwd_base::Bytes;
 use fwd_chunks::{Buffer, BufferLimits, Carried, FlushKind};
 use fwd_handshake::Login;
+use fwd_modes::Origin;
 use fwd_session::{Heard, LoadFailed, OwnedSalt, Session, SessionFault};
-use fwd_source::Origin;
 use std::alloc::Global;
 use std::sync::Arc;
 use std::test::Fail;
@@ -53,6 +53,23 @@ fn carried(alloc: Global) -> Result<Carried, Fail> {
     }
 }
 
+/// The chunk is no more: a buffer that did not give it only spends it.
+pub fn drop_chunk(alloc: Global, chunk: Carried) {
+    let mut buffer = Buffer::new(alloc, LIMITS, [0; 6], 0);
+    buffer.free(chunk, None);
+}
+
+/// The session is no more, and neither is its chunk.
+pub fn drop_session(alloc: Global, session: Session) {
+    let mut session = session;
+    if let Some((_, chunk)) = session.acked() {
+        drop_chunk(alloc, chunk);
+    }
+    if let Some(chunk) = session.end() {
+        drop_chunk(alloc, chunk);
+    }
+}
+
 /// The client's side of a handshake.
 fn login(alloc: Global, key: Option<Bytes>) -> Result<Arc<Login>, Fail> {
     let login = Login {
@@ -79,13 +96,13 @@ pub fn session(alloc: Global, key: Option<Bytes>) -> Result<Session, Fail> {
 /// Loads a chunk at the moment 5, if the session has none.
 pub fn load_chunk(alloc: Global, session: &mut Session, chunk: Carried) -> Result<(), Fail> {
     if session.has_chunk() {
-        chunk.spend();
+        drop_chunk(alloc, chunk);
         return Err(Fail::from("has a chunk"));
     }
     match session.load(alloc, chunk, 5) {
         Ok(()) => Ok(()),
         Err(LoadFailed { chunk, error: _ }) => {
-            chunk.spend();
+            drop_chunk(alloc, chunk);
             Err(Fail::from("not loaded"))
         }
     }
@@ -98,11 +115,11 @@ fn load(alloc: Global, session: &mut Session) -> Result<(), Fail> {
 }
 
 /// The number, the server and the reply of the chunk that is taken out.
-fn settle(session: &mut Session) -> Result<(u64, u16, usize), Fail> {
+fn settle(alloc: Global, session: &mut Session) -> Result<(u64, u16, usize), Fail> {
     match session.acked() {
         None => Err(Fail::from("not acknowledged")),
         Some((acked, chunk)) => {
-            chunk.spend();
+            drop_chunk(alloc, chunk);
             Ok((acked.number(), acked.server(), acked.reply().len()))
         }
     }
@@ -127,14 +144,14 @@ fn acknowledge_and_settle(
     session: &mut Session,
 ) -> Result<([Heard; 2], (u64, u16, usize)), Fail> {
     let heard = acknowledge(alloc, session, 0)?;
-    Ok((heard, settle(session)?))
+    Ok((heard, settle(alloc, session)?))
 }
 
 #[test]
 fn a_chunk_is_acknowledged(rt: HostRuntime) -> Result<(), Fail> {
     let mut session = session(rt.alloc(), None)?;
     let settled = acknowledge_and_settle(rt.alloc(), &mut session);
-    session.spend();
+    drop_session(rt.alloc(), session);
     let (heard, settled) = settled?;
     assert_eq!(rt; heard, [Heard::Acked, Heard::Fault(SessionFault::EarlyAck)]);
     assert_eq!(rt; settled, (1, 3, 30));
@@ -145,7 +162,7 @@ fn a_chunk_is_acknowledged(rt: HostRuntime) -> Result<(), Fail> {
 fn an_early_acknowledgement_is_a_fault(rt: HostRuntime) -> Result<(), Fail> {
     let mut session = session(rt.alloc(), None)?;
     let heard = acknowledge(rt.alloc(), &mut session, 1);
-    session.spend();
+    drop_session(rt.alloc(), session);
     assert_eq!(rt;
         heard?,
         [Heard::Fault(SessionFault::EarlyAck), Heard::NotUp]
@@ -184,7 +201,7 @@ fn a_handshake_makes_it_ready(rt: HostRuntime) -> Result<(), Fail> {
     let mut session = session(rt.alloc(), Some(key))?;
     let heard = greet(rt.alloc(), &mut session, 20);
     let ready = session.is_ready();
-    session.spend();
+    drop_session(rt.alloc(), session);
     assert_eq!(rt; heard?, [Heard::Quiet, Heard::Quiet, Heard::Ready]);
     assert_eq!(rt; ready, true);
     Ok(())

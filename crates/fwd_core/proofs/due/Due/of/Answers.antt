@@ -1,22 +1,24 @@
 use Rattle.std.proofs.Common.{◌≡◌, ◌+◌, suc, take, ◌++◌, ◌∷◌, [], sym, ap, ◌∙◌, arith}
+use Rattle.std.specs.Prelude.{slice_index_or}
 use Rattle.std.proofs.Math.Seq.{take-suc}
+use Rattle.fwd_modes.specs.declared.origin.Origin.{Origin}
 use Rattle.fwd_model.specs.Books.{ack_asked}
+use Rattle.fwd_core.specs.Lanes.{chunk_at}
 use Rattle.fwd_core.proofs.CollectLemmas.{map-more, concat-more}
 use Rattle.fwd_core.proofs.due.Due.of.Goals as goal
 
-pub loop-receipt-preserved : goal.loop-receipt-preserved
-loop-receipt-preserved c =
-    let rs = c.args.receipts.now in
-    let i = c.loop-receipt.receipt-index in
-    let r = c.receipt-item.result in
+pub loop-origin-preserved : goal.loop-origin-preserved
+loop-origin-preserved c =
+    let os = c.args.origins.now in
+    let qs = c.args.output.now.book.requests in
+    let i = c.loop-origin.origin-index in
+    let d : Origin = record { conn = 0; request = 0 } in
+    let o : Origin = slice_index_or os i d in
     let one_more : i + 1 ≡ suc i = omega arith in
-    let next : take (i + 1) rs ≡ take i rs ++ r ∷ [] =
-    ap (λ k. take k rs) one_more ∙ take-suc rs i _ c.loop-receipt-test.true ∙ ap (λ x. take i rs ++ x ∷ []) (sym c.receipt-item.is) in
+    let next : take (i + 1) os ≡ take i os ++ o ∷ [] = ap (λ k. take k os) one_more ∙ take-suc os i d c.loop-origin-test.true in
     record {
-      origins = c.in_ok-push.ensures.items ∙ (λ j. c.loop-receipt.invariant.origins j ++ c.origin.ensures j ∷ [])
-          ∙ sym (map-more (λ x. x.origin) (take i rs) (take (i + 1) rs) r next);
-      requests = c.in_ok-push-2.ensures.ok ∙ (λ j. c.loop-receipt.invariant.requests j ++ (c.origin-in-loop-receipt.ensures j).request ∷ [])
-          ∙ sym (map-more (λ x. x.origin.request) (take i rs) (take (i + 1) rs) r next);
-      out = c.in_ok-push_ack.ensures ∙ ap (λ xs. xs ++ ack_asked r.chunk) c.loop-receipt.invariant.out
-          ∙ sym (concat-more (λ x. ack_asked x.chunk) (take i rs) (take (i + 1) rs) r next);
+      requests = c.in_ok-push.ensures.ok ∙ ap (λ xs. xs ++ o.request ∷ []) c.loop-origin.invariant.requests
+          ∙ sym (map-more (λ x. x.request) (take i os) (take (i + 1) os) o next);
+      out = c.in_ok-push_ack.ensures ∙ (λ j. c.loop-origin.invariant.out j ++ ack_asked (c.chunk.ensures j))
+          ∙ sym (concat-more (λ x. ack_asked (chunk_at qs x)) (take i os) (take (i + 1) os) o next);
     }

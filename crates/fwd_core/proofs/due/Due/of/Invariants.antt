@@ -2,11 +2,12 @@ use Rattle.std.proofs.Common.{◌≡◌, take}
 use Rattle.std.specs.Prelude.{map}
 use Rattle.std.specs.List.{concat}
 use Rattle.fwd_model.specs.Books.{ack_asked}
+use Rattle.fwd_core.specs.Lanes.{chunk_at}
 use Rattle.fwd_core.proofs.due.Due.of.Given as goal
 
-abbrev pub invariant-loop-receipt : goal.invariant-loop-receipt
-invariant-loop-receipt l = record {
-  origins : l.origins.items ≡ map (λ r. r.origin) (take l.receipt-index l.receipts);
-  requests : l.requests ≡ map (λ r. r.origin.request) (take l.receipt-index l.receipts);
-  out : l.out ≡ concat (map (λ r. ack_asked r.chunk) (take l.receipt-index l.receipts));
+-- the origins so far are told
+abbrev pub invariant-loop-origin : goal.invariant-loop-origin
+invariant-loop-origin l = record {
+  requests : l.requests ≡ map (λ o. o.request) (take l.origin-index l.origins);
+  out : l.out ≡ concat (map (λ o. ack_asked (chunk_at l.output.book.requests o)) (take l.origin-index l.origins));
 }

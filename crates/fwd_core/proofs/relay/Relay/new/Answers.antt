@@ -1,6 +1,5 @@
-use Rattle.std.proofs.Common.{refl}
-use Rattle.fwd_core.proofs.OpeningLemmas.{opening-live}
+use Rattle.fwd_core.proofs.StandingLemmas.{standing-opening}
 use Rattle.fwd_core.proofs.relay.Relay.new.Goals as goal
 
-pub returns : goal.returns
-returns c = rw (opening-live c.args.config, c.in_ok-security.ensures.ok, c.new-connections.ensures.items, c.in_ok-lanes.ensures) refl
+pub invariant_of-result : goal.invariant_of-result
+invariant_of-result c = standing-opening c.in_ok-state.state c.args.config c.in_ok-state.ensures
