@@ -1,23 +1,33 @@
 -- What a session was told of and heard is its link's, turn after turn.
-use Rattle.std.proofs.Common.{arith, ◌≡◌, ◌≢◌, ◌≤◌, ◌+◌, ◌++◌, inl, inr, ℕ, zero, suc, Bool, true, false, cond, List, [], ◌∷◌, take, drop, length, Option, Some, None, refl, sym, ap, subst, ◌∙◌}
-use Rattle.std.specs.Prelude.{is_some, not, option_map, ◌||◌}
-use Rattle.std.proofs.lemmas.List.{take-append-le}
+use Rattle.std.proofs.Common.{arith, ◌≡◌, ◌≢◌, ◌<◌, ◌≤◌, ◌+◌, ◌++◌, ◌⊎◌, inl, inr, ℕ, zero, suc, Bool, true, false, cond, List, [], ◌∷◌, take, drop, length, Option, Some, None, refl, sym, ap, subst, ◌∙◌}
+use Rattle.std.specs.Prelude.{is_some, not, option_map, ◌&&◌, ◌||◌, slice_get}
+use Rattle.std.proofs.lemmas.List.{length-append, take-append-le}
 use Rattle.std.proofs.lemmas.Bool.{leb-true}
+use Rattle.fwd_msgpack.specs.Heads.{head_bytes, reading_of, row_of}
+use Rattle.fwd_msgpack.specs.Scans.{Split, fault_at, first_of, item_begun, parts_of, payload_ended, row_of_values, split_of, values_of}
+use Rattle.fwd_msgpack.specs.Scans.Split.{Open, Broken}
 use Rattle.fwd_modes.specs.Acks.{ack_name}
+use Rattle.fwd_modes.specs.Frames.{chunk_frame}
 use Rattle.fwd_chunks.specs.History.{Load}
 use Rattle.fwd_session.specs.declared.fault.SessionFault.{SessionFault}
 use Rattle.fwd_session.specs.declared.told.Heard.{Heard}
 use Rattle.fwd_session.specs.declared.told.Heard.TheVariants as told
-use Rattle.fwd_session.specs.Said.{out_of}
+use Rattle.fwd_session.specs.Evidence.{frame_of}
+use Rattle.fwd_session.specs.Said.{behind, out_of, reply_stream, word_of}
 use Rattle.fwd_session.specs.History.{
+  Setup,
   SessionHistory,
+  IsFramed,
   IsSane,
   awaited,
+  begins,
   handshake_of,
   hears,
   is_done,
   is_handed_on,
   listens,
+  loads,
+  looks,
   newly_heard,
   piece_told,
   says,
@@ -25,13 +35,48 @@ use Rattle.fwd_session.specs.History.{
   to_send,
   told_by,
   told_of,
+  unloads,
 }
-use Rattle.fwd_session.specs.Live.{LiveSession, live_piece_told, live_session, session_hears}
-use Rattle.fwd_session.proofs.Following.{hears-live, hears-sane, sends-live, sends-sane, told-live}
-use Rattle.fwd_session.proofs.Saying.{Names, named_in}
+use Rattle.fwd_session.specs.Live.{
+  LiveSession,
+  live_is_ready,
+  live_piece_told,
+  live_session,
+  session_begins,
+  session_hears,
+  session_loads,
+  session_looks,
+  session_sends,
+  session_unloads,
+}
+use Rattle.fwd_session.proofs.Following.{
+  begins-live,
+  begins-sane,
+  hears-live,
+  hears-sane,
+  loads-live,
+  loads-sane,
+  looks-live,
+  looks-sane,
+  ready-live,
+  sends-live,
+  sends-sane,
+  told-live,
+  unloads-live,
+  unloads-sane,
+}
+use Rattle.fwd_session.proofs.Framing.{
+  begins-framed,
+  hears-framed,
+  loads-framed,
+  looks-framed,
+  sends-framed,
+  unloads-framed,
+}
+use Rattle.fwd_session.proofs.Saying.{Names, Placed, named_in, placed_in}
 use Rattle.fwd_workers.specs.declared.serve.Served.{Served}
 use Rattle.fwd_workers.specs.declared.serve.Served.TheVariants as served
-use Rattle.fwd_workers.specs.Served.{Seen, Sends, Hears, Rests, Fails, HasHeard, IsServed, AreTheLinks, IsOver, IsAcknowledged}
+use Rattle.fwd_workers.specs.Served.{Seen, seen_of, Sends, Gives, Hears, Rests, Fails, HasHeard, IsServed, AreTheLinks, IsOver, IsAcknowledged, Deed, Serves, Loads, Looks, Unloads, Does, Lives, IsWrittenFirst}
 
 -- the first of a list, and then of what is left
 take_more : {X : Type 0} (n m : ℕ) (xs : List X) → take (n + m) xs ≡ take n xs ++ take m (drop n xs)
@@ -90,47 +135,60 @@ heard-of : (s : SessionHistory) (bytes : List ℕ) → s.down ≡ false
     → hears s bytes ≡ listens s bytes (says s bytes)
 heard-of s bytes up = ap (λ d. cond d s (listens s bytes (says s bytes))) up
 
+-- a session is over its link's bytes, and framed where this one is
+abbrev IsOverFrom : SessionHistory → LiveSession → Seen → Type 0
+IsOverFrom s t seen = (over : IsOver t seen) × (IsFramed s → IsFramed over.history)
+
 -- what was given was heard
 hears-over : (s : SessionHistory) (middle t : LiveSession) (between after : Seen) (what : Heard)
     → IsSane s → s.down ≡ false → middle ≡ live_session s → AreTheLinks s between
-    → Hears what middle t between after → IsOver t after
-hears-over s middle t between after what sane up live bytes heard = record {
-  history = hears s heard.0;
-  live = heard.2 ∙ ap (λ m. session_hears m heard.0) live ∙ sym (hears-live s heard.0 sane);
-  sane = hears-sane s heard.0 sane;
-  bytes = subst (λ h. AreTheLinks h after) (sym (heard-of s heard.0 up)) (record {
-    taken = ap (λ (x : Seen). x.taken) heard.1 ∙ bytes.taken
-        ∙ sym (take-append-le s.sent s.appended (out_of (says s heard.0)) sane.sent);
-    given = ap (λ (x : Seen). x.given) heard.1 ∙ ap (λ g. g ++ heard.0) bytes.given;
-  });
-}
+    → Hears what middle t between after → IsOverFrom s t after
+hears-over s middle t between after what sane up live bytes heard = (
+  record {
+    history = hears s heard.0;
+    live = heard.2 ∙ ap (λ m. session_hears m heard.0) live ∙ sym (hears-live s heard.0 sane);
+    sane = hears-sane s heard.0 sane;
+    bytes = subst (λ h. AreTheLinks h after) (sym (heard-of s heard.0 up)) (record {
+      taken = ap (λ (x : Seen). x.taken) heard.1 ∙ bytes.taken
+          ∙ sym (take-append-le s.sent s.appended (out_of (says s heard.0)) sane.sent);
+      given = ap (λ (x : Seen). x.given) heard.1 ∙ ap (λ g. g ++ heard.0) bytes.given;
+    });
+  },
+  λ own. hears-framed s heard.0 sane own,
+)
 
 -- nothing was heard
 rests-over : (s : SessionHistory) (middle t : LiveSession) (between after : Seen) → IsSane s
     → middle ≡ live_session s → AreTheLinks s between → Rests middle t between after
-    → IsOver t after
-rests-over s middle t between after sane live bytes rests = record {
-  history = s;
-  live = rests.0 ∙ live;
-  sane = sane;
-  bytes = subst (λ x. AreTheLinks s x) (sym rests.1) bytes;
-}
+    → IsOverFrom s t after
+rests-over s middle t between after sane live bytes rests = (
+  record {
+    history = s;
+    live = rests.0 ∙ live;
+    sane = sane;
+    bytes = subst (λ x. AreTheLinks s x) (sym rests.1) bytes;
+  },
+  λ own. own,
+)
 
 -- the link failed
 fails-over : (s : SessionHistory) (middle t : LiveSession) (between after : Seen) → IsSane s
     → middle ≡ live_session s → AreTheLinks s between → Fails middle t between after
-    → IsOver t after
-fails-over s middle t between after sane live bytes fails = record {
-  history = s;
-  live = fails.0 ∙ live;
-  sane = sane;
-  bytes = subst (λ x. AreTheLinks s x) (sym fails.1) (record { taken = bytes.taken; given = bytes.given });
-}
+    → IsOverFrom s t after
+fails-over s middle t between after sane live bytes fails = (
+  record {
+    history = s;
+    live = fails.0 ∙ live;
+    sane = sane;
+    bytes = subst (λ x. AreTheLinks s x) (sym fails.1) (record { taken = bytes.taken; given = bytes.given });
+  },
+  λ own. own,
+)
 
 -- whatever the turn came to, but want of memory
 turn-over : (what : Served) (s : SessionHistory) (middle t : LiveSession) (between after : Seen)
     → IsSane s → s.down ≡ false → middle ≡ live_session s → AreTheLinks s between
-    → what ≢ served.Memory → HasHeard what middle t between after → IsOver t after
+    → what ≢ served.Memory → HasHeard what middle t between after → IsOverFrom s t after
 turn-over served.Quiet s middle t between after sane up live bytes some (inl heard) = hears-over s middle t between after told.Quiet sane up live bytes heard
 turn-over served.Quiet s middle t between after sane up live bytes some (inr rests) = rests-over s middle t between after sane live bytes rests
 turn-over served.Ready s middle t between after sane up live bytes some heard = hears-over s middle t between after told.Ready sane up live bytes heard
@@ -140,13 +198,20 @@ turn-over served.Closed s middle t between after sane up live bytes some rests =
 turn-over (served.Failed fault) s middle t between after sane up live bytes some fails = fails-over s middle t between after sane live bytes fails
 turn-over served.Memory s middle t between after sane up live bytes some lost = absurd (some refl)
 
+lasts-from : (s : SessionHistory) (what : Served) (t : LiveSession) (before after : Seen) → IsSane s
+    → s.down ≡ false → AreTheLinks s before → IsServed what (live_session s) t before after
+    → what ≢ served.Memory → IsOverFrom s t after
+lasts-from s what t before after sane up bytes is some =
+    let one = is.2 in
+    let over = turn-over what (sends s one.count) is.0 t is.1 after (mid-sane s is.0 before is.1 sane up one) up
+    (told-live-mid s is.0 before is.1 one) (mid-bytes s is.0 before is.1 up bytes one) some is.3 in
+    (over.0, λ own. over.1 (sends-framed s one.count own))
+
 pub lasts : (s : SessionHistory) (what : Served) (t : LiveSession) (before after : Seen) → IsSane s
     → s.down ≡ false → AreTheLinks s before → IsServed what (live_session s) t before after
     → what ≢ served.Memory → IsOver t after
 lasts s what t before after sane up bytes is some =
-    let one = is.2 in
-    turn-over what (sends s one.count) is.0 t is.1 after (mid-sane s is.0 before is.1 sane up one) up
-    (told-live-mid s is.0 before is.1 one) (mid-bytes s is.0 before is.1 up bytes one) some is.3
+    (lasts-from s what t before after sane up bytes is some).0
 
 -- ---- an acknowledgement
 
@@ -192,34 +257,431 @@ reply-of s read up e =
     replied (says s read).fault (says s read).reply (is_done (handshake_of s)) (is_done (says s read).handshake)
     (sym (ap (λ d. cond d told.NotUp (told_of (handshake_of s) (says s read))) up) ∙ e)
 
+-- what a session knows that is told of an acknowledgement: its chunk, that all was handed on, and
+-- the value that names the chunk
+record Acks (s : SessionHistory) (read : List ℕ) : Type 0 where
+  chunk : Load
+  loaded : s.loaded ≡ Some chunk
+  through : length s.appended ≤ s.sent
+  value : List ℕ
+  said : (says s read).reply ≡ Some value
+  named : ack_name value ≡ Some chunk.name
+
+acks : (s : SessionHistory) (read value : List ℕ) → (says s read).reply ≡ Some value
+    → Acks s read
+acks s read value said =
+    let name = names-it (awaited s) value
+    (subst (Names (awaited s)) said
+    (named_in s.setup.login s.setup.salt (handshake_of s) (awaited s) (newly_heard s read))) in
+    let chunk = awaited-is (is_some s.reply) (is_handed_on s) s.loaded name.0 name.1 in
+    record {
+      chunk = chunk.1.0;
+      loaded = chunk.1.1;
+      through = leb-true (length s.appended) s.sent chunk.0;
+      value = value;
+      said = said;
+      named = name.2 ∙ ap Some (sym chunk.1.2);
+    }
+
+-- what acknowledged the chunk in a turn that came to that, in the session that was told of its write
+turn-reply : (s : SessionHistory) (middle t : LiveSession) (before between after : Seen) → IsSane s
+    → s.down ≡ false → (one : Sends (live_session s) middle before between)
+    → (heard : Hears told.Acked middle t between after)
+    → (value : List ℕ) × ((says (sends s one.count) heard.0).reply ≡ Some value)
+turn-reply s middle t before between after sane up one heard =
+    let mid : SessionHistory = sends s one.count in
+    let live = told-live-mid s middle before between one in
+    reply-of mid heard.0 up
+    (told-live mid heard.0 (mid-sane s middle before between sane up one)
+    ∙ ap (λ m. live_piece_told m heard.0) (sym live) ∙ heard.3)
+
+-- all that was appended was taken
+turn-written : (s : SessionHistory) (middle : LiveSession) (before between : Seen)
+    → s.down ≡ false → AreTheLinks s before → (one : Sends (live_session s) middle before between)
+    → length s.appended ≤ s.sent + one.count → between.taken ≡ s.appended
+turn-written s middle before between up bytes one through =
+    (mid-bytes s middle before between up bytes one).taken
+    ∙ taken-whole (s.sent + one.count) s.appended through
+
 pub acknowledged : (s : SessionHistory) (t : LiveSession) (before after : Seen) → IsSane s
     → s.down ≡ false → AreTheLinks s before → IsServed served.Acked (live_session s) t before after
     → IsAcknowledged s before after
 acknowledged s t before after sane up bytes is =
     let one = is.2 in
-    let mid : SessionHistory = sends s one.count in
-    let sane_mid = mid-sane s is.0 before is.1 sane up one in
-    let live = told-live-mid s is.0 before is.1 one in
     let heard = is.3 in
-    let acked : piece_told mid heard.0 ≡ told.Acked = told-live mid heard.0 sane_mid ∙ ap (λ m. live_piece_told m heard.0) (sym live) ∙ heard.3 in
-    let reply = reply-of mid heard.0 up acked in
-    let name = names-it (awaited mid) reply.0
-    (subst (Names (awaited mid)) reply.1
-    (named_in mid.setup.login mid.setup.salt (handshake_of mid) (awaited mid) (newly_heard mid heard.0))) in
-    let chunk = awaited-is (is_some mid.reply) (is_handed_on mid) mid.loaded name.0 name.1 in
-    let whole : length s.appended ≤ s.sent + one.count = leb-true (length s.appended) (s.sent + one.count) chunk.0 in
-    let written = (mid-bytes s is.0 before is.1 up bytes one).taken in
+    let reply = turn-reply s is.0 t before is.1 after sane up one heard in
+    let acks = acks (sends s one.count) heard.0 reply.0 reply.1 in
+    let written : before.taken ++ take one.count (to_send s) ≡ s.appended =
+    ap (λ w. before.taken ++ take one.count w) (sym (live-waits s))
+    ∙ sym (ap (λ (x : Seen). x.taken) one.seen)
+    ∙ turn-written s is.0 before is.1 up bytes one acks.through in
     record {
       count = one.count;
-      chunk = chunk.1.0;
-      loaded = chunk.1.1;
-      written = ap (λ w. before.taken ++ take one.count w) (sym (live-waits s))
-          ∙ sym (ap (λ (x : Seen). x.taken) one.seen) ∙ written
-          ∙ taken-whole (s.sent + one.count) s.appended whole;
+      chunk = acks.chunk;
+      loaded = acks.loaded;
+      written = written;
+      frame = λ own.
+          let framed = own.framed acks.chunk acks.loaded in (framed.0, written ∙ framed.1);
       read = heard.0;
       given = ap (λ (x : Seen). x.given) heard.1
           ∙ ap (λ (x : Seen). x.given ++ heard.0) one.seen;
-      value = reply.0;
-      said = reply.1;
-      named = name.2 ∙ ap Some (sym chunk.1.2);
+      value = acks.value;
+      said = acks.said;
+      named = acks.named;
     }
+
+-- ---- where the value stands
+
+values-behind : (n : ℕ) (s : Split) → values_of (behind n s) ≡ drop n (values_of s)
+values-behind n (Open values rest) = refl
+values-behind n (Broken values broken) = refl
+
+slice_get-drop : {X : Type 0} (n : ℕ) (xs : List X) (k : ℕ) (x : X)
+    → slice_get (drop n xs) k ≡ Some x → slice_get xs (n + k) ≡ Some x
+slice_get-drop zero xs k x e = ap (λ i. slice_get xs i) (plain k) ∙ e
+  where
+    plain : (k : ℕ) → 0 + k ≡ k
+    plain k = omega arith
+slice_get-drop (suc n) [] k x e = absurd (nothing k e)
+  where
+    nothing : {X : Type 0} {x : X} (k : ℕ) → slice_get {X = X} [] k ≡ Some x → ⊥
+    nothing zero e = cc
+    nothing (suc k) e = cc
+slice_get-drop (suc n) (y ∷ xs) k x e = ap (λ i. slice_get (y ∷ xs) i) (plain n k) ∙ slice_get-drop n xs k x e
+  where
+    plain : (n k : ℕ) → suc n + k ≡ suc (n + k)
+    plain n k = omega arith
+
+-- the value that acknowledged stands behind all values that were whole before it
+value-at : (s : SessionHistory) (read value : List ℕ) → (says s read).reply ≡ Some value
+    → (place : ℕ) × (length (values_of (reply_stream s.heard)) ≤ place)
+    × (slice_get (values_of (reply_stream (s.heard ++ read))) place ≡ Some value)
+value-at s read value said =
+    let n = length (values_of (reply_stream s.heard)) in
+    let all = reply_stream (s.heard ++ read) in
+    let placed : Placed (values_of (newly_heard s read)) (Some value) =
+    subst (Placed (values_of (newly_heard s read))) said
+    (placed_in s.setup.login s.setup.salt (handshake_of s) (awaited s) (newly_heard s read)) in (
+      n + placed.0,
+      omega arith,
+      slice_get-drop n (values_of all) placed.0 value
+          (ap (λ vs. slice_get vs placed.0) (sym (values-behind n all)) ∙ placed.1),
+    )
+
+-- ---- a life
+
+-- a session whose bytes are its link's, and whose frames are whole
+record IsAlive (t : LiveSession) (seen : Seen) : Type 0 where
+  over : IsOver t seen
+  framed : IsFramed over.history
+
+live-down : (s : SessionHistory) → (live_session s).down ≡ s.down
+unfolding live_session
+live-down s = refl
+
+live-loaded : (s : SessionHistory) → (live_session s).loaded ≡ s.loaded
+unfolding live_session
+live-loaded s = refl
+
+-- a session that is ready is up
+ready-up : (down free : Bool) → not down && free ≡ true → down ≡ false
+ready-up true free e = absurd cc
+ready-up false free e = refl
+
+-- the history of a session over its life, which is up as the session is
+up-alive : (s : LiveSession) (seen : Seen) → (alive : IsAlive s seen) → s.down ≡ false
+    → alive.over.history.down ≡ false
+up-alive s seen alive up =
+    sym (live-down alive.over.history) ∙ ap (λ (x : LiveSession). x.down) (sym alive.over.live) ∙ up
+
+begins-alive : (setup : Setup) (start : Seen) → start.taken ≡ [] → start.given ≡ []
+    → IsAlive (session_begins setup) start
+begins-alive setup start taken given = record {
+  over = record {
+    history = begins setup;
+    live = sym (begins-live setup);
+    sane = begins-sane setup;
+    bytes = record { taken = taken; given = given };
+  };
+  framed = begins-framed setup;
+}
+
+loads-alive : (s t : LiveSession) (seen : Seen) (c : Load) (now : ℕ) → IsAlive s seen
+    → live_is_ready s ≡ true → t ≡ session_loads s c now → IsAlive t seen
+loads-alive s t seen c now alive ready is =
+    let over = alive.over in
+    let h = over.history in
+    let up = up-alive s seen alive (ready-up s.down _ ready) in
+    record {
+      over = record {
+        history = loads h c now;
+        live = is ∙ ap (λ x. session_loads x c now) over.live ∙ sym (loads-live h c now over.sane up);
+        sane = loads-sane h c now over.sane;
+        bytes = record {
+          taken = over.bytes.taken ∙ sym (take-append-le h.sent h.appended (frame_of c) over.sane.sent);
+          given = over.bytes.given;
+        };
+      };
+      framed = loads-framed h c now
+          (ready-live h ∙ ap live_is_ready (sym over.live) ∙ ready);
+    }
+
+looks-alive : (s t : LiveSession) (seen : Seen) (now : ℕ) → IsAlive s seen → s.down ≡ false
+    → t ≡ session_looks s now → IsAlive t seen
+looks-alive s t seen now alive up is =
+    let over = alive.over in
+    let h = over.history in
+    let up_too = up-alive s seen alive up in
+    record {
+      over = record {
+        history = looks h now;
+        live = is ∙ ap (λ x. session_looks x now) over.live ∙ sym (looks-live h now up_too);
+        sane = looks-sane h now over.sane up_too;
+        bytes = record { taken = over.bytes.taken; given = over.bytes.given };
+      };
+      framed = looks-framed h now alive.framed;
+    }
+
+unloads-alive : (s t : LiveSession) (seen : Seen) → IsAlive s seen → t ≡ session_unloads s
+    → IsAlive t seen
+unloads-alive s t seen alive is =
+    let over = alive.over in
+    let h = over.history in
+    record {
+      over = record {
+        history = unloads h;
+        live = is ∙ ap session_unloads over.live ∙ sym (unloads-live h);
+        sane = unloads-sane h over.sane;
+        bytes = record { taken = over.bytes.taken; given = over.bytes.given };
+      };
+      framed = unloads-framed h;
+    }
+
+serves-alive : (what : Served) (s t : LiveSession) (before after : Seen) → IsAlive s before
+    → s.down ≡ false → what ≢ served.Memory → IsServed what s t before after → IsAlive t after
+serves-alive what s t before after alive up some is =
+    let over = alive.over in
+    let h = over.history in
+    let up_too = up-alive s before alive up in
+    let next = lasts-from h what t before after over.sane up_too over.bytes
+    (subst (λ x. IsServed what x t before after) over.live is) some in
+    record { over = next.0; framed = next.1 alive.framed }
+
+does-alive : (deed : Deed) (s t : LiveSession) (before after : Seen) → IsAlive s before
+    → Does deed s t before after → IsAlive t after
+does-alive (Serves what) s t before after alive does = serves-alive what s t before after alive does.0 does.1 does.2
+does-alive (Loads chunk now) s t before after alive does = subst (IsAlive t) (sym does.3) (loads-alive s t before chunk now alive does.1 does.2)
+does-alive (Looks now) s t before after alive does = subst (IsAlive t) (sym does.2) (looks-alive s t before now alive does.0 does.1)
+does-alive Unloads s t before after alive does = subst (IsAlive t) (sym does.2) (unloads-alive s t before alive does.1)
+
+lives-alive : (deeds : List Deed) (s t : LiveSession) (before after : Seen) → IsAlive s before
+    → Lives deeds s t before after → IsAlive t after
+lives-alive [] s t before after alive rests =
+    subst (λ x. IsAlive x after) (sym rests.0) (subst (IsAlive s) (sym rests.1) alive)
+lives-alive (deed ∷ deeds) s t before after alive lives =
+    lives-alive deeds lives.0 t lives.1 after (does-alive deed s lives.0 before lives.1 alive lives.2) lives.3
+
+live-reply : (s : SessionHistory) → (live_session s).reply ≡ s.reply
+unfolding live_session
+live-reply s = refl
+
+-- where a value acknowledges the chunk, the whole frame was written before it
+written-first : (h : SessionHistory) (middle : LiveSession) (before between after : Seen)
+    (read value : List ℕ)
+    → IsFramed h → h.down ≡ false → AreTheLinks h before
+    → (sent : Sends (live_session h) middle before between) → Gives between read after
+    → (says (sends h sent.count) read).reply ≡ Some value
+    → IsWrittenFirst (live_session h) between after
+written-first h middle before between after read value framed up bytes sent gives said =
+    let mid : SessionHistory = sends h sent.count in
+    let acks = acks mid read value said in
+    let given : between.given ≡ mid.heard = (mid-bytes h middle before between up bytes sent).given in
+    let front = framed.framed acks.chunk acks.loaded in
+    let place = value-at mid read acks.value acks.said in
+    record {
+      chunk = acks.chunk;
+      loaded = live-loaded h ∙ acks.loaded;
+      front = front.0;
+      frame = turn-written h middle before between up bytes sent acks.through ∙ front.1;
+      value = acks.value;
+      named = acks.named;
+      place = place.0;
+      unread = subst (λ g. length (values_of (reply_stream g)) ≤ place.0) (sym given) place.1;
+      read = ap (λ g. slice_get (values_of (reply_stream g)) place.0)
+          (ap (λ (x : Seen). x.given) gives ∙ ap (λ g. g ++ read) given) ∙ place.2;
+    }
+
+alive-at : (setup : Setup) (deeds : List Deed) (s : LiveSession) (start before : Seen)
+    → start.taken ≡ [] → start.given ≡ [] → Lives deeds (session_begins setup) s start before
+    → IsAlive s before
+alive-at setup deeds s start before taken given lives =
+    lives-alive deeds (session_begins setup) s start before
+    (begins-alive setup start taken given) lives
+
+-- over a life, a turn that comes to an acknowledgement has the whole frame written before it
+pub whole-first : (setup : Setup) (deeds : List Deed) (s middle t : LiveSession)
+    (start before between after : Seen)
+    → start.taken ≡ [] → start.given ≡ [] → Lives deeds (session_begins setup) s start before
+    → s.down ≡ false → Sends s middle before between
+    → HasHeard served.Acked middle t between after → IsWrittenFirst s between after
+whole-first setup deeds s middle t start before between after taken given lives up one heard =
+    let alive = alive-at setup deeds s start before taken given lives in
+    let over = alive.over in
+    let h = over.history in
+    let up_too = up-alive s before alive up in
+    let sent : Sends (live_session h) middle before between =
+    subst (λ x. Sends x middle before between) over.live one in
+    let reply = turn-reply h middle t before between after over.sane up_too sent heard in
+    subst (λ x. IsWrittenFirst x between after) (sym over.live)
+    (written-first h middle before between after heard.0 reply.0 alive.framed up_too over.bytes sent heard.1 reply.1)
+
+-- ---- whatever a turn comes to
+
+-- what a session that had no acknowledgement has is what the values said
+new-reply : (said before : Option (List ℕ)) → before ≡ None
+    → is_some (cond (is_some said) said before) ≡ true
+    → (value : List ℕ) × (said ≡ Some value)
+new-reply (Some value) before e some = (value, refl)
+new-reply None before e some = absurd (nothing (sym (ap (λ o. is_some o) e) ∙ some))
+  where
+    nothing : false ≡ true → ⊥
+    nothing e = cc
+
+-- it was heard
+heard-reply : (h : SessionHistory) (middle t : LiveSession) (before between after : Seen)
+    (what : Heard) → IsSane h → h.down ≡ false
+    → (sent : Sends (live_session h) middle before between)
+    → (heard : Hears what middle t between after) → h.reply ≡ None → is_some t.reply ≡ true
+    → (value : List ℕ) × ((says (sends h sent.count) heard.0).reply ≡ Some value)
+heard-reply h middle t before between after what sane up sent heard none some =
+    let mid : SessionHistory = sends h sent.count in
+    let live : t ≡ live_session (listens mid heard.0 (says mid heard.0)) =
+    heard.2 ∙ ap (λ m. session_hears m heard.0) (told-live-mid h middle before between sent)
+    ∙ sym (hears-live mid heard.0 (mid-sane h middle before between sane up sent))
+    ∙ ap live_session (heard-of mid heard.0 up) in
+    new-reply (says mid heard.0).reply h.reply none
+    (sym (ap (λ o. is_some o) (ap (λ (x : LiveSession). x.reply) live ∙ live-reply (listens mid heard.0 (says mid heard.0)))) ∙ some)
+
+-- where nothing was heard, there is no new acknowledgement
+no-reply : (s middle t : LiveSession) (before between : Seen) → Sends s middle before between
+    → t ≡ middle → s.reply ≡ None → is_some t.reply ≡ true → ⊥
+no-reply s middle t before between one same none some =
+    nothing (sym (ap (λ o. is_some o)
+    (ap (λ (x : LiveSession). x.reply) same ∙ ap (λ (x : LiveSession). x.reply) one.told ∙ none)) ∙ some)
+  where
+    nothing : false ≡ true → ⊥
+    nothing e = cc
+
+-- a turn, as what its session heard, if it heard anything
+heard-what : (what : Served) (middle t : LiveSession) (between after : Seen)
+    → HasHeard what middle t between after
+    → ((heard : Heard) × Hears heard middle t between after) ⊎ (t ≡ middle)
+heard-what served.Quiet middle t between after (inl heard) = inl (told.Quiet, heard)
+heard-what served.Quiet middle t between after (inr rests) = inr rests.0
+heard-what served.Ready middle t between after heard = inl (told.Ready, heard)
+heard-what served.Acked middle t between after heard = inl (told.Acked, heard)
+heard-what (served.Down fault) middle t between after heard = inl (told.Fault fault, heard)
+heard-what served.Closed middle t between after rests = inr rests.0
+heard-what (served.Failed fault) middle t between after fails = inr fails.0
+heard-what served.Memory middle t between after lost = inr lost.0
+
+-- over a life, an acknowledgement that comes in any turn has the whole frame written before it
+pub any-first : (setup : Setup) (deeds : List Deed) (what : Served) (s middle t : LiveSession)
+    (start before between after : Seen)
+    → start.taken ≡ [] → start.given ≡ [] → Lives deeds (session_begins setup) s start before
+    → s.down ≡ false → Sends s middle before between → HasHeard what middle t between after
+    → s.reply ≡ None → is_some t.reply ≡ true → IsWrittenFirst s between after
+any-first setup deeds what s middle t start before between after taken given lives up one has none some =
+    by (heard-what what middle t between after has)
+  where
+    alive : IsAlive s before
+    alive = alive-at setup deeds s start before taken given lives
+
+    sent : Sends (live_session alive.over.history) middle before between
+    sent = subst (λ x. Sends x middle before between) alive.over.live one
+
+    bare : alive.over.history.reply ≡ None
+    bare = sym (live-reply alive.over.history) ∙ ap (λ (x : LiveSession). x.reply) (sym alive.over.live) ∙ none
+
+    by : ((heard : Heard) × Hears heard middle t between after) ⊎ (t ≡ middle)
+        → IsWrittenFirst s between after
+    by (inl heard) =
+        let up_too = up-alive s before alive up in
+        let reply = heard-reply alive.over.history middle t before between after heard.0 alive.over.sane up_too sent heard.1 bare some in
+        subst (λ x. IsWrittenFirst x between after) (sym alive.over.live)
+        (written-first alive.over.history middle before between after heard.1.0 reply.0 alive.framed up_too alive.over.bytes sent heard.1.1 reply.1)
+    by (inr same) = absurd (no-reply s middle t before between one same none some)
+
+-- ---- the law at work
+
+-- a session without a shared key, and a chunk of one entry whose name is one letter
+abbrev plain_setup : Setup
+plain_setup = record {
+  server = 0;
+  login = record {
+    hostname = [];
+    shared_key = None;
+    username = [];
+    password = [];
+    hostname_fits = omega arith;
+    username_fits = omega arith;
+  };
+  salt = [];
+  ack_wait = 1000;
+  start = 0;
+}
+
+abbrev small_chunk : Load
+small_chunk = record {
+  number = 1;
+  tag = 97 ∷ [];
+  entries = (0x92 ∷ 0x01 ∷ 0x80 ∷ []) ∷ [];
+  name = 120 ∷ [];
+}
+
+-- it is loaded, and then its frame is written
+abbrev loaded_session : LiveSession
+loaded_session = session_loads (session_begins plain_setup) small_chunk 0
+
+abbrev sent_session : LiveSession
+sent_session = session_sends loaded_session (length loaded_session.waiting)
+
+-- {"ack": "x"}
+abbrev small_ack : List ℕ
+small_ack = 0x81 ∷ 0xa3 ∷ 97 ∷ 99 ∷ 107 ∷ 0xa1 ∷ 120 ∷ []
+
+-- the link before the turn, between its write and its read, and behind it
+abbrev link_before : Seen
+link_before = seen_of [] [] 0
+
+abbrev link_between : Seen
+link_between = seen_of (take (length loaded_session.waiting) loaded_session.waiting) [] 0
+
+abbrev link_after : Seen
+link_after = record link_between { given = small_ack }
+
+small_ack-told : live_piece_told sent_session small_ack ≡ told.Acked
+unfolding reply_stream split_of first_of word_of ack_name chunk_frame head_bytes reading_of row_of parts_of row_of_values payload_ended item_begun fault_at
+small_ack-told = refl
+
+-- there is such a life, and a turn that comes to `Acked`
+pub life-acked : IsWrittenFirst loaded_session link_between link_after
+life-acked =
+    let loads : Lives (Loads small_chunk 0 ∷ []) (session_begins plain_setup) loaded_session link_before link_before =
+    (loaded_session, link_before, (refl, refl, refl, refl), (refl, refl)) in
+    let sends : Sends loaded_session sent_session link_before link_between =
+    record { count = length loaded_session.waiting; within = omega arith; told = refl; seen = refl } in
+    whole-first plain_setup (Loads small_chunk 0 ∷ []) loaded_session sent_session
+    (session_hears sent_session small_ack) link_before link_before link_between link_after
+    refl refl loads refl sends (small_ack, refl, refl, small_ack-told)
+
+-- less than the frame is not enough
+pub less-refused : (s : LiveSession) (chunk : Load) (written acknowledged : Seen)
+    → s.loaded ≡ Some chunk → length written.taken < length (frame_of chunk)
+    → IsWrittenFirst s written acknowledged → ⊥
+less-refused s chunk written acknowledged loaded less first =
+    let same : frame_of first.chunk ≡ frame_of chunk = ap frame_of (one (sym first.loaded ∙ loaded)) in
+    omega (arith, less, ap length first.frame, length-append first.front (frame_of first.chunk), ap length same)
+  where
+    one : {x y : Load} → Some x ≡ Some y → x ≡ y
+    one e = cc

@@ -2,3 +2,5 @@ pub mod Handing
 pub mod Serving
 pub mod Counting
 pub mod Lasting
+pub mod Leading
+pub mod Taking

@@ -1,19 +1,63 @@
--- What one turn of a session does with its link's bytes.
-use Rattle.std.specs.Prelude.{◌≡◌, ◌≤◌, ◌⊎◌, ◌+◌, ℕ, List, ◌++◌, length, take, Some}
+-- What one turn of a session asks of its link, what it does with the bytes, and what a session's
+-- whole life over a link is.
+use Rattle.std.specs.Prelude.{
+  ◌≡◌,
+  ◌≢◌,
+  ◌≤◌,
+  ◌⊎◌,
+  ◌+◌,
+  ℕ,
+  true,
+  false,
+  Bool,
+  List,
+  [],
+  ◌∷◌,
+  ◌++◌,
+  length,
+  take,
+  Option,
+  Some,
+  None,
+  Result,
+  Ok,
+  Err,
+  is_some,
+  slice_get,
+}
+use Rattle.fwd_msgpack.specs.Scans.{values_of}
 use Rattle.fwd_modes.specs.Acks.{ack_name}
 use Rattle.fwd_chunks.specs.History.{Load}
 use Rattle.fwd_session.specs.declared.told.Heard.{Heard}
 use Rattle.fwd_session.specs.declared.told.Heard.TheVariants as told
-use Rattle.fwd_session.specs.History.{SessionHistory, IsSane, says, sends, to_send}
+use Rattle.fwd_session.specs.Evidence.{frame_of}
+use Rattle.fwd_session.specs.Said.{reply_stream}
+use Rattle.fwd_session.specs.History.{Setup, SessionHistory, IsFramed, IsSane, says, sends, to_send}
 use Rattle.fwd_session.specs.Live.{
   LiveSession,
+  live_is_ready,
   live_piece_told,
   live_session,
+  session_begins,
   session_hears,
+  session_loads,
+  session_looks,
   session_sends,
+  session_unloads,
 }
+use Rattle.fwd_workers.specs.declared.link.Read.{Read}
+use Rattle.fwd_workers.specs.declared.link.Read.TheVariants as read
+use Rattle.fwd_workers.specs.declared.link.LinkFault.{LinkFault}
 use Rattle.fwd_workers.specs.declared.serve.Served.{Served}
 use Rattle.fwd_workers.specs.declared.serve.Served.TheVariants as served
+use Rattle.fwd_workers.specs.Links.{
+  Call,
+  DidWrite,
+  read_into,
+  taken_in,
+  given_in,
+  failures_in,
+}
 
 -- what the link is seen to do: all bytes that it took, all that it gave, and its failures
 pub record Seen : Type 0 where
@@ -25,6 +69,74 @@ pub record Seen : Type 0 where
 abbrev pub seen_of : (taken given : List ℕ) (failures : ℕ) → Seen
 seen_of taken given failures =
     record { taken = taken; given = given; failures = failures }
+
+-- it, of a link that made these calls
+abbrev pub seen_in : List Call → Seen
+seen_in calls = seen_of (taken_in calls) (given_in calls) (failures_in calls)
+
+-- ---- what a turn asks of its link
+
+-- the one write of a turn, of all bytes that wait, and what it was answered; none where none wait
+abbrev pub write_of : (waiting : List ℕ) → Result ℕ LinkFault → List Call
+write_of [] answer = []
+write_of (byte ∷ bytes) answer = DidWrite (byte ∷ bytes) answer ∷ []
+
+-- What a link answers in a turn. Its write failed. Or it took so many bytes, none where none wait,
+-- and then one read was answered, after which the room is this.
+pub data Exchange : Type 0 where
+  Breaks : (fault : LinkFault) → Exchange
+  Reads : (count : ℕ) (room : List ℕ) (answer : Result Read LinkFault) → Exchange
+
+-- the calls of a turn, in their order: at most one write; and then one read, unless that failed
+abbrev pub calls_of : (waiting : List ℕ) → Exchange → List Call
+calls_of waiting (Breaks fault) = write_of waiting (Err fault)
+calls_of waiting (Reads count room answer) =
+    write_of waiting (Ok count) ++ read_into room answer ∷ []
+
+-- what a session is told, as what its turn comes to; the other outcomes are no word of a session
+abbrev pub word_in : Served → Option Heard
+word_in served.Quiet = Some told.Quiet
+word_in served.Ready = Some told.Ready
+word_in served.Acked = Some told.Acked
+word_in (served.Down fault) = Some (told.Fault fault)
+word_in served.Closed = None
+word_in (served.Failed fault) = None
+word_in served.Memory = None
+
+-- bytes were read: the session heard them, and the turn is what it was told; or there was no memory
+-- to hear them, and the session stays as it was
+abbrev pub IsHeard : Served → LiveSession → LiveSession → (bytes : List ℕ) → Type 0
+IsHeard what s t bytes =
+    ((word_in what ≡ Some (live_piece_told s bytes)) × (t ≡ session_hears s bytes))
+    ⊎ ((what ≡ served.Memory) × (t ≡ s))
+
+-- what a turn comes to by its read, and what the session is then
+abbrev pub ComesOfRead : Served → LiveSession → LiveSession → (room : List ℕ)
+    → Result Read LinkFault → Type 0
+ComesOfRead what s t room (Ok (read.Bytes n)) =
+    (n ≤ length room) × IsHeard what s t (take n room)
+ComesOfRead what s t room (Ok read.Nothing) = (what ≡ served.Quiet) × (t ≡ s)
+ComesOfRead what s t room (Ok read.Closed) = (what ≡ served.Closed) × (t ≡ s)
+ComesOfRead what s t room (Err fault) = (what ≡ served.Failed fault) × (t ≡ s)
+
+-- What a turn comes to by what the link answered, and what the session is then: it is told how many
+-- bytes the link took, of those that waited. The read asks for a byte at least, and for 65,536 at
+-- most.
+abbrev pub ComesOf : Served → LiveSession → LiveSession → Exchange → Type 0
+ComesOf what s t (Breaks fault) =
+    (s.waiting ≢ []) × (what ≡ served.Failed fault) × (t ≡ s)
+ComesOf what s t (Reads count room answer) =
+    (count ≤ length s.waiting) × (1 ≤ length room) × (length room ≤ 65536)
+    × ComesOfRead what (session_sends s count) t room answer
+
+-- one turn of a session: its calls stand behind the link's calls before it, and what it comes to is
+-- what they were answered
+pub record IsTurn (what : Served) (s t : LiveSession) (before after : List Call) : Type 0 where
+  pub exchange : Exchange
+  pub calls : after ≡ before ++ calls_of s.waiting exchange
+  pub comes : ComesOf what s t exchange
+
+-- ---- what it does with the bytes
 
 -- the link took bytes from the front of those that waited, and the session was told how many
 pub record Sends (s t : LiveSession) (before after : Seen) : Type 0 where
@@ -87,14 +199,81 @@ pub record IsOver (t : LiveSession) (seen : Seen) : Type 0 where
 
 -- A session's chunk is acknowledged by its link's bytes: all bytes that were appended for sending,
 -- and so the whole frame, were written on the link, and the last byte of a value that names the
--- chunk was read afterwards.
+-- chunk was read afterwards. What was written ends with the frame, where the session was loaded
+-- only while it was ready.
 pub record IsAcknowledged (s : SessionHistory) (before after : Seen) : Type 0 where
   pub count : ℕ
   pub chunk : Load
   pub loaded : s.loaded ≡ Some chunk
   pub written : before.taken ++ take count (to_send s) ≡ s.appended
+  pub frame : IsFramed s
+      → (front : List ℕ) × (before.taken ++ take count (to_send s) ≡ front ++ frame_of chunk)
   pub read : List ℕ
   pub given : after.given ≡ before.given ++ read
   pub value : List ℕ
   pub said : (says (sends s count) read).reply ≡ Some value
   pub named : ack_name value ≡ Some chunk.name
+
+-- what is done with a session: a turn over its link, which comes to this; a chunk is loaded at a
+-- moment; it is asked at a moment whether it is late; its chunk is taken out
+pub data Deed : Type 0 where
+  Serves : (what : Served) → Deed
+  Loads : (chunk : Load) (now : ℕ) → Deed
+  Looks : (now : ℕ) → Deed
+  Unloads : Deed
+
+-- What it does with the session and its link, and when: a turn and a look come while the session is
+-- up, a load while it is ready and has no chunk, and a chunk is taken out once it is acknowledged.
+-- Only a turn does anything with the link. Behind a turn that ended in want of memory nothing is
+-- done any more.
+abbrev pub Does : Deed → LiveSession → LiveSession → Seen → Seen → Type 0
+Does (Serves what) s t before after =
+    (s.down ≡ false) × (what ≢ served.Memory) × IsServed what s t before after
+Does (Loads chunk now) s t before after =
+    (s.loaded ≡ None) × (live_is_ready s ≡ true)
+    × (t ≡ session_loads s chunk now) × (after ≡ before)
+Does (Looks now) s t before after =
+    (s.down ≡ false) × (t ≡ session_looks s now) × (after ≡ before)
+Does Unloads s t before after =
+    (is_some s.reply ≡ true) × (t ≡ session_unloads s) × (after ≡ before)
+
+-- a session's life so far: one after the other
+abbrev pub Lives : List Deed → LiveSession → LiveSession → Seen → Seen → Type 0
+Lives [] s t before after = Rests s t before after
+Lives (deed ∷ deeds) s t before after =
+    (middle : LiveSession) × (between : Seen)
+    × Does deed s middle before between × Lives deeds middle t between after
+
+-- a session has lived over a link from its first call on
+pub record HasLived (s : LiveSession) (seen : Seen) : Type 0 where
+  pub setup : Setup
+  pub deeds : List Deed
+  pub lives : Lives deeds (session_begins setup) s (seen_in []) seen
+
+-- it had, and then a last turn ended in want of memory: what that read is lost
+pub record HasLost (s : LiveSession) (seen : Seen) : Type 0 where
+  pub prior : LiveSession
+  pub before : Seen
+  pub lived : HasLived prior before
+  pub last : IsServed served.Memory prior s before seen
+
+-- A session is of this link, which shows what is seen of it: it has lived over it. Where it is not
+-- to end it is up; and only where it is to end may its last turn have ended in want of memory.
+pub record IsOfLink (s : LiveSession) (seen : Seen) (ends : Bool) : Type 0 where
+  pub lived : HasLived s seen ⊎ ((ends ≡ true) × HasLost s seen)
+  pub up : ends ≡ false → s.down ≡ false
+
+-- The frame of a session's chunk was written first, and then acknowledged. At the first of two
+-- moments the link had taken the frame, whole and last of all, and had not yet given the last byte
+-- of a value that names the chunk; at the second it had. The value is the one of this place among
+-- all whole values that the link gave.
+pub record IsWrittenFirst (s : LiveSession) (written acknowledged : Seen) : Type 0 where
+  pub chunk : Load
+  pub loaded : s.loaded ≡ Some chunk
+  pub front : List ℕ
+  pub frame : written.taken ≡ front ++ frame_of chunk
+  pub value : List ℕ
+  pub named : ack_name value ≡ Some chunk.name
+  pub place : ℕ
+  pub unread : length (values_of (reply_stream written.given)) ≤ place
+  pub read : slice_get (values_of (reply_stream acknowledged.given)) place ≡ Some value

@@ -2,7 +2,7 @@
 -- all its entries were acknowledged.
 use Rattle.std.specs.Prelude.{◌≡◌, ℕ, true, List, map, Option, Some, is_some, option_map, if◌then◌else◌}
 use Rattle.fwd_modes.specs.Requests.{Request}
-use Rattle.fwd_source.specs.declared.origin.Origin.{Origin}
+use Rattle.fwd_modes.specs.declared.origin.Origin.{Origin}
 use Rattle.fwd_chunks.specs.declared.span.Span.{Span}
 use Rattle.fwd_chunks.specs.declared.fault.AdmitError.{AdmitError}
 use Rattle.fwd_chunks.specs.declared.fault.AdmitError.TheVariants as unfit

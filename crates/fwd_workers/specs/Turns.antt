@@ -3,10 +3,8 @@ use Rattle.std.specs.Prelude.{
   ◌≡◌,
   ℕ,
   ◌⊎◌,
-  Option,
-  Some,
-  None,
   ◌+◌,
+  Bool,
   true,
   false,
   List,
@@ -17,7 +15,7 @@ use Rattle.std.specs.Prelude.{
   map,
 }
 use Rattle.fwd_modes.specs.Requests.{Request}
-use Rattle.fwd_source.specs.declared.origin.Origin.{Origin}
+use Rattle.fwd_modes.specs.declared.origin.Origin.{Origin}
 use Rattle.fwd_book.specs.History.{is_among}
 use Rattle.fwd_book.specs.Live.{LiveBook, live_leaves}
 use Rattle.fwd_book.specs.Receipts.{Receipt}
@@ -70,14 +68,17 @@ origins_of ts = map (λ t. t.origin) ts
 abbrev pub receipts_for : LiveBook → List Ticket → List Receipt
 receipts_for b ts = map (receipt_for b) ts
 
--- what is found for a ticket: its receipt, where it is due, and nothing where it is not
-abbrev pub IsAnswered : LiveBook → Ticket → Option Receipt → Type 0
-IsAnswered b t (Some r) = IsDue b t × (r ≡ receipt_for b t)
-IsAnswered b t None = ¬ (IsDue b t)
+-- which of some tickets are due
+abbrev pub AreDue : LiveBook → List Ticket → List Bool → Type 0
+AreDue b [] [] = Unit {0}
+AreDue b (t ∷ ts) (true ∷ due) = IsDue b t × AreDue b ts due
+AreDue b (t ∷ ts) (false ∷ due) = ¬ (IsDue b t) × AreDue b ts due
+AreDue b [] (d ∷ due) = ⊥
+AreDue b (t ∷ ts) [] = ⊥
 
--- what is found for each of some tickets
-abbrev pub AreAnswered : LiveBook → List Ticket → List (Option Receipt) → Type 0
-AreAnswered b [] [] = Unit {0}
-AreAnswered b (t ∷ ts) (o ∷ os) = IsAnswered b t o × AreAnswered b ts os
-AreAnswered b [] (o ∷ os) = ⊥
-AreAnswered b (t ∷ ts) [] = ⊥
+-- the origins of those that are due
+abbrev pub origins_due : List Ticket → List Bool → List Origin
+origins_due [] due = []
+origins_due (t ∷ ts) [] = []
+origins_due (t ∷ ts) (true ∷ due) = t.origin ∷ origins_due ts due
+origins_due (t ∷ ts) (false ∷ due) = origins_due ts due

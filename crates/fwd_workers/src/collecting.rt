@@ -3,31 +3,25 @@
 ghost use Rattle.std.specs.Prelude.{
   ◌≡◌,
   ◌≤◌,
-  ◌⊎◌,
-  ◌+◌,
-  ℕ,
   true,
   false,
   Some,
-  None,
   List,
   [],
   length,
   IfOk,
-  IfSome,
-  IfNone,
+  IfErr,
+  OnErr,
+  option_copied,
   vec_capacity,
 };
 ghost use Rattle.fwd_book.specs.Live.{live_leaves};
-ghost use Rattle.fwd_workers.specs.Tickets.{
-  Ticket as AbstractTicket,
-  IsShown,
-  IsDue,
-  receipt_for,
-};
+ghost use Rattle.fwd_book.specs.Receipts.{Receipt as AbstractReceipt};
+ghost use Rattle.fwd_workers.specs.Tickets.{Ticket as AbstractTicket, IsShown, IsDue};
 ghost use Rattle.fwd_workers.specs.Turns.{
-  AreAnswered,
   AreCollected,
+  AreDue,
+  origins_due,
   origins_of,
   receipts_for,
 };
@@ -35,6 +29,7 @@ ghost use Rattle.fwd_workers.specs.Turns.{
 use crate::ticket::Ticket;
 use fwd_book::Receipt;
 use fwd_core::OutputState;
+use fwd_modes::Origin;
 use std::alloc::{AllocError, Global};
 
 /// Whether the output owes an answer to just this ticket's request.
@@ -47,82 +42,99 @@ pub(crate) fn shows(state: &OutputState, ticket: &Ticket) -> bool
         && state.shows(ticket.origin(), ticket.batch(), ticket.spans())
 }
 
-/// The receipt of a ticket, if all entries of its request are acknowledged.
-fn receipt_for(
-    state: &OutputState,
-    alloc: Global,
-    ticket: &Ticket,
-) -> Result<Option<Receipt>, AllocError>
-    ensures due { IfOk result (λ given. IfSome given (λ r.
-        IsDue state.now.book ticket.now × (r ≡ receipt_for state.now.book ticket.now))) }
-    ensures other { IfOk result (λ given. IfNone given (¬ (IsDue state.now.book ticket.now))) }
+/// Whether a ticket's request is owed an answer, and all its entries are acknowledged.
+fn is_due(state: &OutputState, ticket: &Ticket) -> bool
+    ensures due { result ≡ true → IsDue state.now.book ticket.now }
+    ensures other { result ≡ false → ¬ (IsDue state.now.book ticket.now) }
 {
-    if !shows(state, ticket) {
-        return Ok(None);
-    }
-    state.receipt(alloc, ticket.origin())
+    shows(state, ticket) && state.is_settled(ticket.origin())
 }
 
-/// The receipt of each ticket, where all entries of its request are acknowledged. The only error
-/// is want of memory.
-pub(crate) fn receipts_for(
+/// Which of some tickets are due, and the origins of those.
+#[derive(Drop)]
+pub(crate) struct Due {
+    is_due: Vec<bool>,
+    origins: Vec<Origin>,
+}
+
+/// Which tickets are due. The only error is want of memory.
+pub(crate) fn due_of(
     state: &OutputState,
     alloc: Global,
     tickets: &[Ticket],
-) -> Result<Vec<Option<Receipt>>, AllocError>
-    ensures { IfOk result (λ given. AreAnswered state.now.book tickets.now given.items) }
+) -> Result<Due, AllocError>
+    ensures { IfOk result (λ due. AreDue state.now.book tickets.now due.is_due.items
+        × (due.origins.items ≡ origins_due tickets.now due.is_due.items)) }
 {
-    let mut given = Vec::with_capacity(alloc, tickets.len())?;
+    let mut flags = Vec::with_capacity(alloc, tickets.len())?;
+    let mut origins = Vec::new(alloc);
     for ticket in tickets {
-        given.push(receipt_for(state, alloc, ticket)?)?;
+        let is_due = is_due(state, ticket);
+        if is_due {
+            origins.push(ticket.origin())?;
+        }
+        flags.push(is_due)?;
     }
-    Ok(given)
+    Ok(Due {
+        is_due: flags,
+        origins,
+    })
 }
 
-/// The receipt that was found for a ticket, where its request is still owed an answer.
-fn receipt_if(is_held: bool, found: Option<Option<Receipt>>) -> Option<Receipt>
-    ensures some { IfSome result (λ r. (is_held ≡ true) × (found ≡ Some (Some r))) }
-    ensures none { IfNone result ((is_held ≡ false) ⊎ ((found ≡ None) ⊎ (found ≡ Some None))) }
+/// Whether there is a receipt, and it is of the request of this origin.
+fn is_of(receipt: Option<&Receipt>, origin: Origin) -> bool
+    ensures yes { result ≡ true → (r : AbstractReceipt) × (option_copied receipt.entry ≡ Some r)
+        × (r.origin ≡ origin) }
+    ensures no { result ≡ false → (r : AbstractReceipt) → option_copied receipt.entry ≡ Some r
+        → ¬ (r.origin ≡ origin) }
 {
-    if is_held { found? } else { None }
+    match receipt {
+        None => false,
+        Some(receipt) => receipt.origin() == origin,
+    }
 }
 
-/// Each ticket with a receipt is spent, and its request leaves the output; each other ticket comes
-/// back. Of two tickets of one request, the second comes back.
+/// Each ticket that is due is spent and given its receipt, and its request leaves the output; each
+/// other ticket comes back. Of two tickets of one request, the second comes back. On want of memory
+/// nothing has changed, and all tickets come back.
 pub(crate) fn hand_out(
     state: &mut OutputState,
+    alloc: Global,
     tickets: Vec<Ticket>,
-    given: Vec<Option<Receipt>>,
-    receipts: Vec<Receipt>,
+    due: Due,
     back: Vec<Ticket>,
-) -> (Vec<Receipt>, Vec<Ticket>)
-    requires answered { AreAnswered state.old.book tickets.items given.items }
-    requires none { (receipts.items ≡ []) × (back.items ≡ []) }
-    requires room { (length tickets.items ≤ vec_capacity receipts)
-        × (length tickets.items ≤ vec_capacity back) }
-    ensures { (told : List AbstractTicket)
-        × AreCollected state.old.book [] tickets.items told result.1.items
-        × (result.0.items ≡ receipts_for state.old.book told)
+) -> Result<(Vec<Receipt>, Vec<Ticket>), (AllocError, Vec<Ticket>)>
+    requires due { AreDue state.old.book tickets.items due.is_due.items }
+    requires origins { due.origins.items ≡ origins_due tickets.items due.is_due.items }
+    requires none { back.items ≡ [] }
+    requires room { length tickets.items ≤ vec_capacity back }
+    ensures ok { IfOk result (λ p. (told : List AbstractTicket)
+        × AreCollected state.old.book [] tickets.items told p.1.items
+        × (p.0.items ≡ receipts_for state.old.book told)
         × (state.new ≡ record state.old {
           book = live_leaves state.old.book (origins_of told);
-        }) }
+        })) }
+    ensures back { IfErr result (λ e. e.1.items ≡ tickets.items) }
+    ensures err { OnErr result (state.new ≡ state.old) }
 {
-    state.is_sound();
-    let mut receipts = receipts;
+    let Due { is_due, origins } = due;
+    let Ok(receipts) = state.collect(alloc, &origins) else {
+        back.destroy_empty();
+        return Err((AllocError, tickets));
+    };
     let mut back = back;
-    let mut answers = given.into_iter();
+    let mut told = 0;
+    let mut flags = is_due.into_iter();
     let mut rest = tickets.into_iter();
     while let Some(ticket) = rest.next() {
-        let origin = ticket.origin();
-        match receipt_if(state.holds(origin), answers.next()) {
-            Some(receipt) => {
-                state.forget(&[origin]);
-                ticket.spend();
-                receipts.push_reserved(receipt);
-            }
-            None => back.push_reserved(ticket),
+        let is_due = flags.next().unwrap_or(false);
+        if is_due && is_of(receipts.get(told), ticket.origin()) {
+            told += 1;
+            ticket.spend();
+        } else {
+            back.push_reserved(ticket);
         }
     }
     rest.destroy_empty();
-    (receipts, back)
+    Ok((receipts, back))
 }

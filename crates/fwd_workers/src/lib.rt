@@ -1,17 +1,23 @@
 //! Outputs that threads share, and the workers that send their chunks to servers.
 #![tactic(auto)]
 
+mod calls;
 mod collecting;
+mod ending;
 mod laws;
+mod line;
 mod link;
 mod locked;
+mod parting;
 mod refusal;
+mod round;
 mod serve;
 mod shared;
 mod tally;
 mod ticket;
 mod worker;
 
+pub use calls::Calls;
 pub use laws::served_bytes_are_the_links;
 pub use link::{Clock, Gate, Hub, Link, LinkFault, Loss, News, Pass, Place, Read};
 pub use locked::{Closing, Locked};

@@ -1,7 +1,7 @@
 //! What a worker asks of the world: links to servers, moments, and leave to go on.
 
-ghost use Rattle.std.specs.Prelude.{◌≡◌, ◌+◌, ℕ, List, IfErr};
-ghost use Rattle.fwd_workers.specs.Links.{HasRead, HasWritten, failed_reads, failed_writes};
+ghost use Rattle.std.specs.Prelude.{◌≡◌, ◌≤◌, List, [], ◌∷◌, ◌++◌, length, IfOk, IfErr};
+ghost use Rattle.fwd_workers.specs.Links.{Call, DidWrite, count_read, read_into};
 
 use fwd_session::SessionFault;
 use std::sync::Wait;
@@ -28,29 +28,21 @@ pub enum LinkFault {
     Write = 3,
 }
 
-/// A link to a server, which tells its bytes and counts its failures.
+/// A link to a server, which tells its calls.
 pub trait Link: Drop {
-    /// All bytes that it took.
-    ghost taken: { Self → List ℕ };
-
-    /// All bytes that it gave.
-    ghost given: { Self → List ℕ };
-
-    /// How many of its calls failed.
-    ghost failures: { Self → ℕ };
+    /// Its calls so far, in their order: what each was asked, and what it answered.
+    ghost calls: { Self → List Call };
 
     /// Reads once, into this room. It may wait.
     fn read<R: Wait>(&mut self, rt: &R, room: &mut [u8]) -> Result<Read, LinkFault>
-        ensures given { HasRead result (given self.old) room.new (given self.new) }
-        ensures taken { taken self.new ≡ taken self.old }
-        ensures failures { failures self.new ≡ failures self.old + failed_reads result }
+        ensures told { calls self.new ≡ calls self.old ++ read_into room.new result ∷ [] }
+        ensures within { count_read result ≤ length room.new }
         ensures fault { IfErr result (λ fault. fault ≡ LinkFault.Read) };
 
     /// Writes once: how many of these bytes it took, which may be none. It may wait.
     fn write<R: Wait>(&mut self, rt: &R, bytes: &[u8]) -> Result<usize, LinkFault>
-        ensures taken { HasWritten result (taken self.old) bytes.now (taken self.new) }
-        ensures given { given self.new ≡ given self.old }
-        ensures failures { failures self.new ≡ failures self.old + failed_writes result }
+        ensures told { calls self.new ≡ calls self.old ++ DidWrite bytes.now result ∷ [] }
+        ensures within { IfOk result (λ count. count ≤ length bytes.now) }
         ensures fault { IfErr result (λ fault. fault ≡ LinkFault.Write) };
 }
 
@@ -59,8 +51,10 @@ pub trait Hub {
     /// A link that it makes.
     type Line: Link;
 
-    /// A link to the server of this place in the output's list. It may wait.
-    fn connect<R: Wait>(&mut self, rt: &R, server: u16) -> Result<Self::Line, LinkFault>;
+    /// A link to the server of this place in the output's list, of which no call was made yet. It
+    /// may wait.
+    fn connect<R: Wait>(&mut self, rt: &R, server: u16) -> Result<Self::Line, LinkFault>
+        ensures { IfOk result (λ link. Self.Line.calls link ≡ []) };
 }
 
 /// Tells moments.
@@ -111,6 +105,8 @@ pub enum News {
     Settled { number: u64, server: u16 },
     /// A server is lost.
     Lost { server: u16, why: Loss },
+    /// A chunk is sent to this server, and the worker's last one was sent to another.
+    Went { server: u16 },
 }
 
 /// Lets workers go on, holds them up, or ends them; and is told what they came to.

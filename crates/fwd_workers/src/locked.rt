@@ -64,20 +64,22 @@ ghost use Rattle.fwd_workers.specs.Turns.{
   turn_tells,
 };
 
-use crate::collecting::{hand_out, receipts_for, shows};
+use crate::collecting::{due_of, hand_out, shows};
 use crate::refusal::AdmitRefusal;
 use crate::tally::{Ledgered, Seat, Tally};
 use crate::ticket::Ticket;
 use fwd_book::Receipt;
 use fwd_chunks::{Carried, Counts, FlushKind};
 use fwd_core::OutputState;
-use fwd_modes::Batch;
+use fwd_modes::{Batch, Origin};
 use fwd_session::Acked;
-use fwd_source::Origin;
 use std::alloc::{AllocError, Global};
 use std::marker::Model;
 use std::sync::Arc;
 use std::sync::ledger::Ledger;
+
+/// How long a claim on free chunks stands, in milliseconds. Who claims them looks again far sooner.
+const CLAIM: u64 = 100;
 
 /// An output with the counters of the entries that it accepted and settled, which are always what
 /// the output says.
@@ -86,6 +88,8 @@ pub struct Locked<A: Tally, S: Tally> {
     state: OutputState,
     accepted: A,
     settled: S,
+    /// The moment (milliseconds) up to which free chunks are left to a worker that claims them.
+    claimed: u64,
 }
 
 impl<A: Tally, S: Tally> Model for Locked<A, S> {
@@ -119,6 +123,7 @@ impl<A: Tally, S: Tally> Locked<A, S> {
             state,
             accepted,
             settled,
+            claimed: 0,
         }
     }
 
@@ -202,16 +207,13 @@ impl<A: Tally, S: Tally> Locked<A, S> {
         ensures err { OnErr result (self.new ≡ self.old) }
     {
         self.state.is_sound();
-        let Ok(given) = receipts_for(&self.state, alloc, &tickets) else {
-            return Err((AllocError, tickets));
-        };
-        let Ok(receipts) = Vec::with_capacity(alloc, tickets.len()) else {
+        let Ok(due) = due_of(&self.state, alloc, &tickets) else {
             return Err((AllocError, tickets));
         };
         let Ok(back) = Vec::with_capacity(alloc, tickets.len()) else {
             return Err((AllocError, tickets));
         };
-        Ok(hand_out(&mut self.state, tickets, given, receipts, back))
+        hand_out(&mut self.state, alloc, tickets, due, back)
     }
 
     /// Nobody is to be told of the ticket's request any more: it leaves, and its entries stay. The
@@ -225,6 +227,27 @@ impl<A: Tally, S: Tally> Locked<A, S> {
             self.state.forget(&[ticket.origin()]);
         }
         ticket.spend();
+    }
+
+    /// A worker claims the next free chunk from a moment on (milliseconds), for a while. Its session
+    /// was sought for a chunk that was lost, which else any worker would take, at the very moment at
+    /// which the server that lost it is tried again.
+    pub(crate) fn claim(&mut self, now: u64)
+        ensures { self.new ≡ self.old }
+    {
+        self.claimed = now.saturating_add(CLAIM);
+    }
+
+    /// A worker that claimed a free chunk took one.
+    pub(crate) fn release(&mut self)
+        ensures { self.new ≡ self.old }
+    {
+        self.claimed = 0;
+    }
+
+    /// Whether free chunks are left to a worker that claims them, at a moment (milliseconds).
+    pub(crate) fn is_claimed(&self, now: u64) -> bool {
+        now < self.claimed
     }
 
     /// Closes the open chunks that a flush closes at a moment (milliseconds), and answers how many.
@@ -337,6 +360,7 @@ impl<L: Ledger, M: Ledger> Locked<Ledgered<L>, Ledgered<M>> {
             state,
             accepted,
             settled,
+            claimed: _,
         } = self;
         state.is_sound();
         accepted.audit(admit_seats);

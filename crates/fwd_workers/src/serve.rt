@@ -1,8 +1,21 @@
 //! One turn of a session over its link.
 
-ghost use Rattle.std.specs.Prelude.{◌≡◌, ◌≤◌, ◌+◌, ◌++◌, ℕ, List, false, IfOk, IfErr, OnErr, length};
-ghost use Rattle.fwd_session.specs.Live.{LiveSession};
-ghost use Rattle.fwd_workers.specs.Served.{Seen, seen_of, Sends, Fails, HasHeard, Hears, IsServed};
+ghost use Rattle.std.specs.Prelude.{
+  ◌≡◌,
+  ◌≢◌,
+  ◌≤◌,
+  ◌++◌,
+  ℕ,
+  [],
+  Ok,
+  Err,
+  false,
+  IfOk,
+  IfErr,
+  length,
+};
+ghost use Rattle.fwd_session.specs.Live.{session_sends};
+ghost use Rattle.fwd_workers.specs.Served.{IsHeard, IsServed, IsTurn, seen_in, write_of};
 
 use crate::link::{Link, LinkFault, Read};
 use fwd_session::{Heard, Session, SessionFault};
@@ -31,14 +44,15 @@ pub enum Served {
     Memory,
 }
 
-/// The link takes of the bytes that wait, if any do, and the session is told how many.
+/// The link is asked to take all bytes that wait, if any do, and the session is told how many it
+/// took.
 fn send<L: Link, R: Wait>(rt: &R, link: &mut L, session: &mut Session) -> Result<(), LinkFault>
-    ensures sent { IfOk result (λ none. Sends session.old session.new
-        (seen_of (L.taken link.old) (L.given link.old) (L.failures link.old))
-        (seen_of (L.taken link.new) (L.given link.new) (L.failures link.new))) }
-    ensures failed { IfErr result (λ fault. Fails session.old session.new
-        (seen_of (L.taken link.old) (L.given link.old) (L.failures link.old))
-        (seen_of (L.taken link.new) (L.given link.new) (L.failures link.new))) }
+    ensures sent { IfOk result (λ none. (count : ℕ) × (count ≤ length session.old.waiting)
+        × (session.new ≡ session_sends session.old count)
+        × (L.calls link.new ≡ L.calls link.old ++ write_of session.old.waiting (Ok count))) }
+    ensures failed { IfErr result (λ fault. (session.old.waiting ≢ [])
+        × (session.new ≡ session.old)
+        × (L.calls link.new ≡ L.calls link.old ++ write_of session.old.waiting (Err fault))) }
     ensures chunk { session.new.loaded ≡ session.old.loaded }
     ensures up { session.new.down ≡ session.old.down }
 {
@@ -52,8 +66,7 @@ fn send<L: Link, R: Wait>(rt: &R, link: &mut L, session: &mut Session) -> Result
 /// The session hears bytes.
 fn hear(alloc: Global, session: &mut Session, bytes: &[u8]) -> Served
     requires { session.old.down ≡ false }
-    ensures heard { (before : Seen) → HasHeard result session.old session.new before
-        (record before { given = before.given ++ bytes.now }) }
+    ensures heard { IsHeard result session.old session.new bytes.now }
     ensures chunk { session.new.loaded ≡ session.old.loaded }
 {
     match session.heard(alloc, bytes) {
@@ -68,9 +81,10 @@ fn hear(alloc: Global, session: &mut Session, bytes: &[u8]) -> Served
     }
 }
 
-/// Writes at most once, of the bytes that wait to be sent, and then reads at most once. What the
-/// link took the session is told, and what the link gave it hears. After `Memory` what was written
-/// is told and nothing that was read is heard, so the link must be ended.
+/// Where bytes wait to be sent, the link is asked once to take them, all of them; and then, unless
+/// that failed, it is read once. What the link took the session is told, and what the link gave it
+/// hears. After `Memory` what was written is told and nothing that was read is heard, so the link
+/// must be ended.
 pub fn serve_turn<L: Link, R: Wait>(
     rt: &R,
     alloc: Global,
@@ -78,9 +92,9 @@ pub fn serve_turn<L: Link, R: Wait>(
     session: &mut Session,
 ) -> Served
     requires { session.old.down ≡ false }
+    ensures turn { IsTurn result session.old session.new (L.calls link.old) (L.calls link.new) }
     ensures served { IsServed result session.old session.new
-        (seen_of (L.taken link.old) (L.given link.old) (L.failures link.old))
-        (seen_of (L.taken link.new) (L.given link.new) (L.failures link.new)) }
+        (seen_in (L.calls link.old)) (seen_in (L.calls link.new)) }
     ensures chunk { session.new.loaded ≡ session.old.loaded }
 {
     if let Err(fault) = send(rt, link, session) {

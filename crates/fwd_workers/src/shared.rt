@@ -25,9 +25,8 @@ use crate::tally::{Ledgered, Seat, Tally};
 use crate::ticket::Ticket;
 use fwd_book::Receipt;
 use fwd_chunks::{Carried, Counts, FlushKind};
-use fwd_modes::Batch;
+use fwd_modes::{Batch, Origin};
 use fwd_session::Acked;
-use fwd_source::Origin;
 use std::alloc::{AllocError, Global};
 use std::sync::ledger::Ledger;
 use std::sync::{Arc, Mutex, Wait};
@@ -121,6 +120,21 @@ impl<A: Tally, S: Tally> SharedOutput<A, S> {
         ensures { seat.new ≡ seat.old }
     {
         self.lock.lock(rt).take(alloc, seat, worker, now)
+    }
+
+    /// A worker claims the next free chunk from a moment on (milliseconds), for a while.
+    pub(crate) fn claim<R: Wait>(&self, rt: &R, now: u64) {
+        self.lock.lock(rt).claim(now);
+    }
+
+    /// A worker that claimed a free chunk took one.
+    pub(crate) fn release<R: Wait>(&self, rt: &R) {
+        self.lock.lock(rt).release();
+    }
+
+    /// Whether free chunks are left to a worker that claims them, at a moment (milliseconds).
+    pub(crate) fn is_claimed<R: Wait>(&self, rt: &R, now: u64) -> bool {
+        self.lock.lock(rt).is_claimed(now)
     }
 
     /// A server acknowledged the chunk: its entries are settled, and answered is how many they are.

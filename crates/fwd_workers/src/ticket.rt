@@ -4,8 +4,7 @@ ghost use Rattle.std.specs.Prelude.{◌≡◌};
 
 use fwd_base::Seq;
 use fwd_chunks::Span;
-use fwd_modes::Batch;
-use fwd_source::Origin;
+use fwd_modes::{Batch, Origin};
 use std::marker::Model;
 
 /// A request that an output admitted. Only `admit` makes one. It must be spent: by a receipt, or by

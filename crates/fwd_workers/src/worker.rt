@@ -1,15 +1,51 @@
 //! A worker: it takes chunks from its output, sends them to a server, and settles what the server
 //! acknowledged.
 
-ghost use Rattle.std.specs.Prelude.{◌≡◌, ◌≤◌, None, IfOk};
+ghost use Rattle.std.specs.Prelude.{
+  ◌≡◌,
+  ◌≤◌,
+  [],
+  Some,
+  None,
+  true,
+  false,
+  is_some,
+  IfOk,
+  IfSome,
+  option_map,
+};
+ghost use Rattle.std.specs.Arc.{arc_value};
+ghost use Rattle.fwd_handshake.specs.Draws.{hex_drawn};
+ghost use Rattle.fwd_session.specs.History.{Setup, is_done};
+ghost use Rattle.fwd_session.specs.Live.{live_is_ready, session_begins};
+ghost use Rattle.fwd_workers.specs.Endings.{idle_ending, news_of, unmet_news, went_of};
+ghost use Rattle.fwd_workers.specs.Working.{
+  Begins,
+  HasBegun,
+  HasGone,
+  HasLoaded,
+  HasLost,
+  HasSettled,
+  HasSought,
+  HasTakenFirst,
+  HasTakenNext,
+  IsTended,
+  place_of,
+  reply_at,
+  setup_by,
+};
 
+use crate::ending::{Ending, Unmet, loss_in};
+use crate::line::{FreeLine, Line, Stage};
 use crate::link::{Clock, Gate, Hub, Link, Loss, News, Pass, Place};
-use crate::serve::{Served, serve_turn};
+use crate::parting::{end_free, end_line, finish, miss, settle_line};
+use crate::round::{Round, World};
+use crate::serve::serve_turn;
 use crate::shared::SharedOutput;
 use crate::tally::Tally;
 use fwd_base::Bytes;
 use fwd_chunks::{Carried, FlushKind};
-use fwd_core::{EndKind, Leaving, OwnedSalt, leave};
+use fwd_core::OwnedSalt;
 use fwd_handshake::{Login, draw_salt};
 use fwd_session::{LoadFailed, Session};
 use rand_chacha::ChaCha20Rng;
@@ -25,71 +61,18 @@ pub enum Ended {
     TurnsSpent,
 }
 
-/// A link, and the session that it carries.
-struct Line<L: Link> {
-    link: L,
-    session: Session,
-    /// Why the session is to end, once it is to.
-    ending: Option<Ending>,
-}
-
-/// Why a session is to end.
-#[derive(Clone, Copy)]
-enum Ending {
-    /// Its link carries no further chunk.
-    Spent,
-    /// Its server is lost.
-    Lost(Loss),
-}
-
-impl Ending {
-    /// Whether the link is said to be lost.
-    fn kind(self) -> EndKind {
-        match self {
-            Ending::Lost(Loss::Closed | Loss::Link(_) | Loss::Memory) => EndKind::Lost,
-            Ending::Spent | Ending::Lost(Loss::Fault(_) | Loss::Late) => EndKind::Kept,
+/// Where the gate is asked: nowhere while the server is waited for.
+fn place<L: Link>(stage: &Stage<L>) -> Option<Place>
+    ensures { result ≡ place_of stage.now }
+{
+    match stage {
+        Stage::Idle | Stage::Seeking | Stage::Sought(_) | Stage::Standing(_) => {
+            Some(Place::BeforeTake)
         }
-    }
-
-    /// What is told of it.
-    fn news(self, server: u16) -> Option<News> {
-        match self {
-            Ending::Spent => None,
-            Ending::Lost(why) => Some(News::Lost { server, why }),
-        }
-    }
-}
-
-/// A line whose session has no chunk.
-struct FreeLine<L: Link> {
-    line: Line<L>,
-    ghost free: { line.session.loaded ≡ None },
-}
-
-/// What a worker has from turn to turn.
-enum Stage<L: Link> {
-    /// Nothing.
-    Idle,
-    /// A session, and no chunk.
-    Standing(FreeLine<L>),
-    /// A chunk that waits to be loaded into the session.
-    Took(FreeLine<L>, Carried),
-    /// A chunk in the session.
-    Loaded(Line<L>),
-    /// A session whose chunk was settled.
-    Settled(FreeLine<L>),
-}
-
-impl<L: Link> Stage<L> {
-    /// Where the gate is asked: nowhere while the server is waited for.
-    fn place(&self) -> Option<Place> {
-        match self {
-            Stage::Idle | Stage::Standing(_) => Some(Place::BeforeTake),
-            Stage::Took(free, _) if free.line.session.is_ready() => Some(Place::BeforeLoad),
-            Stage::Loaded(line) if line.session.is_acked() => Some(Place::BeforeSettle),
-            Stage::Settled(_) => Some(Place::AfterSettle),
-            Stage::Took(..) | Stage::Loaded(_) => None,
-        }
+        Stage::Took(free, _) if free.line.session.is_ready() => Some(Place::BeforeLoad),
+        Stage::Loaded(line) if line.session.is_acked() => Some(Place::BeforeSettle),
+        Stage::Settled(_) => Some(Place::AfterSettle),
+        Stage::Took(..) | Stage::Loaded(_) => None,
     }
 }
 
@@ -101,123 +84,67 @@ pub struct Worker {
     login: Arc<Login>,
     ack_wait: u64,
     rng: ChaCha20Rng,
+    /// The server that its last chunk was loaded for, or before the first the one that it tried.
+    last: Option<u16>,
     /// What the turn came to, until it is told.
     news: Option<News>,
 }
 
-/// A turn of a line: it may be late at a moment (milliseconds), and else its session is served.
-#[tactic(auto, unfolding(fwd_session::specs::Live::session_looks))]
-fn serve<L: Link, R: Wait>(rt: &R, alloc: Global, line: Line<L>, now: u64) -> Line<L>
-    ensures { result.session.loaded ≡ line.session.loaded }
+/// The ending of a line whose server is lost, if it is.
+fn lost(why: Option<Loss>) -> Option<Ending>
+    ensures { result ≡ option_map Ending.Lost why }
 {
-    let mut line = line;
-    let loss = match line.session.late(now) {
-        Err(_) | Ok(true) => Some(Loss::Late),
-        Ok(false) => loss_in(serve_turn(rt, alloc, &mut line.link, &mut line.session)),
-    };
-    line.ending = loss.map(Ending::Lost);
-    line
+    match why {
+        None => None,
+        Some(why) => Some(Ending::Lost(why)),
+    }
 }
 
-/// Why the server is lost after a turn, if it is.
-fn loss_in(served: Served) -> Option<Loss> {
-    match served {
-        Served::Quiet | Served::Ready | Served::Acked => None,
-        Served::Down(fault) => Some(Loss::Fault(fault)),
-        Served::Closed => Some(Loss::Closed),
-        Served::Failed(fault) => Some(Loss::Link(fault)),
-        Served::Memory => Some(Loss::Memory),
+/// A turn of a line at a moment (milliseconds): it may be late, and else its session is served. A
+/// line that is to end stays as it is.
+#[tactic(auto, unfolding(fwd_session::specs::Live::session_looks))]
+fn serve<L: Link, R: Wait>(rt: &R, alloc: Global, line: Line<L>, now: u64) -> Line<L>
+    ensures chunk { result.session.loaded ≡ line.session.loaded }
+    ensures turn { line.ending ≡ None → IsTended line.session result.session now
+        (L.calls line.link) (L.calls result.link) result.ending }
+    ensures over { is_some line.ending ≡ true → result.ending ≡ line.ending }
+{
+    let Line {
+        mut link,
+        mut session,
+        ending,
+    } = line;
+    if ending.is_some() {
+        return Line {
+            link,
+            session,
+            ending,
+        };
+    }
+    let Ok(false) = session.late(now) else {
+        return Line {
+            link,
+            session,
+            ending: Some(Ending::Lost(Loss::Late)),
+        };
+    };
+    let served = serve_turn(rt, alloc, &mut link, &mut session);
+    Line {
+        link,
+        session,
+        ending: lost(loss_in(served)),
     }
 }
 
 /// The same of a line whose session has no chunk.
-fn serve_free<L: Link, R: Wait>(rt: &R, alloc: Global, free: FreeLine<L>, now: u64) -> FreeLine<L> {
+fn serve_free<L: Link, R: Wait>(rt: &R, alloc: Global, free: FreeLine<L>, now: u64) -> FreeLine<L>
+    ensures turn { free.line.ending ≡ None → IsTended free.line.session result.line.session now
+        (L.calls free.line.link) (L.calls result.line.link) result.line.ending }
+    ensures over { is_some free.line.ending ≡ true → result.line.ending ≡ free.line.ending }
+{
     let FreeLine { line } = free;
     let line = serve(rt, alloc, line, now);
     FreeLine { line }
-}
-
-/// A session ends at a moment (milliseconds): an accepted chunk is settled first, and a taken or
-/// loaded one goes back.
-fn end_line<A: Tally, S: Tally, L: Link, R: Wait>(
-    rt: &R,
-    out: &SharedOutput<A, S>,
-    seat: &mut S::Seat,
-    line: Line<L>,
-    kind: EndKind,
-    now: u64,
-)
-    ensures count { S.count seat.old ≤ S.count seat.new }
-    ensures parts { S.parts seat.new ≡ S.parts seat.old }
-{
-    let Line {
-        link: _,
-        mut session,
-        ending: _,
-    } = line;
-    if let Some((acked, chunk)) = session.acked() {
-        out.settle(rt, seat, acked, chunk);
-    }
-    let Leaving {
-        chunk,
-        lost,
-        server,
-    } = leave(session, None, kind);
-    out.end(rt, seat, chunk, server, lost, now);
-}
-
-/// The same of a session without a chunk, whose worker took one.
-fn end_free<A: Tally, S: Tally, L: Link, R: Wait>(
-    rt: &R,
-    out: &SharedOutput<A, S>,
-    seat: &mut S::Seat,
-    free: FreeLine<L>,
-    taken: Option<Carried>,
-    kind: EndKind,
-    now: u64,
-)
-    ensures count { S.count seat.old ≤ S.count seat.new }
-    ensures parts { S.parts seat.new ≡ S.parts seat.old }
-{
-    let FreeLine { line } = free;
-    let Line {
-        link: _,
-        session,
-        ending: _,
-    } = line;
-    if session.is_acked() {
-        unreachable!();
-    }
-    let Leaving {
-        chunk,
-        lost,
-        server,
-    } = leave(session, taken, kind);
-    out.end(rt, seat, chunk, server, lost, now);
-}
-
-/// A worker ends at a moment (milliseconds): an accepted chunk is settled, and a taken or loaded
-/// one goes back.
-fn finish<A: Tally, S: Tally, L: Link, R: Wait>(
-    rt: &R,
-    out: &SharedOutput<A, S>,
-    seat: &mut S::Seat,
-    stage: Stage<L>,
-    now: u64,
-)
-    ensures count { S.count seat.old ≤ S.count seat.new }
-    ensures parts { S.parts seat.new ≡ S.parts seat.old }
-{
-    match stage {
-        Stage::Idle => {}
-        Stage::Standing(free) | Stage::Settled(free) => {
-            end_free(rt, out, seat, free, None, EndKind::Kept, now);
-        }
-        Stage::Took(free, chunk) => {
-            end_free(rt, out, seat, free, Some(chunk), EndKind::Kept, now);
-        }
-        Stage::Loaded(line) => end_line(rt, out, seat, line, EndKind::Kept, now),
-    }
 }
 
 impl Worker {
@@ -236,6 +163,7 @@ impl Worker {
             login,
             ack_wait,
             rng,
+            last: None,
             news: None,
         }
     }
@@ -243,8 +171,10 @@ impl Worker {
     /// Closes chunks that are due and takes them, sends them to servers and settles what they
     /// acknowledged, in so many turns, or until the gate stops it. A session ends at a fault, where
     /// its link is closed or fails, where it is late, and for want of memory; a link that cannot be
-    /// had is a loss of its server. At the end an accepted chunk is settled, and a taken or loaded
-    /// one goes back.
+    /// had is a loss of its server. A server that closes a session behind an acknowledgement, and
+    /// owes nothing, is not lost. Behind the loss of a chunk the worker seeks a server at once, and
+    /// takes the chunk when it is free; with none loaded it goes to the server that it is to try.
+    /// At the end an accepted chunk is settled, and a taken or loaded one goes back.
     pub fn run<A: Tally, S: Tally, H: Hub, G: Gate, C: Clock, R: Wait>(
         &mut self,
         rt: &R,
@@ -261,115 +191,233 @@ impl Worker {
         let mut seat = seat;
         let mut stage: Stage<H::Line> = Stage::Idle;
         for turn in 0..turns {
-            let pass = match stage.place() {
+            let pass = match place(&stage) {
                 None => Pass::Go,
                 Some(place) => gate.pass(rt, self.number, place, turn),
             };
             let now = clock.now();
+            let round = Round { rt, out, now };
             match pass {
                 Pass::Go => {
-                    stage = self.step(rt, out, &mut seat, hub, stage, now);
+                    let mut world = World {
+                        hub: &mut *hub,
+                        clock: &mut *clock,
+                    };
+                    stage = self.step(&round, &mut seat, &mut world, stage);
                     if let Some(news) = self.news.take() {
                         gate.hear(rt, self.number, news);
                     }
                 }
                 Pass::Hold => {}
                 Pass::Stop => {
-                    finish(rt, out, &mut seat, stage, now);
+                    finish(&round, &mut seat, stage);
                     return (seat, Ended::Stopped);
                 }
             }
         }
         let now = clock.now();
-        finish(rt, out, &mut seat, stage, now);
+        finish(&Round { rt, out, now }, &mut seat, stage);
         (seat, Ended::TurnsSpent)
     }
 
-    /// One turn from where the worker stands, at a moment (milliseconds).
-    fn step<A: Tally, S: Tally, H: Hub, R: Wait>(
+    /// One turn from where the worker stands. Entries are settled only where a loaded chunk's
+    /// acknowledgement was accepted before.
+    fn step<A: Tally, S: Tally, H: Hub, C: Clock, R: Wait>(
         &mut self,
-        rt: &R,
-        out: &SharedOutput<A, S>,
+        round: &Round<'_, A, S, R>,
         seat: &mut S::Seat,
-        hub: &mut H,
+        world: &mut World<'_, H, C>,
         stage: Stage<H::Line>,
-        now: u64,
     ) -> Stage<H::Line>
+        ensures same { reply_at stage ≡ None → seat.new ≡ seat.old }
         ensures count { S.count seat.old ≤ S.count seat.new }
         ensures parts { S.parts seat.new ≡ S.parts seat.old }
     {
         match stage {
-            Stage::Idle => self.begin(rt, out, seat, hub, now),
-            Stage::Standing(free) => self.take(rt, out, seat, free, now),
-            Stage::Took(free, chunk) => self.load(rt, out, seat, free, chunk, now),
-            Stage::Loaded(line) => self.settle(rt, out, seat, line, now),
-            Stage::Settled(free) => self.go_on(rt, out, seat, free, now),
+            Stage::Idle => self.begin(round, seat, world),
+            Stage::Seeking => self.seek(round, seat, world),
+            Stage::Sought(free) => self.take_first(round, seat, free),
+            Stage::Standing(free) => self.take_next(round, seat, world, free),
+            Stage::Took(free, chunk) => self.load(round, seat, free, chunk),
+            Stage::Loaded(line) => self.settle(round, seat, line),
+            Stage::Settled(free) => self.go_on(round, seat, free),
         }
     }
 
-    /// Takes a chunk where there is a server to try, and begins a session with it.
-    fn begin<A: Tally, S: Tally, H: Hub, R: Wait>(
+    /// Takes a chunk where there is a server to try, and begins a session with it. What another
+    /// worker claims is left to it.
+    fn begin<A: Tally, S: Tally, H: Hub, C: Clock, R: Wait>(
         &mut self,
-        rt: &R,
-        out: &SharedOutput<A, S>,
+        round: &Round<'_, A, S, R>,
         seat: &mut S::Seat,
-        hub: &mut H,
-        now: u64,
+        world: &mut World<'_, H, C>,
     ) -> Stage<H::Line>
-        ensures { seat.new ≡ seat.old }
+        ensures same { seat.new ≡ seat.old }
+        ensures begun { HasBegun result (setup_by (arc_value self.old.login)
+            (hex_drawn 0 4 self.old.rng) self.old.ack_wait round.entry.now.now) }
     {
-        let Some(server) = out.choose(rt, self.number, now) else {
+        if round.out.is_claimed(round.rt, round.now) {
+            return Stage::Idle;
+        }
+        let Some(server) = round.out.choose(round.rt, self.number, round.now) else {
             return Stage::Idle;
         };
-        let Some(chunk) = self.next_chunk(rt, out, seat, now) else {
+        let Some(chunk) = self.next_chunk(round, seat) else {
             return Stage::Idle;
         };
-        let link = match hub.connect(rt, server) {
-            Ok(link) => link,
-            Err(fault) => {
-                self.news = Ending::Lost(Loss::Link(fault)).news(server);
-                out.end(rt, seat, Some(chunk), Some(server), false, now);
-                return Stage::Idle;
-            }
-        };
-        match self.up(server, now) {
-            Ok(session) => Stage::Took(free_line(link, session), chunk),
-            Err(_) => {
-                out.end(rt, seat, Some(chunk), None, false, now);
+        match self.meet(round, world.hub, server) {
+            Ok(free) => Stage::Took(free, chunk),
+            Err(why) => {
+                self.tell_unmet(why, server);
+                miss(round, seat, world.clock, why.leaving(Some(chunk), server));
                 Stage::Idle
             }
         }
     }
 
+    /// Begins a session without a chunk, where there is a server to try. Where the output holds
+    /// nothing, there is nothing to seek a server for.
+    fn seek<A: Tally, S: Tally, H: Hub, C: Clock, R: Wait>(
+        &mut self,
+        round: &Round<'_, A, S, R>,
+        seat: &mut S::Seat,
+        world: &mut World<'_, H, C>,
+    ) -> Stage<H::Line>
+        ensures same { seat.new ≡ seat.old }
+        ensures sought { HasSought result (setup_by (arc_value self.old.login)
+            (hex_drawn 0 4 self.old.rng) self.old.ack_wait round.entry.now.now) }
+    {
+        if round.out.counts(round.rt).held == 0 {
+            return Stage::Idle;
+        }
+        let Some(server) = round.out.choose(round.rt, self.number, round.now) else {
+            return Stage::Seeking;
+        };
+        match self.try_server(round, seat, world, server) {
+            Some(free) => Stage::Sought(free),
+            None => Stage::Seeking,
+        }
+    }
+
+    /// A session begins with a server, without a chunk. A server that cannot be reached is lost,
+    /// which is told.
+    fn try_server<A: Tally, S: Tally, H: Hub, C: Clock, R: Wait>(
+        &mut self,
+        round: &Round<'_, A, S, R>,
+        seat: &mut S::Seat,
+        world: &mut World<'_, H, C>,
+        server: u16,
+    ) -> Option<FreeLine<H::Line>>
+        ensures same { seat.new ≡ seat.old }
+        ensures begun { IfSome result (λ free. (free.line.ending ≡ None)
+            × (free.line.session ≡ session_begins (setup_by (arc_value self.old.login)
+            (hex_drawn 0 4 self.old.rng) self.old.ack_wait round.entry.now.now server))) }
+    {
+        match self.meet(round, world.hub, server) {
+            Ok(free) => Some(free),
+            Err(why) => {
+                self.tell_unmet(why, server);
+                miss(round, seat, world.clock, why.leaving(None, server));
+                None
+            }
+        }
+    }
+
+    /// No session began with a server, which is told. A worker that goes to another one is to tell
+    /// that, also where it sent no chunk yet.
+    fn tell_unmet(&mut self, why: Unmet, server: u16)
+        ensures told { self.new.news ≡ unmet_news why server }
+        ensures first { self.old.last ≡ None → self.new.last ≡ Some server }
+        ensures later { IfSome self.old.last (λ last. self.new.last ≡ Some last) }
+    {
+        self.news = why.news(server);
+        self.last = self.last.or(Some(server));
+    }
+
+    /// A session with the server that the worker is to try, where that is another than its own and
+    /// can be had. That it is just that server no clause can see through the lock: it is tested.
+    /// Its own is left also where that works and is said to be lost, by another worker's session.
+    fn go_over<A: Tally, S: Tally, H: Hub, C: Clock, R: Wait>(
+        &mut self,
+        round: &Round<'_, A, S, R>,
+        seat: &mut S::Seat,
+        world: &mut World<'_, H, C>,
+        own: u16,
+    ) -> Option<FreeLine<H::Line>>
+        ensures same { seat.new ≡ seat.old }
+        ensures begun { IfSome result (λ free. (free.line.ending ≡ None)
+            × Begins (setup_by (arc_value self.old.login) (hex_drawn 0 4 self.old.rng)
+            self.old.ack_wait round.entry.now.now) free.line.session) }
+    {
+        let server = round.out.choose(round.rt, self.number, round.now)?;
+        if server == own {
+            return None;
+        }
+        self.try_server(round, seat, world, server)
+    }
+
     /// The next chunk, if there is one. Only now are chunks closed that are due, so that entries go
-    /// on joining them while all workers are at work.
+    /// on joining them while all workers are at work. That it flushes what is due, and takes for
+    /// this worker, no clause can see through the lock: it is tested.
     fn next_chunk<A: Tally, S: Tally, R: Wait>(
         &self,
-        rt: &R,
-        out: &SharedOutput<A, S>,
+        round: &Round<'_, A, S, R>,
         seat: &mut S::Seat,
-        now: u64,
     ) -> Option<Carried>
         ensures { seat.new ≡ seat.old }
     {
-        out.flush(rt, now, FlushKind::Due);
-        match out.take(rt, self.alloc, seat, self.number, now) {
+        round.out.flush(round.rt, round.now, FlushKind::Due);
+        match round
+            .out
+            .take(round.rt, self.alloc, seat, self.number, round.now)
+        {
             Ok(chunk) => chunk,
             Err(_) => None,
         }
     }
 
-    /// A session with a server begins.
+    /// A link to a server, and a session that begins on it at the turn's moment.
+    fn meet<A: Tally, S: Tally, H: Hub, R: Wait>(
+        &mut self,
+        round: &Round<'_, A, S, R>,
+        hub: &mut H,
+        server: u16,
+    ) -> Result<FreeLine<H::Line>, Unmet>
+        ensures begun { IfOk result (λ free. free.line.session
+            ≡ session_begins (setup_by (arc_value self.old.login) (hex_drawn 0 4 self.old.rng)
+            self.old.ack_wait round.entry.now.now server)) }
+        ensures on { IfOk result (λ free. free.line.ending ≡ None) }
+    {
+        let link = match hub.connect(round.rt, server) {
+            Ok(link) => link,
+            Err(fault) => return Err(Unmet::Link(fault)),
+        };
+        match self.up(server, round.now) {
+            Ok(session) => Ok(free_line(link, session)),
+            Err(_) => Err(Unmet::Memory),
+        }
+    }
+
+    /// A session with a server begins at a moment (milliseconds). The only error is want of memory.
     fn up(&mut self, server: u16, now: u64) -> Result<Session, AllocError>
-        ensures { IfOk result (λ session. session.loaded ≡ None) }
+        ensures { IfOk result (λ session. session ≡ session_begins (record {
+          server = server;
+          login = arc_value self.old.login;
+          salt = hex_drawn 0 4 self.old.rng;
+          ack_wait = self.old.ack_wait;
+          start = now;
+        })) }
     {
         let login = Arc::try_clone(&self.login)?;
         let salt = self.draw_salt()?;
         Ok(Session::up(self.alloc, server, login, salt, self.ack_wait, now))
     }
 
-    /// The salt of the next login: 32 hexadecimal digits.
-    fn draw_salt(&mut self) -> Result<OwnedSalt, AllocError> {
+    /// The salt of the next login: 32 hexadecimal digits. The only error is want of memory.
+    fn draw_salt(&mut self) -> Result<OwnedSalt, AllocError>
+        ensures salt { IfOk result (λ salt. salt ≡ hex_drawn 0 4 self.old.rng) }
+        ensures same { self.new ≡ record self.old { rng = self.new.rng } }
+    {
         let salt = draw_salt(&mut self.rng);
         let bytes = Bytes::from_slice(self.alloc, &salt)?;
         match OwnedSalt::new(bytes) {
@@ -381,110 +429,192 @@ impl Worker {
     /// A line without a chunk stands, unless it is to end.
     fn stand<A: Tally, S: Tally, L: Link, R: Wait>(
         &mut self,
-        rt: &R,
-        out: &SharedOutput<A, S>,
+        round: &Round<'_, A, S, R>,
         seat: &mut S::Seat,
         free: FreeLine<L>,
-        now: u64,
     ) -> Stage<L>
-        ensures count { S.count seat.old ≤ S.count seat.new }
-        ensures parts { S.parts seat.new ≡ S.parts seat.old }
+        ensures same { seat.new ≡ seat.old }
+        ensures stands { free.line.ending ≡ None → (result ≡ Stage.Standing free)
+            × (free.line.session.down ≡ false) × (self.new.news ≡ self.old.news) }
+        ensures ends { IfSome free.line.ending (λ why. (result ≡ Stage.Idle)
+            × (self.new.news ≡ news_of why free.line.session.setup.server)) }
     {
         match free.line.ending {
             None => Stage::Standing(free),
             Some(ending) => {
                 self.news = ending.news(free.line.session.server());
-                end_free(rt, out, seat, free, None, ending.kind(), now);
+                end_free(round, seat, free, None);
                 Stage::Idle
             }
         }
     }
 
-    /// Takes a chunk for the session that stands. Where there is none, the session is served.
-    fn take<A: Tally, S: Tally, L: Link, R: Wait>(
+    /// Claims a chunk for the session that was sought, once that is ready, and takes it, whatever
+    /// server the worker is to try by then: else it would go again where it was lost. Where the
+    /// output holds nothing any more, the session stands. Where it ends its server is lost, and the
+    /// worker seeks on.
+    fn take_first<A: Tally, S: Tally, L: Link, R: Wait>(
         &mut self,
-        rt: &R,
-        out: &SharedOutput<A, S>,
+        round: &Round<'_, A, S, R>,
         seat: &mut S::Seat,
         free: FreeLine<L>,
-        now: u64,
     ) -> Stage<L>
-        ensures count { S.count seat.old ≤ S.count seat.new }
-        ensures parts { S.parts seat.new ≡ S.parts seat.old }
+        ensures same { seat.new ≡ seat.old }
+        ensures taken { free.line.ending ≡ None → HasTakenFirst result self.new.news
+            free.line.session round.entry.now.now (L.calls free.line.link) }
     {
-        match self.next_chunk(rt, out, seat, now) {
-            Some(chunk) => Stage::Took(free, chunk),
-            None => {
-                let free = serve_free(rt, self.alloc, free, now);
-                self.stand(rt, out, seat, free, now)
-            }
+        if round.out.counts(round.rt).held == 0 {
+            return Stage::Standing(free);
         }
+        let free = serve_free(round.rt, self.alloc, free, round.now);
+        if let Some(ending) = free.line.ending {
+            self.news = ending.news(free.line.session.server());
+            end_free(round, seat, free, None);
+            return Stage::Seeking;
+        }
+        if !free.line.session.is_ready() {
+            return Stage::Sought(free);
+        }
+        round.out.claim(round.rt, round.now);
+        match self.next_chunk(round, seat) {
+            Some(chunk) => {
+                round.out.release(round.rt);
+                Stage::Took(free, chunk)
+            }
+            None => Stage::Sought(free),
+        }
+    }
+
+    /// Takes a chunk for the session that stands, unless the server closed it, or for one with the
+    /// server that the worker is to try in its place. Where that must log in first, the chunk goes
+    /// back until then, and any worker may take it. What another worker claims is left to it.
+    fn take_next<A: Tally, S: Tally, H: Hub, C: Clock, R: Wait>(
+        &mut self,
+        round: &Round<'_, A, S, R>,
+        seat: &mut S::Seat,
+        world: &mut World<'_, H, C>,
+        free: FreeLine<H::Line>,
+    ) -> Stage<H::Line>
+        ensures same { seat.new ≡ seat.old }
+        ensures taken { free.line.ending ≡ None → HasTakenNext result self.new.news
+            free.line.session round.entry.now.now (H.Line.calls free.line.link)
+            (setup_by (arc_value self.old.login) (hex_drawn 0 4 self.old.rng)
+            self.old.ack_wait round.entry.now.now) }
+    {
+        let free = excuse(serve_free(round.rt, self.alloc, free, round.now));
+        if free.line.ending.is_some() || !free.line.session.is_ready() {
+            return self.stand(round, seat, free);
+        }
+        if round.out.is_claimed(round.rt, round.now) {
+            return Stage::Standing(free);
+        }
+        let Some(chunk) = self.next_chunk(round, seat) else {
+            return Stage::Standing(free);
+        };
+        let Some(other) = self.go_over(round, seat, world, free.line.session.server()) else {
+            return Stage::Took(free, chunk);
+        };
+        if other.line.session.is_ready() {
+            end_free(round, seat, free, None);
+            return Stage::Took(other, chunk);
+        }
+        end_free(round, seat, free, Some(chunk));
+        Stage::Sought(other)
     }
 
     /// Loads the chunk that was taken, once the session is ready; until then the session is served.
     fn load<A: Tally, S: Tally, L: Link, R: Wait>(
         &mut self,
-        rt: &R,
-        out: &SharedOutput<A, S>,
+        round: &Round<'_, A, S, R>,
         seat: &mut S::Seat,
         free: FreeLine<L>,
         chunk: Carried,
-        now: u64,
     ) -> Stage<L>
-        ensures count { S.count seat.old ≤ S.count seat.new }
-        ensures parts { S.parts seat.new ≡ S.parts seat.old }
+        ensures same { seat.new ≡ seat.old }
+        ensures loaded { free.line.ending ≡ None
+            → HasLoaded result free.line.session chunk round.entry.now.now }
+        ensures gone { HasGone result self.old.last self.new.last self.new.news }
     {
-        if !free.line.session.is_ready() {
-            let free = serve_free(rt, self.alloc, free, now);
-            return match free.line.ending {
-                None => Stage::Took(free, chunk),
-                Some(ending) => {
-                    self.news = ending.news(free.line.session.server());
-                    end_free(rt, out, seat, free, Some(chunk), ending.kind(), now);
-                    Stage::Idle
-                }
-            };
+        if free.line.ending.is_some() || !free.line.session.is_ready() {
+            let free = serve_free(round.rt, self.alloc, free, round.now);
+            return self.wait_for(round, seat, free, chunk);
         }
         let FreeLine { mut line } = free;
-        match line.session.load(self.alloc, chunk, now) {
-            Ok(()) => Stage::Loaded(line),
+        match line.session.load(self.alloc, chunk, round.now) {
+            Ok(()) => {
+                self.go_to(line.session.server());
+                Stage::Loaded(line)
+            }
             Err(LoadFailed { chunk, error: _ }) => {
-                let ending = Ending::Lost(Loss::Memory);
-                self.news = ending.news(line.session.server());
-                let free = FreeLine { line };
-                end_free(rt, out, seat, free, Some(chunk), ending.kind(), now);
+                let free = to_end(FreeLine { line }, Ending::Lost(Loss::Memory));
+                self.wait_for(round, seat, free, chunk)
+            }
+        }
+    }
+
+    /// A chunk goes to a server, which is told where the last one went to another.
+    fn go_to(&mut self, server: u16)
+        ensures told { self.new.news ≡ went_of self.old.last server }
+        ensures kept { self.new.last ≡ Some server }
+    {
+        self.news = match self.last {
+            Some(last) if last != server => Some(News::Went { server }),
+            _ => None,
+        };
+        self.last = Some(server);
+    }
+
+    /// A chunk waits for its session, unless that is to end; then the chunk goes back.
+    fn wait_for<A: Tally, S: Tally, L: Link, R: Wait>(
+        &mut self,
+        round: &Round<'_, A, S, R>,
+        seat: &mut S::Seat,
+        free: FreeLine<L>,
+        chunk: Carried,
+    ) -> Stage<L>
+        ensures same { seat.new ≡ seat.old }
+        ensures waits { free.line.ending ≡ None → (result ≡ Stage.Took free chunk)
+            × (self.new.news ≡ self.old.news) }
+        ensures last { self.new.last ≡ self.old.last }
+        ensures ends { IfSome free.line.ending (λ why. (result ≡ Stage.Idle)
+            × (self.new.news ≡ news_of why free.line.session.setup.server)) }
+    {
+        match free.line.ending {
+            None => Stage::Took(free, chunk),
+            Some(ending) => {
+                self.news = ending.news(free.line.session.server());
+                end_free(round, seat, free, Some(chunk));
                 Stage::Idle
             }
         }
     }
 
-    /// Settles the chunk that was acknowledged; until then the session is served.
+    /// Settles the chunk that was acknowledged; until then the session is served. Where that ends
+    /// the chunk is lost, and the worker seeks a server while it waits.
     fn settle<A: Tally, S: Tally, L: Link, R: Wait>(
         &mut self,
-        rt: &R,
-        out: &SharedOutput<A, S>,
+        round: &Round<'_, A, S, R>,
         seat: &mut S::Seat,
         line: Line<L>,
-        now: u64,
     ) -> Stage<L>
+        ensures same { line.session.reply ≡ None → seat.new ≡ seat.old }
+        ensures settled { HasSettled result line.session }
+        ensures lost { line.ending ≡ None → HasLost result self.new.news line.session
+            round.entry.now.now (L.calls line.link) }
         ensures count { S.count seat.old ≤ S.count seat.new }
         ensures parts { S.parts seat.new ≡ S.parts seat.old }
     {
         let mut line = line;
-        if let Some((acked, chunk)) = line.session.acked() {
-            self.news = Some(News::Settled {
-                number: chunk.number(),
-                server: acked.server(),
-            });
-            out.settle(rt, seat, acked, chunk);
+        if line.session.is_acked() {
+            self.news = settle_line(round, seat, &mut line);
             return Stage::Settled(FreeLine { line });
         }
-        let line = serve(rt, self.alloc, line, now);
+        let line = serve(round.rt, self.alloc, line, round.now);
         match line.ending {
             Some(ending) if !line.session.is_acked() => {
                 self.news = ending.news(line.session.server());
-                end_line(rt, out, seat, line, ending.kind(), now);
-                Stage::Idle
+                end_line(round, seat, line);
+                Stage::Seeking
             }
             _ => Stage::Loaded(line),
         }
@@ -493,26 +623,56 @@ impl Worker {
     /// The chunk was settled: the session stands, where it takes another one.
     fn go_on<A: Tally, S: Tally, L: Link, R: Wait>(
         &mut self,
-        rt: &R,
-        out: &SharedOutput<A, S>,
+        round: &Round<'_, A, S, R>,
         seat: &mut S::Seat,
         free: FreeLine<L>,
-        now: u64,
     ) -> Stage<L>
-        ensures count { S.count seat.old ≤ S.count seat.new }
-        ensures parts { S.parts seat.new ≡ S.parts seat.old }
+        ensures same { seat.new ≡ seat.old }
+        ensures stands { free.line.ending ≡ None → live_is_ready free.line.session ≡ true
+            → result ≡ Stage.Standing free }
+        ensures spent { free.line.ending ≡ None → live_is_ready free.line.session ≡ false
+            → (result ≡ Stage.Idle) × (self.new.news ≡ None) }
+        ensures ends { IfSome free.line.ending (λ why. (result ≡ Stage.Idle)
+            × (self.new.news ≡ news_of why free.line.session.setup.server)) }
     {
-        let mut free = free;
-        if free.line.ending.is_none() && !free.line.session.is_ready() {
-            free.line.ending = Some(Ending::Spent);
+        if free.line.ending.is_some() || free.line.session.is_ready() {
+            return self.stand(round, seat, free);
         }
-        self.stand(rt, out, seat, free, now)
+        self.stand(round, seat, to_end(free, Ending::Spent))
     }
 }
 
-/// A session that begins has no chunk.
+/// A line without a chunk, whose server may have closed it and owed nothing.
+fn excuse<L: Link>(free: FreeLine<L>) -> FreeLine<L>
+    ensures session { result.line.session ≡ free.line.session }
+    ensures ending { result.line.ending ≡ option_map
+        (λ why. idle_ending why (is_done free.line.session.handshake)) free.line.ending }
+{
+    match free.line.ending {
+        None => free,
+        Some(why) => {
+            let why = why.idle(free.line.session.is_greeted());
+            to_end(free, why)
+        }
+    }
+}
+
+/// A line without a chunk is to end.
+fn to_end<L: Link>(free: FreeLine<L>, why: Ending) -> FreeLine<L>
+    ensures session { result.line.session ≡ free.line.session }
+    ensures ending { result.line.ending ≡ Some why }
+{
+    let FreeLine { mut line } = free;
+    line.ending = Some(why);
+    FreeLine { line }
+}
+
+/// A session that begins over a link of which no call was made.
 fn free_line<L: Link>(link: L, session: Session) -> FreeLine<L>
-    requires { session.loaded ≡ None }
+    requires begun { (setup : Setup) × (session ≡ session_begins setup) }
+    requires fresh { L.calls link ≡ [] }
+    ensures session { result.line.session ≡ session }
+    ensures on { result.line.ending ≡ None }
 {
     FreeLine {
         line: Line {

@@ -9,7 +9,6 @@ decreases-loop-ticket l = into_iter_len l.rest
 -- the tickets so far are handed out, and there is room for the rest
 abbrev pub invariant-loop-ticket : goal.invariant-loop-ticket
 invariant-loop-ticket l =
-    Handing l.fn.state l.fn.tickets.items l.state l.receipts.items l.back.items
-    (into_iter_items l.rest) (into_iter_items l.answers)
-    × (vec_len l.receipts + into_iter_len l.rest ≤ vec_capacity l.receipts)
+    Handing l.fn.state.book l.fn.tickets.items l.receipts.items l.told l.back.items
+    (into_iter_items l.rest) (into_iter_items l.flags)
     × (vec_len l.back + into_iter_len l.rest ≤ vec_capacity l.back)

@@ -1,81 +1,69 @@
-use Rattle.std.proofs.Common.{refl, ap, inr, Ok, ◌∙◌}
-use Rattle.fwd_workers.specs.Served.{Seen, seen_of}
-use Rattle.fwd_workers.proofs.Serving.{
-  sends-none,
-  bytes-seen,
-  nothing-seen,
-  closed-seen,
-  failed-seen,
-}
+use Rattle.std.proofs.Common.{refl, ap, subst, arith, length, Ok, Err, ◌∷◌, [], ◌++◌, ◌≤◌, ◌∙◌}
+use Rattle.fwd_workers.specs.declared.link.Read.TheVariants as read
+use Rattle.fwd_workers.specs.declared.serve.Served.TheVariants as served
+use Rattle.fwd_workers.specs.Links.{read_into, count_read}
+use Rattle.fwd_workers.proofs.Serving.{breaks-turn, reads-turn, served-of}
 use Rattle.fwd_workers.proofs.serve.serve_turn.Goals as goal
+
+pub returns-in-Err-clause-turn : goal.returns-in-Err-clause-turn
+returns-in-Err-clause-turn g c =
+    let failed = c.in-Err.ensures.failed in
+    breaks-turn c.args.session.now c.send.new.session (g.L.Link.calls c.args.link.now)
+    (g.L.Link.calls c.send.new.link) c.in-Err.fault failed.0 failed.1 failed.2
 
 pub returns-in-Err-clause-served : goal.returns-in-Err-clause-served
 returns-in-Err-clause-served g c =
-    let before : Seen =
-    seen_of (g.L.Link.taken c.args.link.now) (g.L.Link.given c.args.link.now) (g.L.Link.failures c.args.link.now) in
-    (c.args.session.now, before, sends-none c.args.session.now before, c.in-Err.ensures.failed)
+    served-of (served.Failed c.in-Err.fault) c.args.session.now c.send.new.session
+    (g.L.Link.calls c.args.link.now) (g.L.Link.calls c.send.new.link) (returns-in-Err-clause-turn g c)
+
+pub returns-in-Ok-Bytes-clause-turn : goal.returns-in-Ok-Bytes-clause-turn
+returns-in-Ok-Bytes-clause-turn g c =
+    reads-turn c.hear.result c.args.session.now c.send.new.session c.hear.new.session (g.L.Link.calls c.args.link.now)
+    (g.L.Link.calls c.send.new.link) (g.L.Link.calls c.read.new.self) c.read.new.room
+    (Ok (read.Bytes c.in-Ok-Bytes.count)) c.in_default.ensures.sent
+    (c.read.ensures.told ∙ ap (λ a. g.L.Link.calls c.send.new.link ++ read_into c.read.new.room a ∷ []) (c.in-Ok-Bytes.is ∙ ap Ok c.in-Ok-Bytes.field-0-is))
+    (omega arith) (omega arith) (subst (λ a. count_read a ≤ length c.read.new.room) (c.in-Ok-Bytes.is ∙ ap Ok c.in-Ok-Bytes.field-0-is) c.read.ensures.within, c.hear.ensures.heard)
 
 pub returns-in-Ok-Bytes-clause-served : goal.returns-in-Ok-Bytes-clause-served
 returns-in-Ok-Bytes-clause-served g c =
-    let between : Seen =
-    seen_of (g.L.Link.taken c.send.new.link) (g.L.Link.given c.send.new.link) (g.L.Link.failures c.send.new.link) in
-    let after : Seen =
-    seen_of (g.L.Link.taken c.read.new.self) (g.L.Link.given c.read.new.self) (g.L.Link.failures c.read.new.self) in (
-      c.send.new.session,
-      between,
-      c.in_default.ensures.sent,
-      bytes-seen c.hear.result c.send.new.session c.hear.new.session between after c.read.result
-          c.in-Ok-Bytes.count c.read.new.room (c.in-Ok-Bytes.is ∙ ap Ok c.in-Ok-Bytes.field-0-is)
-          c.read.ensures.given c.read.ensures.taken c.read.ensures.failures
-          (c.hear.ensures.heard between),
-    )
+    served-of c.hear.result c.args.session.now c.hear.new.session
+    (g.L.Link.calls c.args.link.now) (g.L.Link.calls c.read.new.self) (returns-in-Ok-Bytes-clause-turn g c)
+
+pub returns-in-Ok-Nothing-clause-turn : goal.returns-in-Ok-Nothing-clause-turn
+returns-in-Ok-Nothing-clause-turn g c =
+    reads-turn served.Quiet c.args.session.now c.send.new.session c.send.new.session (g.L.Link.calls c.args.link.now)
+    (g.L.Link.calls c.send.new.link) (g.L.Link.calls c.read.new.self) c.read.new.room
+    (Ok read.Nothing) c.in_default.ensures.sent
+    (c.read.ensures.told ∙ ap (λ a. g.L.Link.calls c.send.new.link ++ read_into c.read.new.room a ∷ []) (c.in-Ok-Nothing.is ∙ ap Ok c.in-Ok-Nothing.field-0-is))
+    (omega arith) (omega arith) (refl, refl)
 
 pub returns-in-Ok-Nothing-clause-served : goal.returns-in-Ok-Nothing-clause-served
 returns-in-Ok-Nothing-clause-served g c =
-    let between : Seen =
-    seen_of (g.L.Link.taken c.send.new.link) (g.L.Link.given c.send.new.link) (g.L.Link.failures c.send.new.link) in
-    let after : Seen =
-    seen_of (g.L.Link.taken c.read.new.self) (g.L.Link.given c.read.new.self) (g.L.Link.failures c.read.new.self) in (
-      c.send.new.session,
-      between,
-      c.in_default.ensures.sent,
-      inr (
-        refl,
-        nothing-seen between after c.read.result c.read.new.room
-            (c.in-Ok-Nothing.is ∙ ap Ok c.in-Ok-Nothing.field-0-is)
-            c.read.ensures.given c.read.ensures.taken c.read.ensures.failures,
-      ),
-    )
+    served-of served.Quiet c.args.session.now c.send.new.session
+    (g.L.Link.calls c.args.link.now) (g.L.Link.calls c.read.new.self) (returns-in-Ok-Nothing-clause-turn g c)
+
+pub returns-in-Ok-Closed-clause-turn : goal.returns-in-Ok-Closed-clause-turn
+returns-in-Ok-Closed-clause-turn g c =
+    reads-turn served.Closed c.args.session.now c.send.new.session c.send.new.session (g.L.Link.calls c.args.link.now)
+    (g.L.Link.calls c.send.new.link) (g.L.Link.calls c.read.new.self) c.read.new.room
+    (Ok read.Closed) c.in_default.ensures.sent
+    (c.read.ensures.told ∙ ap (λ a. g.L.Link.calls c.send.new.link ++ read_into c.read.new.room a ∷ []) (c.in-Ok-Closed.is ∙ ap Ok c.in-Ok-Closed.field-0-is))
+    (omega arith) (omega arith) (refl, refl)
 
 pub returns-in-Ok-Closed-clause-served : goal.returns-in-Ok-Closed-clause-served
 returns-in-Ok-Closed-clause-served g c =
-    let between : Seen =
-    seen_of (g.L.Link.taken c.send.new.link) (g.L.Link.given c.send.new.link) (g.L.Link.failures c.send.new.link) in
-    let after : Seen =
-    seen_of (g.L.Link.taken c.read.new.self) (g.L.Link.given c.read.new.self) (g.L.Link.failures c.read.new.self) in (
-      c.send.new.session,
-      between,
-      c.in_default.ensures.sent,
-      (
-        refl,
-        closed-seen between after c.read.result c.read.new.room
-            (c.in-Ok-Closed.is ∙ ap Ok c.in-Ok-Closed.field-0-is)
-            c.read.ensures.given c.read.ensures.taken c.read.ensures.failures,
-      ),
-    )
+    served-of served.Closed c.args.session.now c.send.new.session
+    (g.L.Link.calls c.args.link.now) (g.L.Link.calls c.read.new.self) (returns-in-Ok-Closed-clause-turn g c)
+
+pub returns-in-Err-read-clause-turn : goal.returns-in-Err-read-clause-turn
+returns-in-Err-read-clause-turn g c =
+    reads-turn (served.Failed c.in-Err-read.fault) c.args.session.now c.send.new.session c.send.new.session (g.L.Link.calls c.args.link.now)
+    (g.L.Link.calls c.send.new.link) (g.L.Link.calls c.read.new.self) c.read.new.room
+    (Err c.in-Err-read.fault) c.in_default.ensures.sent
+    (c.read.ensures.told ∙ ap (λ a. g.L.Link.calls c.send.new.link ++ read_into c.read.new.room a ∷ []) (c.in-Err-read.is))
+    (omega arith) (omega arith) (refl, refl)
 
 pub returns-in-Err-read-clause-served : goal.returns-in-Err-read-clause-served
 returns-in-Err-read-clause-served g c =
-    let between : Seen =
-    seen_of (g.L.Link.taken c.send.new.link) (g.L.Link.given c.send.new.link) (g.L.Link.failures c.send.new.link) in
-    let after : Seen =
-    seen_of (g.L.Link.taken c.read.new.self) (g.L.Link.given c.read.new.self) (g.L.Link.failures c.read.new.self) in (
-      c.send.new.session,
-      between,
-      c.in_default.ensures.sent,
-      (
-        refl,
-        failed-seen between after c.read.result c.in-Err-read.fault c.read.new.room
-            c.in-Err-read.is c.read.ensures.given c.read.ensures.taken c.read.ensures.failures,
-      ),
-    )
+    served-of (served.Failed c.in-Err-read.fault) c.args.session.now c.send.new.session
+    (g.L.Link.calls c.args.link.now) (g.L.Link.calls c.read.new.self) (returns-in-Err-read-clause-turn g c)

@@ -1,0 +1,16 @@
+use Rattle.std.proofs.Common.{ap, subst, ◌∙◌}
+use Rattle.fwd_workers.specs.Endings.{news_of}
+use Rattle.fwd_workers.specs.Working.{IsTended}
+use Rattle.fwd_workers.proofs.worker.Worker.take_first.Goals as goal
+
+pub returns-in-Some-clause-taken : goal.returns-in-Some-clause-taken
+returns-in-Some-clause-taken g c none = (
+  c.serve_free-free.result.line.session,
+  g.L.Link.calls c.serve_free-free.result.line.link,
+  c.in-Some.ending,
+  subst (λ w. IsTended c.args.free.line.session c.serve_free-free.result.line.session
+      c.args.round.now.now (g.L.Link.calls c.args.free.line.link)
+      (g.L.Link.calls c.serve_free-free.result.line.link) w)
+      c.in-Some.is (c.serve_free-free.ensures.turn none),
+  c.news-self.ensures ∙ ap (news_of c.in-Some.ending) c.server.ensures,
+)

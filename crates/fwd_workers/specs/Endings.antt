@@ -1,0 +1,77 @@
+-- Why a worker's session ends, and what that counts as.
+use Rattle.std.specs.Prelude.{ℕ, ◌==◌, Bool, true, false, Option, Some, None, if◌then◌else◌}
+use Rattle.fwd_model.specs.declared.event.EndKind.{EndKind}
+use Rattle.fwd_model.specs.declared.event.EndKind.TheVariants as end
+use Rattle.fwd_workers.specs.declared.ending.Ending.{Ending}
+use Rattle.fwd_workers.specs.declared.ending.Ending.TheVariants as ending
+use Rattle.fwd_workers.specs.declared.ending.Unmet.{Unmet}
+use Rattle.fwd_workers.specs.declared.ending.Unmet.TheVariants as unmet
+use Rattle.fwd_workers.specs.declared.link.Loss.{Loss}
+use Rattle.fwd_workers.specs.declared.link.Loss.TheVariants as loss
+use Rattle.fwd_workers.specs.declared.link.News.{News}
+use Rattle.fwd_workers.specs.declared.link.News.TheVariants as news
+use Rattle.fwd_workers.specs.declared.serve.Served.{Served}
+use Rattle.fwd_workers.specs.declared.serve.Served.TheVariants as served
+
+-- why the server is lost after a turn, if it is: a fault put the session down, the link was closed
+-- or failed, or memory was refused
+abbrev pub loss_in : Served → Option Loss
+loss_in served.Quiet = None
+loss_in served.Ready = None
+loss_in served.Acked = None
+loss_in (served.Down fault) = Some (loss.Fault fault)
+loss_in served.Closed = Some loss.Closed
+loss_in (served.Failed fault) = Some (loss.Link fault)
+loss_in served.Memory = Some loss.Memory
+
+-- The session is said to be lost where its link failed or was closed, and where memory was refused
+-- in a turn. Where the server is at fault, or late, and where the link is spent, the session itself
+-- shows what was owed.
+abbrev pub kind_of : Ending → EndKind
+kind_of ending.Spent = end.Kept
+kind_of ending.Left = end.Kept
+kind_of (ending.Lost (loss.Link fault)) = end.Lost
+kind_of (ending.Lost loss.Closed) = end.Lost
+kind_of (ending.Lost loss.Memory) = end.Lost
+kind_of (ending.Lost (loss.Fault fault)) = end.Kept
+kind_of (ending.Lost loss.Late) = end.Kept
+
+-- why a session without a chunk ends: a server that closes its side behind the handshake owes
+-- nothing, and is not lost
+abbrev pub idle_ending : Ending → (is_greeted : Bool) → Ending
+idle_ending (ending.Lost loss.Closed) true = ending.Left
+idle_ending (ending.Lost loss.Closed) false = ending.Lost loss.Closed
+idle_ending (ending.Lost (loss.Link fault)) is_greeted = ending.Lost (loss.Link fault)
+idle_ending (ending.Lost loss.Memory) is_greeted = ending.Lost loss.Memory
+idle_ending (ending.Lost (loss.Fault fault)) is_greeted = ending.Lost (loss.Fault fault)
+idle_ending (ending.Lost loss.Late) is_greeted = ending.Lost loss.Late
+idle_ending ending.Spent is_greeted = ending.Spent
+idle_ending ending.Left is_greeted = ending.Left
+
+-- what is said of a session whose worker ends, and which may be to end itself
+abbrev pub kind_in : Option Ending → EndKind
+kind_in None = end.Kept
+kind_in (Some why) = kind_of why
+
+-- what is told of a session's end: that its server is lost, and why, if it is
+abbrev pub news_of : Ending → (server : ℕ) → Option News
+news_of ending.Spent server = None
+news_of ending.Left server = None
+news_of (ending.Lost why) server = Some (news.Lost server why)
+
+-- where no session began: the server is lost where no link to it could be had, and no server is
+-- where memory was refused
+abbrev pub blamed : Unmet → (server : ℕ) → Option ℕ
+blamed (unmet.Link fault) server = Some server
+blamed unmet.Memory server = None
+
+-- what is told of that
+abbrev pub unmet_news : Unmet → (server : ℕ) → Option News
+unmet_news (unmet.Link fault) server = Some (news.Lost server (loss.Link fault))
+unmet_news unmet.Memory server = None
+
+-- what is told where a chunk is loaded: the server that it goes to, where the worker's last one
+-- went to another
+abbrev pub went_of : (last : Option ℕ) → (server : ℕ) → Option News
+went_of None server = None
+went_of (Some last) server = if last == server then None else Some (news.Went server)

@@ -1,0 +1,198 @@
+-- Where a worker stands, and what its turns do.
+use Rattle.std.specs.Prelude.{◌≡◌, ◌⊎◌, ℕ, Bool, true, false, ◌||◌, List, Option, Some, None, option_map, is_some, if◌then◌else◌}
+use Rattle.fwd_handshake.specs.declared.credentials.Login.{Login}
+use Rattle.fwd_chunks.specs.History.{Load}
+use Rattle.fwd_session.specs.History.{Setup, is_done}
+use Rattle.fwd_session.specs.Live.{
+  LiveSession,
+  live_is_late,
+  live_is_ready,
+  session_begins,
+  session_loads,
+  session_looks,
+  session_unloads,
+}
+use Rattle.fwd_workers.specs.declared.ending.Ending.{Ending}
+use Rattle.fwd_workers.specs.declared.ending.Ending.TheVariants as ending
+use Rattle.fwd_workers.specs.declared.line.Stage.{Stage}
+use Rattle.fwd_workers.specs.declared.line.Stage.TheVariants as stage
+use Rattle.fwd_workers.specs.declared.link.Loss.TheVariants as loss
+use Rattle.fwd_workers.specs.declared.link.News.{News}
+use Rattle.fwd_workers.specs.declared.link.Place.{Place}
+use Rattle.fwd_workers.specs.declared.link.Place.TheVariants as place
+use Rattle.fwd_workers.specs.declared.serve.Served.{Served}
+use Rattle.fwd_workers.specs.Endings.{idle_ending, loss_in, news_of, went_of}
+use Rattle.fwd_workers.specs.Links.{Call}
+use Rattle.fwd_workers.specs.Served.{IsTurn}
+
+-- where the gate is asked: nowhere while the server is waited for
+abbrev pub place_of : {L : Type 0} {g : _} → Stage L g → Option Place
+place_of stage.Idle = Some place.BeforeTake
+place_of stage.Seeking = Some place.BeforeTake
+place_of (stage.Sought free) = Some place.BeforeTake
+place_of (stage.Standing free) = Some place.BeforeTake
+place_of (stage.Took free chunk) =
+    if live_is_ready free.line.session then Some place.BeforeLoad else None
+place_of (stage.Loaded line) =
+    if is_some line.session.reply then Some place.BeforeSettle else None
+place_of (stage.Settled free) = Some place.AfterSettle
+
+-- the value that acknowledged a chunk that is not settled yet, if there is one
+abbrev pub reply_at : {L : Type 0} {g : _} → Stage L g → Option (List ℕ)
+reply_at stage.Idle = None
+reply_at stage.Seeking = None
+reply_at (stage.Sought free) = None
+reply_at (stage.Standing free) = None
+reply_at (stage.Took free chunk) = None
+reply_at (stage.Loaded line) = line.session.reply
+reply_at (stage.Settled free) = None
+
+-- A turn of a session at a moment, with the calls of its link, and why it is to end then, if it is.
+-- Where it is down, or late at that moment, its link is left alone. Else its link is served, and
+-- what that comes to decides. It is up, unless it is to end.
+pub record IsTended (s t : LiveSession) (now : ℕ) (before after : List Call)
+    (why : Option Ending) : Type 0 where
+  pub late : s.down || live_is_late s now ≡ true
+      → (why ≡ Some (ending.Lost loss.Late)) × (after ≡ before)
+  pub served : s.down || live_is_late s now ≡ false
+      → (what : Served) × IsTurn what (session_looks s now) t before after
+      × (why ≡ option_map ending.Lost (loss_in what))
+  pub up : why ≡ None → t.down ≡ false
+
+-- a turn of a session at a moment leaves it up
+abbrev pub Lasts : (s t : LiveSession) → (now : ℕ) → (before : List Call) → Type 0
+Lasts s t now before = (after : List Call) × IsTended s t now before after None
+
+-- a turn of a session at a moment ends it, and what is told of that is read off why it ended, and
+-- off the session that it left
+abbrev pub Ends : (s : LiveSession) → (now : ℕ) → (before : List Call)
+    → (telling : Ending → LiveSession → Option News) → (told : Option News) → Type 0
+Ends s now before telling told = (t : LiveSession) × (after : List Call) × (why : Ending)
+    × IsTended s t now before after (Some why) × (told ≡ telling why t)
+
+-- what a worker that logs in so begins a session with, at a server and a moment
+abbrev pub setup_by : Login → (salt : List ℕ) → (ack_wait now server : ℕ) → Setup
+setup_by login salt ack_wait now server = record {
+  server = server;
+  login = login;
+  salt = salt;
+  ack_wait = ack_wait;
+  start = now;
+}
+
+-- a session begins, with one server or another
+abbrev pub Begins : (ℕ → Setup) → LiveSession → Type 0
+Begins setups s = (server : ℕ) × (s ≡ session_begins (setups server))
+
+-- a worker that had nothing: it has nothing still, or a chunk and a session that begins with it
+abbrev pub HasBegun : {L : Type 0} {g : _} → Stage L g → (ℕ → Setup) → Type 0
+HasBegun stage.Idle setups = Unit {0}
+HasBegun (stage.Took free chunk) setups =
+    (free.line.ending ≡ None) × Begins setups free.line.session
+HasBegun stage.Seeking setups = ⊥
+HasBegun (stage.Sought free) setups = ⊥
+HasBegun (stage.Standing free) setups = ⊥
+HasBegun (stage.Loaded line) setups = ⊥
+HasBegun (stage.Settled free) setups = ⊥
+
+-- a worker that seeks a server: it seeks on, it has a session that begins, and no chunk, or it
+-- seeks none any more
+abbrev pub HasSought : {L : Type 0} {g : _} → Stage L g → (ℕ → Setup) → Type 0
+HasSought stage.Idle setups = Unit {0}
+HasSought stage.Seeking setups = Unit {0}
+HasSought (stage.Sought free) setups =
+    (free.line.ending ≡ None) × Begins setups free.line.session
+HasSought (stage.Standing free) setups = ⊥
+HasSought (stage.Took free chunk) setups = ⊥
+HasSought (stage.Loaded line) setups = ⊥
+HasSought (stage.Settled free) setups = ⊥
+
+-- A worker with a session that it sought: it takes a chunk for just that session once that is
+-- ready; until then it goes on, and it stands where nothing is sought any more. Where the session
+-- ends the server is lost, whatever it owed, and the worker seeks on.
+abbrev pub HasTakenFirst : {L : Type 0} {g : _} → Stage L g → Option News → LiveSession
+    → (now : ℕ) → (before : List Call) → Type 0
+HasTakenFirst stage.Seeking told s now before =
+    Ends s now before (λ why t. news_of why t.setup.server) told
+HasTakenFirst (stage.Sought free) told s now before =
+    (free.line.ending ≡ None) × Lasts s free.line.session now before
+HasTakenFirst (stage.Standing free) told s now before =
+    (free.line.ending ≡ None) × (free.line.session ≡ s)
+HasTakenFirst (stage.Took free chunk) told s now before =
+    (free.line.ending ≡ None) × (live_is_ready free.line.session ≡ true)
+    × Lasts s free.line.session now before
+HasTakenFirst stage.Idle told s now before = ⊥
+HasTakenFirst (stage.Loaded line) told s now before = ⊥
+HasTakenFirst (stage.Settled free) told s now before = ⊥
+
+-- A worker whose session stands: it takes a chunk once that session is ready, for just that
+-- session, or for one that begins in its place; or it has one that begins in its place, and no
+-- chunk. Else it goes on standing. Where the session ends the worker has nothing, and a server that
+-- owed nothing is not said to be lost.
+abbrev pub HasTakenNext : {L : Type 0} {g : _} → Stage L g → Option News → LiveSession
+    → (now : ℕ) → (before : List Call) → (ℕ → Setup) → Type 0
+HasTakenNext stage.Idle told s now before setups =
+    Ends s now before
+    (λ why t. news_of (idle_ending why (is_done t.handshake)) t.setup.server) told
+HasTakenNext (stage.Standing free) told s now before setups =
+    (free.line.ending ≡ None) × Lasts s free.line.session now before
+HasTakenNext (stage.Took free chunk) told s now before setups =
+    (free.line.ending ≡ None) × (live_is_ready free.line.session ≡ true)
+    × (Lasts s free.line.session now before ⊎ Begins setups free.line.session)
+HasTakenNext (stage.Sought free) told s now before setups =
+    (free.line.ending ≡ None) × Begins setups free.line.session
+HasTakenNext stage.Seeking told s now before setups = ⊥
+HasTakenNext (stage.Loaded line) told s now before setups = ⊥
+HasTakenNext (stage.Settled free) told s now before setups = ⊥
+
+-- a worker with a chunk for its session: the chunk is loaded once that is ready, and until then it
+-- waits; or the session ended
+abbrev pub HasLoaded : {L : Type 0} {g : _} → Stage L g → LiveSession → Load → (now : ℕ) → Type 0
+HasLoaded stage.Idle s chunk now = Unit {0}
+HasLoaded (stage.Took free waits) s chunk now =
+    (live_is_ready s ≡ false) × (waits ≡ chunk) × (free.line.ending ≡ None)
+HasLoaded (stage.Loaded line) s chunk now =
+    (live_is_ready s ≡ true) × (line.session ≡ session_loads s chunk now)
+    × (line.ending ≡ None)
+HasLoaded stage.Seeking s chunk now = ⊥
+HasLoaded (stage.Sought free) s chunk now = ⊥
+HasLoaded (stage.Standing free) s chunk now = ⊥
+HasLoaded (stage.Settled free) s chunk now = ⊥
+
+-- a worker that just loaded a chunk tells which server it goes to, where its last chunk went to
+-- another, and keeps that server
+abbrev pub HasGone : {L : Type 0} {g : _} → Stage L g → (last kept : Option ℕ) → Option News
+    → Type 0
+HasGone (stage.Loaded line) last kept told =
+    (told ≡ went_of last line.session.setup.server)
+    × (kept ≡ Some line.session.setup.server)
+HasGone stage.Idle last kept told = kept ≡ last
+HasGone stage.Seeking last kept told = kept ≡ last
+HasGone (stage.Sought free) last kept told = kept ≡ last
+HasGone (stage.Standing free) last kept told = kept ≡ last
+HasGone (stage.Took free chunk) last kept told = kept ≡ last
+HasGone (stage.Settled free) last kept told = kept ≡ last
+
+-- a worker whose session has a chunk: the chunk is settled just where its acknowledgement was
+-- accepted before; else the session goes on with it, or ended, and the worker seeks a server
+abbrev pub HasSettled : {L : Type 0} {g : _} → Stage L g → LiveSession → Type 0
+HasSettled stage.Seeking s = s.reply ≡ None
+HasSettled (stage.Loaded line) s = (s.reply ≡ None) × (line.session.loaded ≡ s.loaded)
+HasSettled (stage.Settled free) s =
+    (is_some s.reply ≡ true) × (free.line.session ≡ session_unloads s)
+HasSettled stage.Idle s = ⊥
+HasSettled (stage.Sought free) s = ⊥
+HasSettled (stage.Standing free) s = ⊥
+HasSettled (stage.Took free chunk) s = ⊥
+
+-- where a worker's session ended with a chunk, a turn of it ended it, and why is told
+abbrev pub HasLost : {L : Type 0} {g : _} → Stage L g → Option News → LiveSession → (now : ℕ)
+    → (before : List Call) → Type 0
+HasLost stage.Seeking told s now before =
+    Ends s now before (λ why t. news_of why t.setup.server) told
+HasLost stage.Idle told s now before = Unit {0}
+HasLost (stage.Sought free) told s now before = Unit {0}
+HasLost (stage.Standing free) told s now before = Unit {0}
+HasLost (stage.Took free chunk) told s now before = Unit {0}
+HasLost (stage.Loaded line) told s now before = Unit {0}
+HasLost (stage.Settled free) told s now before = Unit {0}
