@@ -12,6 +12,8 @@ use std::sync::{Arc, Mutex, Wait};
 pub struct Notice {
     /// The number of the worker's output.
     pub output: u16,
+    /// The worker's number.
+    pub worker: u16,
     pub news: News,
 }
 

@@ -8,7 +8,6 @@ mod board;
 mod fault;
 mod link;
 mod nap;
-mod told;
 mod wire;
 
 pub use board::{Board, Notice, Notices, Stop};

@@ -1,24 +1,22 @@
 //! A worker's link over TCP.
 
+ghost use Rattle.std.specs.Prelude.{◌≡◌, [], IfOk};
+
 use crate::board::{Board, Stop};
 use crate::nap::SharedNap;
-use crate::told::Told;
 use crate::wire::Wire;
-use fwd_workers::{Hub, Link, LinkFault, Read};
+use fwd_workers::{Calls, Hub, Link, LinkFault, Read};
 use std::alloc::Global;
 use std::io;
 use std::net::{Net, SocketAddr};
 use std::sync::{Arc, Wait};
 
-/// A connection to a server. What it told of its bytes and failures is kept for contracts alone,
-/// and takes no memory: they claim that it told so, and nothing of what the server sent or got.
+/// A connection to a server. What it told of its calls is kept for contracts alone, and takes no
+/// memory: they claim that it told so, and nothing of what the server sent or got.
 #[derive(Drop)]
 pub struct TcpLink {
     wire: Wire,
-    taken: Told,
-    given: Told,
-    /// A byte for each call that failed.
-    failed: Told,
+    calls: Calls,
 }
 
 impl TcpLink {
@@ -30,36 +28,37 @@ impl TcpLink {
         stop: Stop,
         nap: SharedNap,
         addr: SocketAddr,
-    ) -> io::Result<TcpLink> {
+    ) -> io::Result<TcpLink>
+        ensures { IfOk result (λ link. link.calls.list ≡ []) }
+    {
         Ok(TcpLink {
             wire: Wire::begin(net, rt, alloc, stop, nap, addr)?,
-            taken: Told::none(),
-            given: Told::none(),
-            failed: Told::none(),
+            calls: Calls::none(),
         })
     }
 }
 
 impl Link for TcpLink {
-    ghost use Rattle.std.specs.Prelude.{length};
-
-    ghost taken = { λ l. l.taken.bytes };
-
-    ghost given = { λ l. l.given.bytes };
-
-    ghost failures = { λ l. length l.failed.bytes };
+    ghost calls = { λ l. l.calls.list };
 
     fn read<R: Wait>(&mut self, rt: &R, room: &mut [u8]) -> Result<Read, LinkFault> {
-        match self.wire.read(rt, room) {
-            Ok(None) => Ok(Read::Nothing),
-            Ok(Some(0)) => Ok(Read::Closed),
+        let read = self.wire.read(rt, room);
+        let room = &*room;
+        match read {
+            Ok(None) => {
+                self.calls = self.calls.and_read(&room, &Ok(Read::Nothing));
+                Ok(Read::Nothing)
+            }
+            Ok(Some(0)) => {
+                self.calls = self.calls.and_read(&room, &Ok(Read::Closed));
+                Ok(Read::Closed)
+            }
             Ok(Some(count)) => {
-                let bytes = &room[..count];
-                self.given = self.given.and(&bytes);
+                self.calls = self.calls.and_read(&room, &Ok(Read::Bytes(count)));
                 Ok(Read::Bytes(count))
             }
             Err(_) => {
-                self.failed = self.failed.and(&b"!".as_slice());
+                self.calls = self.calls.and_read(&room, &Err(LinkFault::Read));
                 Err(LinkFault::Read)
             }
         }
@@ -68,12 +67,11 @@ impl Link for TcpLink {
     fn write<R: Wait>(&mut self, _rt: &R, bytes: &[u8]) -> Result<usize, LinkFault> {
         match self.wire.write(bytes) {
             Ok(count) => {
-                let taken = &bytes[..count];
-                self.taken = self.taken.and(&taken);
+                self.calls = self.calls.and_write(&bytes, &Ok(count));
                 Ok(count)
             }
             Err(_) => {
-                self.failed = self.failed.and(&b"!".as_slice());
+                self.calls = self.calls.and_write(&bytes, &Err(LinkFault::Write));
                 Err(LinkFault::Write)
             }
         }

@@ -1,5 +1,6 @@
 //! How a worker waits, and how it is called.
 
+use crate::board::Stop;
 use crate::fault::StartFault;
 use mio::net::TcpStream;
 use mio::{Events, Interest, Poll, Token, Waker};
@@ -15,6 +16,9 @@ const PAUSE: u64 = 10;
 
 /// How long a worker waits for a server that owes something, in milliseconds.
 const PATIENCE: u64 = 100;
+
+/// How long a worker waits for a connection that is neither up nor refused, in milliseconds.
+const CONNECT_WAIT: u64 = 5_000;
 
 /// The worker's bell.
 const BELL: Token = Token(0);
@@ -121,15 +125,23 @@ impl Nap {
     }
 }
 
-/// Waits for a server that a stream connects to: until it is up or refused, or for a while.
+/// Waits for a server that a stream connects to: until it is up or refused, at most
+/// `CONNECT_WAIT` milliseconds, and hardly longer than a piece of that once all workers are to end.
 pub(crate) fn await_connection<R: Net>(
     rt: &R,
     alloc: Global,
     stream: &mut TcpStream,
+    stop: &Stop,
 ) -> io::Result<()> {
     let mut poll = Poll::new(rt)?;
     let mut events = Events::with_capacity(alloc, 1)?;
     poll.registry()
         .register(stream, STREAM, Interest::WRITABLE)?;
-    poll.poll(&mut events, Some(Duration::from_millis(PATIENCE)))
+    for _ in 0..CONNECT_WAIT / PATIENCE {
+        poll.poll(&mut events, Some(Duration::from_millis(PATIENCE)))?;
+        if !events.is_empty() || stop.is_told() {
+            break;
+        }
+    }
+    Ok(())
 }

@@ -8,10 +8,10 @@ use mio::net::TcpStream;
 use std::alloc::Global;
 use std::io;
 use std::io::{ErrorKind, Read, Write};
-use std::net::{Net, SocketAddr};
+use std::net::{Net, Shutdown, SocketAddr};
 use std::sync::Wait;
 
-/// The stream failed, or it is to end.
+/// The stream failed.
 #[derive(Clone, Copy)]
 pub(crate) struct Broken;
 
@@ -29,12 +29,14 @@ pub(crate) struct Wire {
     nap: SharedNap,
     stream: TcpStream,
     is_up: bool,
+    /// It was shut for reading, since its worker is to end.
+    is_shut: bool,
 }
 
 impl Wire {
-    /// Begins to connect, and waits a while for the server. A connection that is refused by then
-    /// cannot be had; one that is neither up nor refused goes on as a stream that takes nothing
-    /// yet.
+    /// Connects. It is an error that the connection is refused, or neither up nor refused within
+    /// five seconds. Where all workers are to end meanwhile, it goes on as a stream that takes
+    /// nothing yet.
     pub fn begin<N: Net, R: Wait>(
         net: &N,
         rt: &R,
@@ -44,15 +46,19 @@ impl Wire {
         addr: SocketAddr,
     ) -> io::Result<Wire> {
         let mut stream = TcpStream::connect(net, addr)?;
-        await_connection(net, alloc, &mut stream)?;
+        await_connection(net, alloc, &mut stream, &stop)?;
         nap.lock(rt).start(&mut stream)?;
         let mut wire = Wire {
             stop,
             nap,
             stream,
             is_up: false,
+            is_shut: false,
         };
         wire.look()?;
+        if !wire.is_up && !wire.stop.is_told() {
+            return Err(io::Error::from(ErrorKind::TimedOut));
+        }
         Ok(wire)
     }
 
@@ -71,12 +77,19 @@ impl Wire {
         Ok(())
     }
 
-    /// Reads what is there: how many bytes, 0 where the server closed its side, and nothing where
-    /// nothing is there yet.
+    /// Shuts the stream for reading, so that its next reads do not wait: the socket itself tells
+    /// them what came before, and then that no more comes, or that it cannot be read.
+    fn shut(&mut self) {
+        self.is_shut = true;
+        let _ = self.stream.shutdown(Shutdown::Read);
+    }
+
+    /// Reads what is there: how many bytes, 0 where no more comes, and nothing where nothing is
+    /// there yet.
     fn read_once(&mut self, room: &mut [u8]) -> Result<Option<usize>, Broken>
         ensures { IfOk result (λ some. IfSome some (λ n. n ≤ length room.new)) }
     {
-        if !self.is_up {
+        if !self.is_up && !self.is_shut {
             return Ok(None);
         }
         match self.stream.read(room) {
@@ -90,11 +103,17 @@ impl Wire {
 
     /// The same, and waits where nothing is there yet: a while for a server that owes something.
     /// While the worker has no chunk it waits for none here, so that it is not held up.
+    ///
+    /// Once all workers are to end, the first read reads nothing and says so, for no call failed:
+    /// it shuts the stream. A worker that waits for a server does not ask its gate, and would read
+    /// on until the server is late. Behind that read its next ones are told the stream's end, so
+    /// that its session ends, and the gate, which it then asks, stops it.
     pub fn read<R: Wait>(&mut self, rt: &R, room: &mut [u8]) -> Result<Option<usize>, Broken>
         ensures { IfOk result (λ some. IfSome some (λ n. n ≤ length room.new)) }
     {
-        if self.stop.is_told() {
-            return Err(Broken);
+        if self.stop.is_told() && !self.is_shut {
+            self.shut();
+            return Ok(None);
         }
         let read = self.read_once(room)?;
         if read.is_some() || !self.nap.lock(rt).await_server() {

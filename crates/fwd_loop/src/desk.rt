@@ -14,7 +14,6 @@ use std::sync::Wait;
 
 /// The outputs as the loop sees them, and which tags go to which. It must be spent: by `close`.
 pub(crate) struct Desk<'a> {
-    alloc: Global,
     routes: &'a Routes,
     lanes: Vec<Lane<'a>>,
 }
@@ -29,14 +28,14 @@ fn close_all<R: Wait>(rt: &R, lanes: Vec<Lane<'_>>) {
 }
 
 impl<'a> Desk<'a> {
-    /// The outputs, and the pace of each, before the first request. The only error is want of
+    /// The outputs, and the pace of each, where no ticket is out. The only error is want of
     /// memory.
     pub fn new<R: Wait>(
         rt: &R,
         alloc: Global,
         routes: &'a Routes,
         outputs: &'a [Output],
-        paces: Vec<Pace>,
+        paces: &'a mut [Pace],
     ) -> Result<Desk<'a>, AllocError> {
         let mut lanes = Vec::new(alloc);
         for (output, pace) in outputs.iter().zip(paces) {
@@ -47,11 +46,7 @@ impl<'a> Desk<'a> {
                 return Err(AllocError);
             }
         }
-        Ok(Desk {
-            alloc,
-            routes,
-            lanes,
-        })
+        Ok(Desk { routes, lanes })
     }
 
     /// Admits the requests that wait at a source at a moment (milliseconds). A request that is not
@@ -134,11 +129,10 @@ impl<'a> Desk<'a> {
     /// Hands in the tickets that are to be, and puts acknowledgements behind what waits to be sent
     /// to their sources, which are to be visited.
     pub fn collect<R: Wait, W: Watch>(&mut self, rt: &R, peers: &mut Peers, watch: &mut W) {
-        let alloc = self.alloc;
         for (output, lane) in (0..u16::MAX).zip(&mut self.lanes) {
             if lane.is_due() {
                 match lane.collect(rt) {
-                    Ok(receipts) => tell_all(alloc, &receipts, peers),
+                    Ok(receipts) => tell_all(&receipts, peers),
                     Err(_) => watch.see(Fact::Memory(Want::Output(output))),
                 }
             }
@@ -154,27 +148,23 @@ impl<'a> Desk<'a> {
 
     /// The tickets that are left are abandoned.
     pub fn close<R: Wait>(self, rt: &R) {
-        let Desk {
-            alloc: _,
-            routes: _,
-            lanes,
-        } = self;
+        let Desk { routes: _, lanes } = self;
         close_all(rt, lanes);
     }
 }
 
 /// Tells sources of receipts.
-fn tell_all(alloc: Global, receipts: &[Receipt], peers: &mut Peers) {
+fn tell_all(receipts: &[Receipt], peers: &mut Peers) {
     for receipt in receipts {
-        tell(alloc, receipt, peers);
+        tell(receipt, peers);
     }
 }
 
 /// Tells a source of a receipt, where it asked to be told, and still stands.
-fn tell(alloc: Global, receipt: &Receipt, peers: &mut Peers) {
+fn tell(receipt: &Receipt, peers: &mut Peers) {
     let Some((key, source)) = peers.source(receipt.origin().conn) else {
         return;
     };
-    source.answer(alloc, receipt);
+    source.answer(receipt);
     peers.note(key);
 }

@@ -1,16 +1,14 @@
-//! The loop's turns.
+//! What the loop waits for and visits.
 
 use crate::desk::Desk;
 use crate::lobby::Lobby;
 use crate::output::Output;
 use crate::peers::{Peer, Peers};
 use crate::roster::Roster;
-use crate::since::Since;
-use fwd_links::{Board, Notices, StartFault};
+use fwd_links::{Notices, StartFault};
 use fwd_peers::{Fact, Want, Watch};
 use mio::{Events, Poll, Token};
 use std::alloc::Global;
-use std::rt::Clock;
 use std::sync::Wait;
 use std::time::Duration;
 
@@ -39,35 +37,11 @@ pub(crate) struct Front {
 }
 
 impl Front {
-    /// So many turns, of which a watch is told. The only errors are a wait that failed, and want of
-    /// memory before the first turn.
-    pub fn run<R: Wait + Clock, W: Watch>(
-        &mut self,
-        rt: &R,
-        outputs: &[Output],
-        board: &Board,
-        desk: &mut Desk<'_>,
-        clock: &mut Since<'_, R>,
-        watch: &mut W,
-        turns: u64,
-    ) -> Result<(), StartFault> {
-        let mut roster = Roster::new(self.alloc, outputs)?;
-        self.lobby.tell(watch);
-        for _ in 0..turns {
-            self.wait(desk, clock.moment())?;
-            let now = clock.moment();
-            let notices = board.take(rt, self.alloc);
-            tell_all(&notices, outputs, &mut roster, watch);
-            desk.hear(&notices);
-            desk.collect(rt, &mut self.peers, watch);
-            self.visit_all(rt, outputs, desk, watch, now);
-            let registry = self.poll.registry();
-            self.lobby
-                .accept(self.alloc, registry, &mut self.peers, watch);
-            desk.flush(rt, clock.moment());
-            watch.turned();
-        }
-        Ok(())
+    /// Takes the connections that wait.
+    pub fn accept<W: Watch>(&mut self, watch: &mut W) {
+        let registry = self.poll.registry();
+        self.lobby
+            .accept(self.alloc, registry, &mut self.peers, watch);
     }
 
     /// Hands in all tickets, and writes what that has sources told.
@@ -85,7 +59,7 @@ impl Front {
     }
 
     /// Waits from a moment on (milliseconds) until something is ready, and notes what is.
-    fn wait(&mut self, desk: &Desk<'_>, now: u64) -> Result<(), StartFault> {
+    pub fn wait(&mut self, desk: &Desk<'_>, now: u64) -> Result<(), StartFault> {
         let longest = if self.peers.noted() > 0 || self.lobby.is_urgent() {
             0
         } else {
@@ -118,7 +92,7 @@ impl Front {
     }
 
     /// Visits each connection that is noted, once.
-    fn visit_all<R: Wait, W: Watch>(
+    pub fn visit_all<R: Wait, W: Watch>(
         &mut self,
         rt: &R,
         outputs: &[Output],
@@ -175,7 +149,12 @@ impl Front {
 }
 
 /// A watch is told what workers told.
-fn tell_all<W: Watch>(notices: &Notices, outputs: &[Output], roster: &mut Roster, watch: &mut W) {
+pub(crate) fn tell_all<W: Watch>(
+    notices: &Notices,
+    outputs: &[Output],
+    roster: &mut Roster,
+    watch: &mut W,
+) {
     if notices.missed {
         watch.see(Fact::Memory(Want::News));
     }

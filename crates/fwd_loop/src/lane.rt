@@ -5,8 +5,7 @@ use crate::owed::Owed;
 use crate::pace::Pace;
 use fwd_book::Receipt;
 use fwd_chunks::FlushKind;
-use fwd_modes::Batch;
-use fwd_source::Origin;
+use fwd_modes::{Batch, Origin};
 use fwd_workers::{AdmitRefusal, Ticket};
 use std::alloc::{AllocError, Global};
 use std::sync::Wait;
@@ -16,14 +15,14 @@ pub(crate) struct Lane<'a> {
     alloc: Global,
     output: &'a Output,
     owed: Owed,
-    pace: Pace,
+    pace: &'a mut Pace,
     /// The greatest number of a chunk that requests went to.
     newest: Option<u64>,
 }
 
 impl<'a> Lane<'a> {
     /// An output that gave no tickets yet.
-    pub fn new(alloc: Global, output: &'a Output, pace: Pace) -> Lane<'a> {
+    pub fn new(alloc: Global, output: &'a Output, pace: &'a mut Pace) -> Lane<'a> {
         Lane {
             alloc,
             output,

@@ -20,7 +20,9 @@ mod relay_loop;
 mod roster;
 mod since;
 mod teams;
+mod turns;
 
 pub use fwd_links::StartFault;
 pub use fwd_peers::{Caller, Fact, SourceEnd, Want, Watch};
 pub use relay_loop::Loop;
+pub use turns::{Opened, Turns, WorkerTurns};

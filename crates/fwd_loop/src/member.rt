@@ -45,9 +45,13 @@ impl<'a> Gate for WorkerGate<'a> {
         }
     }
 
-    fn hear<R: Wait>(&mut self, rt: &R, _worker: u16, news: News) {
-        let output = self.output;
-        self.board.tell(rt, Notice { output, news });
+    fn hear<R: Wait>(&mut self, rt: &R, worker: u16, news: News) {
+        let notice = Notice {
+            output: self.output,
+            worker,
+            news,
+        };
+        self.board.tell(rt, notice);
     }
 }
 
@@ -78,29 +82,26 @@ impl Member {
 
     /// Works for its output in so many turns, or until all are to end.
     pub fn work<R: Net + Wait + Clock + AllocGlobal>(
-        self,
+        &mut self,
         rt: &R,
         outputs: &[Output],
         board: &Board,
         start: Option<Instant>,
         turns: u64,
     ) {
-        let Member {
-            output,
-            mut worker,
-            nap,
-        } = self;
+        let output = self.output;
+        let nap = &self.nap;
         let Some(own) = outputs.get(output as usize) else {
             return;
         };
-        let mut hub = TcpHub::new(rt, rt.alloc(), board, &nap, &own.servers);
+        let mut hub = TcpHub::new(rt, rt.alloc(), board, nap, &own.servers);
         let mut gate = WorkerGate {
             board,
             output,
-            nap: &nap,
+            nap,
             is_eager: false,
         };
         let mut clock = Since::new(rt, start);
-        worker.run(rt, &own.shared, (), &mut hub, &mut gate, &mut clock, turns);
+        self.worker.run(rt, &own.shared, (), &mut hub, &mut gate, &mut clock, turns);
     }
 }

@@ -4,7 +4,7 @@ ghost use Rattle.std.specs.Prelude.{◌≤◌, length};
 
 use crate::output::{Output, counts_of};
 use fwd_monitor::{Reply, answer};
-use fwd_peers::{Visit, fill, send};
+use fwd_peers::{PeerStream, Visit};
 use mio::net::TcpStream;
 use std::alloc::{AllocError, Global};
 use std::sync::Wait;
@@ -20,7 +20,7 @@ struct Sending {
 /// A monitor's connection: its stream, what it sent so far, and what it is sent.
 #[derive(Drop)]
 pub(crate) struct MonitorPeer {
-    pub stream: TcpStream,
+    pub stream: PeerStream,
     heard: Vec<u8>,
     sending: Option<Sending>,
 }
@@ -29,7 +29,7 @@ impl MonitorPeer {
     /// A connection before its first byte.
     pub fn new(alloc: Global, stream: TcpStream) -> MonitorPeer {
         MonitorPeer {
-            stream,
+            stream: PeerStream::new(stream),
             heard: Vec::new(alloc),
             sending: None,
         }
@@ -44,7 +44,7 @@ impl MonitorPeer {
         outputs: &[Output],
         room: &mut [u8],
     ) -> Result<Option<bool>, AllocError> {
-        let (count, visit) = fill(&mut self.stream, room);
+        let (count, visit) = self.stream.fill(room);
         if count > 0 && self.sending.is_none() {
             self.take_in(rt, alloc, outputs, &room[..count])?;
         }
@@ -77,7 +77,7 @@ impl MonitorPeer {
             return false;
         };
         let from = sending.sent;
-        let (count, visit) = send(&mut self.stream, &sending.reply[from..]);
+        let (count, visit) = self.stream.send(&sending.reply[from..]);
         sending.sent = from + count;
         visit == Visit::Ended || sending.sent == sending.reply.len()
     }

@@ -1,6 +1,6 @@
 //! The requests of an output that are owed an answer.
 
-use fwd_source::Origin;
+use fwd_modes::Origin;
 use fwd_workers::{Plain, SharedOutput, Ticket};
 use std::alloc::{AllocError, AllocFailed, Global};
 use std::collections::BTreeMap;

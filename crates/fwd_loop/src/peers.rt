@@ -19,8 +19,8 @@ impl Peer {
     /// Its stream.
     fn stream(&mut self) -> &mut TcpStream {
         match self {
-            Peer::Source(source) => &mut source.stream,
-            Peer::Monitor(monitor) => &mut monitor.stream,
+            Peer::Source(source) => &mut source.stream.tcp,
+            Peer::Monitor(monitor) => &mut monitor.stream.tcp,
         }
     }
 }

@@ -4,21 +4,19 @@ ghost use Rattle.std.specs.Prelude.{◌≡◌, ◌≤◌, length, true, IfOk};
 ghost use Rattle.fwd_settings.specs.Ranges.{in_range};
 ghost use Rattle.fwd_loop.specs.Ends.{AddUp};
 
-use crate::desk::Desk;
 use crate::door::Door;
 use crate::draws::Draws;
 use crate::front::{Front, MONITORS, SOURCES, WAKER};
 use crate::lobby::Lobby;
 use crate::output::counts_of;
 use crate::peers::Peers;
-use crate::since::Since;
 use crate::teams::Teams;
+use crate::turns::{Opened, Own, Shared, Turns, WorkerTurns, open};
 use fwd_chunks::Counts;
 use fwd_config::config_of;
 use fwd_core::{Config, OutputConfig};
 use fwd_handshake::Security;
 use fwd_links::{Board, StartFault};
-use fwd_match::Routes;
 use fwd_peers::Watch;
 use fwd_settings::{OutputSettings, Settings};
 use mio::{Events, Poll, Waker};
@@ -30,7 +28,6 @@ use std::rt::{Clock, Files};
 use std::sync::{Arc, Wait};
 use std::thread;
 use std::thread::Threads;
-use std::time::Instant;
 
 /// The most bytes that a connection is read in a turn.
 const PIECE: usize = 65_536;
@@ -43,10 +40,8 @@ const EVENTS: usize = 1_024;
 #[derive(Drop)]
 pub struct Loop {
     alloc: Global,
-    routes: Routes,
-    teams: Teams,
-    board: Board,
-    front: Front,
+    shared: Shared,
+    own: Own,
 }
 
 impl Model for Loop {
@@ -54,7 +49,7 @@ impl Model for Loop {
 
     ghost Value = { ℕ };
 
-    ghost view = { λ relay. length relay.teams.outputs.items };
+    ghost view = { λ relay. length relay.shared.outputs.items };
 }
 
 /// Where the relay listens, and how many sources it takes.
@@ -166,13 +161,29 @@ impl Loop {
         } = config_of(alloc, settings)?;
         let (front, board) = front_of(rt, alloc, address, security, draws.nonces())?;
         let teams = teams_of(rt, alloc, &draws, run, outputs.into_vec(), servers)?;
-        Ok(Loop {
-            alloc,
+        let Teams {
+            alloc: _,
+            outputs,
+            paces,
+            members,
+        } = teams;
+        let shared = Shared {
             routes,
-            teams,
+            outputs,
             board,
+        };
+        let own = Own {
             front,
-        })
+            paces,
+            members,
+        };
+        Ok(Loop { alloc, shared, own })
+    }
+
+    /// Opens the relay, so that its turns are made one by one, and its workers are run beside them
+    /// or not at all. The only error is want of memory.
+    pub fn open<'a, R: Wait + Clock>(&'a mut self, rt: &'a R) -> Result<Opened<'a, R>, StartFault> {
+        open(rt, self.alloc, &self.shared, &mut self.own)
     }
 
     /// Runs the loop for so many turns in this thread, and each worker for as many in a thread of
@@ -205,55 +216,62 @@ impl Loop {
             + AllocGlobal
             + Sync,
         W: Watch,
-    >(self, rt: &R, watch: &mut W, turns: u64) -> Result<Vec<Counts>, StartFault>
+    >(self, rt: &R, watch: &mut W, count: u64) -> Result<Vec<Counts>, StartFault>
         ensures count { IfOk result (λ counts. length counts.items ≡ self) }
         ensures add_up { IfOk result (λ counts. AddUp counts.items) }
     {
         let Loop {
             alloc,
-            routes,
-            teams,
-            board,
-            mut front,
+            shared,
+            mut own,
         } = self;
-        let Teams {
-            alloc: _,
-            outputs,
-            paces,
-            members,
-        } = teams;
-        let start = Instant::now(rt).ok();
-        let mut desk = Desk::new(rt, alloc, &routes, &outputs, paces)?;
-        let (own, told) = (&outputs, &board);
-        let (turning, admitting, seeing) = (&mut front, &mut desk, &mut *watch);
-        let served = thread::scope(thread::scope_env(), rt, move |scope| {
-            let mut children = Vec::with_capacity(alloc, members.len())?;
-            let mut served = Ok(());
-            for member in members {
-                if served.is_ok() {
-                    match scope.spawn(move || member.work(rt, own, told, start, turns)) {
-                        Ok(child) => {
-                            let _ = children.push(child);
-                        }
-                        Err(_) => served = Err(StartFault::Thread),
+        let Opened { mut turns, workers } = open(rt, alloc, &shared, &mut own)?;
+        let served = serve(rt, &mut turns, workers, watch, count);
+        turns.close_watched(rt, watch);
+        served?;
+        Ok(counts_of(rt, alloc, &shared.outputs)?)
+    }
+}
+
+/// Makes so many turns in this thread, and has each worker make as many in a thread of its own,
+/// until all have ended.
+fn serve<
+    R: Net<Listener = TcpListener, Stream = TcpStream>
+        + Threads
+        + Wait
+        + Clock
+        + AllocGlobal
+        + Sync,
+    W: Watch,
+>(
+    rt: &R,
+    turns: &mut Turns<'_, R>,
+    workers: Vec<WorkerTurns<'_>>,
+    watch: &mut W,
+    count: u64,
+) -> Result<(), StartFault> {
+    thread::scope(thread::scope_env(), rt, move |scope| {
+        let mut children = Vec::with_capacity(rt.alloc(), workers.len())?;
+        let mut served = Ok(());
+        for worker in workers {
+            if served.is_ok() {
+                match scope.spawn(move || worker.work(rt, count)) {
+                    Ok(child) => {
+                        let _ = children.push(child);
                     }
+                    Err(_) => served = Err(StartFault::Thread),
                 }
             }
-            if served.is_ok() {
-                let mut clock = Since::new(rt, start);
-                served = turning.run(rt, own, told, admitting, &mut clock, seeing, turns);
-            }
-            if served.is_err() {
-                told.stop();
-            }
-            for child in children {
-                child.join(rt);
-            }
-            served
-        });
-        front.finish(rt, &mut desk, watch);
-        desk.close(rt);
-        served?;
-        Ok(counts_of(rt, alloc, &outputs)?)
-    }
+        }
+        if served.is_ok() {
+            served = turns.run(rt, watch, count);
+        }
+        if served.is_err() {
+            turns.stop();
+        }
+        for child in children {
+            child.join(rt);
+        }
+        served
+    })
 }

@@ -51,6 +51,15 @@ impl Roster {
                 let server = post.address(outputs)?;
                 Some(Fact::ServerBack { output, server })
             }
+            News::Went { server } => {
+                let worker = notice.worker;
+                let server = Post { output, server }.address(outputs)?;
+                Some(Fact::ServerChanged {
+                    output,
+                    worker,
+                    server,
+                })
+            }
             News::Lost { server, why } => {
                 let post = Post { output, server };
                 self.note(post);

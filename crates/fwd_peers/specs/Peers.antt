@@ -1,27 +1,186 @@
 -- What becomes of a source's connection.
-use Rattle.std.specs.Prelude.{◌≡◌, ◌≤◌, ◌⊎◌, ℕ, List, Some, length, take}
+use Rattle.std.specs.Prelude.{◌≡◌, ◌+◌, ◌-◌, ◌^◌, ◌<◌, ◌≤◌, ◌==◌, ◌⊎◌, ℕ, Bool, true, false, not, List, [], ◌∷◌, length, take, Option, Some, None, option_map, option_and_then, if◌then◌else◌}
+use Rattle.fwd_match.specs.Patterns.{route}
 use Rattle.fwd_modes.specs.Acks.{ack_text}
-use Rattle.fwd_source.specs.Live.{LiveSource, live_piece_next, source_appends, source_drains}
+use Rattle.fwd_modes.specs.Requests.{Request}
+use Rattle.fwd_modes.specs.declared.origin.Origin.{Origin}
+use Rattle.fwd_source.specs.declared.piece.Piece.{Piece}
+use Rattle.fwd_source.specs.declared.piece.Piece.TheVariants as piece
+use Rattle.fwd_source.specs.Live.{
+  LiveSource,
+  first_waiting,
+  live_piece_answer,
+  live_piece_next,
+  source_appends,
+  source_drains,
+  source_gives_first,
+}
 use Rattle.fwd_book.specs.Receipts.{Receipt}
+use Rattle.fwd_peers.specs.declared.stage.Stage.{Stage}
+use Rattle.fwd_peers.specs.declared.stage.Stage.TheVariants as stage
+use Rattle.fwd_peers.specs.declared.stream.Visit.{Visit}
+use Rattle.fwd_peers.specs.declared.stream.Visit.TheVariants as visit
+use Rattle.fwd_peers.specs.Streams.{Call, IsVisit, is_full}
 
--- what is seen of a source's connection: its id, and its live part
+-- what is seen of a source's connection: its id; how far it has come; whether it was left unread
+-- when it was visited last, since too many bytes wait to be sent to it; its live part; how many
+-- bytes of acknowledgements are promised, and for how many bytes there is room; and what its stream
+-- answered to all reads, and to all writes
 pub record PeerShown : Type 0 where
   pub id : ℕ
+  pub stage : Stage
+  pub held : Bool
   pub live : LiveSource
+  pub promised : ℕ
+  pub room : ℕ
+  pub reads : List Call
+  pub writes : List Call
 
--- it heard nothing, or the first of the bytes that a room was left with
-abbrev pub Hears : List ℕ → LiveSource → LiveSource → Type 0
-Hears room s t =
-    (t ≡ s) ⊎ ((n : ℕ) × (n ≤ length room) × (t ≡ live_piece_next s (take n room)))
+-- ---- what it hears
 
--- of the bytes that wait to be sent the first left, as many as its stream took
-abbrev pub Writes : LiveSource → LiveSource → Type 0
-Writes s t = (n : ℕ) × (n ≤ length s.unsent) × (t ≡ source_drains s n)
+-- how far a connection has come once it was told of a piece: a fault has it linger
+abbrev pub stage_told : Stage → Piece → Stage
+stage_told s (piece.Waiting count) = s
+stage_told s (piece.Fault fault) = stage.Lingering
+stage_told s piece.Closed = stage.Lingering
 
--- it is told nothing, or the receipt is of a request of this connection whose sender asked to be
--- told, and the acknowledgement of its chunk is behind the bytes that wait to be sent
-abbrev pub IsTold : PeerShown → Receipt → PeerShown → Type 0
-IsTold s receipt t =
-    (t ≡ s)
-    ⊎ ((chunk : List ℕ) × (receipt.origin.conn ≡ s.id) × (receipt.chunk ≡ Some chunk)
-    × (t ≡ record s { live = source_appends s.live (ack_text chunk) }))
+-- how far it has come once a visit to its stream ended: it is over where the stream ended
+abbrev pub stage_visited : Stage → Visit → Stage
+stage_visited s visit.Waits = s
+stage_visited s visit.Full = s
+stage_visited s visit.Ended = stage.Over
+
+-- Bytes come to a connection, and this is its live part then, and how far it has come. They are
+-- taken in, and a fault has it linger. Or none of them is, for want of memory, and it is over.
+abbrev pub IsPiece : PeerShown → (bytes : List ℕ) → LiveSource → Stage → Type 0
+IsPiece s bytes live come =
+    ((live ≡ live_piece_next s.live bytes)
+    × (come ≡ stage_told s.stage (live_piece_answer s.live bytes)))
+    ⊎ ((live ≡ s.live) × (come ≡ stage.Over))
+
+-- the same where there may be no byte, which changes nothing
+abbrev pub TakesIn : PeerShown → (bytes : List ℕ) → LiveSource → Stage → Type 0
+TakesIn s [] live come = (live ≡ s.live) × (come ≡ s.stage)
+TakesIn s (byte ∷ bytes) live come = IsPiece s (byte ∷ bytes) live come
+
+-- what a visit to its stream gave is taken in, and then it is over where the stream ended
+abbrev pub Hears : PeerShown → (bytes : List ℕ) → (end : Visit) → PeerShown → Type 0
+Hears s bytes end t =
+    (come : Stage) × (TakesIn s bytes t.live come × (t.stage ≡ stage_visited come end))
+
+-- its stream is visited once, for so many bytes at most; what that gives is heard, and it says
+-- whether there may be more
+pub record Reads (most : ℕ) (s : PeerShown) (more : Bool) (t : PeerShown) : Type 0 where
+  pub bytes : List ℕ
+  pub end : Visit
+  pub visit : IsVisit most s.reads bytes end t.reads
+  pub heard : Hears s bytes end t
+  pub again : more ≡ is_full end
+  pub rest : t ≡ record s {
+    stage = t.stage;
+    held = false;
+    live = t.live;
+    room = t.room;
+    reads = t.reads;
+  }
+
+-- ---- what is asked of outputs
+
+-- the first of its requests that wait, if one does
+abbrev pub first_asked : PeerShown → Option (Origin × Request)
+first_asked s = first_waiting s.live s.live.waiting
+
+-- the output that takes it: the first whose pattern matches its tag
+abbrev pub first_route : List (List (List ℕ)) → PeerShown → Option ℕ
+first_route routes s = option_and_then (λ asked. route routes asked.1.tag) (first_asked s)
+
+-- how many bytes an acknowledgement has, where the sender asked for one
+abbrev pub ack_size : (chunk : Option (List ℕ)) → ℕ
+ack_size None = 0
+ack_size (Some chunk) = length (ack_text chunk)
+
+-- how many bytes of acknowledgements are promised once its first request is given
+abbrev pub promised_with : PeerShown → Request → ℕ
+promised_with s request = s.promised + ack_size request.chunk
+
+-- there is not room for so many bytes, or no number for them
+abbrev pub LacksRoom : PeerShown → (bytes : ℕ) → Type 0
+LacksRoom s bytes = (s.room < bytes) ⊎ (2 ^ 64 ≤ bytes)
+
+-- The first request that waits is given, and there is room for its acknowledgement and for all that
+-- were promised before. Or none is given, and it is as it was: none waits, or there is not that
+-- room.
+abbrev pub Gives : PeerShown → Option (Origin × Request) → PeerShown → Type 0
+Gives s None t =
+    (t ≡ s) × ((first_asked s ≡ None)
+    ⊎ ((asked : Origin × Request) × ((first_asked s ≡ Some asked)
+    × LacksRoom s (promised_with s asked.1))))
+Gives s (Some asked) t =
+    (first_asked s ≡ Some asked) × (promised_with s asked.1 ≤ t.room)
+    × (t ≡ record s {
+      live = source_gives_first s.live s.live.waiting;
+      promised = promised_with s asked.1;
+      room = t.room;
+    })
+
+-- ---- what it is told
+
+-- the acknowledgement that a receipt has the connection of this id told: it is of a request of
+-- that connection, whose sender asked for one
+abbrev pub told_by : Receipt → (id : ℕ) → Option (List ℕ)
+told_by receipt id =
+    if receipt.origin.conn == id then option_map ack_text receipt.chunk else None
+
+-- an acknowledgement stands behind the bytes that wait to be sent, and is promised no more
+abbrev pub IsPut : PeerShown → (ack : List ℕ) → PeerShown → Type 0
+IsPut s ack t =
+    (s.room ≤ t.room + length ack)
+    × (t ≡ record s {
+      live = source_appends s.live ack;
+      promised = s.promised - length ack;
+      room = t.room;
+    })
+
+-- it does not, for there was no room for it, or what waits was dropped; and the connection is over
+abbrev pub IsNotPut : PeerShown → (ack : List ℕ) → PeerShown → Type 0
+IsNotPut s ack t =
+    ((s.room < length ack) ⊎ (s.live.shut ≡ true))
+    × (t ≡ record s {
+      stage = stage.Over;
+      promised = s.promised - length ack;
+      room = t.room;
+    })
+
+-- what it has to be told, if anything, is put behind the bytes that wait to be sent, or it is over
+abbrev pub IsTold : PeerShown → Option (List ℕ) → PeerShown → Type 0
+IsTold s None t = t ≡ s
+IsTold s (Some ack) t = IsPut s ack t ⊎ IsNotPut s ack t
+
+-- ---- what it is sent
+
+-- whether a connection stands that has come so far, and has these bytes to be sent: it is open, or
+-- it lingers over bytes
+abbrev pub stands : Stage → (unsent : List ℕ) → Bool
+stands stage.Open unsent = true
+stands stage.Lingering unsent = not (length unsent == 0)
+stands stage.Over unsent = false
+
+-- its stream is visited once, for all bytes that wait to be sent, and took the first of them; the
+-- visit ended so
+pub record Sends (s : PeerShown) (end : Visit) (t : PeerShown) : Type 0 where
+  pub count : ℕ
+  pub within : count ≤ length s.live.unsent
+  pub visit : IsVisit (length s.live.unsent) s.writes (take count s.live.unsent) end t.writes
+  pub rest : t ≡ record s {
+    live = source_drains s.live count;
+    room = s.room + count;
+    writes = t.writes;
+  }
+
+-- its stream is visited so; it is over where the stream ended; and it says whether it stands
+pub record Writes (s : PeerShown) (goes_on : Bool) (t : PeerShown) : Type 0 where
+  pub end : Visit
+  pub between : PeerShown
+  pub sent : Sends s end between
+  pub after : t ≡ record between { stage = stage_visited between.stage end }
+  pub answer : goes_on ≡ stands t.stage t.live.unsent

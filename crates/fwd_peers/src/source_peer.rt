@@ -1,26 +1,40 @@
 //! A source's connection over its stream. What waits to be sent to it changes only by what it sent,
 //! by receipts of its own requests, and by what its stream took.
 
-ghost use Rattle.std.specs.Prelude.{◌≡◌, ◌⊎◌, Some, length, IfOk, IfSome, if◌then◌else◌};
+ghost use Rattle.std.specs.Prelude.{
+  ◌≡◌,
+  ◌≢◌,
+  ◌+◌,
+  ◌-◌,
+  ◌<◌,
+  ◌≤◌,
+  ◌⊎◌,
+  ◌&&◌,
+  [],
+  true,
+  false,
+  length,
+  nat_lt,
+  take,
+  IfOk,
+  Some,
+};
 ghost use Rattle.std.specs.Arc.{arc_value};
 ghost use Rattle.fwd_modes.specs.Acks.{ack_text};
 ghost use Rattle.fwd_source.specs.History.{source_limits};
-ghost use Rattle.fwd_source.specs.Live.{
-  opened_source,
-  first_waiting,
-  live_piece_next,
-  source_gives_first,
-  source_appends,
-};
-ghost use Rattle.fwd_peers.specs.Peers.{Hears, Writes, IsTold};
+ghost use Rattle.fwd_source.specs.Live.{opened_source, source_appends};
+ghost use Rattle.fwd_peers.specs.Streams.{IsVisit};
+ghost use Rattle.fwd_peers.specs.Peers as peers;
 
-use crate::stream::{Visit, fill, send};
+use crate::limits::{ACK_FRONT, UNSENT};
+use crate::stage::Stage;
+use crate::stream::{PeerStream, Visit};
 use crate::watch::{Fact, SourceEnd, Want};
 use fwd_book::Receipt;
 use fwd_handshake::{Nonces, Security};
 use fwd_match::Routes;
-use fwd_modes::{Batch, write_ack};
-use fwd_source::{Origin, Piece, SOURCE_LIMITS, Source, SourceFault};
+use fwd_modes::{Batch, Origin};
+use fwd_source::{Piece, SOURCE_LIMITS, Source, SourceFault};
 use fwd_workers::AdmitRefusal;
 use mio::net::TcpStream;
 use std::alloc::{AllocError, Global};
@@ -28,35 +42,18 @@ use std::marker::Model;
 use std::net::SocketAddr;
 use std::sync::Arc;
 
-/// How many bytes an acknowledgement has in front of the chunk's value: a map of one, and `ack`.
-const ACK_FRONT: usize = 5;
-
-/// Where so many bytes wait to be sent to a source, it is read no further until it took some.
-const UNSENT: usize = 65_536;
-
-/// How far a connection has come.
-#[derive(Clone, Copy)]
-enum Stage {
-    /// It is read and written.
-    Open,
-    /// It had a fault: it is written until nothing waits.
-    Lingering,
-    /// It is to go, once what waits was written as far as its stream takes it.
-    Over,
-}
-
 /// A source's connection: its stream, and what it sent and is sent.
 #[derive(Drop)]
 pub struct SourcePeer {
     pub id: u64,
-    pub stream: TcpStream,
+    pub stream: PeerStream,
     /// Whose it is.
     peer: SocketAddr,
     source: Source,
     stage: Stage,
     /// Why the relay closes it, until that is told.
     fact: Option<Fact>,
-    /// So many bytes of acknowledgements there is room for.
+    /// So many bytes of acknowledgements were promised room.
     promised: usize,
     /// It was not read when it was visited last, since too many bytes wait to be sent to it.
     is_held: bool,
@@ -67,7 +64,50 @@ impl Model for SourcePeer {
 
     ghost Value = { PeerShown };
 
-    ghost view = { λ p. record { id = p.id; live = p.source.live } };
+    ghost view = { λ p. record {
+      id = p.id;
+      stage = p.stage;
+      held = p.is_held;
+      live = p.source.live;
+      promised = p.promised;
+      room = p.source.room;
+      reads = p.stream.reads;
+      writes = p.stream.writes;
+    } };
+}
+
+/// How many bytes the acknowledgement of a request has, where its sender asked for one.
+#[tactic(auto, using(crate::proofs::Acks::ack_length))]
+fn ack_size(batch: &Batch) -> usize
+    ensures { result ≡ peers.ack_size batch.now.chunk }
+{
+    match batch.chunk() {
+        None => 0,
+        Some(chunk) => ACK_FRONT.len() + chunk.len(),
+    }
+}
+
+/// Puts the acknowledgement of a chunk of this value behind the bytes that wait to be sent, and
+/// says whether it did. It does not where memory is refused, or what waits was dropped.
+#[tactic(auto, using(crate::proofs::Acks::ack_length, crate::proofs::Acks::ack_appended))]
+fn append_ack(source: &mut Source, chunk: &[u8]) -> bool
+    ensures put { result ≡ true
+        → source.new.live ≡ source_appends source.old.live (ack_text chunk.now) }
+    ensures room { result ≡ true
+        → source.old.room ≤ source.new.room + length (ack_text chunk.now) }
+    ensures not_put { result ≡ false → source.new.live ≡ source.old.live }
+    ensures why_not { result ≡ false → (source.old.room < length (ack_text chunk.now))
+        ⊎ (source.old.live.shut ≡ true) }
+{
+    let size = ACK_FRONT.len() + chunk.len();
+    if source.reserve(size).is_err() {
+        return false;
+    }
+    if source.answer(&ACK_FRONT).is_err() {
+        return false;
+    }
+    source.answer(chunk).unwrap();
+    true
 }
 
 impl SourcePeer {
@@ -82,18 +122,24 @@ impl SourcePeer {
     ) -> Result<SourcePeer, AllocError>
         ensures { IfOk result (λ peer. peer ≡ record {
           id = id;
+          stage = Stage.Open;
+          held = false;
           live = opened_source (record {
             conn = id;
             security = arc_value security;
             nonces = nonces;
             limits = source_limits;
           });
+          promised = 0;
+          room = peer.room;
+          reads = [];
+          writes = [];
         }) }
     {
         let source = Source::new(alloc, id, security, nonces, SOURCE_LIMITS)?;
         Ok(SourcePeer {
             id,
-            stream,
+            stream: PeerStream::new(stream),
             peer,
             source,
             stage: Stage::Open,
@@ -106,8 +152,12 @@ impl SourcePeer {
     /// Reads what is there, as far as the room goes, and says whether there may be more. A source
     /// that does not take what is sent to it is not read.
     pub fn hear(&mut self, alloc: Global, room: &mut [u8]) -> bool
-        ensures id { self.new.id ≡ self.old.id }
-        ensures live { Hears room.new self.old.live self.new.live }
+        ensures closed { self.old.stage ≢ Stage.Open
+            → (self.new ≡ self.old) × (result ≡ false) }
+        ensures held { self.old.stage ≡ Stage.Open → UNSENT ≤ length self.old.live.unsent
+            → (self.new ≡ record self.old { held = true }) × (result ≡ false) }
+        ensures read { self.old.stage ≡ Stage.Open → length self.old.live.unsent < UNSENT
+            → peers.Reads (length room.new) self.old result self.new }
     {
         if self.stage != Stage::Open {
             return false;
@@ -116,22 +166,39 @@ impl SourcePeer {
         if self.is_held {
             return false;
         }
-        let (count, visit) = fill(&mut self.stream, room);
-        if count > 0 {
-            self.take_in(alloc, &room[..count]);
-        }
-        if visit == Visit::Ended {
-            self.end();
-        }
-        visit == Visit::Full
+        let (count, visit) = self.read(room);
+        self.take_in(alloc, &room[..count]);
+        self.visited(visit);
+        visit.is_full()
     }
 
-    /// Takes in bytes.
-    fn take_in(&mut self, alloc: Global, bytes: &[u8])
-        ensures id { self.new.id ≡ self.old.id }
-        ensures live { (self.new.live ≡ self.old.live)
-            ⊎ (self.new.live ≡ live_piece_next self.old.live bytes.now) }
+    /// Its stream gives what it has, as far as the room goes: how many bytes there are, at the
+    /// front of the room, and how the visit ended.
+    fn read(&mut self, room: &mut [u8]) -> (usize, Visit)
+        ensures within { result.0 ≤ length room.new }
+        ensures visit { IsVisit
+            (length room.new)
+            self.old.reads
+            (take result.0 room.new)
+            result.1
+            self.new.reads }
+        ensures rest { self.new ≡ record self.old { reads = self.new.reads } }
     {
+        self.stream.fill(room)
+    }
+
+    /// Takes in bytes, if there are any.
+    fn take_in(&mut self, alloc: Global, bytes: &[u8])
+        ensures taken { peers.TakesIn self.old bytes.now self.new.live self.new.stage }
+        ensures others { self.new ≡ record self.old {
+          stage = self.new.stage;
+          live = self.new.live;
+          room = self.new.room;
+        } }
+    {
+        if bytes.is_empty() {
+            return;
+        }
         match self.source.piece(alloc, bytes) {
             Ok(told) => match told.piece {
                 Piece::Waiting(_) => {}
@@ -144,7 +211,7 @@ impl SourcePeer {
 
     /// It had a fault: it is read no more.
     fn linger(&mut self, fault: SourceFault)
-        ensures { self.new ≡ self.old }
+        ensures { self.new ≡ record self.old { stage = Stage.Lingering } }
     {
         self.stage = Stage::Lingering;
         self.fact = Some(Fact::SourceClosed {
@@ -155,7 +222,7 @@ impl SourcePeer {
 
     /// It is over for want of memory.
     fn starve(&mut self)
-        ensures { self.new ≡ self.old }
+        ensures { self.new ≡ record self.old { stage = Stage.Over } }
     {
         self.end();
         self.fact = Some(Fact::Memory(Want::Source(self.peer)));
@@ -163,7 +230,7 @@ impl SourcePeer {
 
     /// It is over, since a request of it is not admitted.
     pub fn refuse(&mut self, why: SourceEnd)
-        ensures { self.new ≡ self.old }
+        ensures { self.new ≡ record self.old { stage = Stage.Over } }
     {
         match why {
             SourceEnd::Refused(AdmitRefusal::Memory) => self.starve(),
@@ -189,49 +256,43 @@ impl SourcePeer {
         self.source.waiting()
     }
 
-    /// The output of the first request that waits, if there is one.
-    pub fn route(&self, routes: &Routes) -> Option<u16> {
+    /// The output that the first request that waits goes to, if one waits, and one takes it.
+    pub fn route(&self, routes: &Routes) -> Option<u16>
+        ensures { result ≡ peers.first_route routes.now self.now }
+    {
         let (_, batch) = self.source.peek()?;
         routes.first(batch.tag())
     }
 
-    /// Takes the first request that waits, and makes room for its acknowledgement. There is none
-    /// for want of memory.
+    /// Takes the first request that waits, once there is room for its acknowledgement. Where there
+    /// is none, for want of memory, nothing has changed.
     pub fn next(&mut self) -> Option<(Origin, Batch)>
-        ensures id { self.new.id ≡ self.old.id }
-        ensures live { self.new.live ≡ source_gives_first self.old.live self.old.live.waiting }
-        ensures value { IfSome result (λ asked.
-            first_waiting self.old.live self.old.live.waiting ≡ Some asked) }
+        ensures { peers.Gives self.old result self.new }
     {
-        let (origin, batch) = self.source.next()?;
-        if let Some(chunk) = batch.chunk() {
-            let size = chunk.len().saturating_add(ACK_FRONT);
-            let promised = self.promised.saturating_add(size);
-            self.source.reserve(promised).ok()?;
-            self.promised = promised;
-        }
-        Some((origin, batch))
+        let (_, batch) = self.source.peek()?;
+        let promised = self.promised.checked_add(ack_size(batch))?;
+        self.source.reserve(promised).ok()?;
+        self.promised = promised;
+        self.source.next()
     }
 
-    /// Puts the acknowledgement of a chunk of this value behind the bytes that wait to be sent, and
-    /// says whether there was memory for it.
-    fn put(&mut self, alloc: Global, chunk: &[u8]) -> bool
-        ensures { self.new ≡ (if result
-            then record self.old { live = source_appends self.old.live (ack_text chunk.now) }
-            else self.old) }
+    /// Puts the acknowledgement of a chunk of this value behind the bytes that wait to be sent, as
+    /// was promised. Where it cannot, which is for want of memory, the connection is over.
+    fn put(&mut self, chunk: &[u8])
+        ensures { peers.IsTold self.old (Some (ack_text chunk.now)) self.new }
     {
-        let size = chunk.len().saturating_add(ACK_FRONT);
+        let size = ACK_FRONT.len() + chunk.len();
         self.promised = self.promised.saturating_sub(size);
-        match write_ack(alloc, chunk) {
-            Ok(ack) => self.source.answer(&ack).is_ok(),
-            Err(_) => false,
+        if append_ack(&mut self.source, chunk) {
+            return;
         }
+        self.starve();
     }
 
     /// Tells the connection of a receipt, if it is of one of its requests and it asked to be told.
     /// For want of memory the connection is over.
-    pub fn answer(&mut self, alloc: Global, receipt: &Receipt)
-        ensures { IsTold self.old receipt.now self.new }
+    pub fn answer(&mut self, receipt: &Receipt)
+        ensures { peers.IsTold self.old (peers.told_by receipt.now self.old.id) self.new }
     {
         if receipt.origin().conn != self.id {
             return;
@@ -239,33 +300,57 @@ impl SourcePeer {
         let Some(chunk) = receipt.chunk() else {
             return;
         };
-        if !self.put(alloc, chunk) {
-            self.starve();
-        }
+        self.put(chunk);
     }
 
     /// The connection is over, once what waits was written as far as its stream takes it.
     pub fn end(&mut self)
-        ensures { self.new ≡ self.old }
+        ensures { self.new ≡ record self.old { stage = Stage.Over } }
     {
         self.stage = Stage::Over;
     }
 
     /// Whether it was not read, and may be now.
-    pub fn is_free(&self) -> bool {
+    pub fn is_free(&self) -> bool
+        ensures { result ≡ self.now.held && nat_lt (length self.now.live.unsent) UNSENT }
+    {
         self.is_held && self.source.out().len() < UNSENT
     }
 
     /// Writes what waits as far as the stream takes it, and says whether the connection stands.
     pub fn write(&mut self) -> bool
-        ensures id { self.new.id ≡ self.old.id }
-        ensures live { Writes self.old.live self.new.live }
+        ensures { peers.Writes self.old result self.new }
     {
-        let (count, visit) = send(&mut self.stream, self.source.out());
+        let visit = self.send();
+        self.visited(visit);
+        self.stands()
+    }
+
+    /// Its stream takes of what waits as much as it does, and the visit ended so.
+    fn send(&mut self) -> Visit
+        ensures { peers.Sends self.old result self.new }
+    {
+        let (count, visit) = self.stream.send(self.source.out());
         self.source.drained(count);
-        if visit == Visit::Ended {
-            self.end();
+        visit
+    }
+
+    /// A visit to its stream ended so: it is over where the stream ended.
+    fn visited(&mut self, visit: Visit)
+        ensures { self.new ≡ record self.old {
+          stage = peers.stage_visited self.old.stage visit;
+        } }
+    {
+        match visit {
+            Visit::Waits | Visit::Full => {}
+            Visit::Ended => self.end(),
         }
+    }
+
+    /// Whether it stands.
+    fn stands(&self) -> bool
+        ensures { result ≡ peers.stands self.now.stage self.now.live.unsent }
+    {
         match self.stage {
             Stage::Open => true,
             Stage::Lingering => !self.source.out().is_empty(),

@@ -59,6 +59,12 @@ pub enum Fact {
         output: u16,
         server: SocketAddr,
     },
+    /// A worker of an output sends its chunk to another server than the one before.
+    ServerChanged {
+        output: u16,
+        worker: u16,
+        server: SocketAddr,
+    },
     /// A connection is one too many, and is closed at once.
     OverLimit {
         caller: Caller,

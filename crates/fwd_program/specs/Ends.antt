@@ -1,7 +1,7 @@
 -- How a run ends, the exit status of each end, and what was written by then.
 use Rattle.std.specs.Prelude.{◌≡◌, ◌⊎◌, ℕ, List, length, Option, Result, Ok, Err}
 use Rattle.std.specs.Io.KnownBytes.{Appends, Keeps}
-use Rattle.fwd_chunks.specs.declared.counts.Counts.{Counts}
+use Rattle.fwd_counts.specs.declared.counts.Counts.{Counts}
 use Rattle.fwd_settings.specs.Whole.{settings_of}
 use Rattle.fwd_settings.specs.declared.settings.Settings.{Settings}
 use Rattle.fwd_settings.specs.declared.fault.SettingsFault.{SettingsFault}

@@ -12,20 +12,22 @@ pub enum Kind {
     SourceClosed = 1,
     ServerLost = 2,
     ServerBack = 3,
-    OverLimit = 4,
-    Memory = 5,
+    ServerChanged = 4,
+    OverLimit = 5,
+    Memory = 6,
 }
 
 impl Kind {
     /// How many kinds there are.
-    pub const COUNT: usize = 6;
+    pub const COUNT: usize = 7;
 
     /// Each kind once.
-    pub const ALL: [Kind; 6] = [
+    pub const ALL: [Kind; 7] = [
         Kind::Listening,
         Kind::SourceClosed,
         Kind::ServerLost,
         Kind::ServerBack,
+        Kind::ServerChanged,
         Kind::OverLimit,
         Kind::Memory,
     ];
@@ -37,6 +39,7 @@ impl Kind {
             Fact::SourceClosed { .. } => Kind::SourceClosed,
             Fact::ServerLost { .. } => Kind::ServerLost,
             Fact::ServerBack { .. } => Kind::ServerBack,
+            Fact::ServerChanged { .. } => Kind::ServerChanged,
             Fact::OverLimit { .. } => Kind::OverLimit,
             Fact::Memory(_) => Kind::Memory,
         }
@@ -51,6 +54,7 @@ impl fmt::Display for Kind {
             Kind::SourceClosed => "source closed",
             Kind::ServerLost => "server lost",
             Kind::ServerBack => "server back",
+            Kind::ServerChanged => "server changed",
             Kind::OverLimit => "over the limit",
             Kind::Memory => "memory",
         })
@@ -85,6 +89,11 @@ impl fmt::Display for Telling {
                 write!(f, "output {output} {server} {name}")
             }
             Fact::ServerBack { output, server } => write!(f, "output {output} {server}"),
+            Fact::ServerChanged {
+                output,
+                worker,
+                server,
+            } => write!(f, "output {output} worker {worker} {server}"),
             Fact::OverLimit { caller, peer } => {
                 let caller = caller_name(caller);
                 write!(f, "{caller} {peer}")

@@ -1,6 +1,6 @@
 -- `none` makes a value of no bytes, whose ghost field is empty.
 use mathlib.Core.Path.{refl}
-use mathlib.Core.List.{List, [], ◌∷◌}
+use mathlib.Core.List.{[], ◌∷◌}
 use seplogic.Ra.Ura.{Ura}
 use mir.Val.{Val, vstruct, vcons, vnil}
 use base.Logic.{SProp, ent}
@@ -12,7 +12,7 @@ use types.Logic.{Logic}
 use contract.Monad.{Fun}
 use contract.Running.{tables, tables_of}
 use sound.WpLaws.{WpFn-mono}
-use types.Kit.{‵, raw, ◌⊛◌, ◌$◌, ◌∵◌, !, qed, move, keep, split, join, fjoin, use0, suffices, done}
+use types.Kit.{‵, raw, ◌⊛◌, ◌$◌, ◌∵◌, !, qed, move, keep, split, join, use0, suffices, done}
 use types.Run.{no_more, and_then, returns, enter}
 use types.Part.{agg}
 use types.ByLocal.{alloc_all, pass_all, free_all, look_at, get, sets}
@@ -25,11 +25,11 @@ use denote.Triple.Entry.{alive}
 use denote.Triple.Spec.{Meets, triple_of}
 use denote.Triple.Table.{entered}
 use denote.Triple.Walked.{says, Stays, walk_of, ends_at, walk_Meets}
-use Rattle.fwd_links.specs.contracts.told.Told.{the_row}
-use Rattle.fwd_links.specs.contracts.told.Told.none.{ended, clauses}
-use Rattle.fwd_links.specs.contracts.told.Told.none.Key.{name}
-use Rattle.fwd_links.proofs.told.Told.none.Statement.{statement}
-use Rattle.fwd_links.proofs.told.Told.none.Code as code
+use Rattle.fwd_peers.specs.contracts.calls.Calls.{the_row}
+use Rattle.fwd_peers.specs.contracts.calls.Calls.none.{ended, clauses}
+use Rattle.fwd_peers.specs.contracts.calls.Calls.none.Key.{name}
+use Rattle.fwd_peers.proofs.calls.Calls.none.Statement.{statement}
+use Rattle.fwd_peers.proofs.calls.Calls.none.Code as code
 
 abbrev stayed : Stays ended.signature.params ended.kept
 stayed = tt
@@ -45,7 +45,7 @@ module _ {M : Type 1} {𝓤 : Ura M} (𝓛 : Logic 𝓤) (at_mem : Memory → SP
         (WpFn 𝓤 H C Λ code.function ((walk_of 𝓛 ended stayed held).args z)
         ((walk_of 𝓛 ended stayed held).post z))
     walks =
-        let v : Val = vstruct (vcons (vstruct vnil) vnil) in let r : the_row.Denot = record { marker = record {}; bytes = [] } in
+        let v : Val = vstruct (vcons (vstruct vnil) vnil) in let r : the_row.Denot = record { marker = record {}; list = [] } in
         let O : Fml = the_row.own_val r (v ∷ []) in
         qed 𝓛 ((raw (alive 𝓛 ended.signature z.0.0 z.0.1) ⊛ ‵ (owns (types_at ended.signature.params z.0.0) z.0.3 z.0.4)) ∷ raw ((held z.0.0 z.0.3).requires z.1) ∷ []) ∵ split ! $ keep ! (0 ∷ []) $
         enter ! C Λ code.function [] _ $ alloc_all ! (λ l. pass_all ! refl tt $

@@ -1,0 +1,6 @@
+/// Where so many bytes wait to be sent to a source, it is read no further until it took some.
+pub const UNSENT: usize = 65_536;
+
+/// What an acknowledgement has in front of the chunk's value: a map of one, and `ack` (Forward
+/// Protocol Specification v1, "Response").
+pub const ACK_FRONT: [u8; 5] = *b"\x81\xa3ack";
