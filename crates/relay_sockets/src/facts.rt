@@ -90,6 +90,11 @@ pub fn say_each(rt: &impl Print) {
         });
     }
     teller.tell(Fact::ServerBack { output: 0, server });
+    teller.tell(Fact::ServerChanged {
+        output: 0,
+        worker: 15,
+        server,
+    });
     for want in [
         Want::Source(peer),
         Want::Monitor,

@@ -1,15 +1,19 @@
 //! A relay over sockets, with sources, servers and a monitor around it, all on this machine, and
 //! what a run says of each fact, by a clock that is set by hand, how its lines are paced, which
-//! environments ask for them, how runs end, and what a run tells its watch. It prints what holds
-//! whatever the order of the threads' turns.
+//! environments ask for them, how runs end, what a run tells its watch, and turns that are made by
+//! hand. It prints what holds whatever the order of the threads' turns.
 #![tactic(auto)]
 
 mod asking;
+mod by_hand;
+mod closings;
 mod course;
 mod ends;
 mod facts;
+mod failover;
 mod fault;
 mod frame;
+mod full;
 mod hand;
 mod hostile;
 mod keys;
@@ -20,6 +24,7 @@ mod monitors;
 mod outputs;
 mod pacing;
 mod peer;
+mod reset;
 mod scenes;
 mod sealed;
 mod server;
@@ -30,6 +35,7 @@ mod starts;
 mod strangers;
 mod torn;
 mod unread;
+mod unrouted;
 mod watched;
 mod whole_way;
 
@@ -57,6 +63,7 @@ fn say_starts<R: Net<Listener = TcpListener, Stream = TcpStream> + Print + Alloc
 
 fn main(rt: HostRuntime) -> Result<()> {
     say_scenes(&rt, scenes::play_all(&rt)?)?;
+    say_scenes(&rt, failover::play_all(&rt)?)?;
     say_starts(&rt)?;
     facts::say_each(&rt);
     println!(rt; "--")?;
@@ -66,5 +73,7 @@ fn main(rt: HostRuntime) -> Result<()> {
     println!(rt; "--")?;
     ends::say_ends(&rt)?;
     println!(rt; "--")?;
-    watched::say_run(&rt, 16)
+    watched::say_run(&rt, 16)?;
+    println!(rt; "--")?;
+    by_hand::say_turns(&rt, 17)
 }

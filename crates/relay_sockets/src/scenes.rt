@@ -1,14 +1,16 @@
 //! The scenes, side by side: each has a relay of its own, whose workers wait out their turns.
 
+use crate::closings::Closings;
 use crate::course::Course;
+use crate::full::TOTAL;
 use crate::keys::KEY;
 use crate::peer::hurry;
 use crate::sealed::Sealed;
 use crate::server::Servers;
 use crate::site::{SEED, Site, free_site, put_output, put_relay, relay};
 use crate::{
-    fault, hostile, keys, late, liar, limits, monitors, outputs, split, standby, torn, unread,
-    whole_way,
+    fault, full, hostile, keys, late, liar, limits, monitors, outputs, reset, split, standby, torn,
+    unread, unrouted, whole_way,
 };
 use anyhow::{Result, bail};
 use fwd_chunks::Counts;
@@ -24,8 +26,8 @@ use std::thread::Threads;
 /// so that it stands for twenty seconds at least.
 const TURNS: u64 = 2_000;
 
-/// What a relay came to.
-type Ended = Result<Vec<Counts>, StartFault>;
+/// What a relay came to, and why it closed its sources.
+type Ended = (Result<Vec<Counts>, StartFault>, Closings);
 
 /// A scene.
 #[derive(Clone, Copy)]
@@ -43,10 +45,13 @@ enum Scene {
     Monitors,
     Hostile,
     Unread,
+    Unrouted,
+    Full,
+    Reset,
 }
 
 /// All scenes.
-const SCENES: [Scene; 13] = [
+const SCENES: [Scene; 16] = [
     Scene::WholeWay,
     Scene::Split,
     Scene::Outputs,
@@ -60,6 +65,9 @@ const SCENES: [Scene; 13] = [
     Scene::Monitors,
     Scene::Hostile,
     Scene::Unread,
+    Scene::Unrouted,
+    Scene::Full,
+    Scene::Reset,
 ];
 
 impl Scene {
@@ -79,6 +87,9 @@ impl Scene {
             Scene::Monitors => "sixteen monitors at a time",
             Scene::Hostile => "hostile peers",
             Scene::Unread => "a source that does not read",
+            Scene::Unrouted => "a tag that no output takes",
+            Scene::Full => "a full output",
+            Scene::Reset => "sources that reset",
         }
     }
 
@@ -98,12 +109,18 @@ impl Scene {
             Scene::Monitors => 12,
             Scene::Hostile => 13,
             Scene::Unread => 14,
+            Scene::Unrouted => 18,
+            Scene::Full => 19,
+            Scene::Reset => 20,
         }
     }
 
     /// Appends the settings of its relay.
     fn put_settings(self, text: &mut String, site: Site) -> Result<(), AllocError> {
-        let connections = if self == Scene::Limits { 2 } else { 8 };
+        let connections = match self {
+            Scene::Limits | Scene::Reset => 2,
+            _ => 8,
+        };
         let key = if self == Scene::Keys { KEY } else { "" };
         put_relay(text, site, connections, key)?;
         text.push_str(SEED)?;
@@ -113,6 +130,8 @@ impl Scene {
                 put_output(text, "**", "", &site.servers[1..])
             }
             Scene::Standby | Scene::Late => put_output(text, "**", "", &site.servers),
+            Scene::Unrouted => put_output(text, "a", "", &site.servers[..1]),
+            Scene::Full => put_output(text, "**", TOTAL, &site.servers[..1]),
             _ => put_output(text, "**", key, &site.servers[..1]),
         }
     }
@@ -158,6 +177,9 @@ impl Scene {
             Scene::Monitors => monitors::play(rt, site, course),
             Scene::Hostile => hostile::play(rt, site, &servers.first, course),
             Scene::Unread => unread::play(rt, site, course),
+            Scene::Unrouted => unrouted::play(rt, site, &servers.first, course),
+            Scene::Full => full::play(rt, site, &servers.first, course),
+            Scene::Reset => reset::play(rt, site, &servers.first, course),
         }
     }
 
@@ -179,7 +201,11 @@ impl Scene {
     ) -> Result<Ended> {
         let (ended, played) = thread::join(
             rt,
-            move || relay.run(rt, TURNS),
+            move || {
+                let mut closings = Closings::none(rt.alloc());
+                let counts = relay.run_watched(rt, &mut closings, TURNS);
+                (counts, closings)
+            },
             move || {
                 let played = self.play(rt, site, servers, course);
                 hurry(rt, rt.alloc(), site.monitors);
@@ -200,8 +226,12 @@ impl Scene {
             + Sync,
     >(self, rt: &R, site: Site, servers: &mut Servers, course: &mut Course) -> Result<()> {
         let relay = self.relay(rt, site)?;
-        let ended = self.run(rt, site, relay, servers, course)?;
-        write!(course.text, "\n  {ended:?}")?;
+        let (counts, closings) = self.run(rt, site, relay, servers, course)?;
+        write!(course.text, "\n  {counts:?}")?;
+        let why = closings.all;
+        if !why.is_empty() {
+            write!(course.text, "\n  closed: {why:?}")?;
+        }
         Ok(())
     }
 

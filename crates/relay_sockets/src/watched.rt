@@ -58,7 +58,9 @@ impl Watch for Heard {
                 why: _,
             } => self.lost = self.lost.or(Some((output, server))),
             Fact::ServerBack { .. } => self.back = self.back.saturating_add(1),
-            Fact::Memory(_) => self.others = self.others.saturating_add(1),
+            Fact::ServerChanged { .. } | Fact::Memory(_) => {
+                self.others = self.others.saturating_add(1);
+            }
         }
     }
 }

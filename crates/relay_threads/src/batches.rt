@@ -4,10 +4,12 @@ ghost use Rattle.std.specs.Prelude.{◌≡◌, IfOk};
 
 use anyhow::{Result, bail};
 use fwd_base::Bytes;
+use fwd_chunks::{Buffer, Carried};
 use fwd_core::{BufferLimits, OutputState};
 use fwd_handshake::Login;
 use fwd_modes::{Batch, Reading, read_request};
 use fwd_msgpack::{Cut, Limits, cut};
+use fwd_session::Session;
 use std::alloc::Global;
 use std::sync::Arc;
 
@@ -17,6 +19,9 @@ pub const MESSAGE: &[u8] = b"\x94\xa1a\x01\x80\x81\xa5chunk\xa1x";
 /// The same with the time 128: its entry is one byte longer.
 pub const LONGER: &[u8] = b"\x94\xa1a\xcc\x80\x80\x81\xa5chunk\xa1x";
 
+/// A Message of the tag `b`, which asks for none.
+pub const OTHER: &[u8] = b"\x93\xa1b\x01\x80";
+
 /// Three entries of the tag `a`, of three bytes each.
 pub const THREE: &[u8] = b"\x93\xa1a\x93\x92\x01\x80\x92\x01\x80\x92\x01\x80\x81\xa5chunk\xa1x";
 
@@ -24,7 +29,15 @@ pub const THREE: &[u8] = b"\x93\xa1a\x93\x92\x01\x80\x92\x01\x80\x92\x01\x80\x81
 pub const FRAME: &[u8] =
     b"\x93\xa1a\xc4\x03\x92\x01\x80\x82\xa4size\x01\xa5chunk\xb8AAAAAAAAAAAAAAAAAAAAAQ==";
 
-/// Its acknowledgement.
+/// The frame of the chunk with number 2, with the same entry.
+pub const SECOND: &[u8] =
+    b"\x93\xa1a\xc4\x03\x92\x01\x80\x82\xa4size\x01\xa5chunk\xb8AAAAAAAAAAAAAAAAAAAAAg==";
+
+/// The frame of the chunk with number 1 of run 0 at output 1, with the same entry.
+pub const OTHER_OUTPUT: &[u8] =
+    b"\x93\xa1a\xc4\x03\x92\x01\x80\x82\xa4size\x01\xa5chunk\xb8AAAAAAAAAAEAAAAAAAAAAQ==";
+
+/// The acknowledgement of `FRAME`.
 pub const ACK: &[u8] = b"\x81\xa3ack\xb8AAAAAAAAAAAAAAAAAAAAAQ==";
 
 /// Limits that nothing here comes near, but for those that are named.
@@ -50,19 +63,67 @@ pub fn batch(alloc: Global, bytes: &[u8]) -> Result<Batch> {
     }
 }
 
-/// An output with two servers, the second of them a standby.
+/// The first output, with two servers, the second of them a standby.
 pub fn output(alloc: Global, chunk: u32, total: u64) -> Result<OutputState>
     ensures { IfOk result (λ o. (o.buffer.accepted ≡ 0) × (o.buffer.settled ≡ 0)) }
 {
-    let state = OutputState::new(alloc, limits(chunk, total), [0; 6], 0, &[false, true])?;
+    output_at(alloc, 0, chunk, total)
+}
+
+/// The same output at the place of this number.
+pub fn output_at(alloc: Global, number: u16, chunk: u32, total: u64) -> Result<OutputState>
+    ensures { IfOk result (λ o. (o.buffer.accepted ≡ 0) × (o.buffer.settled ≡ 0)) }
+{
+    let limits = limits(chunk, total);
+    let state = OutputState::new(alloc, limits, [0; 6], number, &[false, true])?;
     Ok(state)
+}
+
+/// An output with three servers, the last of them a standby.
+pub fn output_of_three(alloc: Global, chunk: u32, total: u64) -> Result<OutputState>
+    ensures { IfOk result (λ o. (o.buffer.accepted ≡ 0) × (o.buffer.settled ≡ 0)) }
+{
+    let state = OutputState::new(
+        alloc,
+        limits(chunk, total),
+        [0; 6],
+        0,
+        &[false, false, true],
+    )?;
+    Ok(state)
+}
+
+/// The chunk is no more: a buffer that did not give it only spends it.
+pub fn drop_chunk(alloc: Global, chunk: Carried) {
+    let mut buffer = Buffer::new(alloc, limits(1000, 100_000), [0; 6], 0);
+    buffer.free(chunk, None);
+}
+
+/// The session is no more, and neither is its chunk.
+pub fn drop_session(alloc: Global, session: Session) {
+    let mut session = session;
+    if let Some((_, chunk)) = session.acked() {
+        drop_chunk(alloc, chunk);
+    }
+    if let Some(chunk) = session.end() {
+        drop_chunk(alloc, chunk);
+    }
 }
 
 /// The login of a worker without a shared key.
 pub fn login(alloc: Global) -> Result<Arc<Login>> {
+    login_with(alloc, None)
+}
+
+/// The login of a worker whose servers have to know a key, if there is one.
+pub fn login_with(alloc: Global, key: Option<&[u8]>) -> Result<Arc<Login>> {
+    let shared_key = match key {
+        Some(key) => Some(Bytes::from_slice(alloc, key)?),
+        None => None,
+    };
     let login = Login {
         hostname: Bytes::from_slice(alloc, b"relay")?,
-        shared_key: None,
+        shared_key,
         username: Bytes::new(alloc),
         password: Bytes::new(alloc),
     };

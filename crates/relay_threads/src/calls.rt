@@ -21,6 +21,7 @@ pub trait Output {
         alloc: Global,
         origin: Origin,
         batch: Batch,
+        now: u64,
     ) -> Result<Ticket, (AdmitRefusal, Batch)>;
 
     fn collect(
@@ -53,8 +54,9 @@ impl Output for Locked<Plain, Plain> {
         alloc: Global,
         origin: Origin,
         batch: Batch,
+        now: u64,
     ) -> Result<Ticket, (AdmitRefusal, Batch)> {
-        Locked::admit(self, alloc, &mut (), origin, batch, 0)
+        Locked::admit(self, alloc, &mut (), origin, batch, now)
     }
 
     fn collect(
@@ -110,8 +112,10 @@ impl<'a, R: Wait> Output for Behind<'a, R> {
         alloc: Global,
         origin: Origin,
         batch: Batch,
+        now: u64,
     ) -> Result<Ticket, (AdmitRefusal, Batch)> {
-        self.shared.admit(self.rt, alloc, &mut (), origin, batch, 0)
+        self.shared
+            .admit(self.rt, alloc, &mut (), origin, batch, now)
     }
 
     fn collect(

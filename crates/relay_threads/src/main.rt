@@ -2,34 +2,46 @@
 //! order of the threads' turns.
 #![tactic(auto)]
 
+mod acts;
 mod batches;
 mod calls;
 mod day;
 mod gates;
+mod hand;
+mod life;
+mod lives;
 mod memory;
 mod mirror;
+mod played;
+mod record;
+mod seats;
 mod serving;
 mod turns;
+mod watched;
 
 use crate::batches::output;
 use crate::memory::Open;
 use crate::mirror::{Story, mirrored, told};
 use anyhow::Result;
 use fwd_core::FlushKind;
-use fwd_workers::{Locked, Plain, SharedOutput};
+use fwd_workers::{Closing, Locked, Plain, SharedOutput};
 use std::alloc::Global;
 use std::rt::Clock;
 use std::sync::Wait;
 use std::thread::Threads;
 
 /// The stories that are told with and without a lock.
-const STORIES: [Story; 6] = [
+const STORIES: [Story; 10] = [
     Story::WayBack,
     Story::LaterFirst,
     Story::InOrder,
     Story::Lost,
     Story::Full,
     Story::Abandoned,
+    Story::Due,
+    Story::Choices,
+    Story::Returns,
+    Story::Again,
 ];
 
 /// An output of these limits behind its lock, with plain counters.
@@ -50,6 +62,26 @@ fn tell_day<R: Threads + Wait + Sync + Print>(rt: &R, alloc: Global) -> Result<(
     let is_sum = closing.settled.saturating_add(closing.left) == closing.accepted;
     println!(rt; "accepted = settled + left: {is_sum}")?;
     Ok(())
+}
+
+/// What an output came to, in entries.
+fn print_closing<R: Print>(rt: &R, name: &str, closing: Closing) -> Result<()> {
+    let Closing {
+        accepted,
+        settled,
+        left,
+    } = closing;
+    println!(rt; "{name}: accepted {accepted}, settled {settled}, left {left}")?;
+    Ok(())
+}
+
+/// Many seats, and a request that is abandoned: what the ledgers say at the close.
+fn tell_seats<R: Threads + Wait + Sync + Print>(rt: &R, alloc: Global) -> Result<()> {
+    let sums = seats::eight_and_four(rt, alloc)?;
+    print_closing(rt, "eight and four", sums.closing)?;
+    let added = sums.seats;
+    println!(rt; "added from the seats: {added:?}")?;
+    print_closing(rt, "one is abandoned", seats::abandoned(rt, alloc)?)
 }
 
 /// Two workers that settle only together.
@@ -88,10 +120,12 @@ fn main(rt: HostRuntime) -> Result<()> {
     let alloc = rt.alloc();
     tell_worker(&rt, alloc)?;
     tell_stories(&rt, alloc)?;
+    lives::tell_all(&rt, alloc)?;
     let served = serving::served(&rt, alloc, 45)?;
     println!(rt; "a link that takes 45 bytes: {served:?}")?;
     let served = serving::served(&rt, alloc, 46)?;
     println!(rt; "a link that takes 46 bytes: {served:?}")?;
     tell_day(&rt, alloc)?;
+    tell_seats(&rt, alloc)?;
     tell_gates(&rt, alloc)
 }

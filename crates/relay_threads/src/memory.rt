@@ -1,10 +1,10 @@
 //! A link in memory, whose server acknowledges each whole frame; and what else a worker asks for.
 
-ghost use Rattle.std.specs.Prelude.{◌≡◌, Ok};
-ghost use Rattle.fwd_workers.specs.Links.{HasRead};
+ghost use Rattle.std.specs.Prelude.{◌≡◌, ◌≤◌, Ok, [], length};
+ghost use Rattle.fwd_workers.specs.Links.{count_read};
 
 use fwd_msgpack::{Cut, Limits, cut};
-use fwd_workers::{Clock, Gate, Hub, Link, LinkFault, Pass, Place, Read};
+use fwd_workers::{Calls, Clock, Gate, Hub, Link, LinkFault, Pass, Place, Read};
 use std::alloc::Global;
 use std::sync::Wait;
 
@@ -21,20 +21,33 @@ pub struct Wire {
     taken: Vec<u8>,
     /// How many of them were acknowledged.
     answered: usize,
-    /// All bytes that it gave.
-    given: Vec<u8>,
     /// The most bytes that a write takes.
     most: usize,
+    calls: Calls,
+}
+
+/// Gives bytes, if there is room for them.
+pub fn give(room: &mut [u8], bytes: &[u8]) -> Read
+    ensures { count_read (Ok result) ≤ length room.new }
+{
+    let count = bytes.len();
+    if count > room.len() {
+        return Read::Nothing;
+    }
+    room[..count].copy_from_slice(bytes);
+    Read::Bytes(count)
 }
 
 impl Wire {
     /// A link that takes at most so many bytes at once.
-    pub fn new(alloc: Global, most: usize) -> Wire {
+    pub fn new(alloc: Global, most: usize) -> Wire
+        ensures { result.calls.list ≡ [] }
+    {
         Wire {
             taken: Vec::new(alloc),
             answered: 0,
-            given: Vec::new(alloc),
             most,
+            calls: Calls::none(),
         }
     }
 
@@ -59,44 +72,48 @@ impl Wire {
         Some(reply)
     }
 
-    /// Gives bytes, if there is room for them.
-    fn give(&mut self, room: &mut [u8], bytes: &[u8]) -> Read
-        ensures given { HasRead (Ok result) self.old.given.items room.new self.new.given.items }
-        ensures taken { self.new.taken ≡ self.old.taken }
+    /// Gives the acknowledgement of the next frame, if that is there whole.
+    fn answer(&mut self, room: &mut [u8]) -> Read
+        ensures given { count_read (Ok result) ≤ length room.new }
+        ensures calls { self.new.calls ≡ self.old.calls }
     {
-        let count = bytes.len();
-        if count > room.len() || self.given.extend_from_slice(bytes).is_err() {
+        let Some(end) = self.frame_end() else {
             return Read::Nothing;
+        };
+        let Some(reply) = self.reply(end) else {
+            return Read::Nothing;
+        };
+        self.answered = end;
+        give(room, &reply)
+    }
+
+    /// Takes of these bytes what it takes at once, if there is memory for it.
+    fn keep(&mut self, bytes: &[u8]) -> usize
+        ensures taken { result ≤ length bytes.now }
+        ensures calls { self.new.calls ≡ self.old.calls }
+    {
+        let count = bytes.len().min(self.most);
+        match self.taken.extend_from_slice(&bytes[..count]) {
+            Ok(()) => count,
+            Err(_) => 0,
         }
-        room[..count].copy_from_slice(bytes);
-        Read::Bytes(count)
     }
 }
 
 impl Link for Wire {
-    ghost taken = { λ w. w.taken.items };
-
-    ghost given = { λ w. w.given.items };
-
-    ghost failures = { λ w. 0 };
+    ghost calls = { λ w. w.calls.list };
 
     fn read<R: Wait>(&mut self, _rt: &R, room: &mut [u8]) -> Result<Read, LinkFault> {
-        let Some(end) = self.frame_end() else {
-            return Ok(Read::Nothing);
-        };
-        let Some(reply) = self.reply(end) else {
-            return Ok(Read::Nothing);
-        };
-        self.answered = end;
-        Ok(self.give(room, &reply))
+        let read = self.answer(room);
+        let room = &*room;
+        self.calls = self.calls.and_read(&room, &Ok(read));
+        Ok(read)
     }
 
     fn write<R: Wait>(&mut self, _rt: &R, bytes: &[u8]) -> Result<usize, LinkFault> {
-        let count = bytes.len().min(self.most);
-        match self.taken.extend_from_slice(&bytes[..count]) {
-            Ok(()) => Ok(count),
-            Err(_) => Ok(0),
-        }
+        let count = self.keep(bytes);
+        self.calls = self.calls.and_write(&bytes, &Ok(count));
+        Ok(count)
     }
 }
 

@@ -5,7 +5,9 @@ ghost use Rattle.std.specs.Prelude.{◌≡◌, IfSome, IfOk, None};
 ghost use Rattle.std.specs.Arc.{arc_value};
 ghost use Rattle.fwd_session.specs.Evidence.{IsEvidence};
 
-use crate::batches::{LONGER, MESSAGE, THREE, batch, login, output};
+use crate::batches::{
+    LONGER, MESSAGE, OTHER, THREE, batch, drop_chunk, drop_session, login, output, output_of_three,
+};
 use crate::calls::{Behind, Output};
 use anyhow::Result;
 use fwd_base::Bytes;
@@ -54,11 +56,11 @@ fn acknowledged(alloc: Global, chunk: Carried) -> Option<(Arc<Acked>, Carried)>
     ensures { IfSome result (λ pair. IsEvidence (arc_value pair.0) pair.1) }
 {
     let Ok(login) = login(alloc) else {
-        chunk.spend();
+        drop_chunk(alloc, chunk);
         return None;
     };
     let Some(salt) = OwnedSalt::new(Bytes::new(alloc)) else {
-        chunk.spend();
+        drop_chunk(alloc, chunk);
         return None;
     };
     let mut reply = [0; 30];
@@ -66,13 +68,13 @@ fn acknowledged(alloc: Global, chunk: Carried) -> Option<(Arc<Acked>, Carried)>
     reply[6..].copy_from_slice(chunk.name());
     let mut session = Session::up(alloc, 0, login, salt, 10_000, 0);
     if let Err(LoadFailed { chunk, error: _ }) = session.load(alloc, chunk, 0) {
-        chunk.spend();
+        drop_chunk(alloc, chunk);
     }
     let waiting = session.out().len();
     session.wrote(waiting);
     let _told = session.heard(alloc, &reply);
     let acked = session.acked();
-    session.spend();
+    drop_session(alloc, session);
     acked
 }
 
@@ -83,8 +85,13 @@ impl<'a, O: Output> Play<'a, O> {
         let _ = self.notes.push(Note { answer, counts });
     }
 
-    /// Admits a request of a connection.
+    /// Admits a request of a connection at moment 0.
     fn admit(&mut self, conn: u64, bytes: &[u8]) {
+        self.admit_at(conn, bytes, 0);
+    }
+
+    /// Admits a request of a connection at a moment (milliseconds).
+    fn admit_at(&mut self, conn: u64, bytes: &[u8], now: u64) {
         let Ok(batch) = batch(self.alloc, bytes) else {
             return;
         };
@@ -92,7 +99,7 @@ impl<'a, O: Output> Play<'a, O> {
             return;
         }
         let origin = Origin { conn, request: 1 };
-        match self.out.admit(self.alloc, origin, batch) {
+        match self.out.admit(self.alloc, origin, batch, now) {
             Ok(ticket) => {
                 let runs = ticket.spans().len();
                 self.tickets.push_reserved(ticket);
@@ -105,6 +112,12 @@ impl<'a, O: Output> Play<'a, O> {
     /// Closes all chunks.
     fn flush(&mut self) {
         let count = self.out.flush(0, FlushKind::All);
+        self.note(Answer::Closed(count));
+    }
+
+    /// Closes the chunks that are due at a moment (milliseconds).
+    fn flush_due(&mut self, now: u64) {
+        let count = self.out.flush(now, FlushKind::Due);
         self.note(Answer::Closed(count));
     }
 
@@ -134,7 +147,12 @@ impl<'a, O: Output> Play<'a, O> {
 
     /// A worker's end at a moment (milliseconds), with a loss of its chunk and of server 0.
     fn end(&mut self, chunk: Option<Carried>, now: u64) {
-        self.out.end(chunk, Some(0), true, now);
+        self.end_as(chunk, Some(0), true, now);
+    }
+
+    /// A worker's end at a moment (milliseconds): a server may be lost, and its chunk may be.
+    fn end_as(&mut self, chunk: Option<Carried>, server: Option<u16>, lost: bool, now: u64) {
+        self.out.end(chunk, server, lost, now);
         self.note(Answer::Done);
     }
 
@@ -244,6 +262,67 @@ fn abandoned<O: Output>(play: &mut Play<'_, O>) {
     play.collect();
 }
 
+/// Requests of two tags that come at two moments, and flushes before and behind their intervals.
+fn due<O: Output>(play: &mut Play<'_, O>) {
+    play.admit_at(1, MESSAGE, 0);
+    play.flush_due(999);
+    play.admit_at(2, OTHER, 1200);
+    play.flush_due(1500);
+    play.flush_due(2199);
+    play.flush_due(2200);
+}
+
+/// Two workers choose among two primaries and a standby, before and behind the servers' waits.
+fn choices<O: Output>(play: &mut Play<'_, O>) {
+    play.choose(0, 0);
+    play.choose(1, 0);
+    play.end_as(None, Some(0), false, 1000);
+    play.choose(0, 1499);
+    play.choose(1, 1499);
+    play.choose(0, 1500);
+    play.end_as(None, Some(0), false, 2000);
+    play.end_as(None, Some(1), false, 2000);
+    play.choose(0, 2499);
+    play.choose(0, 2500);
+    play.choose(1, 2500);
+    play.choose(0, 3000);
+    play.choose(1, 3000);
+}
+
+/// A chunk that is put back without a loss, with one, and with its server lost alone.
+fn returns<O: Output>(play: &mut Play<'_, O>) {
+    play.admit(1, MESSAGE);
+    play.flush();
+    let chunk = play.take(0, 0);
+    play.end_as(chunk, None, false, 100);
+    let again = play.take(0, 100);
+    play.end_as(again, None, true, 200);
+    play.choose(0, 200);
+    let early = play.take(0, 699);
+    play.settle(early);
+    let late = play.take(0, 700);
+    play.end_as(late, Some(0), false, 800);
+    play.choose(0, 800);
+    let last = play.take(0, 800);
+    play.settle(last);
+    play.collect();
+}
+
+/// A request that is abandoned, and admitted again under its origin.
+fn again<O: Output>(play: &mut Play<'_, O>) {
+    play.admit(1, MESSAGE);
+    play.flush();
+    let first = play.take(0, 0);
+    play.abandon();
+    play.admit(1, MESSAGE);
+    play.flush();
+    play.settle(first);
+    play.collect();
+    let second = play.take(0, 0);
+    play.settle(second);
+    play.collect();
+}
+
 /// Which calls are made.
 #[derive(Clone, Copy, Debug)]
 pub enum Story {
@@ -253,6 +332,10 @@ pub enum Story {
     Lost,
     Full,
     Abandoned,
+    Due,
+    Choices,
+    Returns,
+    Again,
 }
 
 impl Story {
@@ -281,6 +364,10 @@ fn played<O: Output>(alloc: Global, out: &mut O, story: Story) -> Vec<Note> {
         Story::Lost => lost(&mut play),
         Story::Full => full(&mut play),
         Story::Abandoned => abandoned(&mut play),
+        Story::Due => due(&mut play),
+        Story::Choices => choices(&mut play),
+        Story::Returns => returns(&mut play),
+        Story::Again => again(&mut play),
     }
     play.end_play()
 }
@@ -288,7 +375,10 @@ fn played<O: Output>(alloc: Global, out: &mut O, story: Story) -> Vec<Note> {
 /// An output and its counters.
 fn locked(alloc: Global, story: Story) -> Result<Locked<Plain, Plain>> {
     let (chunk, total) = story.limits();
-    let state = output(alloc, chunk, total)?;
+    let state = match story {
+        Story::Choices => output_of_three(alloc, chunk, total)?,
+        _ => output(alloc, chunk, total)?,
+    };
     Ok(Locked::new(state, Plain::new(0), Plain::new(0)))
 }
 

@@ -1,58 +1,52 @@
 //! One turn of a session over a link that holds an acknowledgement before the frame's last byte.
 
-ghost use Rattle.std.specs.Prelude.{◌≡◌, Ok, None, false, IfOk};
-ghost use Rattle.fwd_workers.specs.Links.{HasRead};
+ghost use Rattle.std.specs.Prelude.{◌≡◌, ◌≤◌, None, false, length, IfOk};
 
-use crate::batches::{ACK, MESSAGE, batch, login, output};
+use crate::batches::{ACK, MESSAGE, batch, drop_chunk, drop_session, login, output};
+use crate::memory::give;
 use anyhow::{Result, bail};
 use fwd_base::Bytes;
 use fwd_core::{FlushKind, Origin, OutputState, OwnedSalt};
 use fwd_handshake::Login;
 use fwd_session::{LoadFailed, Session};
-use fwd_workers::{Link, LinkFault, Read, Served, serve_turn};
+use fwd_workers::{Calls, Link, LinkFault, Read, Served, serve_turn};
 use std::alloc::Global;
 use std::sync::{Arc, Wait};
 
 /// A link that takes so many bytes in all, and gives an acknowledgement whatever it took.
 #[derive(Drop)]
 struct Hasty {
-    taken: Vec<u8>,
+    taken: usize,
     most: usize,
-    given: Vec<u8>,
+    calls: Calls,
 }
 
 impl Hasty {
-    /// Gives bytes, if there is room for them.
-    fn give(&mut self, room: &mut [u8], bytes: &[u8]) -> Read
-        ensures given { HasRead (Ok result) self.old.given.items room.new self.new.given.items }
-        ensures taken { self.new.taken ≡ self.old.taken }
+    /// Takes of these bytes what it still takes.
+    fn keep(&mut self, bytes: &[u8]) -> usize
+        ensures taken { result ≤ length bytes.now }
+        ensures calls { self.new.calls ≡ self.old.calls }
     {
-        let count = bytes.len();
-        if count > room.len() || self.given.extend_from_slice(bytes).is_err() {
-            return Read::Nothing;
-        }
-        room[..count].copy_from_slice(bytes);
-        Read::Bytes(count)
+        let count = bytes.len().min(self.most.saturating_sub(self.taken));
+        self.taken = self.taken.saturating_add(count);
+        count
     }
 }
 
 impl Link for Hasty {
-    ghost taken = { λ l. l.taken.items };
-
-    ghost given = { λ l. l.given.items };
-
-    ghost failures = { λ l. 0 };
+    ghost calls = { λ l. l.calls.list };
 
     fn read<R: Wait>(&mut self, _rt: &R, room: &mut [u8]) -> Result<Read, LinkFault> {
-        Ok(self.give(room, ACK))
+        let read = give(room, ACK);
+        let room = &*room;
+        self.calls = self.calls.and_read(&room, &Ok(read));
+        Ok(read)
     }
 
     fn write<R: Wait>(&mut self, _rt: &R, bytes: &[u8]) -> Result<usize, LinkFault> {
-        let count = bytes.len().min(self.most.saturating_sub(self.taken.len()));
-        match self.taken.extend_from_slice(&bytes[..count]) {
-            Ok(()) => Ok(count),
-            Err(_) => Ok(0),
-        }
+        let count = self.keep(bytes);
+        self.calls = self.calls.and_write(&bytes, &Ok(count));
+        Ok(count)
     }
 }
 
@@ -82,6 +76,9 @@ fn admit_one(alloc: Global, state: &mut OutputState) -> Result<()> {
         conn: 1,
         request: 1,
     };
+    if state.holds(origin) {
+        bail!("admitted before");
+    }
     state.admit(alloc, origin, &request, 0)?;
     Ok(())
 }
@@ -110,19 +107,19 @@ fn serve_first<R: Wait>(
     let mut session = session(alloc)?;
     if let Ok(Some(chunk)) = state.take(alloc, 0, 0) {
         if let Err(LoadFailed { chunk, error: _ }) = session.load(alloc, chunk, 0) {
-            chunk.spend();
+            drop_chunk(alloc, chunk);
         }
     }
     let mut link = Hasty {
-        taken: Vec::new(alloc),
+        taken: 0,
         most,
-        given: Vec::new(alloc),
+        calls: Calls::none(),
     };
     if session.is_down() {
-        session.spend();
+        drop_session(alloc, session);
         bail!("down");
     }
     let served = serve_turn(rt, alloc, &mut link, &mut session);
-    session.spend();
+    drop_session(alloc, session);
     Ok(served)
 }

@@ -1,0 +1,257 @@
+//! Many seats of a ledger: they are split off in a loop, each thread has one, and they are joined
+//! again in a loop.
+
+ghost use Rattle.std.specs.Prelude.{◌≡◌, ◌+◌, ◌<◌, ◌≤◌, IfOk, vec_len};
+
+use crate::batches::{login, output};
+use crate::hand::Hand;
+use crate::memory::{Open, Still, Wires};
+use crate::turns::{abandon_all, admits, works};
+use anyhow::Result;
+use fwd_core::FlushKind;
+use fwd_workers::{
+    Closing, Gate, Ledgered, Locked, Pass, Place, Seat, SharedOutput, Tally, Worker, open,
+};
+use rand_chacha::ChaCha20Rng;
+use rand_core::SeedableRng;
+use std::alloc::{AllocError, Global};
+use std::marker::Brand;
+use std::sync::Wait;
+use std::sync::atomic::{AtomicU64, Ordering};
+use std::sync::ledger::{Blank, Ledger};
+use std::thread;
+use std::thread::Threads;
+
+/// An output whose counters are these two ledgers.
+type Counted<L, M> = SharedOutput<Ledgered<L>, Ledgered<M>>;
+
+/// Splits seats of one part each off a seat, so many of them.
+fn deal<L: Ledger>(
+    alloc: Global,
+    all: Seat<L>,
+    count: u16,
+) -> Result<(Seat<L>, Vec<Hand<L>>), AllocError>
+    requires { count < all.parts }
+    ensures { IfOk result (λ p. (p.0.parts + count ≡ all.parts) × (vec_len p.1 ≡ count)) }
+{
+    let mut all = all;
+    let mut hands = Vec::new(alloc);
+    for number in 0..count {
+        let seat = Ledgered::<L>::split(&mut all, 1);
+        hands.push(Hand { number, seat })?;
+    }
+    Ok((all, hands))
+}
+
+/// Joins these seats to a seat.
+fn join_all<L: Ledger>(all: Seat<L>, hands: Vec<Hand<L>>) -> Seat<L>
+    ensures { result.parts ≡ all.parts + vec_len hands }
+{
+    let mut all = all;
+    let mut hands = hands;
+    while let Some(hand) = hands.pop() {
+        let Hand { number: _, seat } = hand;
+        all = Ledgered::<L>::join(all, seat);
+    }
+    all
+}
+
+/// A thread admits 25 requests from its seat, and abandons them: their entries stay.
+fn admit_hand<L: Ledger, M: Ledger, R: Wait>(
+    rt: &R,
+    alloc: Global,
+    out: &Counted<L, M>,
+    hand: Hand<L>,
+) -> Hand<L> {
+    let Hand { number, seat } = hand;
+    let (seat, tickets) = admits(rt, alloc, out, seat, u64::from(number), 25);
+    abandon_all(rt, out, tickets);
+    Hand { number, seat }
+}
+
+/// Stops a worker that has no chunk, once all is admitted.
+#[derive(Drop)]
+struct Until<'a> {
+    admitted: &'a AtomicU64,
+}
+
+impl Gate for Until<'_> {
+    fn pass<R: Wait>(&mut self, _rt: &R, _worker: u16, place: Place, _turn: u64) -> Pass {
+        match place {
+            Place::BeforeTake if self.admitted.load(Ordering::SeqCst) == 1 => Pass::Stop,
+            _ => Pass::Go,
+        }
+    }
+}
+
+/// A worker sends with its seat until all is admitted.
+fn work_hand<L: Ledger, M: Ledger, R: Wait>(
+    rt: &R,
+    alloc: Global,
+    out: &Counted<L, M>,
+    hand: Hand<M>,
+    admitted: &AtomicU64,
+) -> Hand<M> {
+    let Hand { number, seat } = hand;
+    let Ok(login) = login(alloc) else {
+        return Hand { number, seat };
+    };
+    let rng = ChaCha20Rng::from_seed([0; 32]);
+    let mut worker = Worker::new(alloc, number, login, 10_000, rng);
+    let mut gate = Until { admitted };
+    let mut hub = Wires(alloc);
+    let (seat, _) = worker.run(rt, out, seat, &mut hub, &mut gate, &mut Still, u64::MAX);
+    Hand { number, seat }
+}
+
+/// Threads admit, a hand each, and then it is told that all is admitted.
+fn admit_all<L: Ledger + Send + Sync, M: Ledger + Send + Sync, R: Threads + Wait + Sync>(
+    rt: &R,
+    alloc: Global,
+    out: &Counted<L, M>,
+    hands: Vec<Hand<L>>,
+    admitted: &AtomicU64,
+) -> Result<Vec<Hand<L>>, AllocError>
+    ensures { IfOk result (λ back. vec_len back ≡ vec_len hands) }
+{
+    let back = thread::map_vec(rt, hands, &|hand| admit_hand(rt, alloc, out, hand));
+    admitted.store(1, Ordering::SeqCst);
+    back
+}
+
+/// Workers send, a hand each.
+fn work_all<L: Ledger + Send + Sync, M: Ledger + Send + Sync, R: Threads + Wait + Sync>(
+    rt: &R,
+    alloc: Global,
+    out: &Counted<L, M>,
+    hands: Vec<Hand<M>>,
+    admitted: &AtomicU64,
+) -> Result<Vec<Hand<M>>, AllocError>
+    ensures { IfOk result (λ back. vec_len back ≡ vec_len hands) }
+{
+    thread::map_vec(rt, hands, &|hand| work_hand(rt, alloc, out, hand, admitted))
+}
+
+/// The hands that admitted, and those that worked at the same time.
+fn run_both<L: Ledger + Send + Sync, M: Ledger + Send + Sync, R: Threads + Wait + Sync>(
+    rt: &R,
+    alloc: Global,
+    out: &Counted<L, M>,
+    admitting: Vec<Hand<L>>,
+    working: Vec<Hand<M>>,
+) -> (
+    Result<Vec<Hand<L>>, AllocError>,
+    Result<Vec<Hand<M>>, AllocError>,
+)
+    ensures admitted { IfOk result.0 (λ back. vec_len back ≡ vec_len admitting) }
+    ensures worked { IfOk result.1 (λ back. vec_len back ≡ vec_len working) }
+{
+    let admitted = AtomicU64::new(0);
+    let seen = &admitted;
+    thread::join(
+        rt,
+        move || admit_all(rt, alloc, out, admitting, seen),
+        move || work_all(rt, alloc, out, working, seen),
+    )
+}
+
+/// From a seat that was joined three more requests are admitted, which stay open.
+fn admit_more<L: Ledger, M: Ledger, R: Wait>(
+    rt: &R,
+    alloc: Global,
+    out: &Counted<L, M>,
+    seat: Seat<L>,
+) -> Seat<L>
+    ensures { result.parts ≡ seat.parts }
+{
+    let (seat, tickets) = admits(rt, alloc, out, seat, 100, 3);
+    abandon_all(rt, out, tickets);
+    seat
+}
+
+/// From a seat that was joined a worker sends all that was admitted.
+fn work_off<L: Ledger, M: Ledger, R: Wait>(
+    rt: &R,
+    alloc: Global,
+    out: &Counted<L, M>,
+    seat: Seat<M>,
+) -> Seat<M>
+    ensures { result.parts ≡ seat.parts }
+{
+    out.flush(rt, 0, FlushKind::All);
+    let (seat, _) = works(rt, alloc, out, seat, 0, &mut Open);
+    seat
+}
+
+/// What an output came to, and what was added from the seats that admitted and that worked.
+#[derive(Drop)]
+pub struct Sums {
+    pub closing: Closing,
+    pub seats: (u64, u64),
+}
+
+/// The sums by two ledgers of nine and of five parts.
+fn sums_by<L: Ledger + Send + Sync, M: Ledger + Send + Sync, R: Threads + Wait + Sync>(
+    rt: &R,
+    alloc: Global,
+    admitting: Blank,
+    working: Blank,
+) -> Result<Sums>
+    requires admitting { (admitting.name ≡ L.name) × (admitting.parts ≡ L.parts) × (L.parts ≡ 9) }
+    requires working { (working.name ≡ M.name) × (working.parts ≡ M.parts) × (M.parts ≡ 5) }
+    ensures { IfOk result (λ sums.
+        sums.closing.accepted ≡ sums.closing.settled + sums.closing.left) }
+{
+    let (accepted, admit_seat) = open::<L>(admitting);
+    let (settled, work_seat) = open::<M>(working);
+    let (admit_seat, admit_hands) = deal(alloc, admit_seat, 8)?;
+    let (work_seat, work_hands) = deal(alloc, work_seat, 4)?;
+    let state = output(alloc, 10, 100_000)?;
+    let out = SharedOutput::new(Locked::new(state, accepted, settled));
+    let (admitted, worked) = run_both(rt, alloc, &out, admit_hands, work_hands);
+    let work_seat = work_off(rt, alloc, &out, join_all(work_seat, worked?));
+    let admit_seat = admit_more(rt, alloc, &out, join_all(admit_seat, admitted?));
+    let seats = (admit_seat.count(), work_seat.count());
+    let admit_seats = vec![in alloc; admit_seat]?;
+    let work_seats = vec![in alloc; work_seat]?;
+    let closing = out.close(admit_seats, work_seats);
+    Ok(Sums { closing, seats })
+}
+
+/// Eight threads admit while four workers send. What is left of that is sent, and then three more
+/// requests are admitted.
+pub fn eight_and_four<R: Threads + Wait + Sync>(rt: &R, alloc: Global) -> Result<Sums>
+    ensures { IfOk result (λ sums.
+        sums.closing.accepted ≡ sums.closing.settled + sums.closing.left) }
+{
+    sums_by::<Brand, Brand, R>(rt, alloc, Blank::new(9), Blank::new(5))
+}
+
+/// The closing of an output whose one request was abandoned, by two ledgers of one part.
+fn abandoned_by<L: Ledger, M: Ledger, R: Wait>(
+    rt: &R,
+    alloc: Global,
+    admitting: Blank,
+    working: Blank,
+) -> Result<Closing>
+    requires admitting { (admitting.name ≡ L.name) × (admitting.parts ≡ L.parts) × (L.parts ≡ 1) }
+    requires working { (working.name ≡ M.name) × (working.parts ≡ M.parts) × (M.parts ≡ 1) }
+    ensures { IfOk result (λ closing. closing.accepted ≡ closing.settled + closing.left) }
+{
+    let (accepted, admit_seat) = open::<L>(admitting);
+    let (settled, work_seat) = open::<M>(working);
+    let state = output(alloc, 10, 100_000)?;
+    let out = SharedOutput::new(Locked::new(state, accepted, settled));
+    let (admit_seat, tickets) = admits(rt, alloc, &out, admit_seat, 1, 1);
+    abandon_all(rt, &out, tickets);
+    let admit_seats = vec![in alloc; admit_seat]?;
+    let work_seats = vec![in alloc; work_seat]?;
+    Ok(out.close(admit_seats, work_seats))
+}
+
+/// What an output comes to whose one request was abandoned.
+pub fn abandoned<R: Wait>(rt: &R, alloc: Global) -> Result<Closing>
+    ensures { IfOk result (λ closing. closing.accepted ≡ closing.settled + closing.left) }
+{
+    abandoned_by::<Brand, Brand, R>(rt, alloc, Blank::new(1), Blank::new(1))
+}
