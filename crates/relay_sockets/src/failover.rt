@@ -24,6 +24,10 @@ const CROWD: usize = 140;
 /// How long a connection that is not answered is waited for, in milliseconds.
 const PATIENCE: u64 = 300;
 
+/// How long a primary that could not be had waits at most, and far more, in milliseconds: its losses
+/// double the wait at each try.
+const RETRY: u64 = 1_500;
+
 /// The turns of a relay and of each of its workers.
 const TURNS: u64 = 1_000;
 
@@ -306,6 +310,7 @@ fn play_returning<R: Net<Listener = TcpListener, Stream = TcpStream> + Clock + A
     let link = course.accept(rt, &servers.second)?;
     course.put_round(source, &link);
     servers.first.reopen(rt)?;
+    let _slept = thread::sleep(rt, Duration::from_millis(RETRY));
     course.send(source, MESSAGE);
     let primary = course.accept(rt, &servers.first)?;
     course.put_served("primary", &primary);
