@@ -317,6 +317,32 @@ static WAITS: [Life; 4] = [
     },
 ];
 
+/// Servers that are sought behind a loss, among two primaries and a standby.
+static SOUGHT: [Life; 2] = [
+    Life {
+        name: "the next primary is sought behind a loss",
+        servers: Servers::Three,
+        tick: 250,
+        turns: 9,
+        meetings: &[Some(&[Act::Closes]), Some(&[Act::Silent, Act::Acks])],
+        looks: [2250, 2251, 2252],
+        ..PLAIN
+    },
+    Life {
+        name: "both primaries close, and the standby is sought",
+        servers: Servers::Three,
+        tick: 100,
+        turns: 12,
+        meetings: &[
+            Some(&[Act::Closes]),
+            Some(&[Act::Closes]),
+            Some(&[Act::Silent, Act::Silent, Act::Acks]),
+        ],
+        looks: [1200, 1201, 1202],
+        ..PLAIN
+    },
+];
+
 /// Ways back from a standby. A primary that cannot be had costs a try, and no chunk.
 static RETURNS: [Life; 2] = [
     Life {
@@ -396,6 +422,7 @@ pub fn tell_all<R: Wait + Print>(rt: &R, alloc: Global) -> Result<()> {
     tell(rt, alloc, &HANDSHAKES)?;
     tell(rt, alloc, &ENDINGS)?;
     tell(rt, alloc, &WAITS)?;
+    tell(rt, alloc, &SOUGHT)?;
     tell(rt, alloc, &RETURNS)?;
     tell(rt, alloc, &NUMBERS)
 }
