@@ -122,7 +122,8 @@ value("relay", "seed", f'"{"0" * 12}"', "out of range")
 
 # ---- numbers: one below the range, at its ends, and one above
 for frame, key, least, most in [
-    ("relay", "connections", 1, 1024), ("output", "workers", 1, 16),
+    ("relay", "connections", 1, 1024), ("relay", "message_limit", 1024, 67108864),
+    ("relay", "depth", 8, 128), ("output", "workers", 1, 16),
     ("output", "chunk_limit", 1, 16000000), ("output", "total_limit", 1, 1000000000000),
     ("output", "flush_interval", 0, 86400000), ("output", "retry_wait", 1, 86400000),
     ("output", "retry_max", 1000, 86400000), ("output", "ack_wait", 1, 86400000),
@@ -161,6 +162,7 @@ for frame, key, good, other_kind in [
     ("relay", "listen", ADDRESS, "1"), ("relay", "monitor", ADDRESS, "1"),
     ("relay", "hostname", '"a"', "1"), ("relay", "run_id", f'"{"0" * 12}"', "1"),
     ("relay", "seed", f'"{"0" * 64}"', "1"), ("relay", "connections", "1", '""'),
+    ("relay", "message_limit", "1024", '""'), ("relay", "depth", "8", '""'),
     ("relay", "shared_key", '"k"', "1"), ("keyed", "user", USERS, "1"),
     ("unnamed", "name", '"n"', "1"), ("named", "password", '"p"', "1"),
     ("unmatched", "match", '"a"', "1"), ("output", "workers", "1", '""'),
@@ -175,7 +177,7 @@ for frame, key, good, other_kind in [
     beside(frame, key, good, other_kind)
 for frame, keys in [
     ("relay", ["Listen", "match", "output", "username", "users"]),
-    ("output", ["connections", "shared", "tag", "address"]),
+    ("output", ["connections", "message_limit", "depth", "shared", "tag", "address"]),
     ("second", ["port", "match", "Standby"]),
 ]:
     for key in keys:
@@ -266,6 +268,10 @@ for whole, told in [
     ("[relay]\nconnections = 0", "out of range relay.connections"),
     ("[relay]\nrun_id = 1\nshared_key = 1\nuser = 1", "wrong kind relay.shared_key"),
     ("[relay]\nconnections = 0\nuser = 1", "out of range relay.connections"),
+    ("[relay]\nuser = 1\ndepth = 129\nmessage_limit = 1\nconnections = 0",
+     "out of range relay.connections"),
+    ("[relay]\nuser = 1\ndepth = 129\nmessage_limit = 1", "out of range relay.message_limit"),
+    ("[relay]\nuser = 1\ndepth = 129", "out of range relay.depth"),
     ('[relay]\nshared_key = ""\nuser = []', "out of range relay.shared_key"),
     ("[relay]\nuser = [1]\n[[output]]", "out of range relay.user"),
     ('[relay]\nshared_key = "k"\nuser = [{ name = "" }, 1]\n[[output]]',
@@ -294,6 +300,7 @@ for whole, told in [
 RELAY = {
     "listen": "127.0.0.1:24224", "monitor": "none", "hostname": "relay", "shared_key": "none",
     "run_id": "none", "seed": "none", "connections": "256",
+    "message_limit": "16777216", "depth": "64",
 }
 OUTPUT = {
     "match a.b": "true", "match c": "true", "workers": "1", "chunk_limit": "8000000",
@@ -305,6 +312,7 @@ FIRST = {"server[0].address": "127.0.0.1:1", "server[0].standby": "false"}
 SET_RELAY = {
     "listen": "0.0.0.0:1", "monitor": "[::1]:65535", "hostname": "h", "shared_key": "k",
     "run_id": "0123456789ab", "seed": "0" * 62 + "ff", "connections": "2",
+    "message_limit": "1025", "depth": "9",
     "user[0].name": "n", "user[0].password": "p", "user[1].name": "m", "user[1].password": "q",
 }
 SET_OUTPUT = {
@@ -320,7 +328,8 @@ OUTPUT_C = OUTPUT | {"match a.b": "false", "server[0].address": "10.0.0.3:4",
 sets(MATCH + SERVER, RELAY, OUTPUT | FIRST)
 sets('[relay]\nlisten = "0.0.0.0:1"\nmonitor = "[::1]:65535"\nhostname = "h"\n'
      'shared_key = "k"\nrun_id = "0123456789aB"\n' + f'seed = "{"0" * 62}Ff"\n'
-     'connections = 2\n[[relay.user]]\nname = "n"\npassword = "p"\n'
+     'connections = 2\nmessage_limit = 1025\ndepth = 9\n'
+     '[[relay.user]]\nname = "n"\npassword = "p"\n'
      '[[relay.user]]\nname = "m"\npassword = "q"\n' + C, SET_RELAY, OUTPUT_C)
 sets('[[output]]\nmatch = "a.b"\nworkers = 3\nchunk_limit = 4\ntotal_limit = 5\n'
      'flush_interval = 6\nretry_wait = 7\nretry_max = 8\nack_wait = 9\nhostname = "o"\n'

@@ -11,9 +11,10 @@ use Rattle.fwd_session.specs.Evidence.{Evidence}
 use Rattle.fwd_book.specs.History.{Entered, is_origin, is_of, request_at, is_settled}
 use Rattle.fwd_book.specs.Receipts.{Receipt, receipt_of, receipt_if, once, receipts}
 use Rattle.fwd_book.specs.Live.{LiveBook, settled_if, live_is_settled, live_is_due, live_due, AreApart}
-use Rattle.fwd_book.proofs.Facts.{apart, some_is, none_some, neither_left, neither_right, origin-is}
+use Rattle.fwd_book.proofs.Facts.{apart, none_some, neither_left, neither_right, origin-is}
 use Rattle.fwd_book.proofs.Following.{filter-alike, filter-at}
 use Rattle.fwd_book.proofs.Whose.{found-own, receipts-passed}
+use Rattle.std.proofs.lemmas.Option.{same_Some}
 
 -- ---- the first of those that pass, and those that pass two tests
 
@@ -43,14 +44,14 @@ filter-both p r (x ∷ xs) = by (p x) (filter-both p r xs)
 take-more : {X : Type 0} (xs : List X) (i : ℕ) (x : X) → slice_get xs i ≡ Some x
     → take (suc i) xs ≡ take i xs ++ x ∷ []
 take-more [] i x at = absurd (none_some at)
-take-more (y ∷ xs) zero x at = ap (λ z. z ∷ []) (some_is at)
+take-more (y ∷ xs) zero x at = ap (λ z. z ∷ []) (same_Some _ _ at)
 take-more (y ∷ xs) (suc i) x at = ap (λ ys. y ∷ ys) (take-more xs i x at)
 
 -- what stands somewhere and passes is among those that pass
 passes-there : {X : Type 0} (p : X → Bool) (xs : List X) (i : ℕ) (x : X) → slice_get xs i ≡ Some x
     → p x ≡ true → filter p xs ≡ [] → ⊥
 passes-there p [] i x at is none = none_some at
-passes-there p (y ∷ xs) zero x at is none = by (p y) (ap p (some_is at) ∙ is) none
+passes-there p (y ∷ xs) zero x at is none = by (p y) (ap p (same_Some _ _ at) ∙ is) none
   where
     by : (a : Bool) → a ≡ true → cond a (y ∷ filter p xs) (filter p xs) ≡ [] → ⊥
     by true e f = absurd cc
@@ -70,7 +71,7 @@ passes p (y ∷ xs) i x at = by (p y) refl i at (λ j there. passes p xs j x the
     by : (a : Bool) → p y ≡ a → (j : ℕ)
         → slice_get (cond a (y ∷ filter p xs) (filter p xs)) j ≡ Some x
         → ((k : ℕ) → slice_get (filter p xs) k ≡ Some x → p x ≡ true) → p x ≡ true
-    by true e zero there more = ap p (sym (some_is there)) ∙ e
+    by true e zero there more = ap p (sym (same_Some _ _ there)) ∙ e
     by true e (suc j) there more = more j there
     by false e j there more = more j there
 
@@ -97,7 +98,7 @@ own_at b conn i o alone at = by (slice_get (own b conn) i) refl (sym (slice_get-
     by None here is = absurd (none_some is)
     by (Some q) here is =
         let in_all = filter-at (is_of conn) b.requests i q here in
-        let origin : q.origin ≡ o = some_is is in record {
+        let origin : q.origin ≡ o = same_Some _ _ is in record {
           request = q;
           here = here;
           origin = origin;

@@ -6,12 +6,10 @@ use Rattle.fwd_chunks.specs.declared.span.Span.{Span}
 use Rattle.std.proofs.lemmas.Bool.{eqb-true, eqb-false, eq-eqb}
 use Rattle.fwd_modes.specs.declared.origin.Origin.{Origin}
 use Rattle.fwd_book.specs.History.{is_origin}
+use Rattle.std.proofs.lemmas.Option.{same_Some}
 
 pub apart : false ≡ true → ⊥
 apart e = absurd cc
-
-pub some_is : {X : Type 0} {x y : X} → Some x ≡ Some y → x ≡ y
-some_is h = cc
 
 pub none_some : {X : Type 0} {x : X} → None ≡ Some x → ⊥
 none_some e = absurd cc

@@ -9,7 +9,8 @@ use Rattle.fwd_chunks.specs.declared.span.Span.{Span}
 use Rattle.fwd_session.specs.Evidence.{Evidence}
 use Rattle.fwd_book.specs.History.{Entered, evidence_of, has_run}
 use Rattle.fwd_book.specs.Live.{found_under, found_for}
-use Rattle.fwd_book.proofs.Facts.{apart, some_is, none_some, neither_left, neither_right, true-or, or-true}
+use Rattle.fwd_book.proofs.Facts.{apart, none_some, neither_left, neither_right, true-or, or-true}
+use Rattle.std.proofs.lemmas.Option.{same_Some}
 
 -- what is found under a number has it
 abbrev pub IsNumbered : (ℕ → Option Evidence) → Type 0
@@ -21,7 +22,7 @@ numbered (d ∷ settled) n e found = by (d.number == n) refl found (numbered set
   where
     by : (a : Bool) → (d.number == n) ≡ a → cond a (Some d) (evidence_of settled n) ≡ Some e
         → (evidence_of settled n ≡ Some e → e.number ≡ n) → e.number ≡ n
-    by true same f more = sym (ap (λ (x : Evidence). x.number) (some_is f)) ∙ eqb-true d.number n same
+    by true same f more = sym (ap (λ (x : Evidence). x.number) (same_Some _ _ f)) ∙ eqb-true d.number n same
     by false same f more = more f
 
 -- ---- where two find alike under numbers that are there, what is found is alike

@@ -15,12 +15,13 @@ use Rattle.fwd_book.specs.History.{BookSetting, Entered, is_origin, is_among, re
 use Rattle.fwd_book.specs.Receipts.{part_of, parts_of, once}
 use Rattle.fwd_book.specs.Live.{LiveBook, found_under, found_for, evidence_for, live_left, live_leaves, AreApart}
 use Rattle.fwd_book.specs.Notes.{Note, note_at, uses_in, found_in, found_at, used_more, used_less, put_in, uses_of, AreOf, HasRoom, live_of}
-use Rattle.fwd_book.proofs.Facts.{apart, none_some, some_is, is_not, or-false}
+use Rattle.fwd_book.proofs.Facts.{apart, none_some, is_not, or-false}
 use Rattle.fwd_book.proofs.Found.{for-alike, for-found, for-none, under-alike, numbered}
 use Rattle.fwd_book.proofs.Slotting.{any_none, find_none, filter_none, same_key}
 use Rattle.fwd_book.specs.Slots.{key_of}
 use Rattle.fwd_book.proofs.Sound.{find_left}
 use Rattle.fwd_book.proofs.Following.{any-last, left-found, none-found, enters-found, kept-then, any-filter}
+use Rattle.std.proofs.lemmas.Option.{same_Some}
 
 -- ---- counts
 
@@ -116,7 +117,7 @@ module _ (notes new : List (ℕ × Note)) (qs : List Entered) (e : Evidence) (of
   put-used : (o : Option Note) (note : Note) → put_in e o ≡ Some note
       → (m : Note) × (o ≡ Some m) × (note.uses ≡ m.uses)
   put-used None note is = absurd (none_some is)
-  put-used (Some m) note is = (m, refl, ap (λ (k : Note). k.uses) (sym (some_is is)))
+  put-used (Some m) note is = (m, refl, ap (λ (k : Note). k.uses) (sym (same_Some _ _ is)))
 
   put-found : (o : Option Note) (d : Evidence) → found_in (put_in e o) ≡ Some d
       → (found_in o ≡ Some d → d.number ≡ e.number) → d.number ≡ e.number
@@ -125,7 +126,7 @@ module _ (notes new : List (ℕ × Note)) (qs : List Entered) (e : Evidence) (of
     where
       by : (o : Option Evidence) → (if is_some o then o else Some e) ≡ Some d
           → (o ≡ Some d → d.number ≡ e.number) → d.number ≡ e.number
-      by None f g = ap (λ (x : Evidence). x.number) (sym (some_is f))
+      by None f g = ap (λ (x : Evidence). x.number) (sym (same_Some _ _ f))
       by (Some x) f g = g f
 
   pub put-of : AreOf new qs
@@ -284,7 +285,7 @@ module _ (n : ℕ) (o : Origin) (q : Entered) where
           (if has_run n q then 1 else 0)
       by true same is more =
           front (has_run n r) (filter (has_run n) qs)
-          ∙ (λ i. length (filter (has_run n) (sym (filter_none (λ x. is_origin o x.origin) qs (alone-there qs o r.origin same alone.0)) i)) + (if has_run n (some_is is i) then 1 else 0))
+          ∙ (λ i. length (filter (has_run n) (sym (filter_none (λ x. is_origin o x.origin) qs (alone-there qs o r.origin same alone.0)) i)) + (if has_run n (same_Some _ _ is i) then 1 else 0))
       by false same is more =
           let one = front (has_run n r) (filter (has_run n) qs) in
           let two = front (has_run n r) (filter (has_run n) left) in

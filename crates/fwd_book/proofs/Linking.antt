@@ -5,7 +5,8 @@ use Rattle.std.specs.List.{list_any}
 use Rattle.std.proofs.lemmas.Bool.{eqb-true, eq-eqb}
 use Rattle.fwd_book.specs.declared.chains.Link.{Link}
 use Rattle.fwd_book.specs.Links.{is_the, last_of, link_in, with_later, with_earlier, AreOnce}
-use Rattle.fwd_book.proofs.Facts.{apart, some_is, none_some, neither_left, neither_right, turned}
+use Rattle.fwd_book.proofs.Facts.{apart, none_some, neither_left, neither_right, turned}
+use Rattle.std.proofs.lemmas.Option.{same_Some}
 
 -- ---- what is not there
 
@@ -181,7 +182,7 @@ later_other before (r ∷ rs) n link m there none = by (r == n) there (λ f. lat
         → (link_in (Some r) rs n ≡ Some link → is_the link.later m ≡ false)
         → is_the link.later m ≡ false
     by true f more =
-        sym (ap (λ (k : Link). is_the k.later m) (some_is f)) ∙ next rs (neither_right (m == r) (list_any (λ s. m == s) rs) none)
+        sym (ap (λ (k : Link). is_the k.later m) (same_Some _ _ f)) ∙ next rs (neither_right (m == r) (list_any (λ s. m == s) rs) none)
     by false f more = more f
 
 -- and so is the request before one
@@ -196,7 +197,7 @@ earlier_other before (r ∷ rs) n link m there none first = by (r == n) there (�
         ≡ Some link
         → (link_in (Some r) rs n ≡ Some link → is_the link.earlier m ≡ false)
         → is_the link.earlier m ≡ false
-    by true f more = sym (ap (λ (k : Link). is_the k.earlier m) (some_is f)) ∙ first
+    by true f more = sym (ap (λ (k : Link). is_the k.earlier m) (same_Some _ _ f)) ∙ first
     by false f more = more f
 
 -- behind another one there is an earlier one
@@ -210,7 +211,7 @@ has_earlier r (s ∷ rs) n link there = by (s == n) there (has_earlier s rs n li
         ≡ Some link
         → (link_in (Some s) rs n ≡ Some link → is_some link.earlier ≡ true)
         → is_some link.earlier ≡ true
-    by true f more = sym (ap (λ (k : Link). is_some k.earlier) (some_is f))
+    by true f more = sym (ap (λ (k : Link). is_some k.earlier) (same_Some _ _ f))
     by false f more = more f
 
 -- the one that leaves is the first of them, and none else
@@ -242,7 +243,7 @@ next_without r (s ∷ rs) n link others once there = by (s == n) refl there
     by true e f =
         ap (λ xs. slice_get xs 0) (without_first s n rs (eqb-true s n e) once.0)
         ∙ sym (ap (λ b. cond b (slice_get rs 0) (Some s)) (eq-eqb r r refl))
-        ∙ ap (λ (k : Link). cond (is_the k.earlier r) k.later (Some s)) (some_is f)
+        ∙ ap (λ (k : Link). cond (is_the k.earlier r) k.later (Some s)) (same_Some _ _ f)
     by false e f =
         ap (λ xs. slice_get xs 0) (without_other s n rs e)
         ∙ sym (ap (λ b. cond b link.later (Some s)) (earlier_other (Some s) rs n link r f (neither_right (r == s) (list_any (λ x. r == x) rs) others) (turned s r (neither_left (r == s) (list_any (λ x. r == x) rs) others))))
@@ -325,7 +326,7 @@ unlinked before (r ∷ rs) n link once aside there m = by (r == n) refl there (u
         → link_in before (filter (λ s. not (n == s)) (r ∷ rs)) m
         ≡ relinked n link.earlier link.later m (cond (r == m) (Some own) (link_in (Some r) rs m))
     by true e f more =
-        let is : own ≡ link = some_is f in
+        let is : own ≡ link = same_Some _ _ f in
         let same : r ≡ n = eqb-true r n e in
         ap (λ xs. link_in before xs m) (without_first r n rs same once.0)
         ∙ first_leaves before r rs m own once.1 once.0 (neither_right (is_the before r) (list_any (is_the before) rs) aside)
@@ -386,7 +387,7 @@ first_without (r ∷ rs) n link once there = by (r == n) refl there
         ≡ cond (is_some link.earlier) (Some r) link.later
     by true e f =
         ap (λ xs. slice_get xs 0) (without_first r n rs (eqb-true r n e) once.0)
-        ∙ ap (λ (k : Link). cond (is_some k.earlier) (Some r) k.later) (some_is f)
+        ∙ ap (λ (k : Link). cond (is_some k.earlier) (Some r) k.later) (same_Some _ _ f)
     by false e f =
         ap (λ xs. slice_get xs 0) (without_other r n rs e)
         ∙ sym (ap (λ b. cond b (Some r) link.later) (has_earlier r rs n link f))
@@ -411,7 +412,7 @@ last_without before (r ∷ rs) n link once there = by (r == n) refl there (last_
         ≡ cond (is_some link.later) (last_of (Some r) rs) link.earlier
     by true e f more =
         ap (last_of before) (without_first r n rs (eqb-true r n e) once.0) ∙ behind rs
-        ∙ ap (λ (k : Link). cond (is_some k.later) (last_of (Some r) rs) k.earlier) (some_is f)
+        ∙ ap (λ (k : Link). cond (is_some k.later) (last_of (Some r) rs) k.earlier) (same_Some _ _ f)
     by false e f more = ap (last_of before) (without_other r n rs e) ∙ more f
 
 -- ---- one after the other
@@ -421,7 +422,7 @@ among_at : (rs : List ℕ) (i n m : ℕ) → slice_get rs i ≡ Some n → list_
     → (m == n) ≡ false
 among_at [] i n m at none = absurd (none_some at)
 among_at (r ∷ rs) zero n m at none =
-    ap (λ k. m == k) (sym (some_is at)) ∙ neither_left (m == r) (list_any (λ s. m == s) rs) none
+    ap (λ k. m == k) (sym (same_Some _ _ at)) ∙ neither_left (m == r) (list_any (λ s. m == s) rs) none
 among_at (r ∷ rs) (suc i) n m at none =
     among_at rs i n m at (neither_right (m == r) (list_any (λ s. m == s) rs) none)
 
@@ -430,7 +431,7 @@ pub later_at : (before : Option ℕ) (rs : List ℕ) (i n : ℕ) → AreOnce rs 
     → option_and_then (λ (k : Link). k.later) (link_in before rs n) ≡ slice_get rs (suc i)
 later_at before [] i n once at = absurd (none_some at)
 later_at before (r ∷ rs) zero n once at =
-    ap (λ b. option_and_then (λ (k : Link). k.later) (cond b (Some (record { earlier = before; later = slice_get rs 0 })) (link_in (Some r) rs n))) (eq-eqb r n (some_is at))
+    ap (λ b. option_and_then (λ (k : Link). k.later) (cond b (Some (record { earlier = before; later = slice_get rs 0 })) (link_in (Some r) rs n))) (eq-eqb r n (same_Some _ _ at))
 later_at before (r ∷ rs) (suc i) n once at =
     ap (λ b. option_and_then (λ (k : Link). k.later) (cond b (Some (record { earlier = before; later = slice_get rs 0 })) (link_in (Some r) rs n))) (among_at rs i n r at once.0)
     ∙ later_at (Some r) rs i n once.1 at
@@ -442,7 +443,7 @@ take_next rs i k n next at = ap (λ j. take j rs) next ∙ more rs i at
   where
     more : (xs : List ℕ) (j : ℕ) → slice_get xs j ≡ Some n → take (suc j) xs ≡ take j xs ++ n ∷ []
     more [] j f = absurd (none_some f)
-    more (x ∷ xs) zero f = ap (λ y. y ∷ []) (some_is f)
+    more (x ∷ xs) zero f = ap (λ y. y ∷ []) (same_Some _ _ f)
     more (x ∷ xs) (suc j) f = ap (λ ys. x ∷ ys) (more xs j f)
 
 -- past the last of them there is none

@@ -11,8 +11,9 @@ use Rattle.fwd_book.specs.declared.chains.Link.{Link}
 use Rattle.fwd_book.specs.declared.chains.Ends.{Ends}
 use Rattle.fwd_book.specs.History.{Entered, is_of, is_origin, request_at}
 use Rattle.fwd_book.specs.Links.{link_at, order_of, order_with, order_without, AreChained}
-use Rattle.fwd_book.proofs.Facts.{none_some, some_is, turned}
+use Rattle.fwd_book.proofs.Facts.{none_some, turned}
 use Rattle.fwd_book.proofs.Linking.{later_at}
+use Rattle.std.proofs.lemmas.Option.{same_Some}
 
 abbrev numbers : List Entered → List ℕ
 numbers qs = map (λ q. q.origin.request) qs
@@ -65,7 +66,7 @@ own-number qs o i at =
     by : (k : Option Entered) → option_map (λ (q : Entered). q.origin) k ≡ Some o
         → option_map (λ (q : Entered). q.origin.request) k ≡ Some o.request
     by None e = absurd (none_some e)
-    by (Some q) e = ap (λ (x : Origin). Some x.request) (some_is e)
+    by (Some q) e = ap (λ (x : Origin). Some x.request) (same_Some _ _ e)
 
 -- the origin behind the one at a place stands at the next place
 pub order-later : (links : List ((ℕ × ℕ) × Link)) (ends : List (ℕ × Ends)) (qs : List Entered)

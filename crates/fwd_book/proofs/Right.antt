@@ -11,7 +11,8 @@ use Rattle.fwd_chunks.specs.Spans.{AreCutBy, AreRising}
 use Rattle.fwd_book.specs.History.{Entered, is_origin, request_at, evidence_of, is_settled}
 use Rattle.fwd_book.specs.Receipts.{Part, Receipt, span_of, shown_by, part_of, parts_of, receipt_of, receipt_if, once, receipts, IsRightFor}
 use Rattle.fwd_book.specs.Live.{LiveBook, HasItsRuns, IsSound}
-use Rattle.fwd_book.proofs.Facts.{origin-is, apart, some_is, none_some, true-or, or-true, both_left, both_right}
+use Rattle.fwd_book.proofs.Facts.{origin-is, apart, none_some, true-or, or-true, both_left, both_right}
+use Rattle.std.proofs.lemmas.Option.{same_Some}
 
 -- what is found stands at a place
 pub record Stands {X : Type 0} (p : X → Bool) (xs : List X) (x : X) : Type 0 where
@@ -26,7 +27,7 @@ found_stands p (y ∷ xs) x found = by (p y) refl found (λ e. found_stands p xs
   where
     by : (a : Bool) → p y ≡ a → cond a (Some y) (find p xs) ≡ Some x
         → (find p xs ≡ Some x → Stands p xs x) → Stands p (y ∷ xs) x
-    by true e f more = record { place = 0; here = f; passes = sym (ap p (some_is f)) ∙ e }
+    by true e f more = record { place = 0; here = f; passes = sym (ap p (same_Some _ _ f)) ∙ e }
     by false e f more = let m = more f in record { place = suc m.place; here = m.here; passes = m.passes }
 
 -- ---- the parts of a request whose numbers are all acknowledged
@@ -108,7 +109,7 @@ parts_are settled (s ∷ spans) own all cut runs =
             (record { evidence = e; from = s.from; count = s.count } ∷ parts_of settled spans) i
             ≡ Some p
             → p.from + p.count ≤ length p.evidence.entries
-        fit e own-fits more zero p same = subst (λ (k : Part). k.from + k.count ≤ length k.evidence.entries) (some_is same) own-fits
+        fit e own-fits more zero p same = subst (λ (k : Part). k.from + k.count ≤ length k.evidence.entries) (same_Some _ _ same) own-fits
         fit e own-fits more (suc i) p same = more.fits i p same
 
         among : (e : Evidence) (place : ℕ) → slice_get settled place ≡ Some e
@@ -119,7 +120,7 @@ parts_are settled (s ∷ spans) own all cut runs =
             (record { evidence = e; from = s.from; count = s.count } ∷ parts_of settled spans) i
             ≡ Some p
             → Stands (λ x. list_any (λ t. t.number == x.number) (s ∷ spans)) settled p.evidence
-        among e place here is more zero p same = let one = ap (λ (k : Part). k.evidence) (some_is same) in record { place = place; here = here ∙ ap Some one; passes = sym (ap (λ (x : Evidence). list_any (λ t. t.number == x.number) (s ∷ spans)) one) ∙ is }
+        among e place here is more zero p same = let one = ap (λ (k : Part). k.evidence) (same_Some _ _ same) in record { place = place; here = here ∙ ap Some one; passes = sym (ap (λ (x : Evidence). list_any (λ t. t.number == x.number) (s ∷ spans)) one) ∙ is }
         among e place here is more (suc i) p same = let st = more.from i p same in record { place = st.place; here = st.here; passes = or-true (s.number == p.evidence.number) (list_any (λ t. t.number == p.evidence.number) spans) st.passes }
 
 -- ---- what stands in a list of lists
@@ -184,7 +185,7 @@ right b origins i r sound here = at (in_flat (λ origin. receipt_if b.settled (r
         → slice_get (cond a (receipt_of b.settled q ∷ []) []) j ≡ Some r → Result
     one origin q place j stands found is false all e = absurd (none_some e)
     one origin q place zero stands found is true all e =
-        (q, ap (λ (x : Receipt). request_at b.requests x.origin) (sym (some_is e)) ∙ ap (request_at b.requests) (origin-is origin q.origin is) ∙ found, subst (λ x. IsRightFor b.setting q x) (some_is e) (good b q place sound stands all))
+        (q, ap (λ (x : Receipt). request_at b.requests x.origin) (sym (same_Some _ _ e)) ∙ ap (request_at b.requests) (origin-is origin q.origin is) ∙ found, subst (λ x. IsRightFor b.setting q x) (same_Some _ _ e) (good b q place sound stands all))
     one origin q place (suc j) stands found is true all e = absurd (none_some e)
 
     by : (origin : Origin) (o : Option Entered) (j : ℕ) → request_at b.requests origin ≡ o

@@ -14,7 +14,8 @@ use Rattle.fwd_book.specs.History.{BookSetting, Entered, is_origin, request_at, 
 use Rattle.fwd_book.specs.Live.{LiveBook, evidence_for, live_opening, live_enters, live_settles, live_drops, live_leaves, HasItsRuns, AreApart, IsOf, IsSound}
 use Rattle.fwd_book.proofs.Following.{filter-at}
 use Rattle.fwd_book.proofs.Found.{comes, found_there, in_both}
-use Rattle.fwd_book.proofs.Facts.{apart, some_is, none_some, neither_left, neither_right, is_not}
+use Rattle.fwd_book.proofs.Facts.{apart, none_some, neither_left, neither_right, is_not}
+use Rattle.std.proofs.lemmas.Option.{same_Some}
 
 -- one origin is the other, either way
 one_way : (a b : Origin) → is_origin a b ≡ is_origin b a
@@ -44,14 +45,14 @@ find_left p q (x ∷ xs) none = by (p x) (q x) refl none (find_left p q xs)
 
 -- the last one is the only one of a list of one
 only : {X : Type 0} (x y : X) (i : ℕ) → slice_get (x ∷ []) i ≡ Some y → x ≡ y
-only x y zero e = some_is e
+only x y zero e = same_Some _ _ e
 only x y (suc i) e = absurd (none_some e)
 
 -- where none pass, one that stands there does not
 none_passes : {X : Type 0} (p : X → Bool) (xs : List X) (i : ℕ) (x : X) → list_any p xs ≡ false
     → slice_get xs i ≡ Some x → p x ≡ false
 none_passes p [] i x none e = absurd (none_some e)
-none_passes p (y ∷ xs) zero x none e = sym (ap p (some_is e)) ∙ neither_left (p y) (list_any p xs) none
+none_passes p (y ∷ xs) zero x none e = sym (ap p (same_Some _ _ e)) ∙ neither_left (p y) (list_any p xs) none
 none_passes p (y ∷ xs) (suc i) x none e = none_passes p xs i x (neither_right (p y) (list_any p xs) none) e
 
 -- a request that has not the number has no run of it

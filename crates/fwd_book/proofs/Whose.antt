@@ -7,10 +7,11 @@ use Rattle.fwd_modes.specs.declared.origin.Origin.{Origin}
 use Rattle.fwd_book.specs.History.{Entered, is_origin, is_among, is_of, request_at, evidence_of, is_settled}
 use Rattle.fwd_book.specs.Receipts.{Receipt, receipt_of, receipt_if, once, receipts}
 use Rattle.fwd_book.specs.Live.{LiveBook, live_drops, live_leaves, live_forgets_of, live_owed_of, evidence_for, AreApart}
-use Rattle.fwd_book.proofs.Facts.{apart, some_is, none_some, origin-is, or-false}
+use Rattle.fwd_book.proofs.Facts.{apart, none_some, origin-is, or-false}
 use Rattle.fwd_book.proofs.Found.{numbered}
 use Rattle.fwd_book.proofs.Following.{filter-alike, filter-at, left-found}
 use Rattle.fwd_book.proofs.Right.{found_stands}
+use Rattle.std.proofs.lemmas.Option.{same_Some}
 
 abbrev origins_of : List Entered → List Origin
 origins_of qs = map (λ q. q.origin) qs
@@ -37,7 +38,7 @@ none-there (r ∷ qs) o none i q at = by (is_origin o r.origin) refl none i at (
         (is_origin o q.origin ≡ false) × (is_origin q.origin o ≡ false)) → (is_origin o q.origin
         ≡ false) × (is_origin q.origin o ≡ false)
     by true f g j there more = absurd (none_some (sym g))
-    by false f g zero there more = let same : r.origin ≡ q.origin = ap (λ (x : Entered). x.origin) (some_is there) in let e = ap (is_origin o) (sym same) ∙ f in (e, turned-origin o q.origin e)
+    by false f g zero there more = let same : r.origin ≡ q.origin = ap (λ (x : Entered). x.origin) (same_Some _ _ there) in let e = ap (is_origin o) (sym same) ∙ f in (e, turned-origin o q.origin e)
     by false f g (suc j) there more = more g j there
 
 none-among : (qs : List Entered) (o : Origin)
@@ -53,7 +54,7 @@ among-passed p [] alone i q at = absurd (none_some at)
 among-passed p (r ∷ qs) alone zero q at = by (p q) refl
   where
     same : r ≡ q
-    same = some_is at
+    same = same_Some _ _ at
 
     others : is_among (origins_of (filter p qs)) q.origin ≡ false
     others = none-among (filter p qs) q.origin (λ i x there. let f = filter-at p qs i x there in
@@ -92,7 +93,7 @@ pub found-own : (qs : List Entered) → AreApart qs → (i : ℕ) (q : Entered) 
     → request_at qs q.origin ≡ Some q
 found-own [] alone i q at = absurd (none_some at)
 found-own (r ∷ qs) alone zero q at =
-    let same : r ≡ q = some_is at in
+    let same : r ≡ q = same_Some _ _ at in
     ap (λ k. cond k (Some r) (request_at qs q.origin)) (ap (λ (x : Entered). is_origin q.origin x.origin) same ∙ same-origin q.origin) ∙ ap (λ x. Some x) same
 found-own (r ∷ qs) alone (suc i) q at =
     ap (λ k. cond k (Some r) (request_at qs q.origin)) (none-there qs r.origin alone.0 i q at).1 ∙ found-own qs alone.1 i q at
@@ -216,7 +217,7 @@ one-less p (r ∷ qs) o q alone there its = by (is_origin o r.origin) refl there
         → length (cond (p r) (r ∷ filter p qs) (filter p qs))
         ≡ suc (length (filter p (cond (not (is_among (o ∷ []) r.origin)) (r ∷ rest) rest)))
     by true e f more =
-        let same : r ≡ q = some_is f in
+        let same : r ≡ q = same_Some _ _ f in
         let origin : r.origin ≡ o = origin-is o r.origin e in
         let stay : filter (λ x. not (is_among (o ∷ []) x.origin)) qs ≡ filter (λ x. not false) qs =
         filter-alike (λ x. not (is_among (o ∷ []) x.origin)) (λ x. not false) qs (λ i x at. ap not (one-among o x ∙ (none-there qs o (ap (request_at qs) (sym origin) ∙ alone.0) i x at).0)) in

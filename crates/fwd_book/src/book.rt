@@ -65,7 +65,7 @@ ghost use Rattle.fwd_book.specs.Live.{
 };
 ghost use Rattle.fwd_book.specs.Notes.{note_at, uses_in, used_more, used_less};
 
-use crate::kept::Kept;
+use crate::entered_request::EnteredRequest;
 use crate::laws::receipts_are_right;
 use crate::numbers::Numbers;
 use crate::receipt::Receipt;
@@ -218,7 +218,8 @@ impl Book {
         };
         self.requests.are_few();
         use_all(&mut self.numbers, &spans);
-        self.requests.push(Kept::new(origin, request, spans));
+        self.requests
+            .push(EnteredRequest::new(origin, request, spans));
     }
 
     /// Whether the request of an origin is owed an answer.
@@ -288,7 +289,7 @@ impl Book {
     }
 
     /// The origins of a connection's requests that are owed an answer, in the order in which they
-    /// were entered. The only error is want of memory.
+    /// were entered. The only error is out of memory.
     pub fn untold(&self, alloc: Global, conn: u64) -> Result<Vec<Origin>, AllocError>
         ensures { IfOk result (λ origins. origins.items
             ≡ map (λ q. q.origin) (filter (is_of conn) self.now.live.requests)) }
@@ -332,7 +333,7 @@ impl Book {
     }
 
     /// The origins of a connection's requests that are owed an answer and whose entries are all
-    /// acknowledged, in the order in which they were entered. The only error is want of memory,
+    /// acknowledged, in the order in which they were entered. The only error is out of memory,
     /// and where there are none it takes no memory.
     pub fn due(&self, alloc: Global, conn: u64) -> Result<Vec<Origin>, AllocError>
         ensures due { IfOk result (λ origins. origins.items
@@ -378,7 +379,7 @@ impl Book {
 
     /// The receipts of the requests of these origins whose entries are all acknowledged, in the
     /// order of the origins, each once; each is right for the request of its origin. The only
-    /// error is want of memory, and where there are none it takes no memory.
+    /// error is out of memory, and where there are none it takes no memory.
     pub fn gather(&self, alloc: Global, origins: &[Origin]) -> Result<Vec<Receipt>, AllocError>
         ensures given { IfOk result (λ given. given.items
             ≡ receipts self.now.live.settled self.now.live.requests origins.now) }
@@ -405,7 +406,7 @@ impl Book {
     }
 
     /// The receipt of an origin's request, if it is here and its entries are all acknowledged. The
-    /// only error is want of memory.
+    /// only error is out of memory.
     pub fn receipt(&self, alloc: Global, origin: Origin) -> Result<Option<Receipt>, AllocError>
         ensures { IfOk result (λ given. option_to_list given
             ≡ receipt_if self.now.live.settled (request_at self.now.live.requests origin)) }

@@ -3,7 +3,7 @@
 
 mod book;
 mod chains;
-mod kept;
+mod entered_request;
 mod laws;
 mod numbers;
 mod receipt;

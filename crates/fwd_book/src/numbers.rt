@@ -159,7 +159,7 @@ impl Numbers {
         spans.iter().all(|span| self.get(span.number).is_some())
     }
 
-    /// The runs with what was acknowledged under their numbers. The only error is want of memory.
+    /// The runs with what was acknowledged under their numbers. The only error is out of memory.
     pub(crate) fn parts(&self, alloc: Global, spans: &[Span]) -> Result<Vec<Part>, AllocError>
         ensures { IfOk result (λ parts. parts.items
             ≡ flat_map (λ s. part_of (found_at self.now.notes s.number) s) spans.now) }

@@ -5,7 +5,7 @@ ghost use Rattle.std.specs.Arc.{arc_value};
 ghost use Rattle.std.specs.List.{concat, flat_map};
 ghost use Rattle.fwd_book.specs.Receipts.{shown_by};
 
-use crate::kept::Kept;
+use crate::entered_request::EnteredRequest;
 use fwd_modes::{Batch, Origin};
 use fwd_session::Acked;
 use std::alloc::{AllocError, Global};
@@ -102,8 +102,12 @@ impl Model for Receipt {
 }
 
 impl Receipt {
-    /// The receipt of a request by its parts. The only error is want of memory.
-    pub(crate) fn new(alloc: Global, kept: &Kept, parts: Vec<Part>) -> Result<Self, AllocError>
+    /// The receipt of a request by its parts. The only error is out of memory.
+    pub(crate) fn new(
+        alloc: Global,
+        kept: &EnteredRequest,
+        parts: Vec<Part>,
+    ) -> Result<Self, AllocError>
         requires shown { flat_map shown_by parts.items ≡ kept.now.entries }
         ensures { IfOk result (λ receipt. receipt ≡ record {
           origin = kept.now.origin;

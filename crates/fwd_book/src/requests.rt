@@ -27,7 +27,7 @@ ghost use Rattle.std.specs.Prelude.{
 ghost use Rattle.fwd_book.specs.History.{is_of, is_origin, request_at};
 
 use crate::chains::Chains;
-use crate::kept::Kept;
+use crate::entered_request::EnteredRequest;
 use fwd_modes::Origin;
 use indexmap::IndexMap;
 use std::alloc::{AllocError, Global};
@@ -38,7 +38,7 @@ use std::marker::Model;
 /// stay as they are when slots move.
 #[derive(Drop)]
 pub(crate) struct Requests {
-    slots: IndexMap<(u64, u64), Option<Kept>>,
+    slots: IndexMap<(u64, u64), Option<EnteredRequest>>,
     chains: Chains,
 }
 
@@ -77,7 +77,7 @@ impl Requests {
     }
 
     /// The request of an origin.
-    pub(crate) fn get(&self, origin: Origin) -> Option<&Kept>
+    pub(crate) fn get(&self, origin: Origin) -> Option<&EnteredRequest>
         ensures { option_copied result ≡ request_at self.now.items origin }
     {
         self.slots.get(&(origin.conn, origin.request))?.as_ref()
@@ -146,7 +146,7 @@ impl Requests {
         ensures fewer { self.new.slots ≤ self.old.slots }
     {
         self.slots.retain(
-            |_key: &(u64, u64), slot: &mut Option<Kept>| -> bool
+            |_key: &(u64, u64), slot: &mut Option<EnteredRequest>| -> bool
                 ensures { (result ≡ is_some slot.old) × (slot.new ≡ slot.old) }
             { slot.is_some() },
         );
@@ -160,7 +160,7 @@ impl Requests {
     }
 
     /// A request comes, into room that was made for it.
-    pub(crate) fn push(&mut self, kept: Kept)
+    pub(crate) fn push(&mut self, kept: EnteredRequest)
         requires room { 0 < self.old.room }
         requires fresh { request_at self.old.items kept.origin ≡ None }
         ensures { self.new.items ≡ self.old.items ++ kept ∷ [] }
@@ -175,7 +175,7 @@ impl Requests {
     }
 
     /// The request of an origin leaves, if it is there.
-    pub(crate) fn take(&mut self, origin: Origin) -> Option<Kept>
+    pub(crate) fn take(&mut self, origin: Origin) -> Option<EnteredRequest>
         ensures taken { result ≡ request_at self.old.items origin }
         ensures left { self.new.items
             ≡ filter (λ q. not (is_origin origin q.origin)) self.old.items }

@@ -25,9 +25,11 @@ use Rattle.fwd_chunks.specs.History.{before_runs}
 use Rattle.fwd_chunks.specs.Live.{LiveBuffer, is_open, staged, changed, is_at, is_open_of, may_take, first_chunk, live_next_number, live_adds_to, live_adds, live_adds_all, live_runs, live_looks, live_enters, live_refusal, live_is_full, live_is_spent, live_spans, bytes_in}
 use Rattle.fwd_chunks.specs.Soundness.{IsBefore, AreInOrder, IsSound}
 use Rattle.fwd_chunks.specs.Filling.{fitting, open_chunk, fresh_from, fresh_of, extra, span_of, stage_before, stage_last, needed, cut_count, joining_to, joined_by, joined_chunks, joined_span, greatest_with, filled, filled_spans, filled_in}
-use Rattle.fwd_chunks.proofs.Numbers.{true_false, not_from, eq_from, eq_same}
+use Rattle.fwd_chunks.proofs.Numbers.{true_false, not_from, eq_same}
 use Rattle.fwd_chunks.proofs.Sounding.{all-push, enters-sound, adds_all-added, sorted, all-map, found-all}
 use Rattle.fwd_chunks.proofs.Filling.{runs-fresh, begun-all, begun-runs, find-no_open, with_entries, joined, order-joined, open-joined, may_not_join, join-all, join-runs, adds_all-append, fitting-over, fitting-within, fitting-fits, fitting-rest, fresh-cut, fresh-count}
+use Rattle.std.proofs.lemmas.Option.{same_Some}
+use Rattle.std.proofs.lemmas.Bool.{eqb-true}
 
 -- ---- cutting
 
@@ -133,9 +135,6 @@ open-number : (tag : List ℕ) (chunks : List Chunk) (c : Chunk) → AreInOrder 
 open-number tag [] c h e = tt
 open-number tag (d ∷ chunks) c h e = by (open-number tag chunks c h.1) (is_open_of tag d) refl e
   where
-    one : Some d ≡ Some c → d ≡ c
-    one f = cc
-
     by :
         (find (is_open_of tag) chunks ≡ Some c
         → AllByRecursion (λ x. is_open_of tag x ≡ (x.number == c.number)) chunks)
@@ -143,7 +142,7 @@ open-number tag (d ∷ chunks) c h e = by (open-number tag chunks c h.1) (is_ope
         → cond t (Some d) (find (is_open_of tag) chunks) ≡ Some c
         → (is_open_of tag d ≡ (d.number == c.number)) × AllByRecursion
         (λ x. is_open_of tag x ≡ (x.number == c.number)) chunks
-    by rest true f g = (f ∙ sym (ap (λ x. eqb d.number x.number) (sym (one g)) ∙ eq_same d.number), later chunks h.0)
+    by rest true f g = (f ∙ sym (ap (λ x. eqb d.number x.number) (sym (same_Some _ _ g)) ∙ eq_same d.number), later chunks h.0)
       where
         parts : (is_open d.stage ≡ true) × (bytes_eq d.tag tag ≡ true)
         parts = and_parts (is_open d.stage) (bytes_eq d.tag tag) f
@@ -151,13 +150,13 @@ open-number tag (d ∷ chunks) c h e = by (open-number tag chunks c h.1) (is_ope
         later : (xs : List Chunk) → AllByRecursion (IsBefore d) xs
             → AllByRecursion (λ x. is_open_of tag x ≡ (x.number == c.number)) xs
         later [] all = tt
-        later (x ∷ xs) all = (shut ∙ sym (not_from (x.number == c.number) (λ i. absurd (omega (arith, all.0.lower, eq_from x.number c.number i, ap (λ y. y.number) (one g))))), later xs all.1)
+        later (x ∷ xs) all = (shut ∙ sym (not_from (x.number == c.number) (λ i. absurd (omega (arith, all.0.lower, eqb-true x.number c.number i, ap (λ y. y.number) (same_Some _ _ g))))), later xs all.1)
           where
             shut : is_open_of tag x ≡ false
             shut = not_from (is_open_of tag x) (λ i.
                 let same : d.tag ≡ x.tag = (bytes_eq-Decides d.tag tag).0 parts.1 ∙ sym ((bytes_eq-Decides x.tag tag).0 (and_parts (is_open x.stage) (bytes_eq x.tag tag) i).1) in
                 true_false (is_open d.stage) parts.0 (all.0.shut ((bytes_eq-Decides d.tag x.tag).1 same)))
-    by rest false f g = (f ∙ sym (not_from (d.number == c.number) (λ i. absurd (omega (arith, (found-all (IsBefore d) (is_open_of tag) chunks c g h.0).lower, eq_from d.number c.number i)))), rest g)
+    by rest false f g = (f ∙ sym (not_from (d.number == c.number) (λ i. absurd (omega (arith, (found-all (IsBefore d) (is_open_of tag) chunks c g h.0).lower, eqb-true d.number c.number i)))), rest g)
 
 -- joined, and closed where others follow
 joined-open : (tag : List ℕ) (n : ℕ) (front : List (List ℕ)) (chunks : List Chunk)

@@ -12,6 +12,7 @@ use Rattle.fwd_chunks.specs.Soundness.{IsSound}
 use Rattle.fwd_chunks.specs.Stored.{TagFits, IsStored, put_back}
 use Rattle.fwd_chunks.proofs.Sounding.{all-map, all-filter, bytes-total, held-total, total-map, total-filter, changed-sound, settles-sound}
 use Rattle.fwd_chunks.proofs.Places.{filter-found, filter-gone, if_taken, taken-found}
+use Rattle.std.proofs.lemmas.Option.{same_Some}
 
 pub looks-stored : (b : LiveBuffer) (moment size : ℕ) → IsStored b size
     → IsStored (record b { moment = moment }) size
@@ -120,12 +121,6 @@ settles-none b n e =
     λ j. record b { settled = same j; chunks = filter (λ d. not (is_at n d)) b.chunks }
 
 -- ---- what a worker has
-
-pub chunk_of_some : {c d : Chunk} → Some c ≡ Some d → c ≡ d
-chunk_of_some e = cc
-
-pub load_of_some : {x y : Load} → Some x ≡ Some y → x ≡ y
-load_of_some e = cc
 
 pub carried-by : (b : LiveBuffer) (n : ℕ) → IsSound b
     → live_carried b n ≡ option_map (live_load b) (if_taken (find (is_at n) b.chunks))

@@ -9,7 +9,8 @@ use Rattle.std.proofs.lemmas.Bool.Decides.{nat_tests}
 use Rattle.std.proofs.lemmas.List.{append-nil, map-append}
 use Rattle.std.proofs.lemmas.Slice.Eq.{bytes_eq-Decides}
 use Rattle.fwd_chunks.specs.Cells.{Cell, Loss, Carry, size_of, entries_of, cells_at, first_tag, first_moment, has_number, numbers_of, has_entry, last_number, greater, greatest, number_after, is_carried, without, losses_of}
-use Rattle.fwd_chunks.proofs.Numbers.{true_false, not_from, eq_from, eq_same, filter-filter, filter-within, has_number-filter, AreDistinct, distinct-filter, sum_over, sum_over-same, sum_over-split, filter_absent}
+use Rattle.fwd_chunks.proofs.Numbers.{true_false, not_from, eq_same, filter-filter, filter-within, has_number-filter, AreDistinct, distinct-filter, sum_over, sum_over-same, sum_over-split, filter_absent}
+use Rattle.std.proofs.lemmas.Bool.{eqb-true}
 
 -- ---- one more
 
@@ -106,8 +107,8 @@ numbers-push (c ∷ cells) d = ap (λ ns. c.number ∷ filter (λ j. not (j == c
         ((c.number ∷ filter (λ j. not (j == c.number)) (numbers_of cells)) ++ d.number ∷ [])
     by true true f = refl
     by true false f = refl
-    by false true f = ap (λ l. c.number ∷ l) (filter-push_out (λ j. not (j == c.number)) (numbers_of cells) d.number (ap not (ap (λ x. eqb x c.number) (sym (eq_from c.number d.number f)) ∙ eq_same c.number)))
-    by false false f = ap (λ l. c.number ∷ l) (filter-push_in (λ j. not (j == c.number)) (numbers_of cells) d.number (ap not (not_from (d.number == c.number) (λ g. true_false (c.number == d.number) (ap (λ x. eqb x d.number) (sym (eq_from d.number c.number g)) ∙ eq_same d.number) f))))
+    by false true f = ap (λ l. c.number ∷ l) (filter-push_out (λ j. not (j == c.number)) (numbers_of cells) d.number (ap not (ap (λ x. eqb x c.number) (sym (eqb-true c.number d.number f)) ∙ eq_same c.number)))
+    by false false f = ap (λ l. c.number ∷ l) (filter-push_in (λ j. not (j == c.number)) (numbers_of cells) d.number (ap not (not_from (d.number == c.number) (λ g. true_false (c.number == d.number) (ap (λ x. eqb x d.number) (sym (eqb-true d.number c.number g)) ∙ eq_same d.number) f))))
 
 pub numbers-filter : (p : ℕ → Bool) (cells : List Cell)
     → numbers_of (filter (λ c. p c.number) cells) ≡ filter p (numbers_of cells)
@@ -123,7 +124,7 @@ numbers-filter p (c ∷ cells) = by (numbers-filter p cells) (p c.number) refl
     by rest false e = rest ∙ sym (filter-within p (λ j. not (j == c.number)) apart (numbers_of cells))
       where
         apart : (k : ℕ) → p k ≡ true → not (k == c.number) ≡ true
-        apart k f = ap not (not_from (k == c.number) (λ g. true_false (p c.number) (ap p (sym (eq_from k c.number g)) ∙ f) e))
+        apart k f = ap not (not_from (k == c.number) (λ g. true_false (p c.number) (ap p (sym (eqb-true k c.number g)) ∙ f) e))
 
 -- ---- cells of a number
 
@@ -251,7 +252,7 @@ le-greater j k (c ∷ cells) h = by (le-greater c.number k cells) (c.number == k
     by : (has_cell k cells ≡ true → k ≤ greater c.number (greatest cells)) → (b : Bool)
         → (c.number == k) ≡ b → (b || has_cell k cells) ≡ true
         → k ≤ max j (greater c.number (greatest cells))
-    by rest true e g = let same : c.number ≡ k = eq_from c.number k e in omega (arith, same, first)
+    by rest true e g = let same : c.number ≡ k = eqb-true c.number k e in omega (arith, same, first)
     by rest false e g = omega (arith, rest g)
 
 pub below-next : (first k : ℕ) (cells : List Cell) → has_cell k cells ≡ true
@@ -268,7 +269,7 @@ below-next first k (c ∷ cells) h = by (c.number == k) refl h
 
     by : (b : Bool) → (c.number == k) ≡ b → (b || has_cell k cells) ≡ true
         → k < greater c.number (greatest cells) + 1
-    by true e g = let same : c.number ≡ k = eq_from c.number k e in omega (arith, same, here)
+    by true e g = let same : c.number ≡ k = eqb-true c.number k e in omega (arith, same, here)
     by false e g = omega (arith, le-greater c.number k cells g)
 
 greater_swap : (a b : ℕ) (o : Option ℕ) → max a (greater b o) ≡ max b (greater a o)
@@ -295,7 +296,7 @@ greatest-same k (c ∷ cells) h = ap Some (by (c.number == k) refl h)
 
     by : (b : Bool) → (c.number == k) ≡ b → (b || has_cell k cells) ≡ true
         → max k (greater c.number (greatest cells)) ≡ greater c.number (greatest cells)
-    by true e g = let same : c.number ≡ k = eq_from c.number k e in omega (arith, same, here)
+    by true e g = let same : c.number ≡ k = eqb-true c.number k e in omega (arith, same, here)
     by false e g = omega (arith, le-greater c.number k cells g)
 
 pub greatest-next : (first : ℕ) (o : Option ℕ)

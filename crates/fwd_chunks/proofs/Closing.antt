@@ -9,8 +9,10 @@ use Rattle.fwd_chunks.specs.declared.slot.Slot.{Slot}
 use Rattle.fwd_chunks.specs.declared.flush.FlushKind.TheVariants.{Due, All}
 use Rattle.fwd_chunks.specs.Live.{is_at, is_open, is_due, changed}
 use Rattle.fwd_chunks.specs.Slots.{present, NumbersRise, IsOwn, IsUnder, ChunksRise, began_by}
-use Rattle.fwd_chunks.proofs.Numbers.{not_from, eq_from, eq_same}
-use Rattle.fwd_chunks.proofs.Places.{none_some, one_chunk}
+use Rattle.fwd_chunks.proofs.Numbers.{not_from, eq_same}
+use Rattle.fwd_chunks.proofs.Places.{none_some}
+use Rattle.std.proofs.lemmas.Option.{same_Some}
+use Rattle.std.proofs.lemmas.Bool.{eqb-true}
 
 -- ---- the chunks in slots rise with them
 
@@ -48,7 +50,7 @@ unchanged-above : (n : ℕ) (f : Chunk → Chunk) (c : Chunk) (xs : List Chunk) 
     → AllByRecursion (IsUnder c) xs → changed (is_at n) f xs ≡ xs
 unchanged-above n f c [] same all = refl
 unchanged-above n f c (x ∷ xs) same all =
-    let apart : is_at n x ≡ false = not_from (is_at n x) (λ e. absurd (omega (arith, all.0, same, eq_from x.number n e))) in
+    let apart : is_at n x ≡ false = not_from (is_at n x) (λ e. absurd (omega (arith, all.0, same, eqb-true x.number n e))) in
     λ i. cond (apart i) (f x) x ∷ unchanged-above n f c xs same all.1 i
 
 found-in : (P : Chunk → Type 0) (p : Chunk → Bool) (xs : List Chunk) (c : Chunk)
@@ -57,7 +59,7 @@ found-in P p [] c all e = absurd (none_some e)
 found-in P p (x ∷ xs) c all e = by (found-in P p xs c all.1) (p x) refl
   where
     by : (find p xs ≡ Some c → P c) → (b : Bool) → p x ≡ b → P c
-    by rest true t = subst P (one_chunk (ap (λ d. cond d (Some x) (find p xs)) (sym t) ∙ e)) all.0
+    by rest true t = subst P (same_Some _ _ (ap (λ d. cond d (Some x) (find p xs)) (sym t) ∙ e)) all.0
     by rest false t = rest (ap (λ d. cond d (Some x) (find p xs)) (sym t) ∙ e)
 
 module _ (p : Chunk → Bool) (f : Chunk → Chunk) (shut : (c : Chunk) → p (f c) ≡ false) where
@@ -70,7 +72,7 @@ module _ (p : Chunk → Bool) (f : Chunk → Chunk) (shut : (c : Chunk) → p (f
           → (b : Bool) → p x ≡ b
           → changed p f (changed (is_at c.number) f (x ∷ xs)) ≡ changed p f (x ∷ xs)
       by more true t =
-          let is : x ≡ c = one_chunk (ap (λ d. cond d (Some x) (find p xs)) (sym t) ∙ e) in
+          let is : x ≡ c = same_Some _ _ (ap (λ d. cond d (Some x) (find p xs)) (sym t) ∙ e) in
           let here : is_at c.number x ≡ true = ap (λ y. eqb x.number y.number) (sym is) ∙ eq_same x.number in
           let stay = unchanged-above c.number f x xs (ap (λ y. y.number) is) rise.0 in
           (λ i. changed p f (cond (here i) (f x) x ∷ stay i))
@@ -79,7 +81,7 @@ module _ (p : Chunk → Bool) (f : Chunk → Chunk) (shut : (c : Chunk) → p (f
       by more false t =
           let rest : find p xs ≡ Some c = ap (λ d. cond d (Some x) (find p xs)) (sym t) ∙ e in
           let lower : x.number < c.number = found-in (IsUnder x) p xs c rise.0 rest in
-          let apart : is_at c.number x ≡ false = not_from (is_at c.number x) (λ g. absurd (omega (arith, lower, eq_from x.number c.number g))) in
+          let apart : is_at c.number x ≡ false = not_from (is_at c.number x) (λ g. absurd (omega (arith, lower, eqb-true x.number c.number g))) in
           (λ i. changed p f (cond (apart i) (f x) x ∷ changed (is_at c.number) f xs))
           ∙ ap (λ l. cond (p x) (f x) x ∷ l) (more rest)
 
@@ -94,7 +96,7 @@ module _ (p : Chunk → Bool) (f : Chunk → Chunk) (shut : (c : Chunk) → p (f
           → (b : Bool) → p x ≡ b
           → length (filter p (changed (is_at c.number) f (x ∷ xs))) + 1 ≡ length (filter p (x ∷ xs))
       by more true t =
-          let is : x ≡ c = one_chunk (ap (λ d. cond d (Some x) (find p xs)) (sym t) ∙ e) in
+          let is : x ≡ c = same_Some _ _ (ap (λ d. cond d (Some x) (find p xs)) (sym t) ∙ e) in
           let here : is_at c.number x ≡ true = ap (λ y. eqb x.number y.number) (sym is) ∙ eq_same x.number in
           let stay = unchanged-above c.number f x xs (ap (λ y. y.number) is) rise.0 in
           let next : length (filter p xs) + 1 ≡ length (x ∷ filter p xs) = omega arith in
@@ -104,7 +106,7 @@ module _ (p : Chunk → Bool) (f : Chunk → Chunk) (shut : (c : Chunk) → p (f
       by more false t =
           let rest : find p xs ≡ Some c = ap (λ d. cond d (Some x) (find p xs)) (sym t) ∙ e in
           let lower : x.number < c.number = found-in (IsUnder x) p xs c rise.0 rest in
-          let apart : is_at c.number x ≡ false = not_from (is_at c.number x) (λ g. absurd (omega (arith, lower, eq_from x.number c.number g))) in
+          let apart : is_at c.number x ≡ false = not_from (is_at c.number x) (λ g. absurd (omega (arith, lower, eqb-true x.number c.number g))) in
           (λ i. length (filter p (cond (apart i) (f x) x ∷ changed (is_at c.number) f xs)) + 1)
           ∙ ap (λ d. length (cond d (x ∷ filter p (changed (is_at c.number) f xs)) (filter p (changed (is_at c.number) f xs))) + 1) t
           ∙ more rest

@@ -14,9 +14,11 @@ use Rattle.fwd_chunks.specs.History.{before_runs}
 use Rattle.fwd_chunks.specs.Live.{LiveBuffer, is_open, staged, changed, is_at, is_open_of, may_take, live_next_number, live_adds_to, live_adds, live_adds_all, live_place, live_runs}
 use Rattle.fwd_chunks.specs.Soundness.{IsBefore, AreInOrder}
 use Rattle.fwd_chunks.specs.Filling.{fitting, open_chunk, fresh_from, fresh_of, stage_before, extra, span_of}
-use Rattle.fwd_chunks.proofs.Numbers.{true_false, not_from, eq_from, eq_same, find-map}
+use Rattle.fwd_chunks.proofs.Numbers.{true_false, not_from, eq_same, find-map}
 use Rattle.fwd_chunks.proofs.CellLemmas.{size_of-push}
 use Rattle.fwd_chunks.proofs.Sounding.{order-map}
+use Rattle.std.proofs.lemmas.Option.{same_Some}
+use Rattle.std.proofs.lemmas.Bool.{eqb-true}
 
 -- ---- behind chunks that the tag leaves alone
 
@@ -36,7 +38,7 @@ changed-passed : (tag : List ℕ) (n : ℕ) (f : Chunk → Chunk) (xs ys : List 
     → changed (is_at n) f (xs ++ ys) ≡ xs ++ changed (is_at n) f ys
 changed-passed tag n f [] ys all = refl
 changed-passed tag n f (x ∷ xs) ys all =
-    let apart : (x.number == n) ≡ false = not_from (x.number == n) (λ e. absurd (omega (arith, all.0.lower, eq_from x.number n e))) in
+    let apart : (x.number == n) ≡ false = not_from (x.number == n) (λ e. absurd (omega (arith, all.0.lower, eqb-true x.number n e))) in
     λ i. cond (apart i) (f x) x ∷ changed-passed tag n f xs ys all.1 i
 
 closed-passed : (tag : List ℕ) (n : ℕ) (f : Chunk → Chunk) (xs ys : List Chunk)
@@ -81,7 +83,7 @@ pub runs-fresh : (limit : ℕ) (tag : List ℕ) (since n : ℕ) (current entries
     (s : Span) → s.number < n
     → before_runs s (map span_of (fresh_from limit tag since n current entries)) ≡ s ∷ map span_of
     (fresh_from limit tag since n current entries)
-runs-fresh limit tag since n current [] s lt = ap (λ t. cond t (record { number = s.number; from = s.from; count = s.count + length current } ∷ []) (s ∷ record { number = n; from = 0; count = length current } ∷ [])) (not_from (s.number == n) (λ e. absurd (omega (arith, lt, eq_from s.number n e))))
+runs-fresh limit tag since n current [] s lt = ap (λ t. cond t (record { number = s.number; from = s.from; count = s.count + length current } ∷ []) (s ∷ record { number = n; from = 0; count = length current } ∷ [])) (not_from (s.number == n) (λ e. absurd (omega (arith, lt, eqb-true s.number n e))))
 runs-fresh limit tag since n current (e ∷ entries) s lt = by (runs-fresh limit tag since n (current ++ e ∷ []) entries s lt) (nat_le (size_of current + length e) limit)
   where
     by : before_runs s
@@ -98,7 +100,7 @@ runs-fresh limit tag since n current (e ∷ entries) s lt = by (runs-fresh limit
         ∷ fresh_from limit tag since (n + 1) (e ∷ []) entries))
     by rest true = rest
     by rest false = ap (λ t. cond t (record { number = s.number; from = s.from; count = s.count + length current } ∷ map span_of (fresh_from limit tag since (n + 1) (e ∷ []) entries))
-        (s ∷ record { number = n; from = 0; count = length current } ∷ map span_of (fresh_from limit tag since (n + 1) (e ∷ []) entries))) (not_from (s.number == n) (λ f. absurd (omega (arith, lt, eq_from s.number n f))))
+        (s ∷ record { number = n; from = 0; count = length current } ∷ map span_of (fresh_from limit tag since (n + 1) (e ∷ []) entries))) (not_from (s.number == n) (λ f. absurd (omega (arith, lt, eqb-true s.number n f))))
 
 -- ---- entries behind the current chunk
 
@@ -304,9 +306,6 @@ begun-runs b tag e entries below none =
 
 -- ---- entries that go to the open chunk
 
-some_chunk : {c d : Chunk} → Some c ≡ Some d → c ≡ d
-some_chunk e = cc
-
 none_chunk : {c : Chunk} → None ≡ Some c → ⊥
 none_chunk e = cc
 
@@ -324,7 +323,7 @@ find-open tag q (d ∷ chunks) c h e = by (find-open tag q chunks c h.1) (is_ope
         → cond t (Some d) (find (is_open_of tag) chunks) ≡ Some c
         → cond (t && q d) (Some d) (find (λ x. is_open_of tag x && q x) chunks) ≡ cond (q c)
         (Some c) None
-    by rest true f g = at (q d) ∙ ap (λ x. cond (q x) (Some x) None) (some_chunk g)
+    by rest true f g = at (q d) ∙ ap (λ x. cond (q x) (Some x) None) (same_Some _ _ g)
       where
         parts : (is_open d.stage ≡ true) × (bytes_eq d.tag tag ≡ true)
         parts = and_parts (is_open d.stage) (bytes_eq d.tag tag) f

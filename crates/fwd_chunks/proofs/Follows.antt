@@ -18,9 +18,10 @@ use Rattle.fwd_chunks.specs.History.{BufferHistory, next_number, has_room, joins
 use Rattle.fwd_chunks.specs.Live.{stage_by, stage_of, live_chunk, live_buffer, is_open, is_closed, is_taken, staged, changed, is_at, held_in, bytes_in, is_open_of, may_take, first_chunk, live_adds_to, live_adds, live_adds_all, live_looks, live_enters, live_is_full, live_is_spent, live_refusal, live_place, live_runs, live_spans, live_closes, live_closing, live_flushes, live_is_free, live_given, live_carries_more, live_takes, live_load, live_carried, live_settles, live_frees, live_counts}
 use Rattle.fwd_retry.specs.Tallies.{tally_of, live_is_over, tally_more}
 use Rattle.fwd_retry.proofs.Doublings.{wait_settles}
-use Rattle.fwd_chunks.proofs.Numbers.{true_false, not_from, eq_from, eq_same, filter-within, filter-map, filter-same, find-map, find-same, find_only, find_no, map-map, map-same, has_number-push, has_number-filter, AreDistinct, least_first, sum_over, sum_over-same}
+use Rattle.fwd_chunks.proofs.Numbers.{true_false, not_from, eq_same, filter-within, filter-map, filter-same, find-map, find-same, find_only, find_no, map-map, map-same, has_number-push, has_number-filter, AreDistinct, least_first, sum_over, sum_over-same}
 use Rattle.fwd_chunks.proofs.CellLemmas.{filter-push_in, filter-push_out, any-false, any-find, last_number-entry, has_cell, numbers-has, numbers-distinct, numbers-push, numbers-filter, cells_at-here, cells_at-elsewhere, cells_at-none, cells_at-some, cells_at-unsettled, first_tag-push, first_moment-push, entries_of-push, first_tag-entry, greatest-push, greatest-same, greatest-next, weigh, weigh_numbers, weigh-length, weigh-size, carry_at, carry_at-without_same, carry_at-without_other, carry_at-push_other, carry_at-push_same, losses-here, losses-elsewhere}
 use Rattle.fwd_chunks.proofs.Sane.{IsSane, Joins, Begins, joins_or_begins, cell_at, adds_at, adds-at, IsFor, joins-for, next-for, next-fresh, adds-sane, looks-sane, Loose, free_parts, given-free}
+use Rattle.std.proofs.lemmas.Bool.{eqb-true}
 
 -- ---- the numbers of the live part
 
@@ -195,7 +196,7 @@ module _ (h : BufferHistory) (tag : List ℕ) (origin : Origin) (entry : List �
           → cond b (record (live_chunk h k) { entries = contents k h.cells ++ entry ∷ [] })
           (live_chunk h k) ≡ live_chunk (adds_at h tag origin entry j.number) k
       by true f =
-          let same : j.number ≡ k = sym (eq_from k j.number f) in
+          let same : j.number ≡ k = sym (eqb-true k j.number f) in
           let here : (j.number == k) ≡ true = ap (λ x. eqb x k) same ∙ eq_same k in
           let cells = cells_at-here k h.cells (cell_at h tag origin entry j.number) here in
           let some : 0 < length (cells_at k h.cells) = cells_at-some k h.cells (in_live h k e).has in
@@ -209,7 +210,7 @@ module _ (h : BufferHistory) (tag : List ℕ) (origin : Origin) (entry : List �
             losses = tally_of (losses_of k h.losses);
           }
       by false f =
-          let differ : (j.number == k) ≡ false = not_from (j.number == k) (λ g. true_false (k == j.number) (ap (λ x. eqb k x) (eq_from j.number k g) ∙ eq_same k) f) in
+          let differ : (j.number == k) ≡ false = not_from (j.number == k) (λ g. true_false (k == j.number) (ap (λ x. eqb k x) (eqb-true j.number k g) ∙ eq_same k) f) in
           ap (λ s. staged s (live_chunk h k)) (own_stage f) ∙ sym (chunk-elsewhere h tag origin entry j.number own (joins-for h tag entry own j) k differ)
 
   joins-live : live_buffer (adds_at h tag origin entry j.number) ≡ live_adds_to
@@ -256,7 +257,7 @@ module _ (h : BufferHistory) (tag : List ℕ) (origin : Origin) (entry : List �
       ∙ sym (chunk-elsewhere h tag origin entry (next_number h) own (next-for h tag own) k differ)
     where
       differ : (next_number h == k) ≡ false
-      differ = not_from (next_number h == k) (λ f. true_false (has_cell k h.cells) (in_live h k e).has (ap (λ x. has_cell x h.cells) (sym (eq_from (next_number h) k f)) ∙ next-fresh h))
+      differ = not_from (next_number h == k) (λ f. true_false (has_cell k h.cells) (in_live h k e).has (ap (λ x. has_cell x h.cells) (sym (eqb-true (next_number h) k f)) ∙ next-fresh h))
 
       by : (a : Bool) → has_number k h.opened ≡ a → (t : Bool)
           → cond (a && t) (staged Closed (live_chunk h k))
@@ -593,7 +594,7 @@ carries_more-live h worker (Some n) free =
         → cond b (staged (Taken worker) (live_chunk h k)) (live_chunk h k) ≡ live_chunk
         (record h { carried = h.carried ++ record { worker = worker; number = n } ∷ [] }) k
     at k true e =
-        let same : n ≡ k = sym (eq_from k n e) in
+        let same : n ≡ k = sym (eqb-true k n e) in
         let open_ : has_number k h.opened ≡ false = ap (λ x. has_number x h.opened) (sym same) ∙ is.closed in
         let carry : carry_at k (h.carried ++ record { worker = worker; number = n } ∷ []) ≡ Some (record { worker = worker; number = n }) =
         ap (λ x. carry_at x (h.carried ++ record { worker = worker; number = n } ∷ [])) (sym same) ∙ carry_at-push_same worker n h.carried is.uncarried in
@@ -647,11 +648,11 @@ carried-live h k own = by_chunks ∙ by (is_carried k h.carried) refl
         let shut : has_number k h.opened ≡ false = not_from (has_number k h.opened) (λ f. true_false (is_carried k h.carried) e (own.opened_uncarried k f)) in
         ap (option_map (load_of h)) (find_only (λ j. (j == k) && is_taken (stage_of h j)) k (live_numbers h) (is_live h k (own.carried_has k e) (own.carried_unacked k e))
         (and_from (k == k) (is_taken (stage_of h k)) (eq_same k) (taken (has_number k h.opened) true (carry_at k h.carried) (sym (any-find (λ c. c.number == k) h.carried) ∙ e) shut))
-        (λ j f g. eq_from j k (and_parts (j == k) (is_taken (stage_of h j)) g).0))
+        (λ j f g. eqb-true j k (and_parts (j == k) (is_taken (stage_of h j)) g).0))
     by false e =
         ap (option_map (load_of h)) (find_no (λ j. (j == k) && is_taken (stage_of h j)) (live_numbers h) (λ j f g.
         let parts = and_parts (j == k) (is_taken (stage_of h j)) g in
-        let same : j ≡ k = eq_from j k parts.0 in
+        let same : j ≡ k = eqb-true j k parts.0 in
         true_false (is_taken (stage_of h j)) parts.1 (ap (λ x. is_taken (stage_of h x)) same ∙ untaken (has_number k h.opened) (carry_at k h.carried) (sym (any-find (λ c. c.number == k) h.carried) ∙ e))))
 
 only_one : (k : ℕ) (ns : List ℕ) → AreDistinct ns → has_number k ns ≡ true
@@ -663,7 +664,7 @@ only_one k (n ∷ ns) d e = by (only_one k ns d.1) (n == k) refl e
         → (b || has_number k ns) ≡ true
         → cond b (n ∷ filter (λ j. j == k) ns) (filter (λ j. j == k) ns) ≡ k ∷ []
     by rest true f g =
-        let same : n ≡ k = eq_from n k f in
+        let same : n ≡ k = eqb-true n k f in
         λ i. same i ∷ none ns (ap (λ x. has_number x ns) (sym same) ∙ d.0) i
       where
         none : (ms : List ℕ) → has_number k ms ≡ false → filter (λ j. j == k) ms ≡ []
@@ -721,8 +722,8 @@ settles-live h n own has =
       where
         at : (a b : Bool) → (n == k) ≡ b → not (a || b) ≡ (not a && not (k == n))
         at true b e = refl
-        at false true e = ap not (sym (ap (λ x. eqb k x) (eq_from n k e) ∙ eq_same k))
-        at false false e = ap not (sym (not_from (k == n) (λ f. true_false (n == k) (ap (λ x. eqb x k) (sym (eq_from k n f)) ∙ eq_same k) e)))
+        at false true e = ap not (sym (ap (λ x. eqb k x) (eqb-true n k e) ∙ eq_same k))
+        at false false e = ap not (sym (not_from (k == n) (λ f. true_false (n == k) (ap (λ x. eqb x k) (sym (eqb-true k n f)) ∙ eq_same k) e)))
 
     both : (ns : List ℕ)
         → filter (λ k. not (has_number k h.acknowledged) && not (k == n)) ns ≡ filter
@@ -771,7 +772,7 @@ frees-live h n None own has =
     at : (k : ℕ) (b : Bool) → (k == n) ≡ b
         → cond b (staged Closed (live_chunk h k)) (live_chunk h k) ≡ live_chunk (frees h n None) k
     at k true e =
-        let same : n ≡ k = sym (eq_from k n e) in
+        let same : n ≡ k = sym (eqb-true k n e) in
         let shut : has_number k h.opened ≡ false = not_from (has_number k h.opened) (λ f. true_false (is_carried k h.carried) (ap (λ x. is_carried x h.carried) (sym same) ∙ has) (own.opened_uncarried k f)) in
         let carry : carry_at k (without n h.carried) ≡ None = ap (λ x. carry_at k (without x h.carried)) same ∙ carry_at-without_same k h.carried in
         λ i. staged (stage_by (sym shut i) (sym carry i)) (live_chunk h k)
@@ -801,7 +802,7 @@ frees-live h n (Some now) own has =
         })
         (live_chunk h k) ≡ live_chunk (frees h n (Some now)) k
     at k true e =
-        let same : n ≡ k = sym (eq_from k n e) in
+        let same : n ≡ k = sym (eqb-true k n e) in
         let shut : has_number k h.opened ≡ false = not_from (has_number k h.opened) (λ f. true_false (is_carried k h.carried) (ap (λ x. is_carried x h.carried) (sym same) ∙ has) (own.opened_uncarried k f)) in
         let carry : carry_at k (without n h.carried) ≡ None = ap (λ x. carry_at k (without x h.carried)) same ∙ carry_at-without_same k h.carried in
         let lost : Some (tally_more (tally_of (losses_of k h.losses)) (max h.moment now)) ≡ tally_of (losses_of k (record { number = n; moment = max h.moment now } ∷ h.losses)) =
@@ -809,7 +810,7 @@ frees-live h n (Some now) own has =
         λ i. record (live_chunk h k) { stage = stage_by (sym shut i) (sym carry i); losses = lost i }
     at k false e =
         let differ : n ≢ k = λ f. true_false (k == n) (ap (λ x. eqb k x) f ∙ eq_same k) e in
-        let apart : (n == k) ≡ false = not_from (n == k) (λ f. differ (eq_from n k f)) in
+        let apart : (n == k) ≡ false = not_from (n == k) (λ f. differ (eqb-true n k f)) in
         λ i. record (live_chunk h k) {
           stage = stage_by (has_number k h.opened) (sym (carry_at-without_other n k h.carried differ) i);
           losses = tally_of (sym (losses-elsewhere n k (max h.moment now) h.losses apart) i);

@@ -14,14 +14,12 @@ use Rattle.fwd_chunks.specs.Live.{LiveBuffer, is_closed, live_is_free, live_look
 use Rattle.fwd_chunks.specs.Free.{IsFree, IsLeastFree}
 use Rattle.fwd_chunks.specs.Soundness.{IsBefore, AreInOrder, IsSound}
 use Rattle.fwd_chunks.proofs.Numbers.{true_false}
+use Rattle.std.proofs.lemmas.Option.{same_Some}
 
 -- ---- a chunk is free where the step's test holds
 
 no_some : {X : Type 0} (x : X) → None ≡ Some x → ⊥
 no_some x e = cc
-
-one : {X : Type 0} {x y : X} → Some x ≡ Some y → x ≡ y
-one e = cc
 
 closed-shut : (s : Stage) → is_closed s ≡ true → s ≢ Open
 closed-shut Open e = absurd cc
@@ -49,7 +47,7 @@ over-rested : (wait longest : ℕ) (o : Option Losses) (moment : ℕ)
     → l.last + wait_after wait longest l.count ≤ moment
 over-rested wait longest None moment e l f = absurd (no_some l f)
 over-rested wait longest (Some k) moment e l f =
-    subst (λ (x : Losses). x.last + wait_after wait longest x.count ≤ moment) (one f)
+    subst (λ (x : Losses). x.last + wait_after wait longest x.count ≤ moment) (same_Some _ _ f)
     (le-from (k.last + wait_after wait longest k.count) moment e)
 
 rested-over : (wait longest : ℕ) (o : Option Losses) (moment : ℕ)
@@ -86,7 +84,7 @@ free-to b c is =
 all-at : (P : Chunk → Type 0) (xs : List Chunk) (k : ℕ) (x : Chunk) → AllByRecursion P xs
     → slice_get xs k ≡ Some x → P x
 all-at P [] k x all e = absurd (no_some x e)
-all-at P (y ∷ xs) zero x all e = subst P (one e) all.0
+all-at P (y ∷ xs) zero x all e = subst P (same_Some _ _ e) all.0
 all-at P (y ∷ xs) (suc k) x all e = all-at P xs k x all.1 e
 
 -- what is found stands somewhere, and passes
@@ -101,7 +99,7 @@ found-at p (y ∷ xs) c e = by (found-at p xs c) (p y) refl e
   where
     by : (find p xs ≡ Some c → Found p xs c) → (t : Bool) → p y ≡ t
         → cond t (Some y) (find p xs) ≡ Some c → Found p (y ∷ xs) c
-    by rest true f g = record { place = zero; stands = g; passes = ap p (sym (one g)) ∙ f }
+    by rest true f g = record { place = zero; stands = g; passes = ap p (sym (same_Some _ _ g)) ∙ f }
     by rest false f g =
         let r = rest g in record { place = suc r.place; stands = r.stands; passes = r.passes }
 
@@ -115,7 +113,7 @@ none-passes p (y ∷ xs) k c e at f = by (λ j. none-passes p xs j c) k at (p y)
         → slice_get (y ∷ xs) j ≡ Some c → (t : Bool) → p y ≡ t
         → cond t (Some y) (find p xs) ≡ None → ⊥
     by rest j here true g h = no_some y (sym h)
-    by rest zero here false g h = true_false (p c) f (ap p (sym (one here)) ∙ g)
+    by rest zero here false g h = true_false (p c) f (ap p (sym (same_Some _ _ here)) ∙ g)
     by rest (suc j) here false g h = rest j h here f
 
 -- what is found has the least number of all that pass
@@ -131,23 +129,23 @@ found-least p (y ∷ xs) c k d h e at f = by (λ j. found-least p xs c j d h.1) 
         → (j : ℕ) → slice_get (y ∷ xs) j ≡ Some d → (t : Bool) → p y ≡ t
         → cond t (Some y) (find p xs) ≡ Some c → c.number ≤ d.number
     by rest zero here true g i =
-        let same : c ≡ d = sym (one i) ∙ one here in
+        let same : c ≡ d = sym (same_Some _ _ i) ∙ same_Some _ _ here in
         omega (arith, ap (λ (x : Chunk). x.number) same)
     by rest (suc j) here true g i =
         let before = all-at (IsBefore y) xs j d h.0 here in
-        omega (arith, ap (λ (x : Chunk). x.number) (one i), before.lower)
-    by rest zero here false g i = absurd (true_false (p d) f (ap p (sym (one here)) ∙ g))
+        omega (arith, ap (λ (x : Chunk). x.number) (same_Some _ _ i), before.lower)
+    by rest zero here false g i = absurd (true_false (p d) f (ap p (sym (same_Some _ _ here)) ∙ g))
     by rest (suc j) here false g i = rest j i here f
 
 -- a number has one chunk
 one-chunk : (xs : List Chunk) (i j : ℕ) (c d : Chunk) → AreInOrder xs
     → slice_get xs i ≡ Some c → slice_get xs j ≡ Some d → c.number ≡ d.number → c ≡ d
 one-chunk [] i j c d h e f same = absurd (no_some c e)
-one-chunk (x ∷ xs) zero zero c d h e f same = sym (one e) ∙ one f
+one-chunk (x ∷ xs) zero zero c d h e f same = sym (same_Some _ _ e) ∙ same_Some _ _ f
 one-chunk (x ∷ xs) zero (suc j) c d h e f same =
-    absurd (omega (arith, (all-at (IsBefore x) xs j d h.0 f).lower, ap (λ (y : Chunk). y.number) (one e), same))
+    absurd (omega (arith, (all-at (IsBefore x) xs j d h.0 f).lower, ap (λ (y : Chunk). y.number) (same_Some _ _ e), same))
 one-chunk (x ∷ xs) (suc i) zero c d h e f same =
-    absurd (omega (arith, (all-at (IsBefore x) xs i c h.0 e).lower, ap (λ (y : Chunk). y.number) (one f), same))
+    absurd (omega (arith, (all-at (IsBefore x) xs i c h.0 e).lower, ap (λ (y : Chunk). y.number) (same_Some _ _ f), same))
 one-chunk (x ∷ xs) (suc i) (suc j) c d h e f same = one-chunk xs i j c d h.1 e f same
 
 -- ---- the law

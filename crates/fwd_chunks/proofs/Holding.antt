@@ -18,9 +18,11 @@ use Rattle.fwd_chunks.specs.Live.{LiveBuffer, is_open, staged, is_at, live_next_
 use Rattle.fwd_retry.specs.Tallies.{tally_more}
 use Rattle.fwd_chunks.specs.Soundness.{IsBefore, AreInOrder, IsSound}
 use Rattle.fwd_chunks.specs.Spans.{run_in, AreRising, AreCutBy, IsHeld, AreHeld, IsGone}
-use Rattle.fwd_chunks.proofs.Numbers.{true_false, not_from, eq_from, eq_same}
-use Rattle.fwd_chunks.proofs.Places.{one_chunk, none_some, found-number}
+use Rattle.fwd_chunks.proofs.Numbers.{true_false, not_from, eq_same}
+use Rattle.fwd_chunks.proofs.Places.{none_some, found-number}
 use Rattle.fwd_chunks.proofs.Sounding.{found-all, found-passes, IsSorted, with_entry, adds-sorted, sorted}
+use Rattle.std.proofs.lemmas.Option.{same_Some}
+use Rattle.std.proofs.lemmas.Bool.{eqb-true}
 
 -- ---- finding a chunk
 
@@ -64,7 +66,7 @@ pub find-above : (n : ℕ) (chunks : List Chunk) → AllByRecursion (λ c. c.num
     → find (is_at n) chunks ≡ None
 find-above n [] all = refl
 find-above n (c ∷ chunks) all =
-    let apart : (c.number == n) ≡ false = not_from (c.number == n) (λ e. absurd (omega (arith, all.0, eq_from c.number n e))) in
+    let apart : (c.number == n) ≡ false = not_from (c.number == n) (λ e. absurd (omega (arith, all.0, eqb-true c.number n e))) in
     ap (λ b. cond b (Some c) (find (is_at n) chunks)) apart ∙ find-above n chunks all.1
 
 -- what is found by another test is found by its number
@@ -76,10 +78,10 @@ found-at p (x ∷ chunks) c h e = by (p x) (found-at p chunks c h.1) e
     by : (b : Bool) → (find p chunks ≡ Some c → find (is_at c.number) chunks ≡ Some c)
         → cond b (Some x) (find p chunks) ≡ Some c → find (is_at c.number) (x ∷ chunks) ≡ Some c
     by true rest f =
-        let same : x ≡ c = one_chunk f in
+        let same : x ≡ c = same_Some _ _ f in
         ap (λ b. cond b (Some x) (find (is_at c.number) chunks)) (ap (λ y. y.number == c.number) same ∙ eq_same c.number) ∙ ap (λ y. Some y) same
     by false rest f =
-        let apart : (x.number == c.number) ≡ false = not_from (x.number == c.number) (λ g. absurd (omega (arith, (found-all (IsBefore x) p chunks c f h.0).lower, eq_from x.number c.number g))) in
+        let apart : (x.number == c.number) ≡ false = not_from (x.number == c.number) (λ g. absurd (omega (arith, (found-all (IsBefore x) p chunks c f h.0).lower, eqb-true x.number c.number g))) in
         ap (λ b. cond b (Some x) (find (is_at c.number) chunks)) apart ∙ rest f
 
 -- ---- one entry more
@@ -174,7 +176,7 @@ module _ (b : LiveBuffer) (tag entry : List ℕ) (own : IsSorted b) where
           → (find (is_at n) (live_adds_to b tag entry o).chunks ≡ None)
           × (n < live_next_number (live_adds_to b tag entry o))
       by None =
-          let apart : (live_next_number b == n) ≡ false = not_from (live_next_number b == n) (λ f. absurd (omega (arith, lt, eq_from (live_next_number b) n f))) in (
+          let apart : (live_next_number b == n) ≡ false = not_from (live_next_number b == n) (λ f. absurd (omega (arith, lt, eqb-true (live_next_number b) n f))) in (
             find-push n (map (closing tag) b.chunks) (first_chunk b tag entry)
                 ∙ (λ i. option_else ((find-map n (closing tag) (closing-number tag) b.chunks ∙ ap (option_map (closing tag)) e) i) (cond (apart i) (Some (first_chunk b tag entry)) None)),
             omega (arith, lt),
@@ -240,9 +242,9 @@ open-one tag p r (x ∷ chunks) c d h e opened f also = by (p x) (r x) e f (open
         → cond t (Some x) (find r chunks) ≡ Some d
         → (find p chunks ≡ Some c → is_open_of tag c ≡ true → find r chunks ≡ Some d
         → is_open_of tag d ≡ true → c ≡ d) → c ≡ d
-    by true true g k rest = sym (one_chunk g) ∙ one_chunk k
-    by true false g k rest = absurd (opposed c d (subst (λ y. IsBefore y d) (one_chunk g) (found-all (IsBefore x) r chunks d k h.0)) opened also)
-    by false true g k rest = absurd (opposed d c (subst (λ y. IsBefore y c) (one_chunk k) (found-all (IsBefore x) p chunks c g h.0)) also opened)
+    by true true g k rest = sym (same_Some _ _ g) ∙ same_Some _ _ k
+    by true false g k rest = absurd (opposed c d (subst (λ y. IsBefore y d) (same_Some _ _ g) (found-all (IsBefore x) r chunks d k h.0)) opened also)
+    by false true g k rest = absurd (opposed d c (subst (λ y. IsBefore y c) (same_Some _ _ k) (found-all (IsBefore x) p chunks c g h.0)) also opened)
     by false false g k rest = rest g opened k also
 
 -- a run that follows another: it goes on with it in the same chunk, or its chunk is a later one
@@ -334,7 +336,7 @@ module _ (chunks : List Chunk) (tag entry : List ℕ) (es : List (List ℕ)) (n 
       → Ran chunks tag (record { number = n; from = f; count = 1 + h.count } ∷ runs) (entry ∷ es)
   joined h runs ran number at =
       let held = ran.held.0 in
-      let same : held.chunk ≡ g.chunk = one_chunk (sym held.here ∙ (λ i. find (is_at (number i)) chunks) ∙ g.here) in
+      let same : held.chunk ≡ g.chunk = same_Some _ _ (sym held.here ∙ (λ i. find (is_at (number i)) chunks) ∙ g.here) in
       let is : 1 + h.count ≡ suc h.count = omega arith in
       record {
         held = (
@@ -370,7 +372,7 @@ module _ (chunks : List Chunk) (tag entry : List ℕ) (es : List (List ℕ)) (n 
           (record { number = n; from = f; count = 1 } ∷ h ∷ runs))
           (entry ∷ es)
       by true e (inl goes) = joined h runs ran goes.0 goes.1
-      by true e (inr lt) = absurd (omega (arith, lt, eq_from n h.number e))
+      by true e (inr lt) = absurd (omega (arith, lt, eqb-true n h.number e))
       by false e (inl goes) = absurd (true_false (n == h.number) (ap (λ k. n == k) goes.0 ∙ eq_same n) e)
       by false e (inr lt) = record {
         held = (one-held, ran.held);
@@ -465,19 +467,13 @@ runs-ran (entry ∷ es) b tag own =
 above-at : (n : ℕ) (runs : List Span) (j m : ℕ) → AllByRecursion (λ t. n < t.number) runs
     → slice_get (map (λ s. s.number) runs) j ≡ Some m → n < m
 above-at n [] j m all e = absurd cc
-above-at n (s ∷ runs) zero m all e = subst (λ k. n < k) (some_same e) all.0
-  where
-    some_same : {x y : ℕ} → Some x ≡ Some y → x ≡ y
-    some_same f = cc
+above-at n (s ∷ runs) zero m all e = subst (λ k. n < k) (same_Some _ _ e) all.0
 above-at n (s ∷ runs) (suc j) m all e = above-at n runs j m all.1 e
 
 pub rising-are : (runs : List Span) → Rising runs → AreRising (map (λ s. s.number) runs)
 rising-are [] all i j m n lt e f = absurd cc
 rising-are (s ∷ runs) all zero zero m n lt e f = absurd (omega (arith, lt))
-rising-are (s ∷ runs) all zero (suc j) m n lt e f = subst (λ k. k < n) (some_same e) (above-at s.number runs j n all.0 f)
-  where
-    some_same : {x y : ℕ} → Some x ≡ Some y → x ≡ y
-    some_same g = cc
+rising-are (s ∷ runs) all zero (suc j) m n lt e f = subst (λ k. k < n) (same_Some _ _ e) (above-at s.number runs j n all.0 f)
 rising-are (s ∷ runs) all (suc i) zero m n lt e f = absurd (omega (arith, lt))
 rising-are (s ∷ runs) all (suc i) (suc j) m n lt e f = rising-are runs all.1 i j m n (omega (arith, lt)) e f
 
@@ -626,7 +622,7 @@ find-other k n differ (c ∷ chunks) = by (c.number == k) refl (find-other k n d
         → find (is_at n) (cond (not t) (c ∷ rest) rest)
         ≡ cond (is_at n c) (Some c) (find (is_at n) chunks)
     by true e same =
-        let apart : (c.number == n) ≡ false = not_from (c.number == n) (λ f. absurd (differ (sym (eq_from c.number n f) ∙ eq_from c.number k e))) in
+        let apart : (c.number == n) ≡ false = not_from (c.number == n) (λ f. absurd (differ (sym (eqb-true c.number n f) ∙ eqb-true c.number k e))) in
         same ∙ ap (λ t. cond t (Some c) (find (is_at n) chunks)) (sym apart)
     by false e same = ap (λ o. cond (is_at n c) (Some c) o) same
 
@@ -687,11 +683,8 @@ carried-found b n load e order = by (find (λ c. is_at n c && is_taken c.stage) 
         → (c : Chunk) × (find (is_at n) b.chunks ≡ Some c) × (live_load b c ≡ load)
     by None f g = absurd cc
     by (Some c) f g =
-        let at : c.number ≡ n = eq_from c.number n (and_parts (is_at n c) (is_taken c.stage) (found-passes (λ d. is_at n d && is_taken d.stage) b.chunks c f)).0 in
-        (c, subst (λ k. find (is_at k) b.chunks ≡ Some c) at (found-at (λ d. is_at n d && is_taken d.stage) b.chunks c order f), one_load g)
-      where
-        one_load : {x y : Load} → Some x ≡ Some y → x ≡ y
-        one_load h = cc
+        let at : c.number ≡ n = eqb-true c.number n (and_parts (is_at n c) (is_taken c.stage) (found-passes (λ d. is_at n d && is_taken d.stage) b.chunks c f)).0 in
+        (c, subst (λ k. find (is_at k) b.chunks ≡ Some c) at (found-at (λ d. is_at n d && is_taken d.stage) b.chunks c order f), same_Some _ _ g)
 
 -- the chunk of what is settled is gone
 pub settled-gone : (b : LiveBuffer) (load : Load) → IsSound b → IsCarried b load
@@ -707,7 +700,7 @@ pub carried-run : (b : LiveBuffer) (load : Load) (tag : List ℕ) (s : Span)
     → (load.tag ≡ tag) × (run_in load.entries s ≡ take s.count own)
 carried-run b load tag s own sound e at h =
     let c = carried-found b load.number load e sound.in_order in
-    let same : h.chunk ≡ c.0 = one_chunk (sym h.here ∙ (λ i. find (is_at (at i)) b.chunks) ∙ c.1) in (
+    let same : h.chunk ≡ c.0 = same_Some _ _ (sym h.here ∙ (λ i. find (is_at (at i)) b.chunks) ∙ c.1) in (
       sym (ap (λ l. l.tag) c.2) ∙ sym (ap (λ d. d.tag) same) ∙ h.tagged,
       ap (λ es. run_in es s) (sym (ap (λ l. l.entries) c.2) ∙ sym (ap (λ d. d.entries) same)) ∙ h.run,
     )

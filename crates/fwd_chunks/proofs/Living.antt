@@ -11,10 +11,12 @@ use Rattle.fwd_chunks.specs.Soundness.{IsBefore, AreInOrder}
 use Rattle.fwd_chunks.specs.Stored.{put_back}
 use Rattle.fwd_chunks.specs.Newest.{tag_number, HasNumber, AreNewest, AreLiving}
 use Rattle.fwd_chunks.specs.Filling.{fresh_from, fresh_of, extra, needed, stage_last, joined_by, filled_in}
-use Rattle.fwd_chunks.proofs.Numbers.{not_from, true_false, eq_from}
+use Rattle.fwd_chunks.proofs.Numbers.{not_from, true_false}
 use Rattle.fwd_chunks.proofs.Sounding.{found-all, found-passes}
-use Rattle.fwd_chunks.proofs.Places.{one_chunk, none_some, found-number}
+use Rattle.fwd_chunks.proofs.Places.{none_some, found-number}
 use Rattle.fwd_chunks.proofs.Opened.{IsFresh, fresh-all, fresh-open, before-found, found-same, open-number, no_number}
+use Rattle.std.proofs.lemmas.Option.{same_Some}
+use Rattle.std.proofs.lemmas.Bool.{eqb-true}
 
 -- ---- chunks that are found
 
@@ -45,7 +47,7 @@ found-changed n test f (x ∷ xs) c number tag e = by (is_at n x) refl (found-ch
         → (d : Chunk) × (find (is_at n) (changed test f xs) ≡ Some d) × (d.tag ≡ c.tag))
         → (d : Chunk) × (find (is_at n) (y ∷ changed test f xs) ≡ Some d) × (d.tag ≡ c.tag)
     by true t rest =
-        let is : x ≡ c = one_chunk (ap (λ b. cond b (Some x) (find (is_at n) xs)) (sym t) ∙ e) in (
+        let is : x ≡ c = same_Some _ _ (ap (λ b. cond b (Some x) (find (is_at n) xs)) (sym t) ∙ e) in (
           y,
           ap (λ b. cond b (Some y) (find (is_at n) (changed test f xs))) (at ∙ t),
           same-tag (test x) ∙ ap (λ d. d.tag) is,
@@ -78,7 +80,7 @@ found-behind : (d : Chunk) (xs ys : List Chunk) → AllByRecursion (λ c. IsBefo
 found-behind d [] ys all = refl
 found-behind d (x ∷ xs) ys all =
     let lower : x.number < d.number = all.0.lower in
-    let apart : is_at d.number x ≡ false = not_from (is_at d.number x) (λ g. absurd (omega (arith, lower, eq_from x.number d.number g))) in
+    let apart : is_at d.number x ≡ false = not_from (is_at d.number x) (λ g. absurd (omega (arith, lower, eqb-true x.number d.number g))) in
     ap (λ b. cond b (Some x) (find (is_at d.number) (xs ++ ys))) apart ∙ found-behind d xs ys all.1
 
 -- a chunk is found where another one left
@@ -94,7 +96,7 @@ found-filter m n (x ∷ xs) c e other = by (is_at m x) refl (is_at n x) refl (fo
         → (find (is_at m) xs ≡ Some c → is_at n c ≡ false → find (is_at m) left ≡ Some c)
         → find (is_at m) (cond (not (is_at n x)) (x ∷ left) left) ≡ Some c
     by true t true s rest =
-        let is : x ≡ c = one_chunk (ap (λ b. cond b (Some x) (find (is_at m) xs)) (sym t) ∙ e) in
+        let is : x ≡ c = same_Some _ _ (ap (λ b. cond b (Some x) (find (is_at m) xs)) (sym t) ∙ e) in
         absurd (true_false (is_at n x) s (ap (is_at n) is ∙ other))
     by true t false s rest =
         ap (λ b. find (is_at m) (cond (not b) (x ∷ left) left)) s
@@ -143,8 +145,8 @@ living-filter numbers after n r xs here only gone all = λ t m e.
         → find (is_at m) xs ≡ Some c → c.tag ≡ t → (b : Bool) → (m == n) ≡ b
         → (d : Chunk) × (find (is_at m) (filter (λ d. not (is_at n d)) xs) ≡ Some d) × (d.tag ≡ t)
     by t m e c found tag true s =
-        let same : m ≡ n = eq_from m n s in
-        let is : c ≡ r = one_chunk (sym found ∙ ap (λ k. find (is_at k) xs) same ∙ here) in
+        let same : m ≡ n = eqb-true m n s in
+        let is : c ≡ r = same_Some _ _ (sym found ∙ ap (λ k. find (is_at k) xs) same ∙ here) in
         absurd (gone (ap (λ u. tag_number u after) (sym (ap (λ d. d.tag) is) ∙ tag) ∙ e ∙ ap Some same))
     by t m e c found tag false s =
         (c, found-filter m n xs c found (ap (λ k. k == n) (found-number m xs c found) ∙ s), tag)
@@ -244,14 +246,11 @@ living-entered numbers ready after items joins front (x ∷ back) limit tag sinc
         ∙ found-behind opened.0 kept fresh (before-found (λ c. is_open c.stage) kept fresh opened.0 order opened.1)
         ∙ found-same (λ c. is_open c.stage) fresh opened.0 (order-right kept fresh order) opened.1
 
-    one : {m k : ℕ} → Some m ≡ Some k → m ≡ k
-    one e = cc
-
     by : (t : List ℕ) (n : ℕ) → (b : Bool) → bytes_eq tag t ≡ b
         → cond (bytes_eq tag t) (Some last) (tag_number t ready) ≡ Some n
         → (c : Chunk) × (find (is_at n) (kept ++ fresh) ≡ Some c) × (c.tag ≡ t)
     by t n true s e =
-        let is : last ≡ n = one (ap (λ b. cond b (Some last) (tag_number t ready)) (sym s) ∙ e) in (
+        let is : last ≡ n = same_Some _ _ (ap (λ b. cond b (Some last) (tag_number t ready)) (sym s) ∙ e) in (
           opened.0,
           ap (λ k. find (is_at k) (kept ++ fresh)) (sym is) ∙ found,
           its.0 ∙ (bytes_eq-Decides tag t).0 s,

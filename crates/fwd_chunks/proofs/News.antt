@@ -10,9 +10,9 @@ use Rattle.fwd_modes.specs.declared.origin.Origin.{Origin}
 use Rattle.fwd_chunks.specs.declared.span.Span.{Span}
 use Rattle.fwd_chunks.specs.Cells.{Cell, entries_of, cells_at, has_number, is_carried}
 use Rattle.fwd_chunks.specs.History.{BufferHistory, joins, adds, adds_all, looks, enters, before_runs, runs_after, spans_of}
-use Rattle.fwd_chunks.proofs.Numbers.{eq_from}
 use Rattle.fwd_chunks.proofs.CellLemmas.{has_cell, cells_at-none}
 use Rattle.fwd_chunks.proofs.Sane.{IsSane, cell_at, joins_or_begins, joins-for, next-for, adds-sane, looks-sane}
+use Rattle.std.proofs.lemmas.Bool.{eqb-true}
 
 -- the cells that entries become, one after the other
 abbrev pub news_of : List (List ℕ) → BufferHistory → List ℕ → Origin → List Cell
@@ -134,7 +134,7 @@ of_number p k (c ∷ cells) all h = by (λ a g. of_number p k cells a g) (c.numb
         → (a && list_all (λ c. p c.number) cells) ≡ true → (b || has_cell k cells) ≡ true
         → p k ≡ true
     by rest b e false f all h = absurd cc
-    by rest true e true f all h = ap p (sym (eq_from c.number k e)) ∙ f
+    by rest true e true f all h = ap p (sym (eqb-true c.number k e)) ∙ f
     by rest false e true f all h = rest all h
 
 -- where no cell has the number, more cells leave what it has
@@ -184,7 +184,7 @@ before-all p s (t ∷ runs) = by (s.number == t.number) refl
         (cond b (record { number = s.number; from = s.from; count = s.count + t.count } ∷ runs) (s
         ∷ t ∷ runs)) ≡
         (p s.number && (p t.number && list_all (λ t. p t.number) runs))
-    by true e = twice (p s.number) (list_all (λ t. p t.number) runs) ∙ ap (λ n. p s.number && (p n && list_all (λ t. p t.number) runs)) (eq_from s.number t.number e)
+    by true e = twice (p s.number) (list_all (λ t. p t.number) runs) ∙ ap (λ n. p s.number && (p n && list_all (λ t. p t.number) runs)) (eqb-true s.number t.number e)
     by false e = refl
 
 -- what holds of the runs' numbers holds of the cells' numbers, and the other way round

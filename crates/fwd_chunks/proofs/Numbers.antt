@@ -4,6 +4,7 @@ use Rattle.std.specs.Prelude.{map, filter, find, not, ◌&&◌, ◌||◌, ◌==�
 use Rattle.std.proofs.lemmas.Bool.Decides.{nat_tests}
 use Rattle.fwd_chunks.specs.Cells.{has_number}
 use Rattle.fwd_chunks.specs.History.{lesser, least}
+use Rattle.std.proofs.lemmas.Bool.{eqb-true}
 
 -- ---- tests
 
@@ -13,9 +14,6 @@ not_from false h = refl
 
 pub true_false : (b : Bool) → b ≡ true → b ≡ false → ⊥
 true_false b e f = cc
-
-pub eq_from : (a b : ℕ) → eqb a b ≡ true → a ≡ b
-eq_from a b e = grind (arith, nat_tests, e)
 
 pub eq_same : (a : ℕ) → eqb a a ≡ true
 eq_same a = grind (arith, nat_tests)
@@ -91,9 +89,9 @@ has_number-filter k p (n ∷ ns) = by (has_number-filter k p ns) (p n) refl (n =
         → (n == k) ≡ e
         → has_number k (cond a (n ∷ filter p ns) (filter p ns)) ≡
         (((n == k) || has_number k ns) && p k)
-    by rest true h true e = let here : p k ≡ true = ap p (sym (eq_from n k e)) ∙ h in grind (arith, nat_tests, here, e)
+    by rest true h true e = let here : p k ≡ true = ap p (sym (eqb-true n k e)) ∙ h in grind (arith, nat_tests, here, e)
     by rest true h false e = grind (arith, nat_tests, rest, e)
-    by rest false h true e = let here : p k ≡ false = ap p (sym (eq_from n k e)) ∙ h in grind (arith, nat_tests, here, rest)
+    by rest false h true e = let here : p k ≡ false = ap p (sym (eqb-true n k e)) ∙ h in grind (arith, nat_tests, here, rest)
     by rest false h false e = grind (arith, nat_tests, rest, e)
 
 -- what holds of each number of a list
@@ -128,7 +126,7 @@ find_number k (n ∷ ns) h = by (find_number k ns) (n == k) refl h
   where
     by : (has_number k ns ≡ true → find (λ j. j == k) ns ≡ Some k) → (e : Bool) → (n == k) ≡ e
         → (e || has_number k ns) ≡ true → cond e (Some n) (find (λ j. j == k) ns) ≡ Some k
-    by rest true e g = ap Some (eq_from n k e)
+    by rest true e g = ap Some (eqb-true n k e)
     by rest false e g = rest g
 
 find_none : (p : ℕ → Bool) (ns : List ℕ)
@@ -148,7 +146,7 @@ find_only p k ns h here only =
   where
     agree : (j : ℕ) → has_number j ns ≡ true → (b : Bool) → p j ≡ b → p j ≡ (j == k)
     agree j e true f = f ∙ sym (ap (λ x. eqb x k) (only j e f) ∙ eq_same k)
-    agree j e false f = f ∙ sym (not_from (j == k) (λ g. true_false (p j) (ap p (eq_from j k g) ∙ here) f))
+    agree j e false f = f ∙ sym (not_from (j == k) (λ g. true_false (p j) (ap p (eqb-true j k g) ∙ here) f))
 
 pub find_no : (p : ℕ → Bool) (ns : List ℕ)
     → ((k : ℕ) → has_number k ns ≡ true → p k ≡ true → ⊥) → find p ns ≡ None
@@ -181,7 +179,7 @@ found_none p k (n ∷ ns) e h = by (found_none p k ns) (p n) refl e
     by rest false g f = at (n == k) refl h
       where
         at : (b : Bool) → (n == k) ≡ b → (b || has_number k ns) ≡ true → p k ≡ false
-        at true same i = ap p (sym (eq_from n k same)) ∙ g
+        at true same i = ap p (sym (eqb-true n k same)) ∙ g
         at false other i = rest f i
 
 -- ---- rising numbers
@@ -217,7 +215,7 @@ rising-push n (m ∷ ns) h below =
 
     at : (k : ℕ) (b : Bool) → has_number k ns ≡ b → (b || (n == k)) ≡ true → m < k
     at k true e f = h.0 k e
-    at k false e f = let same : n ≡ k = eq_from n k f in omega (arith, same, first)
+    at k false e f = let same : n ≡ k = eqb-true n k f in omega (arith, same, first)
 
 -- the least of rising numbers that pass is the first
 least_up : (n : ℕ) (ns : List ℕ) → ((k : ℕ) → has_number k ns ≡ true → n < k)
@@ -314,6 +312,6 @@ sum_over-split f m (n ∷ ns) d h = by (sum_over-split f m ns d.1) (n == m) refl
         (cond (not b) (n ∷ filter (λ k. not (k == m)) ns) (filter (λ k. not (k == m)) ns))
         ≡ f n + sum_over f ns
     by rest true e g =
-        let same : n ≡ m = eq_from n m e in
+        let same : n ≡ m = eqb-true n m e in
         let back : m ≡ n = sym same in let gone = filter_absent m ns (ap (λ k. has_number k ns) back ∙ d.0) in λ i. f (back i) + sum_over f (gone i)
     by rest false e g = omega (arith, rest g)

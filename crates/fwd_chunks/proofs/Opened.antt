@@ -14,10 +14,12 @@ use Rattle.fwd_chunks.specs.Soundness.{IsBefore, AreInOrder}
 use Rattle.fwd_chunks.specs.Stored.{put_back}
 use Rattle.fwd_chunks.specs.Newest.{tag_number, HasNumber, AreNewest}
 use Rattle.fwd_chunks.specs.Filling.{open_chunk, fresh_from, fresh_of, extra, needed, stage_last, joined_by, filled_in}
-use Rattle.fwd_chunks.proofs.Numbers.{not_from, true_false, eq_from, eq_same}
+use Rattle.fwd_chunks.proofs.Numbers.{not_from, true_false, eq_same}
 use Rattle.fwd_chunks.proofs.CellLemmas.{size_of-push}
 use Rattle.fwd_chunks.proofs.Sounding.{all-map, found-all, found-passes}
-use Rattle.fwd_chunks.proofs.Places.{one_chunk, unchanged}
+use Rattle.fwd_chunks.proofs.Places.{unchanged}
+use Rattle.std.proofs.lemmas.Option.{same_Some}
+use Rattle.std.proofs.lemmas.Bool.{eqb-true}
 
 -- ---- what holds of all chunks
 
@@ -48,9 +50,6 @@ all-kept P Q p (x ∷ xs) h all = by (all-kept P Q p xs h all.1) (p x) refl
 
 -- ---- the tag's open chunk
 
-one_number : {m n : ℕ} → Some m ≡ Some n → m ≡ n
-one_number e = cc
-
 pub no_number : {n : ℕ} → None ≡ Some n → ⊥
 no_number e = cc
 
@@ -59,7 +58,7 @@ pub found-above : (n : ℕ) (c : Chunk) (xs : List Chunk) → c.number ≡ n
     → AllByRecursion (IsBefore c) xs → find (is_at n) xs ≡ None
 found-above n c [] same all = refl
 found-above n c (x ∷ xs) same all =
-    let apart : is_at n x ≡ false = not_from (is_at n x) (λ e. absurd (omega (arith, all.0.lower, same, eq_from x.number n e))) in
+    let apart : is_at n x ≡ false = not_from (is_at n x) (λ e. absurd (omega (arith, all.0.lower, same, eqb-true x.number n e))) in
     ap (λ b. cond b (Some x) (find (is_at n) xs)) apart ∙ found-above n c xs same all.1
 
 -- what is found is what has its number
@@ -71,13 +70,13 @@ found-same p (x ∷ xs) e h f = by (p x) refl (found-same p xs e h.1)
     by : (b : Bool) → p x ≡ b → (find p xs ≡ Some e → find (is_at e.number) xs ≡ Some e)
         → find (is_at e.number) (x ∷ xs) ≡ Some e
     by true t rest =
-        let is : x ≡ e = one_chunk (ap (λ d. cond d (Some x) (find p xs)) (sym t) ∙ f) in
+        let is : x ≡ e = same_Some _ _ (ap (λ d. cond d (Some x) (find p xs)) (sym t) ∙ f) in
         let here : is_at e.number x ≡ true = ap (λ y. x.number == y.number) (sym is) ∙ eq_same x.number in
         ap (λ d. cond d (Some x) (find (is_at e.number) xs)) here ∙ ap Some is
     by false t rest =
         let later : find p xs ≡ Some e = ap (λ d. cond d (Some x) (find p xs)) (sym t) ∙ f in
         let lower : x.number < e.number = (found-all (IsBefore x) p xs e later h.0).lower in
-        let apart : is_at e.number x ≡ false = not_from (is_at e.number x) (λ g. absurd (omega (arith, lower, eq_from x.number e.number g))) in
+        let apart : is_at e.number x ≡ false = not_from (is_at e.number x) (λ g. absurd (omega (arith, lower, eqb-true x.number e.number g))) in
         ap (λ d. cond d (Some x) (find (is_at e.number) xs)) apart ∙ rest later
 
 -- an open chunk of the tag has the tag's number
@@ -113,10 +112,10 @@ open-told numbers (x ∷ xs) tag n all order e = by (is_open_of tag x) (is_at n 
         ap (λ b. cond b (Some x) (find (is_open_of tag) xs)) t
         ∙ ap (λ b. cond b (Some x) None) (sym t)
         ∙ ap (λ d. if_open tag (cond d (Some x) (find (is_at n) xs))) (sym at)
-    by true false t at rest = absurd (true_false (is_at n x) (ap (λ k. k == n) (one_number (sym (open-number numbers tag x all.0 t) ∙ e)) ∙ eq_same n) at)
+    by true false t at rest = absurd (true_false (is_at n x) (ap (λ k. k == n) (same_Some _ _ (sym (open-number numbers tag x all.0 t) ∙ e)) ∙ eq_same n) at)
     by false true t at rest =
         ap (λ b. cond b (Some x) (find (is_open_of tag) xs)) t ∙ rest
-        ∙ ap (if_open tag) (found-above n x xs (eq_from x.number n at) order.0)
+        ∙ ap (if_open tag) (found-above n x xs (eqb-true x.number n at) order.0)
         ∙ ap (λ b. cond b (Some x) None) (sym t)
         ∙ ap (λ d. if_open tag (cond d (Some x) (find (is_at n) xs))) (sym at)
     by false false t at rest =
@@ -229,7 +228,7 @@ newest-joined numbers (x ∷ xs) tag c front b order all e = by (is_open_of tag 
         → (find (is_open_of tag) xs ≡ Some c → AreNewest numbers (changed (is_at c.number) f xs))
         → AreNewest numbers (changed (is_at c.number) f (x ∷ xs))
     by true t rest =
-        let is : x ≡ c = one_chunk (ap (λ d. cond d (Some x) (find (is_open_of tag) xs)) (sym t) ∙ e) in
+        let is : x ≡ c = same_Some _ _ (ap (λ d. cond d (Some x) (find (is_open_of tag) xs)) (sym t) ∙ e) in
         let here : is_at c.number x ≡ true = ap (λ y. x.number == y.number) (sym is) ∙ eq_same x.number in
         let opened = (and_parts (is_open x.stage) (bytes_eq x.tag tag) t).0 in
         let stay : changed (is_at c.number) f xs ≡ xs = unchanged c.number f x xs (ap (λ y. y.number) is) order.0 in
@@ -237,7 +236,7 @@ newest-joined numbers (x ∷ xs) tag c front b order all e = by (is_open_of tag 
     by false t rest =
         let later : find (is_open_of tag) xs ≡ Some c = ap (λ d. cond d (Some x) (find (is_open_of tag) xs)) (sym t) ∙ e in
         let lower : x.number < c.number = (found-all (IsBefore x) (is_open_of tag) xs c later order.0).lower in
-        let apart : is_at c.number x ≡ false = not_from (is_at c.number x) (λ g. absurd (omega (arith, lower, eq_from x.number c.number g))) in
+        let apart : is_at c.number x ≡ false = not_from (is_at c.number x) (λ g. absurd (omega (arith, lower, eqb-true x.number c.number g))) in
         subst (AreNewest numbers) (λ i. cond (sym apart i) (f x) x ∷ changed (is_at c.number) f xs) (all.0, rest later)
 
 newest-filled : (numbers : List (List ℕ × ℕ)) (items : List Chunk) (joins : Option ℕ)

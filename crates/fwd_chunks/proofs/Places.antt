@@ -7,10 +7,9 @@ use Rattle.std.proofs.lemmas.Bool.{ltb-true, ltb-false}
 use Rattle.fwd_chunks.specs.declared.chunk.Chunk.{Chunk}
 use Rattle.fwd_chunks.specs.Live.{changed, is_at, is_taken}
 use Rattle.fwd_chunks.specs.Soundness.{IsBefore, AreInOrder}
-use Rattle.fwd_chunks.proofs.Numbers.{not_from, eq_from}
-
-pub one_chunk : {c d : Chunk} → Some c ≡ Some d → c ≡ d
-one_chunk e = cc
+use Rattle.fwd_chunks.proofs.Numbers.{not_from}
+use Rattle.std.proofs.lemmas.Option.{same_Some}
+use Rattle.std.proofs.lemmas.Bool.{eqb-true}
 
 pub none_some : {X : Type 0} {c : X} → None ≡ Some c → ⊥
 none_some e = cc
@@ -19,14 +18,14 @@ pub unchanged : (k : ℕ) (f : Chunk → Chunk) (c : Chunk) (chunks : List Chunk
     → AllByRecursion (IsBefore c) chunks → changed (is_at k) f chunks ≡ chunks
 unchanged k f c [] same all = refl
 unchanged k f c (x ∷ chunks) same all =
-    let apart : (x.number == k) ≡ false = not_from (x.number == k) (λ e. absurd (omega (arith, all.0.lower, same, eq_from x.number k e))) in
+    let apart : (x.number == k) ≡ false = not_from (x.number == k) (λ e. absurd (omega (arith, all.0.lower, same, eqb-true x.number k e))) in
     λ i. cond (apart i) (f x) x ∷ unchanged k f c chunks same all.1 i
 
 none_at : (k : ℕ) (c : Chunk) (chunks : List Chunk) → c.number ≡ k
     → AllByRecursion (IsBefore c) chunks → filter (is_at k) chunks ≡ []
 none_at k c [] same all = refl
 none_at k c (x ∷ chunks) same all =
-    let apart : (x.number == k) ≡ false = not_from (x.number == k) (λ e. absurd (omega (arith, all.0.lower, same, eq_from x.number k e))) in
+    let apart : (x.number == k) ≡ false = not_from (x.number == k) (λ e. absurd (omega (arith, all.0.lower, same, eqb-true x.number k e))) in
     λ i. cond (apart i) (x ∷ none_at k c chunks same all.1 i) (none_at k c chunks same all.1 i)
 
 -- the chunk of a number
@@ -39,9 +38,9 @@ filter-found n (x ∷ chunks) c h e = by (is_at n x) refl (filter-found n chunks
         → (find (is_at n) chunks ≡ Some c → filter (is_at n) chunks ≡ c ∷ [])
         → filter (is_at n) (x ∷ chunks) ≡ c ∷ []
     by true t rest =
-        let same : x ≡ c = one_chunk (ap (λ d. cond d (Some x) (find (is_at n) chunks)) (sym t) ∙ e) in
+        let same : x ≡ c = same_Some _ _ (ap (λ d. cond d (Some x) (find (is_at n) chunks)) (sym t) ∙ e) in
         ap (λ b. cond b (x ∷ filter (is_at n) chunks) (filter (is_at n) chunks)) t
-        ∙ (λ i. same i ∷ none_at n x chunks (eq_from x.number n t) h.0 i)
+        ∙ (λ i. same i ∷ none_at n x chunks (eqb-true x.number n t) h.0 i)
     by false t rest =
         ap (λ b. cond b (x ∷ filter (is_at n) chunks) (filter (is_at n) chunks)) t
         ∙ rest (ap (λ d. cond d (Some x) (find (is_at n) chunks)) (sym t) ∙ e)
@@ -70,7 +69,7 @@ found-number n [] c e = absurd (none_some e)
 found-number n (x ∷ chunks) c e = by (is_at n x) refl (found-number n chunks c)
   where
     by : (b : Bool) → is_at n x ≡ b → (find (is_at n) chunks ≡ Some c → c.number ≡ n) → c.number ≡ n
-    by true t rest = sym (ap (λ y. y.number) (one_chunk (ap (λ d. cond d (Some x) (find (is_at n) chunks)) (sym t) ∙ e))) ∙ eq_from x.number n t
+    by true t rest = sym (ap (λ y. y.number) (same_Some _ _ (ap (λ d. cond d (Some x) (find (is_at n) chunks)) (sym t) ∙ e))) ∙ eqb-true x.number n t
     by false t rest = rest (ap (λ d. cond d (Some x) (find (is_at n) chunks)) (sym t) ∙ e)
 
 -- the chunk of a number, if a worker has it
@@ -82,7 +81,7 @@ not-above : (n : ℕ) (c : Chunk) (chunks : List Chunk) → c.number ≡ n
     → AllByRecursion (IsBefore c) chunks → find (λ d. is_at n d && is_taken d.stage) chunks ≡ None
 not-above n c [] same all = refl
 not-above n c (x ∷ chunks) same all =
-    let apart : is_at n x ≡ false = not_from (is_at n x) (λ e. absurd (omega (arith, all.0.lower, same, eq_from x.number n e))) in
+    let apart : is_at n x ≡ false = not_from (is_at n x) (λ e. absurd (omega (arith, all.0.lower, same, eqb-true x.number n e))) in
     ap (λ b. cond (b && is_taken x.stage) (Some x) (find (λ d. is_at n d && is_taken d.stage) chunks)) apart ∙ not-above n c chunks same all.1
 
 pub taken-found : (n : ℕ) (chunks : List Chunk) → AreInOrder chunks
@@ -100,7 +99,7 @@ taken-found n (x ∷ chunks) h = by (is_at n x) (is_taken x.stage) refl refl (ta
         ∙ ap (λ b. if_taken (cond b (Some x) (find (is_at n) chunks))) (sym at)
     by true false at has rest =
         (λ i. cond (at i && has i) (Some x) (find (λ d. is_at n d && is_taken d.stage) chunks))
-        ∙ not-above n x chunks (eq_from x.number n at) h.0
+        ∙ not-above n x chunks (eqb-true x.number n at) h.0
         ∙ ap (λ b. cond b (Some x) None) (sym has)
         ∙ ap (λ b. if_taken (cond b (Some x) (find (is_at n) chunks))) (sym at)
     by false t at has rest =

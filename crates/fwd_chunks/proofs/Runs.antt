@@ -14,11 +14,13 @@ use Rattle.fwd_chunks.specs.History.{BufferSetting, BufferHistory, opening, next
 use Rattle.fwd_chunks.specs.Events.{BufferEvent, Enter, Flush, Take, Settle, Free, unless_refused, history_next, history_after, IsReached, NumbersRise, TagNumbersRise, NumbersHaveOneTag}
 use Rattle.fwd_chunks.specs.Live.{live_buffer, live_opening, live_chunk, live_given, live_load, live_settles, live_frees, live_next}
 use Rattle.fwd_chunks.specs.Soundness.{IsSound}
-use Rattle.fwd_chunks.proofs.Numbers.{true_false, not_from, eq_from, eq_same, has_number-filter}
+use Rattle.fwd_chunks.proofs.Numbers.{true_false, not_from, eq_same, has_number-filter}
 use Rattle.fwd_chunks.proofs.CellLemmas.{any-push, has_entry-cell, last_number-entry, below-next}
 use Rattle.fwd_chunks.proofs.Sane.{IsSane, joins_or_begins, cell_at, adds-at, next-sane, opening-sane, reached-sane, free_parts}
 use Rattle.fwd_chunks.proofs.Follows.{enters-live, refusal-live, flushes-live, given-live, takes-live, carried-live, settles-live, frees-live}
 use Rattle.fwd_chunks.proofs.Sounding.{opening-sound, next-sound}
+use Rattle.std.proofs.lemmas.Option.{same_Some}
+use Rattle.std.proofs.lemmas.Bool.{eqb-true}
 
 -- ---- the live part follows
 
@@ -142,7 +144,7 @@ least_is (n ∷ ns) k e = by (least ns) refl (λ l f. least_is ns l f) (same e)
     by None f rec g = (
       ap (λ x. eqb n x || has_number x ns) (sym g) ∙ ap (λ b. b || has_number n ns) (eq_same n),
       λ j h. elim (or_cases (eqb n j) (has_number j ns) h) [
-        | inl i ↦ omega (arith, eq_from n j i, g)
+        | inl i ↦ omega (arith, eqb-true n j i, g)
         | inr i ↦ absurd (nowhere ns j f i)
       ],
     )
@@ -153,7 +155,7 @@ least_is (n ∷ ns) k e = by (least ns) refl (λ l f. least_is ns l f) (same e)
     by (Some l) f rec g =
         let is = rec l refl in (
           elim (order n l) [ inl i ↦ ap (λ b. b || has_number k ns) (ap (λ x. eqb n x) (sym (sym i ∙ g)) ∙ eq_same n) | inr i ↦ right (eqb n k) (ap (λ x. has_number x ns) (sym (sym i ∙ g)) ∙ is.0) ],
-          λ j h. elim (or_cases (eqb n j) (has_number j ns) h) [ inl i ↦ omega (arith, eq_from n j i, g) | inr i ↦ omega (arith, is.1 j i, g) ],
+          λ j h. elim (or_cases (eqb n j) (has_number j ns) h) [ inl i ↦ omega (arith, eqb-true n j i, g) | inr i ↦ omega (arith, is.1 j i, g) ],
         )
       where
         order : (a b : ℕ) → (min a b ≡ a) ⊎ (min a b ≡ b)
@@ -240,7 +242,7 @@ rise-push (c ∷ cells) d h low = (
         let parts = and_parts (d.number == k) (bytes_eq d.tag c.tag) e in
         let same : d.tag ≡ c.tag = (bytes_eq-Decides d.tag c.tag).0 parts.1 in
         let first : c.number ≤ d.number = low c.number (ap (λ b. b || has_entry d.tag c.number cells) ((λ i. eq_same c.number i && (bytes_eq-Decides c.tag d.tag).1 (sym same) i))) in
-        omega (arith, first, eq_from d.number k parts.0)
+        omega (arith, first, eqb-true d.number k parts.0)
 
 -- the last number of a tag is its greatest
 last_greatest : (cells : List Cell) (tag : List ℕ) (m k : ℕ) → TagsRise cells
@@ -251,9 +253,6 @@ last_greatest [] tag m k h e f = absurd (none f)
     none g = cc
 last_greatest (c ∷ cells) tag m k h e f = by (last_greatest cells tag m k h.1) (last_number tag cells) refl (bytes_eq c.tag tag) refl e (or_cases ((c.number == k) && bytes_eq c.tag tag) (has_entry tag k cells) f)
   where
-    one : {a b : ℕ} → Some a ≡ Some b → a ≡ b
-    one g = cc
-
     by : (last_number tag cells ≡ Some m → has_entry tag k cells ≡ true → k ≤ m) → (o : Option ℕ)
         → last_number tag cells ≡ o → (b : Bool) → bytes_eq c.tag tag ≡ b
         → option_or o (cond b (Some c.number) None) ≡ Some m
@@ -263,8 +262,8 @@ last_greatest (c ∷ cells) tag m k h e f = by (last_greatest cells tag m k h.1)
         let parts = and_parts (c.number == k) (bytes_eq c.tag tag) q in
         let same : c.tag ≡ tag = (bytes_eq-Decides c.tag tag).0 parts.1 in
         let low : c.number ≤ m = h.0 m (ap (λ t. has_entry t m cells) same ∙ last_number-entry tag m cells (g ∙ p)) in
-        omega (arith, low, eq_from c.number k parts.0)
-    by rest None g true i p (inl q) = omega (arith, one {a = c.number} {b = m} p, eq_from c.number k (and_parts (c.number == k) (bytes_eq c.tag tag) q).0)
+        omega (arith, low, eqb-true c.number k parts.0)
+    by rest None g true i p (inl q) = omega (arith, same_Some c.number m p, eqb-true c.number k (and_parts (c.number == k) (bytes_eq c.tag tag) q).0)
     by rest None g false i p (inl q) = absurd (true_false (bytes_eq c.tag tag) (and_parts (c.number == k) (bytes_eq c.tag tag) q).1 i)
     by rest None g b i p (inr q) = absurd (lacks cells g q)
       where
@@ -332,11 +331,8 @@ stands [] j d tag e same = absurd (none e)
     none : None ≡ Some d → ⊥
     none f = cc
 stands (c ∷ cells) zero d tag e same =
-    let is : c ≡ d = one e in
+    let is : c ≡ d = same_Some _ _ e in
     ap (λ b. b || has_entry tag d.number cells) ((λ i. (ap (λ x. eqb x.number d.number) is ∙ eq_same d.number) i && (bytes_eq-Decides c.tag tag).1 (ap (λ x. x.tag) is ∙ sym same) i))
-  where
-    one : Some c ≡ Some d → c ≡ d
-    one f = cc
 stands (c ∷ cells) (suc j) d tag e same = right ((c.number == d.number) && bytes_eq c.tag tag) (stands cells j d tag e same)
   where
     right : (b : Bool) → has_entry tag d.number cells ≡ true
@@ -351,11 +347,8 @@ rise-places [] rise i j c d lt e f same = absurd (none e)
     none g = cc
 rise-places (x ∷ cells) rise zero zero c d lt e f same = absurd (omega arith)
 rise-places (x ∷ cells) rise zero (suc j) c d lt e f same =
-    let is : x ≡ c = one e in
+    let is : x ≡ c = same_Some _ _ e in
     subst (λ y. y.number ≤ d.number) is (rise.0 d.number (stands cells j d x.tag f (ap (λ y. y.tag) is ∙ same)))
-  where
-    one : Some x ≡ Some c → x ≡ c
-    one g = cc
 rise-places (x ∷ cells) rise (suc i) zero c d lt e f same = absurd (omega arith)
 rise-places (x ∷ cells) rise (suc i) (suc j) c d lt e f same = rise-places cells rise.1 i j c d (omega arith) e f same
 
@@ -390,10 +383,7 @@ has-tag tag [] i c all e = absurd (none e)
   where
     none : None ≡ Some c → ⊥
     none f = cc
-has-tag tag (x ∷ cells) zero c all e = ap (λ y. y.tag) (sym (one e)) ∙ all.0
-  where
-    one : Some x ≡ Some c → x ≡ c
-    one f = cc
+has-tag tag (x ∷ cells) zero c all e = ap (λ y. y.tag) (sym (same_Some _ _ e)) ∙ all.0
 has-tag tag (x ∷ cells) (suc i) c all e = has-tag tag cells i c all.1 e
 
 rise-behind : (others cells : List Cell) → TagsRise (others ++ cells) → TagsRise cells

@@ -12,8 +12,9 @@ use Rattle.fwd_chunks.specs.declared.fault.AdmitError.{AdmitError}
 use Rattle.fwd_chunks.specs.Cells.{Cell, size_of, cells_at, contents, first_tag, has_number, numbers_of, has_entry, last_number, is_carried, without, losses_of}
 use Rattle.fwd_chunks.specs.History.{BufferSetting, BufferHistory, opening, next_number, has_room, joined_to, joins, adds, adds_all, looks, enters, refusal, closes, flushes, is_over, is_free, given, carry_more, takes, settles, frees}
 use Rattle.fwd_chunks.specs.Events.{BufferEvent, Enter, Flush, Take, Settle, Free, unless_refused, history_next, history_after, IsReached}
-use Rattle.fwd_chunks.proofs.Numbers.{true_false, not_from, eq_from, eq_same, has_number-push, has_number-filter, AreRising, rising-push, least_first, found}
+use Rattle.fwd_chunks.proofs.Numbers.{true_false, not_from, eq_same, has_number-push, has_number-filter, AreRising, rising-push, least_first, found}
 use Rattle.fwd_chunks.proofs.CellLemmas.{has_cell, any-push, numbers-has, numbers-push, cells_at-here, cells_at-elsewhere, cells_at-none, cells_at-some, first_tag-push, has_entry-cell, first_tag-entry, last_number-push, last_number-entry, below-next, is_carried-push, is_carried-without, losses-elsewhere}
+use Rattle.std.proofs.lemmas.Bool.{eqb-true}
 
 pub record IsSane (h : BufferHistory) : Type 0 where
   pub rising : AreRising (numbers_of h.cells)
@@ -145,7 +146,7 @@ opened_was n k p opened e = by (n == k) refl e
   where
     by : (b : Bool) → (n == k) ≡ b → (b || has_number k (filter (λ j. not (p j)) opened)) ≡ true
         → (n ≡ k) ⊎ (((n == k) ≡ false) × (has_number k opened ≡ true) × (p k ≡ false))
-    by true f g = inl (eq_from n k f)
+    by true f g = inl (eqb-true n k f)
     by false f g =
         let parts = and_parts (has_number k opened) (not (p k)) (sym (has_number-filter k (λ j. not (p j)) opened) ∙ g) in
         inr (f, parts.0, not-true (p k) parts.1)
@@ -211,7 +212,7 @@ module _ (h : BufferHistory) (tag : List ℕ) (origin : Origin) (entry : List �
   tag_here k t same e true f = first_tag-push (cells_at k h.cells) (cell_at h tag origin entry n) (cells_at-some k h.cells f) ∙ at (or_cases (has_entry t k h.cells) ((n == k) && bytes_eq tag t) e)
     where
       is_tag : first_tag (cells_at k h.cells) ≡ tag
-      is_tag = takes_it.same_tag (first_tag (cells_at k h.cells)) (ap (λ x. has_entry (first_tag (cells_at k h.cells)) x h.cells) (eq_from n k same) ∙ first_tag-entry k h.cells f)
+      is_tag = takes_it.same_tag (first_tag (cells_at k h.cells)) (ap (λ x. has_entry (first_tag (cells_at k h.cells)) x h.cells) (eqb-true n k same) ∙ first_tag-entry k h.cells f)
 
       at : (has_entry t k h.cells ≡ true) ⊎ (((n == k) && bytes_eq tag t) ≡ true)
           → first_tag (cells_at k h.cells) ≡ t
@@ -357,7 +358,7 @@ carried_more-sane h worker (Some n) own free =
       opened_last = own.opened_last;
       opened_unacked = own.opened_unacked;
       opened_uncarried = λ k e. is_carried-push worker n k h.carried ∙ neither (is_carried k h.carried) (n == k) (own.opened_uncarried k e)
-          (not_from (n == k) (λ f. true_false (has_number k h.opened) e (ap (λ x. has_number x h.opened) (sym (eq_from n k f)) ∙ is.closed)));
+          (not_from (n == k) (λ f. true_false (has_number k h.opened) e (ap (λ x. has_number x h.opened) (sym (eqb-true n k f)) ∙ is.closed)));
       one_tag = own.one_tag;
       acked_has = own.acked_has;
       carried_has = λ k e. elim (was k e) [ inl f ↦ own.carried_has k f | inr f ↦ subst (λ x. has_cell x h.cells ≡ true) f (sym (numbers-has n h.cells) ∙ is.has) ];
@@ -368,7 +369,7 @@ carried_more-sane h worker (Some n) own free =
     split : (k : ℕ) → (is_carried k h.carried ≡ true) ⊎ ((n == k) ≡ true)
         → (is_carried k h.carried ≡ true) ⊎ (n ≡ k)
     split k (inl e) = inl e
-    split k (inr e) = inr (eq_from n k e)
+    split k (inr e) = inr (eqb-true n k e)
 
     neither : (a b : Bool) → a ≡ false → b ≡ false → (a || b) ≡ false
     neither true b e f = e
@@ -387,10 +388,10 @@ settles-sane h n own has =
       opened_has = own.opened_has;
       opened_last = own.opened_last;
       opened_unacked = λ k e. has_number-push k n h.acknowledged ∙ neither (has_number k h.acknowledged) (n == k) (own.opened_unacked k e)
-          (not_from (n == k) (λ f. true_false (is_carried n h.carried) has (ap (λ x. is_carried x h.carried) (eq_from n k f) ∙ own.opened_uncarried k e)));
+          (not_from (n == k) (λ f. true_false (is_carried n h.carried) has (ap (λ x. is_carried x h.carried) (eqb-true n k f) ∙ own.opened_uncarried k e)));
       opened_uncarried = λ k e. is_carried-without n k h.carried ∙ ap (λ b. b && not (k == n)) (own.opened_uncarried k e);
       one_tag = own.one_tag;
-      acked_has = λ k e. elim (or_cases (has_number k h.acknowledged) (n == k) (sym (has_number-push k n h.acknowledged) ∙ e)) [ inl f ↦ own.acked_has k f | inr f ↦ subst (λ x. has_cell x h.cells ≡ true) (eq_from n k f) (own.carried_has n has) ];
+      acked_has = λ k e. elim (or_cases (has_number k h.acknowledged) (n == k) (sym (has_number-push k n h.acknowledged) ∙ e)) [ inl f ↦ own.acked_has k f | inr f ↦ subst (λ x. has_cell x h.cells ≡ true) (eqb-true n k f) (own.carried_has n has) ];
       carried_has = λ k e. own.carried_has k (was k e).0;
       carried_unacked = λ k e. has_number-push k n h.acknowledged ∙ neither (has_number k h.acknowledged) (n == k) (own.carried_unacked k (was k e).0) (swap k (not-true (k == n) (was k e).1));
       lost_has = own.lost_has;
@@ -431,7 +432,7 @@ frees-sane h n (Some now) own has =
       acked_has = own.acked_has;
       carried_has = λ k e. own.carried_has k (was k e);
       carried_unacked = λ k e. own.carried_unacked k (was k e);
-      lost_has = λ k e. losses-elsewhere n k (max h.moment now) h.losses (not_from (n == k) (λ f. true_false (has_cell n h.cells) (own.carried_has n has) (ap (λ x. has_cell x h.cells) (eq_from n k f) ∙ e))) ∙ own.lost_has k e;
+      lost_has = λ k e. losses-elsewhere n k (max h.moment now) h.losses (not_from (n == k) (λ f. true_false (has_cell n h.cells) (own.carried_has n has) (ap (λ x. has_cell x h.cells) (eqb-true n k f) ∙ e))) ∙ own.lost_has k e;
     }
 
 -- ---- runs

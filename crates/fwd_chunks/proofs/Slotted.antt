@@ -11,8 +11,9 @@ use Rattle.fwd_chunks.specs.Live.{is_at, changed}
 use Rattle.fwd_chunks.specs.Slots.{Held, KeyLists, present, is_slot, is_full, ready_key, due_key, key_by, padded, IsOwn, IsTimed, IsSlotted}
 use Rattle.fwd_chunks.proofs.Sounding.{all-filter}
 use Rattle.fwd_chunks.proofs.Places.{none_some, get-read, place-within}
-use Rattle.fwd_chunks.proofs.Search.{one_slot, number-read}
+use Rattle.fwd_chunks.proofs.Search.{number-read}
 use Rattle.fwd_chunks.proofs.Slotting.{present-append, present-full, find-slot, changed-slot, changed-empty, removed-slot, removed-count, set-rising, set-own, own-at, set-timed, timed-at, set-below, keys-set, keys-same, keys-long, keys-push, keys-padded, rising-more, rising-full, all-more, all-imply}
+use Rattle.std.proofs.lemmas.Option.{same_Some}
 
 -- what slots show
 abbrev pub shown : List Slot → KeyLists → Option ℕ → Held
@@ -44,7 +45,7 @@ count-same : (xs : List Slot) (i : ℕ) (s : Slot) (c d : Chunk) → slice_get x
     → s.chunk ≡ Some c
     → length (present xs) ≡ length (present (set xs i (record s { chunk = Some d })))
 count-same [] i s c d e at = absurd (none_some e)
-count-same (x ∷ xs) zero s c d e at = ap (λ o. length (option_to_list o ++ present xs)) (ap (λ y. y.chunk) (one_slot e) ∙ at)
+count-same (x ∷ xs) zero s c d e at = ap (λ o. length (option_to_list o ++ present xs)) (ap (λ y. y.chunk) (same_Some _ _ e) ∙ at)
 count-same (x ∷ xs) (suc i) s c d e at = by x.chunk (count-same xs i s c d e at)
   where
     by : (o : Option Chunk)

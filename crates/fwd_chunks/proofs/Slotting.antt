@@ -15,10 +15,11 @@ use Rattle.fwd_retry.specs.Tallies.{live_is_over}
 use Rattle.fwd_chunks.specs.Earliest.{is_within}
 use Rattle.fwd_chunks.specs.Slots.{present, is_slot, is_full, ready_key, due_key, began_by, key_by, IsNone, AreKeys, padded, IsLower, NumbersRise, IsOwn, IsTimed}
 use Rattle.fwd_retry.specs.Tallies.{end_of_wait}
-use Rattle.fwd_chunks.proofs.Numbers.{not_from, true_false, eq_from, eq_same}
+use Rattle.fwd_chunks.proofs.Numbers.{not_from, true_false, eq_same}
 use Rattle.fwd_chunks.proofs.Sounding.{all-filter, found-passes}
 use Rattle.fwd_chunks.proofs.Places.{none_some, get-past, get-within, place-none, place-found, place-within, place-is, place-past}
-use Rattle.fwd_chunks.proofs.Search.{one_slot}
+use Rattle.std.proofs.lemmas.Option.{same_Some}
+use Rattle.std.proofs.lemmas.Bool.{eqb-true}
 
 -- ---- the chunks that are there
 
@@ -61,7 +62,7 @@ find-past : (o : Option Chunk) (n m : ℕ) (rest : List Chunk)
     → find (is_at n) (option_to_list o ++ rest) ≡ find (is_at n) rest
 find-past None n m rest own apart = refl
 find-past (Some c) n m rest own apart =
-    ap (λ b. cond b (Some c) (find (is_at n) rest)) (not_from (is_at n c) (λ e. apart (sym own.0 ∙ eq_from c.number n e)))
+    ap (λ b. cond b (Some c) (find (is_at n) rest)) (not_from (is_at n c) (λ e. apart (sym own.0 ∙ eqb-true c.number n e)))
 
 -- the slot of the number
 find-here : (o : Option Chunk) (n m : ℕ) (rest : List Chunk)
@@ -86,17 +87,17 @@ apart-behind x (y ∷ xs) n same all = ((λ e. omega (arith, all.0, same, e)), a
 behind : (x y : Slot) (xs : List Slot) (i : ℕ) → AllByRecursion (IsLower x) xs
     → slice_get xs i ≡ Some y → x.number < y.number
 behind x y [] i all e = absurd (none_some e)
-behind x y (z ∷ xs) zero all e = subst (λ s. x.number < s.number) (one_slot e) all.0
+behind x y (z ∷ xs) zero all e = subst (λ s. x.number < s.number) (same_Some _ _ e) all.0
 behind x y (z ∷ xs) (suc i) all e = behind x y xs i all.1 e
 
 pub find-slot : (xs : List Slot) (i : ℕ) (s : Slot) → NumbersRise xs → AllByRecursion IsOwn xs
     → slice_get xs i ≡ Some s → find (is_at s.number) (present xs) ≡ s.chunk
 find-slot [] i s rise own e = absurd (none_some e)
 find-slot (x ∷ xs) zero s rise own e =
-    let same : x.number ≡ s.number = ap (λ y. y.number) (one_slot e) in
+    let same : x.number ≡ s.number = ap (λ y. y.number) (same_Some _ _ e) in
     find-here x.chunk s.number x.number (present xs) own.0 same
     (find-nowhere xs s.number own.1 (apart-behind x xs s.number same rise.0))
-    ∙ ap (λ y. y.chunk) (one_slot e)
+    ∙ ap (λ y. y.chunk) (same_Some _ _ e)
 find-slot (x ∷ xs) (suc i) s rise own e =
     let lower = behind x s xs i rise.0 e in
     find-past x.chunk s.number x.number (present xs) own.0 (λ f. omega (arith, lower, f))
@@ -125,7 +126,7 @@ changed-past : (o : Option Chunk) (n m : ℕ) (f : Chunk → Chunk)
     → changed (is_at n) f (option_to_list o ++ rest) ≡ option_to_list o ++ changed (is_at n) f rest
 changed-past None n m f own apart rest = refl
 changed-past (Some c) n m f own apart rest =
-    ap (λ b. cond b (f c) c ∷ changed (is_at n) f rest) (not_from (is_at n c) (λ e. apart (sym own.0 ∙ eq_from c.number n e)))
+    ap (λ b. cond b (f c) c ∷ changed (is_at n) f rest) (not_from (is_at n c) (λ e. apart (sym own.0 ∙ eqb-true c.number n e)))
 
 changed-nowhere : (xs : List Slot) (n : ℕ) (f : Chunk → Chunk) → AllByRecursion IsOwn xs
     → AllByRecursion (λ s. s.number ≡ n → ⊥) xs → changed (is_at n) f (present xs) ≡ present xs
@@ -150,8 +151,8 @@ pub changed-slot : (xs : List Slot) (i : ℕ) (s : Slot) (c : Chunk) (f : Chunk 
     → present (set xs i (record s { chunk = Some (f c) })) ≡ changed (is_at s.number) f (present xs)
 changed-slot [] i s c f rise own e at = absurd (none_some e)
 changed-slot (x ∷ xs) zero s c f rise own e at =
-    let same : x.number ≡ s.number = ap (λ y. y.number) (one_slot e) in
-    changed-here x.chunk c s.number x.number f own.0 (ap (λ y. y.chunk) (one_slot e) ∙ at) same (present xs)
+    let same : x.number ≡ s.number = ap (λ y. y.number) (same_Some _ _ e) in
+    changed-here x.chunk c s.number x.number f own.0 (ap (λ y. y.chunk) (same_Some _ _ e) ∙ at) same (present xs)
     (changed-nowhere xs s.number f own.1 (apart-behind x xs s.number same rise.0))
 changed-slot (x ∷ xs) (suc i) s c f rise own e at =
     let lower = behind x s xs i rise.0 e in
@@ -163,8 +164,8 @@ pub changed-empty : (xs : List Slot) (i : ℕ) (s : Slot) (f : Chunk → Chunk)
     → changed (is_at s.number) f (present xs) ≡ present xs
 changed-empty [] i s f rise own e at = absurd (none_some e)
 changed-empty (x ∷ xs) zero s f rise own e at =
-    let same : x.number ≡ s.number = ap (λ y. y.number) (one_slot e) in
-    let none : x.chunk ≡ None = ap (λ y. y.chunk) (one_slot e) ∙ at in
+    let same : x.number ≡ s.number = ap (λ y. y.number) (same_Some _ _ e) in
+    let none : x.chunk ≡ None = ap (λ y. y.chunk) (same_Some _ _ e) ∙ at in
     ap (λ o. changed (is_at s.number) f (option_to_list o ++ present xs)) none
     ∙ changed-nowhere xs s.number f own.1 (apart-behind x xs s.number same rise.0)
     ∙ ap (λ o. option_to_list o ++ present xs) (sym none)
@@ -183,7 +184,7 @@ filter-past : (o : Option Chunk) (n m : ℕ) (rest : List Chunk)
     ≡ option_to_list o ++ filter (λ c. not (is_at n c)) rest
 filter-past None n m rest own apart = refl
 filter-past (Some c) n m rest own apart =
-    ap (λ b. cond (not b) (c ∷ filter (λ d. not (is_at n d)) rest) (filter (λ d. not (is_at n d)) rest)) (not_from (is_at n c) (λ e. apart (sym own.0 ∙ eq_from c.number n e)))
+    ap (λ b. cond (not b) (c ∷ filter (λ d. not (is_at n d)) rest) (filter (λ d. not (is_at n d)) rest)) (not_from (is_at n c) (λ e. apart (sym own.0 ∙ eqb-true c.number n e)))
 
 filter-nowhere : (xs : List Slot) (n : ℕ) → AllByRecursion IsOwn xs
     → AllByRecursion (λ s. s.number ≡ n → ⊥) xs
@@ -209,7 +210,7 @@ pub removed-slot : (xs : List Slot) (i : ℕ) (s : Slot)
     (present xs)
 removed-slot [] i s rise own e = absurd (none_some e)
 removed-slot (x ∷ xs) zero s rise own e =
-    let same : x.number ≡ s.number = ap (λ y. y.number) (one_slot e) in
+    let same : x.number ≡ s.number = ap (λ y. y.number) (same_Some _ _ e) in
     filter-here x.chunk s.number x.number (present xs) own.0 same
     (filter-nowhere xs s.number own.1 (apart-behind x xs s.number same rise.0))
 removed-slot (x ∷ xs) (suc i) s rise own e =
@@ -226,7 +227,7 @@ pub removed-count : (xs : List Slot) (i : ℕ) (s : Slot) (c : Chunk) → slice_
     → s.chunk ≡ Some c
     → length (present xs) ≡ suc (length (present (set xs i (record s { chunk = None }))))
 removed-count [] i s c e at = absurd (none_some e)
-removed-count (x ∷ xs) zero s c e at = ap (λ o. length (option_to_list o ++ present xs)) (ap (λ y. y.chunk) (one_slot e) ∙ at)
+removed-count (x ∷ xs) zero s c e at = ap (λ o. length (option_to_list o ++ present xs)) (ap (λ y. y.chunk) (same_Some _ _ e) ∙ at)
 removed-count (x ∷ xs) (suc i) s c e at = by x.chunk (removed-count xs i s c e at)
   where
     by : (o : Option Chunk)
@@ -247,13 +248,13 @@ higher-set : (x s : Slot) (o : Option Chunk) (xs : List Slot) (i : ℕ)
     → AllByRecursion (IsLower x) xs → slice_get xs i ≡ Some s
     → AllByRecursion (IsLower x) (set xs i (record s { chunk = o }))
 higher-set x s o [] i all e = tt
-higher-set x s o (y ∷ ys) zero all e = (subst (λ z. x.number < z.number) (one_slot e) all.0, all.1)
+higher-set x s o (y ∷ ys) zero all e = (subst (λ z. x.number < z.number) (same_Some _ _ e) all.0, all.1)
 higher-set x s o (y ∷ ys) (suc i) all e = (all.0, higher-set x s o ys i all.1 e)
 
 pub set-rising : (xs : List Slot) (i : ℕ) (s : Slot) (o : Option Chunk) → NumbersRise xs
     → slice_get xs i ≡ Some s → NumbersRise (set xs i (record s { chunk = o }))
 set-rising [] i s o rise e = tt
-set-rising (x ∷ xs) zero s o rise e = (lower-all x (record s { chunk = o }) xs (ap (λ z. z.number) (one_slot e)) rise.0, rise.1)
+set-rising (x ∷ xs) zero s o rise e = (lower-all x (record s { chunk = o }) xs (ap (λ z. z.number) (same_Some _ _ e)) rise.0, rise.1)
 set-rising (x ∷ xs) (suc i) s o rise e = (higher-set x s o xs i rise.0 e, set-rising xs i s o rise.1 e)
 
 pub set-own : (xs : List Slot) (i : ℕ) (s : Slot) (o : Option Chunk) → AllByRecursion IsOwn xs
@@ -271,7 +272,7 @@ own-by (Some d) c m e all = (let is : d ≡ c = cc in sym (ap (λ y. y.number) i
 pub own-at : (xs : List Slot) (i : ℕ) (s : Slot) (c : Chunk) → AllByRecursion IsOwn xs
     → slice_get xs i ≡ Some s → s.chunk ≡ Some c → c.number ≡ s.number
 own-at [] i s c own e at = absurd (none_some e)
-own-at (x ∷ xs) zero s c own e at = own-by x.chunk c x.number (ap (λ y. y.chunk) (one_slot e) ∙ at) own.0 ∙ ap (λ y. y.number) (one_slot e)
+own-at (x ∷ xs) zero s c own e at = own-by x.chunk c x.number (ap (λ y. y.chunk) (same_Some _ _ e) ∙ at) own.0 ∙ ap (λ y. y.number) (same_Some _ _ e)
 own-at (x ∷ xs) (suc i) s c own e at = own-at xs i s c own.1 e at
 
 pub set-timed : (xs : List Slot) (i : ℕ) (s : Slot) (o : Option Chunk) → AllByRecursion IsTimed xs
@@ -289,7 +290,7 @@ timed-by (Some d) c e all = (let is : d ≡ c = cc in subst (λ y. y.since < 2 ^
 pub timed-at : (xs : List Slot) (i : ℕ) (s : Slot) (c : Chunk) → AllByRecursion IsTimed xs
     → slice_get xs i ≡ Some s → s.chunk ≡ Some c → c.since < 2 ^ 64
 timed-at [] i s c timed e at = absurd (none_some e)
-timed-at (x ∷ xs) zero s c timed e at = timed-by x.chunk c (ap (λ y. y.chunk) (one_slot e) ∙ at) timed.0
+timed-at (x ∷ xs) zero s c timed e at = timed-by x.chunk c (ap (λ y. y.chunk) (same_Some _ _ e) ∙ at) timed.0
 timed-at (x ∷ xs) (suc i) s c timed e at = timed-at xs i s c timed.1 e at
 
 timed-front : (o : Option Chunk) (rest : List Chunk)
@@ -308,7 +309,7 @@ pub set-below : (xs : List Slot) (i : ℕ) (s : Slot) (o : Option Chunk) (top : 
     → AllByRecursion (λ t. t.number < top) xs → slice_get xs i ≡ Some s
     → AllByRecursion (λ t. t.number < top) (set xs i (record s { chunk = o }))
 set-below [] i s o top all e = tt
-set-below (x ∷ xs) zero s o top all e = (subst (λ y. y.number < top) (one_slot e) all.0, all.1)
+set-below (x ∷ xs) zero s o top all e = (subst (λ y. y.number < top) (same_Some _ _ e) all.0, all.1)
 set-below (x ∷ xs) (suc i) s o top all e = (all.0, set-below xs i s o top all.1 e)
 
 pub all-more : {X : Type 0} (P : X → Type 0) (xs : List X) (x : X) → AllByRecursion P xs → P x
@@ -353,7 +354,7 @@ pub keys-same : (key : Chunk → Option ℕ) (xs : List Slot) (ks : List (Option
 keys-same key [] ks i s k all e same = absurd (none_some e)
 keys-same key (x ∷ xs) [] i s k all e same = absurd all
 keys-same key (x ∷ xs) (l ∷ ks) zero s k all e same =
-    ap (λ o. o ∷ ks) (same ∙ ap (λ y. key_by key y.chunk) (sym (one_slot e)) ∙ sym all.0)
+    ap (λ o. o ∷ ks) (same ∙ ap (λ y. key_by key y.chunk) (sym (same_Some _ _ e)) ∙ sym all.0)
 keys-same key (x ∷ xs) (l ∷ ks) (suc i) s k all e same = ap (λ r. l ∷ r) (keys-same key xs ks i s k all.1 e same)
 
 pub keys-long : (key : Chunk → Option ℕ) (xs : List Slot) (ks : List (Option ℕ))
@@ -483,7 +484,7 @@ key-there : (key : Chunk → Option ℕ) (xs : List Slot) (ks : List (Option ℕ
     → k ≡ key_by key s.chunk
 key-there key [] ks i k s all e at = absurd (none_some at)
 key-there key (x ∷ xs) [] i k s all e at = absurd all
-key-there key (x ∷ xs) (l ∷ ks) zero k s all e at = (let is : l ≡ k = cc in sym is ∙ all.0 ∙ ap (λ y. key_by key y.chunk) (one_slot at))
+key-there key (x ∷ xs) (l ∷ ks) zero k s all e at = (let is : l ≡ k = cc in sym is ∙ all.0 ∙ ap (λ y. key_by key y.chunk) (same_Some _ _ at))
 key-there key (x ∷ xs) (l ∷ ks) (suc i) k s all e at = key-there key xs ks i k s all.1 e at
 
 pub key-number : (key : Chunk → Option ℕ) (limit : ℕ) (xs : List Slot) (ks : List (Option ℕ))

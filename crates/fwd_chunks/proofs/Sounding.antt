@@ -16,8 +16,10 @@ use Rattle.fwd_chunks.specs.Events.{BufferEvent, Enter, Flush, Take, Settle, Fre
 use Rattle.fwd_chunks.specs.Live.{LiveBuffer, live_opening, is_open, staged, changed, is_at, held_in, bytes_in, live_next_number, is_open_of, may_take, first_chunk, live_adds_to, live_adds, live_adds_all, live_looks, live_enters, live_is_full, live_is_spent, live_refusal, live_closes, live_flushes, live_given, live_carries_more, live_takes, live_carried, live_settles, live_frees, live_next}
 use Rattle.fwd_retry.specs.Tallies.{tally_more}
 use Rattle.fwd_chunks.specs.Soundness.{IsBefore, AreInOrder, IsWithin, IsSound}
-use Rattle.fwd_chunks.proofs.Numbers.{not_from, eq_from, eq_same}
+use Rattle.fwd_chunks.proofs.Numbers.{not_from, eq_same}
 use Rattle.fwd_chunks.proofs.CellLemmas.{size_of-push}
+use Rattle.std.proofs.lemmas.Option.{same_Some}
+use Rattle.std.proofs.lemmas.Bool.{eqb-true}
 
 -- ---- what holds of each chunk
 
@@ -57,10 +59,7 @@ found-all P p [] x e all = absurd (none e)
 found-all P p (y ∷ xs) x e all = by (λ f. found-all P p xs x f all.1) (p y) e
   where
     by : (find p xs ≡ Some x → P x) → (b : Bool) → cond b (Some y) (find p xs) ≡ Some x → P x
-    by rest true f = subst P (same f) all.0
-      where
-        same : Some y ≡ Some x → y ≡ x
-        same g = cc
+    by rest true f = subst P (same_Some _ _ f) all.0
     by rest false f = rest f
 
 pub found-passes : {X : Type 0} (p : X → Bool) (xs : List X) (x : X) → find p xs ≡ Some x
@@ -73,10 +72,7 @@ found-passes p (y ∷ xs) x e = by (found-passes p xs x) (p y) refl e
   where
     by : (find p xs ≡ Some x → p x ≡ true) → (b : Bool) → p y ≡ b
         → cond b (Some y) (find p xs) ≡ Some x → p x ≡ true
-    by rest true g f = ap p (sym (same f)) ∙ g
-      where
-        same : Some y ≡ Some x → y ≡ x
-        same i = cc
+    by rest true g f = ap p (sym (same_Some _ _ f)) ∙ g
     by rest false g f = rest f
 
 -- ---- the order
@@ -122,16 +118,13 @@ found-only p (d ∷ chunks) c h e = by (found-only p chunks c h.1) (p d) e
         → (b : Bool) → cond b (Some d) (find p chunks) ≡ Some c
         → ((d.number == c.number) ≡ true → d ≡ c) × AllByRecursion
         (λ x. (x.number == c.number) ≡ true → x ≡ c) chunks
-    by rest true f = (λ g. same f, later chunks h.0)
+    by rest true f = (λ g. same_Some _ _ f, later chunks h.0)
       where
-        same : Some d ≡ Some c → d ≡ c
-        same g = cc
-
         later : (xs : List Chunk) → AllByRecursion (IsBefore d) xs
             → AllByRecursion (λ x. (x.number == c.number) ≡ true → x ≡ c) xs
         later [] all = tt
-        later (x ∷ xs) all = (λ g. absurd (omega (arith, all.0.lower, eq_from x.number c.number g, ap (λ y. y.number) (same f))), later xs all.1)
-    by rest false f = (λ g. absurd (omega (arith, (found-all (IsBefore d) p chunks c f h.0).lower, eq_from d.number c.number g)), rest f)
+        later (x ∷ xs) all = (λ g. absurd (omega (arith, all.0.lower, eqb-true x.number c.number g, ap (λ y. y.number) (same_Some _ _ f))), later xs all.1)
+    by rest false f = (λ g. absurd (omega (arith, (found-all (IsBefore d) p chunks c f h.0).lower, eqb-true d.number c.number g)), rest f)
 
 -- ---- sums
 
@@ -197,19 +190,16 @@ total-changed p f w (d ∷ chunks) c h e = by (total-changed p f w chunks c h.1)
         (changed (is_at c.number) f chunks)) + w c ≡
         (w d + total w chunks) + w (f c)
     by rest true g =
-        let same : d ≡ c = one g in
+        let same : d ≡ c = same_Some _ _ g in
         let here : w (cond (d.number == c.number) (f d) d) ≡ w (f c) = ap (λ b. w (cond b (f d) d)) (ap (λ x. eqb d.number x.number) (sym same) ∙ eq_same d.number) ∙ ap (λ x. w (f x)) same in
         omega (arith, here, ap w same, changed_none c.number f w chunks (later chunks h.0))
       where
-        one : Some d ≡ Some c → d ≡ c
-        one i = cc
-
         later : (xs : List Chunk) → AllByRecursion (IsBefore d) xs
             → AllByRecursion (λ x. (x.number == c.number) ≡ false) xs
         later [] all = tt
-        later (x ∷ xs) all = (not_from (x.number == c.number) (λ i. absurd (omega (arith, all.0.lower, eq_from x.number c.number i, ap (λ y. y.number) (one g)))), later xs all.1)
+        later (x ∷ xs) all = (not_from (x.number == c.number) (λ i. absurd (omega (arith, all.0.lower, eqb-true x.number c.number i, ap (λ y. y.number) (same_Some _ _ g)))), later xs all.1)
     by rest false g =
-        let apart : (d.number == c.number) ≡ false = not_from (d.number == c.number) (λ i. absurd (omega (arith, (found-all (IsBefore d) p chunks c g h.0).lower, eq_from d.number c.number i))) in
+        let apart : (d.number == c.number) ≡ false = not_from (d.number == c.number) (λ i. absurd (omega (arith, (found-all (IsBefore d) p chunks c g h.0).lower, eqb-true d.number c.number i))) in
         omega (arith, ap (λ b. w (cond b (f d) d)) apart, rest g)
 
 -- ---- joining

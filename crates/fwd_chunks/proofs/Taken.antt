@@ -15,8 +15,10 @@ use Rattle.fwd_chunks.specs.History.{Load}
 use Rattle.fwd_chunks.specs.Live.{LiveBuffer, is_open, is_closed, is_taken, staged, changed, is_at, is_open_of, may_take, first_chunk, live_adds_to, live_adds, live_adds_all, live_looks, live_enters, is_due, live_closes, live_flushes, live_is_free, live_given, live_carries_more, live_takes, live_load, live_carried, live_settles, live_frees}
 use Rattle.fwd_retry.specs.Tallies.{live_is_over, tally_more}
 use Rattle.fwd_chunks.specs.Soundness.{IsBefore, AreInOrder, IsSound}
-use Rattle.fwd_chunks.proofs.Numbers.{not_from, eq_from, eq_same}
+use Rattle.fwd_chunks.proofs.Numbers.{not_from, eq_same}
 use Rattle.fwd_chunks.proofs.Sounding.{found-all, found-passes, found-only, IsSorted, with_entry, adds-sorted, sorted}
+use Rattle.std.proofs.lemmas.Option.{same_Some}
+use Rattle.std.proofs.lemmas.Bool.{eqb-true}
 
 -- a worker has the chunk, which has the number
 abbrev has : ℕ → Chunk → Bool
@@ -98,14 +100,11 @@ find-taken p worker (d ∷ chunks) c h e = by (find-taken p worker chunks c h.1)
         ∷ changed (is_at c.number) (staged (Taken worker)) chunks) ≡ Some
         (staged (Taken worker) c)
     by rest true g =
-        let here : (d.number == c.number) ≡ true = ap (λ x. eqb d.number x.number) (sym (one g)) ∙ eq_same d.number in
+        let here : (d.number == c.number) ≡ true = ap (λ x. eqb d.number x.number) (sym (same_Some _ _ g)) ∙ eq_same d.number in
         (λ i. find (has c.number) (cond (here i) (staged (Taken worker) d) d ∷ changed (is_at c.number) (staged (Taken worker)) chunks))
-        ∙ (λ i. cond (here i && true) (Some (staged (Taken worker) (one g i))) (find (has c.number) (changed (is_at c.number) (staged (Taken worker)) chunks)))
-      where
-        one : Some d ≡ Some c → d ≡ c
-        one i = cc
+        ∙ (λ i. cond (here i && true) (Some (staged (Taken worker) (same_Some _ _ g i))) (find (has c.number) (changed (is_at c.number) (staged (Taken worker)) chunks)))
     by rest false g =
-        let apart : (d.number == c.number) ≡ false = not_from (d.number == c.number) (λ i. absurd (omega (arith, (found-all (IsBefore d) p chunks c g h.0).lower, eq_from d.number c.number i))) in
+        let apart : (d.number == c.number) ≡ false = not_from (d.number == c.number) (λ i. absurd (omega (arith, (found-all (IsBefore d) p chunks c g h.0).lower, eqb-true d.number c.number i))) in
         (λ i. find (has c.number) (cond (apart i) (staged (Taken worker) d) d ∷ changed (is_at c.number) (staged (Taken worker)) chunks))
         ∙ (λ i. cond (apart i && is_taken d.stage) (Some d) (find (has c.number) (changed (is_at c.number) (staged (Taken worker)) chunks)))
         ∙ rest g
@@ -199,7 +198,7 @@ carried-takes b worker now n load own carried = by (live_given (live_looks b now
         clash f = cc
 
         apart : is_at n c ≡ false
-        apart = not_from (is_at n c) (λ f. clash (sym (given-free b now c own e) ∙ ap (live_carried b) (eq_from c.number n f) ∙ carried))
+        apart = not_from (is_at n c) (λ f. clash (sym (given-free b now c own e) ∙ ap (live_carried b) (eqb-true c.number n f) ∙ carried))
 
 pub given-carried : (b : LiveBuffer) (worker now : ℕ) (c : Chunk) → IsSound b
     → live_given (live_looks b now) ≡ Some c
@@ -222,7 +221,7 @@ find-settled k n differ (c ∷ chunks) = by (find-settled k n differ chunks) (is
         (filter (λ d. not (is_at k d)) chunks)) ≡ find
         (has n) (c ∷ chunks)
     by rest true e =
-        let apart : is_at n c ≡ false = not_from (is_at n c) (λ f. differ (sym (eq_from c.number k e) ∙ eq_from c.number n f)) in
+        let apart : is_at n c ≡ false = not_from (is_at n c) (λ f. differ (sym (eqb-true c.number k e) ∙ eqb-true c.number n f)) in
         rest ∙ (λ i. cond (sym apart i && is_taken c.stage) (Some c) (find (has n) chunks))
     by rest false e = ap (cond (has n c) (Some c)) rest
 
@@ -244,7 +243,7 @@ find-freed b k n f differ free = find-changed (has n) (is_at k) f b.chunks
     )) b.chunks)
   where
     apart : (c : Chunk) → is_at k c ≡ true → is_at n c ≡ false
-    apart c e = not_from (is_at n c) (λ g. differ (sym (eq_from c.number k e) ∙ eq_from c.number n g))
+    apart c e = not_from (is_at n c) (λ g. differ (sym (eqb-true c.number k e) ∙ eqb-true c.number n g))
 
 -- what another worker has stays where a number is given back
 pub carried-frees : (b : LiveBuffer) (k n : ℕ) (loss : Option ℕ) → k ≢ n

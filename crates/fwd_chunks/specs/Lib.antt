@@ -17,3 +17,6 @@ pub mod Stored
 pub mod Filling
 pub mod Parts
 pub mod Plans
+-- Of the crates below, for those above.
+pub use Rattle.fwd_counts.specs.declared.counts.Counts
+pub use Rattle.fwd_retry.specs.Waits

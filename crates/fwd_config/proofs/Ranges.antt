@@ -1,9 +1,12 @@
--- What the ranges of settings say of an output's servers.
-use Rattle.std.proofs.Common.{◌≡◌, ◌≤◌, ◌&&◌, ◌||◌, Bool, true, false, not, List, [], ◌∷◌, length, map, refl, ◌∙◌, arith}
+-- What the ranges of settings say of the outputs, and of an output's servers.
+use Rattle.std.proofs.Common.{◌≡◌, ◌≤◌, ◌&&◌, ◌||◌, ℕ, Bool, true, false, not, List, [], ◌∷◌, length, map, refl, ◌∙◌, arith}
 use Rattle.std.specs.List.{list_all, list_any}
 use Rattle.std.proofs.lemmas.Bool.Decides.{nat_tests}
 use Rattle.std.proofs.lemmas.List.{length-map}
-use Rattle.fwd_settings.specs.Ranges.{output_in_range}
+use Rattle.std.proofs.lemmas.Bool.{and_parts}
+use Rattle.fwd_settings.specs.Kinds.{is_within}
+use Rattle.fwd_settings.specs.Ranges.{in_range, output_in_range, relay_in_range}
+use Rattle.fwd_settings.specs.declared.settings.Settings.{Settings}
 use Rattle.fwd_settings.specs.declared.settings.OutputSettings.{OutputSettings}
 
 -- some fails a test exactly where not all pass it
@@ -30,3 +33,14 @@ pub servers_primary : (o : OutputSettings) → output_in_range o ≡ true
 servers_primary o h =
     let some : not (list_all (λ s. s.standby) o.servers) ≡ true = grind (arith, nat_tests) in
     list_any-not (λ s. s.standby) o.servers ∙ some
+
+-- there are 1 to 64 outputs
+pub outputs_few : (s : Settings) → in_range s ≡ true → length s.outputs ≤ 64
+outputs_few s h =
+    let counted = is_within 1 64 (length s.outputs) in
+    let parts = and_parts (relay_in_range s.relay) (counted && list_all output_in_range s.outputs) h in
+    let count = and_parts counted (list_all output_in_range s.outputs) parts.1 in
+    at_most (length s.outputs) count.0
+  where
+    at_most : (n : ℕ) → is_within 1 64 n ≡ true → n ≤ 64
+    at_most n e = grind (arith, nat_tests, e)

@@ -70,4 +70,6 @@ pub record IsConfig (s : Settings) (config : Config) : Type 0 where
   pub hostname : config.security.hostname ≡ s.relay.hostname
   pub shared_key : config.security.shared_key ≡ s.relay.shared_key
   pub users : config.security.users ≡ map user_of s.relay.users
+  pub message_limit : config.limits.bytes ≡ s.relay.message_limit
+  pub depth : config.limits.depth ≡ s.relay.depth
   pub outputs : map parts_known config.outputs ≡ map parts_set s.outputs

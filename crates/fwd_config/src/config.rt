@@ -9,6 +9,7 @@ use fwd_base::{Bytes, Seq, Text};
 use fwd_handshake::{Login, Security, User};
 use fwd_match::{Pattern, Routes};
 use fwd_model::{BufferLimits, Config, OutputConfig};
+use fwd_msgpack::Limits;
 use fwd_settings::{OutputSettings, RelaySettings, ServerSettings, Settings, UserSettings};
 use std::alloc::{AllocError, Global};
 
@@ -145,19 +146,24 @@ fn security_of(alloc: Global, relay: &RelaySettings) -> Result<Security, AllocEr
     })
 }
 
-/// What settings set the relay to. Without a run id it is zeros. The only error is want of memory.
+/// What settings set the relay to. Without a run id it is zeros. The only error is out of memory.
 pub fn config_of(alloc: Global, settings: Settings) -> Result<Config, AllocError>
     requires { in_range settings ≡ true }
     ensures { IfOk result (λ config. IsConfig settings config) }
 {
     let run = settings.relay.run_id.unwrap_or([0; 6]);
     let security = security_of(alloc, &settings.relay)?;
+    let limits = Limits {
+        bytes: settings.relay.message_limit,
+        depth: settings.relay.depth,
+    };
     let outputs = configs_of(alloc, settings.outputs.as_slice())?;
     let patterns = patterns_of(alloc, settings.outputs.into_vec())?;
     Ok(Config {
         run,
         routes: Routes::new(patterns),
         security,
+        limits,
         outputs: Seq::from_vec(outputs),
     })
 }

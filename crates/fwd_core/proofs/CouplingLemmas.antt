@@ -24,9 +24,7 @@ use Rattle.fwd_book.proofs.Following.{filter-at}
 use Rattle.fwd_book.proofs.Found.{numbered, for-found, comes, found_there, in_both}
 use Rattle.fwd_model.specs.Outputs.{book_setting}
 use Rattle.fwd_core.specs.Coupling.{AreWaiting, IsCoupled}
-
-some_is : {X : Type 0} {x y : X} → Some x ≡ Some y → x ≡ y
-some_is e = cc
+use Rattle.std.proofs.lemmas.Option.{same_Some}
 
 none_some : {X : Type 0} {x : X} → None ≡ Some x → ⊥
 none_some e = absurd cc
@@ -136,7 +134,7 @@ enters-coupled b k r origin now sound own = record {
     new = entered_as r origin (live_spans b r now)
 
     only : (j : ℕ) (q : Entered) → slice_get (new ∷ []) j ≡ Some q → new ≡ q
-    only zero q e = some_is e
+    only zero q e = same_Some _ _ e
     only (suc j) q e = absurd (none_some e)
 
     by : (i : ℕ) (q : Entered)
@@ -154,7 +152,7 @@ enters-coupled b k r origin now sound own = record {
 has-run : (qs : List Entered) (i : ℕ) (q : Entered) (s : Span) → slice_get qs i ≡ Some q
     → list_any (λ x. x.number == s.number) q.spans ≡ true → list_any (has_run s.number) qs ≡ true
 has-run [] i q s at has = absurd (none_some at)
-has-run (r ∷ qs) zero q s at has = ap (λ t. t || list_any (has_run s.number) qs) (ap (has_run s.number) (some_is at) ∙ has)
+has-run (r ∷ qs) zero q s at has = ap (λ t. t || list_any (has_run s.number) qs) (ap (has_run s.number) (same_Some _ _ at) ∙ has)
 has-run (r ∷ qs) (suc i) q s at has = by (has_run s.number r) (has-run qs i q s at has)
   where
     by : (t : Bool) → list_any (has_run s.number) qs ≡ true
@@ -224,7 +222,7 @@ settles-coupled b k e load sound is same own = record {
         none_some (sym (neither (evidence_of k.settled s.number) (evidence_of (e ∷ []) s.number) (found s used none)).1 ∙ ap (λ t. cond t (Some e) None) here)
 
     only : (j : ℕ) (d : Evidence) → slice_get (e ∷ []) j ≡ Some d → e ≡ d
-    only zero d f = some_is f
+    only zero d f = same_Some _ _ f
     only (suc j) d f = absurd (none_some f)
 
     by : (d : Evidence)

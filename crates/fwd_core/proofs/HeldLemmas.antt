@@ -14,9 +14,7 @@ use Rattle.fwd_model.specs.Outputs.{live_gets_back, returned, moment_if}
 use Rattle.fwd_session.specs.Live.{LiveSession}
 use Rattle.fwd_model.proofs.Reached.{slice_get-set}
 use Rattle.fwd_core.specs.Lanes.{no_work, AreHeld}
-
-some_is : {X : Type 0} {x y : X} → Some x ≡ Some y → x ≡ y
-some_is h = cc
+use Rattle.std.proofs.lemmas.Option.{same_Some}
 
 none_some : {X : Type 0} {x : X} → None ≡ Some x → ⊥
 none_some e = cc
@@ -26,7 +24,7 @@ none_some e = cc
 idle : (n w : ℕ) (x : Worker LiveSession) → slice_get (replicate n no_work) w ≡ Some x
     → no_work ≡ x
 idle zero w x e = absurd cc
-idle (suc n) zero x e = some_is e
+idle (suc n) zero x e = same_Some _ _ e
 idle (suc n) (suc w) x e = idle n w x e
 
 pub held-idle : (b : LiveBuffer) (n : ℕ) → AreHeld b (replicate n no_work)
@@ -112,7 +110,7 @@ held-takes b ws place worker now x y sound own here given = record {
         by : (o : Option Chunk) → live_given (live_looks b now) ≡ o
             → option_map (live_load b) o ≡ Some c → IsGiven b now c
         by None e f = absurd (none_some f)
-        by (Some chunk) e f = record { chunk = chunk; is = e; load = some_is f }
+        by (Some chunk) e f = record { chunk = chunk; is = e; load = same_Some _ _ f }
 
     one : (w : ℕ) (z : Worker LiveSession) (c : Load) → z.chunk ≡ Some c
         → ((place ≡ w) × (y ≡ z)) ⊎ ((place ≢ w) × (slice_get ws w ≡ Some z))

@@ -14,14 +14,12 @@ use Rattle.fwd_model.specs.declared.event.EndKind.{EndKind}
 use Rattle.fwd_model.specs.Step.{choose, take, settle, end, is_idle, has_acked, has_loaded, lost_server}
 use Rattle.fwd_model.specs.Live.{LiveLane, lives, with_live_output, lane_gives, lane_takes, lane_settles, lane_ends}
 use Rattle.fwd_core.specs.Lanes.{acked_in, evidence_in}
-
-pub some_same : {X : Type 0} {x y : X} → Some x ≡ Some y → x ≡ y
-some_same e = cc
+use Rattle.std.proofs.lemmas.Option.{same_Some}
 
 -- what is read at one place is one
 pub read_same : {X : Type 0} (xs : List X) (i : ℕ) (x y : X) → slice_get xs i ≡ Some x
     → slice_get xs i ≡ Some y → x ≡ y
-read_same xs i x y e f = some_same (sym e ∙ f)
+read_same xs i x y e f = same_Some _ _ (sym e ∙ f)
 
 -- a worker that has no chunk takes
 pub take_is : (l : LiveLane) (w now : ℕ) (x : Worker LiveSession)
@@ -56,7 +54,7 @@ acked_by (Some s) a e = record { session = s; is = refl; acks = e }
 pub evidence_of_it : (o : Option LiveSession) (s : LiveSession) (c : Load) (k : Evidence)
     → o ≡ Some s
     → evidence_in o c ≡ Some k → lives.evidence s c ≡ k
-evidence_of_it o s c k e f = some_same (sym (ap (λ x. evidence_in x c) e) ∙ f)
+evidence_of_it o s c k e f = same_Some _ _ (sym (ap (λ x. evidence_in x c) e) ∙ f)
 
 -- a worker that is not idle, and has nothing to settle, ends
 pub end_is : (l : LiveLane) (w : ℕ) (kind : EndKind) (now : ℕ) (x : Worker LiveSession)

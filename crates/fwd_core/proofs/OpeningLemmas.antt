@@ -37,12 +37,13 @@ pub opening-live : (config : Config)
       run = config.run;
       routes = config.routes;
       security = config.security;
+      limits = config.limits;
       last = None;
       connections = [];
       lanes = new_live_lanes config.run 0 config.outputs;
     }
 unfolding live opening
-opening-live config = λ i. record { run = config.run; routes = config.routes; security = config.security; last = None; connections = []; lanes = new_lanes-live config.run 0 config.outputs i }
+opening-live config = λ i. record { run = config.run; routes = config.routes; security = config.security; limits = config.limits; last = None; connections = []; lanes = new_lanes-live config.run 0 config.outputs i }
 
 -- ---- some server is no standby
 

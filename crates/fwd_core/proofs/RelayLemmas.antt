@@ -10,6 +10,7 @@ use Rattle.fwd_model.specs.declared.fault.Refusal.TheVariants.{NoSuch}
 use Rattle.fwd_model.specs.Outcome.{Outcome, Stays, Goes, answer_of, state_of, within, found, ◌>>=◌}
 use Rattle.fwd_model.specs.Step.{at_source, at_lane, at_both, at_worker}
 use Rattle.fwd_core.specs.Places.{IsPlace}
+use Rattle.std.proofs.lemmas.Option.{same_Some}
 
 pub set_same : {X : Type 0} (xs : List X) (i : ℕ) (x : X) → slice_get xs i ≡ Some x
     → set xs i x ≡ xs
@@ -24,18 +25,18 @@ put_state put s whole (Stays a) stays = stays
 put_state put s whole (Goes a t) stays = refl
 
 abbrev pub with_source_at : ℕ → LiveConnection → LiveRelay → LiveRelay
-with_source_at place c r = record { run = r.run; routes = r.routes; security = r.security; last = r.last; connections = slice_set r.connections place c; lanes = r.lanes }
+with_source_at place c r = record r { connections = slice_set r.connections place c }
 
 abbrev pub with_both : ℕ → LiveConnection → ℕ → LiveLane → LiveRelay → LiveRelay
-with_both place c o l r = record { run = r.run; routes = r.routes; security = r.security; last = r.last; connections = slice_set r.connections place c; lanes = slice_set r.lanes o l }
+with_both place c o l r = record r { connections = slice_set r.connections place c; lanes = slice_set r.lanes o l }
 
 lane_stays : (r : LiveRelay) (o : ℕ) (l : LiveLane) → slice_get r.lanes o ≡ Some l
     → with_live_lane o l r ≡ r
-lane_stays r o l here = λ i. record { run = r.run; routes = r.routes; security = r.security; last = r.last; connections = r.connections; lanes = set_same r.lanes o l here i }
+lane_stays r o l here = λ i. record r { lanes = set_same r.lanes o l here i }
 
 source_stays : (r : LiveRelay) (id place : ℕ) (at : IsPlace id r.connections place)
     → with_live_connection id at.source r ≡ r
-source_stays r id place at = λ i. record { run = r.run; routes = r.routes; security = r.security; last = r.last; connections = (at.put at.source ∙ set_same r.connections place (record { id = id; source = at.source }) at.here) i; lanes = r.lanes }
+source_stays r id place at = λ i. record r { connections = (at.put at.source ∙ set_same r.connections place (record { id = id; source = at.source }) at.here) i }
 
 -- ---- as an output's methods meet them
 
@@ -100,7 +101,7 @@ module _ (R S : LiveRelay) (same : R ≡ S) where
       → with_source_at place c R ≡ state_of S (at_source lives S id f)
   source_done id place at s t c own named f e =
       (λ i. with_source_at place (named i) R)
-      ∙ (λ i. record { run = R.run; routes = R.routes; security = R.security; last = R.last; connections = sym (at.put t) i; lanes = R.lanes })
+      ∙ (λ i. record R { connections = sym (at.put t) i })
       ∙ ap (λ x. with_live_connection id x R) (e ∙ ap (λ x. state_of x (f x)) (sym own))
       ∙ put_state (λ x. with_live_connection id x R) at.source R (f at.source) (source_stays R id place at)
       ∙ ap (λ x. state_of R (found x NoSuch >>= λ k. within (λ m. with_live_connection id m R) (f k))) (sym at.found)
@@ -117,7 +118,7 @@ module _ (R S : LiveRelay) (same : R ≡ S) where
       let here_o : slice_get R.lanes o ≡ Some l = subst (λ k. slice_get R.lanes k ≡ Some l) at_o here in
       let put : LiveSource × LiveLane → LiveRelay = λ both. with_live_lane o both.1 (with_live_connection id both.0 R) in
       (λ i. with_both place (named i) (at_o i) new R)
-      ∙ (λ i. record { run = R.run; routes = R.routes; security = R.security; last = R.last; connections = sym (at.put t) i; lanes = slice_set R.lanes o new })
+      ∙ (λ i. record R { connections = sym (at.put t) i; lanes = slice_set R.lanes o new })
       ∙ (λ i. put (first i, second i))
       ∙ ap (λ x. put (state_of (x, l) (f R x l))) (sym own)
       ∙ put_state put (at.source, l) R (f R at.source l) (ap (with_live_lane o l) (source_stays R id place at) ∙ lane_stays R o l here_o)
@@ -130,8 +131,5 @@ pub read_place : (id : ℕ) (cs : List LiveConnection) (place : ℕ) (at : IsPla
     × (c.id ≡ id)
 read_place id cs place at c e =
     let both : Some (record { id = id; source = at.source }) ≡ Some c = sym at.here ∙ e in
-    let one = some_is (record { id = id; source = at.source }) c both in
+    let one = same_Some (record { id = id; source = at.source }) c both in
     (ap (λ (x : LiveConnection). x.source) one, sym (ap (λ (x : LiveConnection). x.id) one))
-  where
-    some_is : (x y : LiveConnection) → Some x ≡ Some y → x ≡ y
-    some_is x y h = cc

@@ -6,3 +6,9 @@ pub mod Places
 pub mod Relays
 pub mod Runs
 pub mod Standing
+-- Of the crate below, for those above.
+pub use Rattle.fwd_model.specs.declared.config.Config
+pub use Rattle.fwd_model.specs.declared.event.EndKind
+pub use Rattle.fwd_model.specs.Live
+pub use Rattle.fwd_model.specs.Outputs
+pub use Rattle.fwd_model.specs.Step

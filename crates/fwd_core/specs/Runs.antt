@@ -1,4 +1,4 @@
--- Which events of a run counted: those not answered by want of memory.
+-- Which events of a run counted: those not answered by out of memory.
 use Rattle.std.specs.Prelude.{Bool, true, false, not, List, [], ◌∷◌, filter, if◌then◌else◌}
 use Rattle.fwd_model.specs.declared.event.Event.{Event}
 use Rattle.fwd_model.specs.declared.event.Event.TheVariants.{
@@ -26,12 +26,12 @@ use Rattle.fwd_model.specs.Outcome.{answer_of}
 use Rattle.fwd_model.specs.Step.{step}
 use Rattle.fwd_model.specs.Live.{LiveRelay, lives}
 
--- want of memory
+-- out of memory
 abbrev pub is_memory : Answer → Bool
 is_memory Memory = true
 is_memory _ = false
 
--- the answers that are not want of memory
+-- the answers that are not out of memory
 abbrev pub told : List Answer → List Answer
 told answers = filter (λ a. not (is_memory a)) answers
 

@@ -13,7 +13,8 @@ ghost use Rattle.fwd_model.specs.Step.{piece, drained};
 
 use fwd_handshake::{Nonces, Security};
 use fwd_model::{Answer, Refusal};
-use fwd_source::{Piece, SOURCE_LIMITS, Source};
+use fwd_msgpack::Limits;
+use fwd_source::{Piece, Source};
 use std::alloc::{AllocError, Global};
 use std::marker::Model;
 use std::sync::Arc;
@@ -39,14 +40,15 @@ impl Connection {
         alloc: Global,
         id: u64,
         security: &Arc<Security>,
+        limits: Limits,
         nonces: Nonces,
     ) -> Result<Connection, AllocError>
         ensures { IfOk result (λ c.
             c ≡ new_live_connection
-            (setup_of (arc_value security.now) id nonces.nonce nonces.auth)) }
+            (setup_of (arc_value security.now) limits id nonces.nonce nonces.auth)) }
     {
         let security = Arc::try_clone(security)?;
-        let source = Source::new(alloc, id, security, nonces, SOURCE_LIMITS)?;
+        let source = Source::new(alloc, id, security, nonces, limits)?;
         Ok(Connection { id, source })
     }
 

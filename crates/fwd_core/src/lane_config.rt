@@ -44,7 +44,7 @@ impl Model for LaneConfig {
 }
 
 impl LaneConfig {
-    /// The same settings, with a login that is shared. The only error is want of memory.
+    /// The same settings, with a login that is shared. The only error is out of memory.
     pub fn new(alloc: Global, config: OutputConfig) -> Result<Self, AllocError>
         ensures { IfOk result (λ c. c ≡ config) }
     {
@@ -73,7 +73,7 @@ impl LaneConfig {
     }
 
     /// A session with one of the servers that begins at a moment (milliseconds). The only error is
-    /// want of memory.
+    /// out of memory.
     pub fn session(
         &self,
         alloc: Global,

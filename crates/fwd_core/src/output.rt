@@ -161,7 +161,7 @@ fn tell(book: &mut Book, given: &[Receipt])
 
 impl OutputState {
     /// An output without entries, by its limits, its run and its number, and its servers: which of
-    /// them are standbys, 1 to 16 and not all. The only error is want of memory.
+    /// them are standbys, 1 to 16 and not all. The only error is out of memory.
     pub fn new(
         alloc: Global,
         limits: BufferLimits,
@@ -357,7 +357,7 @@ impl OutputState {
     }
 
     /// The receipt of an origin's request, if it is owed an answer and its entries are all
-    /// acknowledged. The only error is want of memory.
+    /// acknowledged. The only error is out of memory.
     pub fn receipt(&self, alloc: Global, origin: Origin) -> Result<Option<Receipt>, AllocError>
         ensures { IfOk result (λ given. option_to_list given
             ≡ receipt_if self.now.book.settled (request_at self.now.book.requests origin)) }
@@ -380,7 +380,7 @@ impl OutputState {
     }
 
     /// The origins of a connection's requests that are owed an answer, in the order in which they
-    /// were entered. The only error is want of memory.
+    /// were entered. The only error is out of memory.
     pub fn untold(&self, alloc: Global, conn: u64) -> Result<Vec<Origin>, AllocError>
         ensures { IfOk result (λ origins. origins.items
             ≡ map (λ q. q.origin) (filter (is_of conn) self.now.book.requests)) }
@@ -389,7 +389,7 @@ impl OutputState {
     }
 
     /// The origins of a connection's requests that are owed an answer and whose entries are all
-    /// acknowledged, in the order in which they were entered. The only error is want of memory;
+    /// acknowledged, in the order in which they were entered. The only error is out of memory;
     /// where there are none no memory is taken.
     pub fn due(&self, alloc: Global, conn: u64) -> Result<Vec<Origin>, AllocError>
         ensures due { IfOk result (λ origins. origins.items
@@ -409,7 +409,7 @@ impl OutputState {
 
     /// The receipts of the requests of these origins whose entries are all acknowledged, in the
     /// order of the origins, each once; each is right for the request of its origin. The only
-    /// error is want of memory, and where there are none no memory is taken.
+    /// error is out of memory, and where there are none no memory is taken.
     pub fn gather(&self, alloc: Global, origins: &[Origin]) -> Result<Vec<Receipt>, AllocError>
         ensures given { IfOk result (λ given. given.items
             ≡ receipts self.now.book.settled self.now.book.requests origins.now) }
@@ -423,9 +423,10 @@ impl OutputState {
         self.book.gather(alloc, origins)
     }
 
-    /// Who is told: of the requests of these origins those whose entries are all acknowledged leave,
-    /// and each is answered with its receipt, in the order of the origins, each once. The only error
-    /// is want of memory, and then nothing has changed; where nobody is told no memory is taken.
+    /// Who is told: of the requests of these origins those whose entries are all acknowledged
+    /// leave, and each is answered with its receipt, in the order of the origins, each once. The
+    /// only error is out of memory, and then nothing has changed; where nobody is told no memory
+    /// is taken.
     pub fn collect(&mut self, alloc: Global, origins: &[Origin]) -> Result<Vec<Receipt>, AllocError>
         ensures given { IfOk result (λ given. given.items
             ≡ receipts self.old.book.settled self.old.book.requests origins.now) }

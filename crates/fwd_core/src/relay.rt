@@ -63,7 +63,7 @@ impl Relay {
     }
 
     /// What an event does, and what is answered. It is the live step of the abstract relay, or
-    /// want of memory, and then nothing has changed.
+    /// out of memory, and then nothing has changed.
     pub fn step(&mut self, alloc: Global, event: &Event) -> Answer
         ensures answer { result ≢ Answer.Memory
             → result ≡ answer_of (step lives self.old event.now) }
@@ -80,7 +80,7 @@ impl Relay {
         self.state.try_step(alloc, event).unwrap_or(Answer::Memory)
     }
 
-    /// Steps through events, and answers each. Over the events that are not answered want of
+    /// Steps through events, and answers each. Over the events that are not answered out of
     /// memory, the answers and the state are the abstract relay's, from any history that a run
     /// reaches and whose live part this relay is. Where the room for the answers is refused,
     /// nothing has changed.

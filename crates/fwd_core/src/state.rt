@@ -36,6 +36,7 @@ use fwd_match::Routes;
 use fwd_model::{
     Answer, Config, EndKind, Event, FlushKind, Origin, OutputConfig, OwnedSalt, Refusal,
 };
+use fwd_msgpack::Limits;
 use fwd_source::Source;
 use std::alloc::{AllocError, Global};
 use std::marker::Model;
@@ -46,6 +47,7 @@ pub(crate) struct State {
     run: [u8; 6],
     routes: Routes,
     security: Arc<Security>,
+    limits: Limits,
     last: Option<u64>,
     connections: Vec<Connection>,
     lanes: Vec<Lane>,
@@ -58,6 +60,7 @@ impl Drop for State {
             run: _,
             routes: _,
             security: _,
+            limits: _,
             last: _,
             connections: _,
             lanes: _,
@@ -75,6 +78,7 @@ impl Model for State {
       run = r.run;
       routes = r.routes;
       security = arc_value r.security;
+      limits = r.limits;
       last = r.last;
       connections = r.connections.items;
       lanes = r.lanes.items;
@@ -90,6 +94,7 @@ impl State {
             run,
             routes,
             security,
+            limits,
             outputs,
         } = config;
         let lanes = lanes_of(alloc, run, outputs)?;
@@ -99,6 +104,7 @@ impl State {
             run,
             routes,
             security,
+            limits,
             last: None,
             connections,
             lanes,
@@ -201,7 +207,7 @@ impl State {
             return Ok(Answer::Refused(Refusal::NotNow));
         }
         let nonces = Nonces { nonce, auth };
-        let connection = Connection::new(alloc, conn, &self.security, nonces)?;
+        let connection = Connection::new(alloc, conn, &self.security, self.limits, nonces)?;
         let out = Bytes::from_slice(alloc, connection.out())?;
         self.connections.push(connection)?;
         self.last = Some(conn);

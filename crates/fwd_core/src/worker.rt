@@ -43,7 +43,7 @@ use crate::output::OutputState;
 use fwd_base::Bytes;
 use fwd_chunks::Carried;
 use fwd_model::{Answer, EndKind, OwnedSalt, Refusal};
-use fwd_session::{Acked, Heard, LoadFailed, Session, Told, frame_of};
+use fwd_session::{Acked, LoadFailed, Session, SessionHeard, SessionTold, frame_of};
 use std::alloc::{AllocError, Global};
 use std::marker::Model;
 use std::sync::Arc;
@@ -72,16 +72,16 @@ impl Model for Worker {
 }
 
 /// What a piece did, as an answer.
-fn answer_for(told: Told) -> Answer
+fn answer_for(told: SessionTold) -> Answer
     ensures { (s : LiveSession) → result ≡ answer_of (of_heard told.heard told.out s) }
 {
-    let Told { heard, out } = told;
+    let SessionTold { heard, out } = told;
     match heard {
-        Heard::Quiet => Answer::Quiet { out },
-        Heard::Ready => Answer::Ready { out },
-        Heard::Acked => Answer::Acked { out },
-        Heard::Fault(fault) => Answer::SessionFaulted(fault),
-        Heard::NotUp => Answer::Refused(Refusal::NotUp),
+        SessionHeard::Quiet => Answer::Quiet { out },
+        SessionHeard::Ready => Answer::Ready { out },
+        SessionHeard::Acked => Answer::Acked { out },
+        SessionHeard::Fault(fault) => Answer::SessionFaulted(fault),
+        SessionHeard::NotUp => Answer::Refused(Refusal::NotUp),
     }
 }
 

@@ -53,7 +53,7 @@ fn write_auth(out: &mut Vec<u8>, security: &Security, auth: &[u8; 16]) -> Result
 
 /// The HELO of a connection (Forward Protocol Specification v1, "Handshake
 /// Messages", "HELO"): its nonce, its auth salt where users are set, and
-/// that the connection is kept. The only error is want of memory.
+/// that the connection is kept. The only error is out of memory.
 #[tactic(auto, unfolding(crate::specs::Messages::helo_text))]
 pub fn write_helo(alloc: Global, security: &Security, nonces: &Nonces) -> Result<Bytes, AllocError>
     ensures { IfOk result (λ helo.
@@ -159,7 +159,7 @@ fn write_ping(
 /// that holds counts: no HELO, or a login without a shared key, which has no handshake; a HELO,
 /// whose `auth` counts as empty where it is no str and no bin, and whose `keepalive` as true where
 /// it is no bool (Forward Protocol Specification v1, "Handshake Messages", "HELO" and "PING"). The
-/// only error is want of memory, and `NotHelo` takes none.
+/// only error is out of memory, and `NotHelo` takes none.
 #[tactic(auto, unfolding(crate::specs::Verdicts::helo_answer))]
 pub fn answer_helo(
     alloc: Global,

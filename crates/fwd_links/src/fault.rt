@@ -1,44 +1,31 @@
-//! Why the relay cannot start, or cannot go on.
+//! Why a worker has nothing to wait with.
 
 ghost use Rattle.std.specs.Prelude.{◌≡◌};
-ghost use Rattle.fwd_links.specs.declared.fault.StartFault.TheVariants as faults;
+ghost use Rattle.fwd_links.specs.declared.fault.WaitFault.TheVariants as faults;
 
 use std::alloc::{AllocError, AllocFailed};
-use std::net::SocketAddr;
-use thiserror::Error;
 
-/// Why the relay cannot start, or cannot go on.
-#[derive(Clone, Copy, Debug, PartialEq, Eq, Error)]
-pub enum StartFault {
+/// Why a worker has nothing to wait with.
+#[derive(Clone, Copy, Debug, PartialEq, Eq)]
+pub enum WaitFault {
     /// Memory was refused.
-    #[error("memory")]
     Memory,
-    /// Nobody can be listened for at this address, which the settings name.
-    #[error("listen: {0}")]
-    Listen(SocketAddr),
-    /// The system gives nothing to wait for sockets with, or a wait failed.
-    #[error("start: poll")]
+    /// The system gives nothing to wait for sockets with.
     Poll,
-    /// The system gives no random bytes.
-    #[error("start: seed")]
-    Seed,
-    /// A worker's thread cannot be had.
-    #[error("start: thread")]
-    Thread,
 }
 
-impl From<AllocError> for StartFault {
+impl From<AllocError> for WaitFault {
     ghost from_gives = { λ _ fault. fault ≡ faults.Memory };
 
-    fn from(_error: AllocError) -> StartFault {
-        StartFault::Memory
+    fn from(_error: AllocError) -> WaitFault {
+        WaitFault::Memory
     }
 }
 
-impl<T: Drop> From<AllocFailed<T>> for StartFault {
+impl<T: Drop> From<AllocFailed<T>> for WaitFault {
     ghost from_gives = { λ _ fault. fault ≡ faults.Memory };
 
-    fn from(_error: AllocFailed<T>) -> StartFault {
-        StartFault::Memory
+    fn from(_error: AllocFailed<T>) -> WaitFault {
+        WaitFault::Memory
     }
 }

@@ -2,8 +2,8 @@
 
 ghost use Rattle.std.specs.Prelude.{◌≡◌, [], IfOk};
 
-use crate::board::{Board, Stop};
-use crate::nap::SharedNap;
+use crate::mailbox::{Mailbox, Stop};
+use crate::waiting::SharedWait;
 use crate::wire::Wire;
 use fwd_workers::{Calls, Hub, Link, LinkFault, Read};
 use std::alloc::Global;
@@ -26,13 +26,13 @@ impl TcpLink {
         rt: &R,
         alloc: Global,
         stop: Stop,
-        nap: SharedNap,
+        wait: SharedWait,
         addr: SocketAddr,
     ) -> io::Result<TcpLink>
         ensures { IfOk result (λ link. link.calls.list ≡ []) }
     {
         Ok(TcpLink {
-            wire: Wire::begin(net, rt, alloc, stop, nap, addr)?,
+            wire: Wire::begin(net, rt, alloc, stop, wait, addr)?,
             calls: Calls::none(),
         })
     }
@@ -83,8 +83,8 @@ impl Link for TcpLink {
 pub struct TcpHub<'a, N: Net> {
     net: &'a N,
     alloc: Global,
-    board: &'a Board,
-    nap: &'a SharedNap,
+    mailbox: &'a Mailbox,
+    wait: &'a SharedWait,
     servers: &'a [SocketAddr],
 }
 
@@ -93,15 +93,15 @@ impl<'a, N: Net> TcpHub<'a, N> {
     pub fn new(
         net: &'a N,
         alloc: Global,
-        board: &'a Board,
-        nap: &'a SharedNap,
+        mailbox: &'a Mailbox,
+        wait: &'a SharedWait,
         servers: &'a [SocketAddr],
     ) -> Self {
         TcpHub {
             net,
             alloc,
-            board,
-            nap,
+            mailbox,
+            wait,
             servers,
         }
     }
@@ -114,10 +114,10 @@ impl<'a, N: Net> Hub for TcpHub<'a, N> {
         let Some(addr) = self.servers.get(server as usize) else {
             return Err(LinkFault::Connect);
         };
-        let (Ok(stop), Ok(nap)) = (self.board.stop_sign(), Arc::try_clone(self.nap)) else {
+        let (Ok(stop), Ok(wait)) = (self.mailbox.stop_sign(), Arc::try_clone(self.wait)) else {
             return Err(LinkFault::Connect);
         };
-        match TcpLink::begin(self.net, rt, self.alloc, stop, nap, *addr) {
+        match TcpLink::begin(self.net, rt, self.alloc, stop, wait, *addr) {
             Ok(link) => Ok(link),
             Err(_) => Err(LinkFault::Connect),
         }

@@ -2,8 +2,8 @@
 
 ghost use Rattle.std.specs.Prelude.{◌≤◌, length, IfOk, IfSome};
 
-use crate::board::Stop;
-use crate::nap::{SharedNap, await_connection};
+use crate::mailbox::Stop;
+use crate::waiting::{SharedWait, await_connection};
 use mio::net::TcpStream;
 use std::alloc::Global;
 use std::io;
@@ -26,7 +26,7 @@ impl From<io::Error> for Broken {
 pub(crate) struct Wire {
     stop: Stop,
     /// The waits of its worker.
-    nap: SharedNap,
+    wait: SharedWait,
     stream: TcpStream,
     is_up: bool,
     /// It was shut for reading, since its worker is to end.
@@ -42,15 +42,15 @@ impl Wire {
         rt: &R,
         alloc: Global,
         stop: Stop,
-        nap: SharedNap,
+        wait: SharedWait,
         addr: SocketAddr,
     ) -> io::Result<Wire> {
         let mut stream = TcpStream::connect(net, addr)?;
         await_connection(net, alloc, &mut stream, &stop)?;
-        nap.lock(rt).start(&mut stream)?;
+        wait.lock(rt).start(&mut stream)?;
         let mut wire = Wire {
             stop,
-            nap,
+            wait,
             stream,
             is_up: false,
             is_shut: false,
@@ -116,7 +116,7 @@ impl Wire {
             return Ok(None);
         }
         let read = self.read_once(room)?;
-        if read.is_some() || !self.nap.lock(rt).await_server() {
+        if read.is_some() || !self.wait.lock(rt).await_server() {
             return Ok(read);
         }
         self.look()?;

@@ -7,7 +7,7 @@ use Rattle.std.proofs.lemmas.List.{length-map}
 use Rattle.fwd_settings.specs.Kinds.{is_within}
 use Rattle.fwd_settings.specs.Ranges.{in_range, relay_in_range, output_in_range}
 use Rattle.fwd_settings.specs.declared.settings.Settings.{Settings}
-use Rattle.fwd_model.specs.declared.config.Config.{Config}
+use Rattle.fwd_core.specs.Config.{Config}
 use Rattle.fwd_config.specs.Configs.{IsConfig, parts_known, parts_set}
 
 -- settings in their ranges have at most 64

@@ -1,13 +1,14 @@
 //! Where requests are admitted, and sources are told.
 
-use crate::lane::Lane;
 use crate::output::Output;
+use crate::output_tickets::OutputTickets;
 use crate::pace::Pace;
 use crate::peers::Peers;
+use crate::watch::{Fact, Want, Watch};
 use fwd_book::Receipt;
 use fwd_links::Notices;
 use fwd_match::Routes;
-use fwd_peers::{Fact, SourceEnd, SourcePeer, Want, Watch};
+use fwd_peers::{SourceEnd, SourcePeer};
 use fwd_workers::{AdmitRefusal, News};
 use std::alloc::{AllocError, AllocFailed, Global};
 use std::sync::Wait;
@@ -15,20 +16,20 @@ use std::sync::Wait;
 /// The outputs as the loop sees them, and which tags go to which. It must be spent: by `close`.
 pub(crate) struct Desk<'a> {
     routes: &'a Routes,
-    lanes: Vec<Lane<'a>>,
+    tickets: Vec<OutputTickets<'a>>,
 }
 
-/// Lanes are closed.
-fn close_all<R: Wait>(rt: &R, lanes: Vec<Lane<'_>>) {
-    let mut rest = lanes.into_iter();
-    while let Some(lane) = rest.next() {
-        lane.close(rt);
+/// The outputs' tickets are closed.
+fn close_all<R: Wait>(rt: &R, tickets: Vec<OutputTickets<'_>>) {
+    let mut rest = tickets.into_iter();
+    while let Some(own) = rest.next() {
+        own.close(rt);
     }
     rest.destroy_empty();
 }
 
 impl<'a> Desk<'a> {
-    /// The outputs, and the pace of each, where no ticket is out. The only error is want of
+    /// The outputs, and the pace of each, where no ticket is out. The only error is out of
     /// memory.
     pub fn new<R: Wait>(
         rt: &R,
@@ -37,16 +38,16 @@ impl<'a> Desk<'a> {
         outputs: &'a [Output],
         paces: &'a mut [Pace],
     ) -> Result<Desk<'a>, AllocError> {
-        let mut lanes = Vec::new(alloc);
+        let mut tickets = Vec::new(alloc);
         for (output, pace) in outputs.iter().zip(paces) {
-            let lane = Lane::new(alloc, output, pace);
-            if let Err(AllocFailed { value: lane }) = lanes.push(lane) {
-                lane.close(rt);
-                close_all(rt, lanes);
+            let own = OutputTickets::new(alloc, output, pace);
+            if let Err(AllocFailed { value: own }) = tickets.push(own) {
+                own.close(rt);
+                close_all(rt, tickets);
                 return Err(AllocError);
             }
         }
-        Ok(Desk { routes, lanes })
+        Ok(Desk { routes, tickets })
     }
 
     /// Admits the requests that wait at a source at a moment (milliseconds). A request that is not
@@ -68,11 +69,11 @@ impl<'a> Desk<'a> {
         now: u64,
     ) -> Result<(), SourceEnd> {
         let output = source.route(self.routes).ok_or(SourceEnd::NoRoute)?;
-        let lane = self.lanes.get_mut(output as usize);
-        let lane = lane.ok_or(SourceEnd::NoRoute)?;
+        let own = self.tickets.get_mut(output as usize);
+        let own = own.ok_or(SourceEnd::NoRoute)?;
         let refused = SourceEnd::Refused(AdmitRefusal::Memory);
         let (origin, batch) = source.next().ok_or(refused)?;
-        match lane.admit(rt, origin, batch, now) {
+        match own.admit(rt, origin, batch, now) {
             Ok(()) => Ok(()),
             Err(refusal) => Err(SourceEnd::Refused(refusal)),
         }
@@ -82,11 +83,11 @@ impl<'a> Desk<'a> {
     /// milliseconds).
     pub fn patience(&self, now: u64, longest: u64) -> u64 {
         let mut wait = longest;
-        for lane in &self.lanes {
-            if lane.is_due() {
+        for own in &self.tickets {
+            if own.is_due() {
                 return 0;
             }
-            if let Some(due) = lane.flush_due() {
+            if let Some(due) = own.flush_due() {
                 wait = wait.min(due.saturating_sub(now));
             }
         }
@@ -95,8 +96,8 @@ impl<'a> Desk<'a> {
 
     /// Closes the chunks that are due at a moment (milliseconds) after all admissions.
     pub fn flush<R: Wait>(&mut self, rt: &R, now: u64) {
-        for lane in &mut self.lanes {
-            lane.flush(rt, now);
+        for own in &mut self.tickets {
+            own.flush(rt, now);
         }
     }
 
@@ -114,24 +115,24 @@ impl<'a> Desk<'a> {
 
     /// A chunk of the output of this number is settled.
     fn settle(&mut self, output: u16, number: u64) {
-        if let Some(lane) = self.lanes.get_mut(output as usize) {
-            lane.settle(number);
+        if let Some(own) = self.tickets.get_mut(output as usize) {
+            own.settle(number);
         }
     }
 
     /// All tickets are to be handed in.
     pub fn settle_all(&mut self) {
-        for lane in &mut self.lanes {
-            lane.settle_all();
+        for own in &mut self.tickets {
+            own.settle_all();
         }
     }
 
     /// Hands in the tickets that are to be, and puts acknowledgements behind what waits to be sent
     /// to their sources, which are to be visited.
     pub fn collect<R: Wait, W: Watch>(&mut self, rt: &R, peers: &mut Peers, watch: &mut W) {
-        for (output, lane) in (0..u16::MAX).zip(&mut self.lanes) {
-            if lane.is_due() {
-                match lane.collect(rt) {
+        for (output, own) in (0..u16::MAX).zip(&mut self.tickets) {
+            if own.is_due() {
+                match own.collect(rt) {
                     Ok(receipts) => tell_all(&receipts, peers),
                     Err(_) => watch.see(Fact::Memory(Want::Output(output))),
                 }
@@ -141,15 +142,15 @@ impl<'a> Desk<'a> {
 
     /// A source is gone: nobody is to be told of its requests any more.
     pub fn abandon<R: Wait>(&mut self, rt: &R, conn: u64) {
-        for lane in &mut self.lanes {
-            lane.abandon(rt, conn);
+        for own in &mut self.tickets {
+            own.abandon(rt, conn);
         }
     }
 
     /// The tickets that are left are abandoned.
     pub fn close<R: Wait>(self, rt: &R) {
-        let Desk { routes: _, lanes } = self;
-        close_all(rt, lanes);
+        let Desk { routes: _, tickets } = self;
+        close_all(rt, tickets);
     }
 }
 

@@ -1,6 +1,6 @@
 //! A listener, and whether connections wait there.
 
-use fwd_links::StartFault;
+use crate::fault::StartFault;
 use mio::net::{TcpListener, TcpStream};
 use mio::{Interest, Poll, Token};
 use std::io;

@@ -1,12 +1,13 @@
 //! What the loop waits for and visits.
 
 use crate::desk::Desk;
+use crate::fault::StartFault;
 use crate::lobby::Lobby;
+use crate::lost_servers::LostServers;
 use crate::output::Output;
 use crate::peers::{Peer, Peers};
-use crate::roster::Roster;
-use fwd_links::{Notices, StartFault};
-use fwd_peers::{Fact, Want, Watch};
+use crate::watch::{Fact, Want, Watch};
+use fwd_links::Notices;
 use mio::{Events, Poll, Token};
 use std::alloc::Global;
 use std::sync::Wait;
@@ -121,8 +122,8 @@ impl Front {
             Peer::Source(source) => {
                 let again = source.hear(self.alloc, &mut self.room);
                 desk.admit_all(rt, source, now);
-                if let Some(fact) = source.fact() {
-                    watch.see(fact);
+                if let Some(end) = source.why_ended() {
+                    watch.see(Fact::of_source(source.peer(), end));
                 }
                 let stands = source.write();
                 let again = again || source.is_free();
@@ -152,14 +153,14 @@ impl Front {
 pub(crate) fn tell_all<W: Watch>(
     notices: &Notices,
     outputs: &[Output],
-    roster: &mut Roster,
+    lost_servers: &mut LostServers,
     watch: &mut W,
 ) {
     if notices.missed {
         watch.see(Fact::Memory(Want::News));
     }
     for notice in &notices.all {
-        if let Some(fact) = roster.hear(outputs, notice) {
+        if let Some(fact) = lost_servers.hear(outputs, notice) {
             watch.see(fact);
         }
     }

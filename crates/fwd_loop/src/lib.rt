@@ -6,23 +6,26 @@
 
 mod desk;
 mod door;
-mod draws;
+mod fault;
 mod front;
-mod lane;
 mod lobby;
+mod lost_servers;
 mod member;
 mod monitor_peer;
 mod output;
+mod output_tickets;
 mod owed;
 mod pace;
 mod peers;
+mod random_streams;
 mod relay_loop;
-mod roster;
-mod since;
+mod run_clock;
 mod teams;
 mod turns;
+mod watch;
 
-pub use fwd_links::StartFault;
-pub use fwd_peers::{Caller, Fact, SourceEnd, Want, Watch};
+pub use fault::StartFault;
+pub use fwd_peers::SourceEnd;
 pub use relay_loop::Loop;
 pub use turns::{Opened, Turns, WorkerTurns};
+pub use watch::{Caller, Fact, Want, Watch};

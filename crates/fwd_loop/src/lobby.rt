@@ -3,8 +3,11 @@
 use crate::door::Door;
 use crate::monitor_peer::MonitorPeer;
 use crate::peers::{Peer, Peers};
+use crate::watch::{Caller, Fact, Want, Watch};
 use fwd_handshake::{Nonces, Security};
-use fwd_peers::{Caller, Fact, SourcePeer, Want, Watch};
+use fwd_msgpack::Limits;
+use fwd_peers::SourcePeer;
+use fwd_source::Source;
 use mio::Registry;
 use mio::net::TcpStream;
 use rand_chacha::ChaCha20Rng;
@@ -18,17 +21,36 @@ const ACCEPTS: u16 = 1_024;
 /// The most monitors at a time.
 const MONITORS: usize = 16;
 
+/// What a source that comes is given.
+#[derive(Drop)]
+pub(crate) struct SourceSetup {
+    /// What it has to prove.
+    pub security: Arc<Security>,
+    /// How long and how deep its values may be.
+    pub limits: Limits,
+    /// Where the random bytes of its handshake come from.
+    pub nonces: ChaCha20Rng,
+}
+
 /// The listeners, and what a source that comes is given.
 #[derive(Drop)]
 pub(crate) struct Lobby {
     pub sources: Door,
     pub monitors: Option<Door>,
-    pub security: Arc<Security>,
-    pub nonces: ChaCha20Rng,
+    pub setup: SourceSetup,
     /// The id of the next source, while there is one: they rise from 1.
     pub next_id: Option<u64>,
     /// The most sources at a time.
     pub limit: usize,
+}
+
+impl SourceSetup {
+    /// The next source, before its first byte. The only error is out of memory.
+    fn source(&mut self, alloc: Global, id: u64) -> Result<Source, AllocError> {
+        let security = Arc::try_clone(&self.security)?;
+        let nonces = Nonces::draw(&mut self.nonces);
+        Ok(Source::new(alloc, id, security, nonces, self.limits)?)
+    }
 }
 
 impl Lobby {
@@ -98,9 +120,8 @@ impl Lobby {
             return Ok(());
         };
         self.next_id = id.checked_add(1);
-        let security = Arc::try_clone(&self.security)?;
-        let nonces = Nonces::draw(&mut self.nonces);
-        let source = SourcePeer::new(alloc, id, stream, peer, security, nonces)?;
+        let source = self.setup.source(alloc, id)?;
+        let source = SourcePeer::new(id, stream, peer, source);
         peers.add(registry, Peer::Source(source))
     }
 

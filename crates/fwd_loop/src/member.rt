@@ -1,8 +1,9 @@
 //! A worker over TCP, in a thread of its own.
 
+use crate::fault::StartFault;
 use crate::output::Output;
-use crate::since::Since;
-use fwd_links::{Bell, Board, Nap, Notice, SharedNap, StartFault, TcpHub};
+use crate::run_clock::RunClock;
+use fwd_links::{Mailbox, Notice, SharedWait, TcpHub, WorkerWait, WorkerWaker};
 use fwd_workers::{Gate, News, Pass, Place, Worker};
 use std::alloc::Global;
 use std::net::Net;
@@ -13,9 +14,9 @@ use std::time::Instant;
 /// Lets a worker wait for chunks, and stops it where all are to end.
 #[derive(Drop)]
 struct WorkerGate<'a> {
-    board: &'a Board,
+    mailbox: &'a Mailbox,
     output: u16,
-    nap: &'a SharedNap,
+    wait: &'a SharedWait,
     /// The worker had a chunk, and may find another: it looks before it waits.
     is_eager: bool,
 }
@@ -23,13 +24,13 @@ struct WorkerGate<'a> {
 impl<'a> WorkerGate<'a> {
     /// The worker comes to a place, and waits there where it found no chunk before.
     fn come_to<R: Wait>(&mut self, rt: &R, place: Place) {
-        let mut nap = self.nap.lock(rt);
+        let mut wait = self.wait.lock(rt);
         if place != Place::BeforeTake {
-            nap.work();
-        } else if self.is_eager || self.board.is_stopped() {
-            nap.look();
+            wait.work();
+        } else if self.is_eager || self.mailbox.is_stopped() {
+            wait.look();
         } else {
-            nap.look_later();
+            wait.look_later();
         }
         self.is_eager = place != Place::BeforeTake;
     }
@@ -38,7 +39,7 @@ impl<'a> WorkerGate<'a> {
 impl<'a> Gate for WorkerGate<'a> {
     fn pass<R: Wait>(&mut self, rt: &R, _worker: u16, place: Place, _turn: u64) -> Pass {
         self.come_to(rt, place);
-        if self.board.is_stopped() {
+        if self.mailbox.is_stopped() {
             Pass::Stop
         } else {
             Pass::Go
@@ -51,7 +52,7 @@ impl<'a> Gate for WorkerGate<'a> {
             worker,
             news,
         };
-        self.board.tell(rt, notice);
+        self.mailbox.tell(rt, notice);
     }
 }
 
@@ -60,7 +61,7 @@ impl<'a> Gate for WorkerGate<'a> {
 pub(crate) struct Member {
     output: u16,
     worker: Worker,
-    nap: SharedNap,
+    wait: SharedWait,
 }
 
 impl Member {
@@ -70,14 +71,14 @@ impl Member {
         alloc: Global,
         output: u16,
         worker: Worker,
-    ) -> Result<(Member, Bell), StartFault> {
-        let (nap, bell) = Nap::new(rt, alloc)?;
+    ) -> Result<(Member, WorkerWaker), StartFault> {
+        let (wait, waker) = WorkerWait::new(rt, alloc)?;
         let member = Member {
             output,
             worker,
-            nap,
+            wait,
         };
-        Ok((member, bell))
+        Ok((member, waker))
     }
 
     /// Works for its output in so many turns, or until all are to end.
@@ -85,23 +86,23 @@ impl Member {
         &mut self,
         rt: &R,
         outputs: &[Output],
-        board: &Board,
+        mailbox: &Mailbox,
         start: Option<Instant>,
         turns: u64,
     ) {
         let output = self.output;
-        let nap = &self.nap;
+        let wait = &self.wait;
         let Some(own) = outputs.get(output as usize) else {
             return;
         };
-        let mut hub = TcpHub::new(rt, rt.alloc(), board, nap, &own.servers);
+        let mut hub = TcpHub::new(rt, rt.alloc(), mailbox, wait, &own.servers);
         let mut gate = WorkerGate {
-            board,
+            mailbox,
             output,
-            nap,
+            wait,
             is_eager: false,
         };
-        let mut clock = Since::new(rt, start);
+        let mut clock = RunClock::new(rt, start);
         self.worker.run(rt, &own.shared, (), &mut hub, &mut gate, &mut clock, turns);
     }
 }

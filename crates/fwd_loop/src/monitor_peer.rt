@@ -36,7 +36,7 @@ impl MonitorPeer {
     }
 
     /// Reads what is there, and writes the reply once there is one. It says whether the connection
-    /// is to be looked at again, where it stands. The only error is want of memory.
+    /// is to be looked at again, where it stands. The only error is out of memory.
     pub fn serve<R: Wait>(
         &mut self,
         rt: &R,
@@ -54,7 +54,7 @@ impl MonitorPeer {
         Ok(Some(visit == Visit::Full))
     }
 
-    /// Takes in bytes, and makes the reply where one is due. The only error is want of memory.
+    /// Takes in bytes, and makes the reply where one is due. The only error is out of memory.
     fn take_in<R: Wait>(
         &mut self,
         rt: &R,

@@ -16,7 +16,7 @@ pub(crate) struct Output {
     pub servers: Vec<SocketAddr>,
 }
 
-/// The counts of all outputs, in their order. The only error is want of memory.
+/// The counts of all outputs, in their order. The only error is out of memory.
 pub(crate) fn counts_of<R: Wait>(
     rt: &R,
     alloc: Global,

@@ -50,7 +50,7 @@ impl Places {
         }
     }
 
-    /// A ticket waits for a chunk, or is due at once. The only error is want of memory.
+    /// A ticket waits for a chunk, or is due at once. The only error is out of memory.
     fn wait(&mut self, chunk: Option<u64>, owner: Owner) -> Result<(), AllocError> {
         match chunk {
             None => self.due.push(owner)?,
@@ -101,7 +101,7 @@ impl Owed {
         }
     }
 
-    /// Keeps a ticket. For want of memory it comes back.
+    /// Keeps a ticket. When out of memory it comes back.
     pub fn keep(&mut self, ticket: Ticket) -> Result<(), Ticket> {
         let owner = Owner::from(ticket.origin());
         let chunk = ticket.spans().first().map(|span| span.number);
@@ -179,7 +179,7 @@ impl Owed {
         }
     }
 
-    /// Takes out the ticket of an owner. For want of memory it stays, and all are due.
+    /// Takes out the ticket of an owner. When out of memory it stays, and all are due.
     fn gather_one(&mut self, owner: Owner, batch: &mut Vec<Ticket>) {
         if batch.reserve(1).is_err() {
             self.places.missed = true;

@@ -1,6 +1,6 @@
 //! When an output's open chunks are closed, and who is told.
 
-use fwd_links::Bell;
+use fwd_links::WorkerWaker;
 
 /// How long after a flush an output's next one is due, in milliseconds, while chunks may be open:
 /// it is due sooner where all of them are old enough sooner.
@@ -17,19 +17,19 @@ pub(crate) struct Pace {
     latest: u64,
     /// When the next flush is due: never while no chunk can be open.
     due: Option<u64>,
-    bells: Vec<Bell>,
+    wakers: Vec<WorkerWaker>,
 }
 
 impl Pace {
     /// The pace of an output without entries, whose chunks wait so long, and whose workers these
     /// call.
-    pub fn new(interval: u64, bells: Vec<Bell>) -> Pace {
+    pub fn new(interval: u64, wakers: Vec<WorkerWaker>) -> Pace {
         Pace {
             interval,
             is_fresh: false,
             latest: 0,
             due: None,
-            bells,
+            wakers,
         }
     }
 
@@ -68,13 +68,13 @@ impl Pace {
 
     /// Whether one of the output's workers looks for a chunk.
     pub fn is_awaited(&self) -> bool {
-        self.bells.iter().any(|bell| bell.is_awaited())
+        self.wakers.iter().any(|waker| waker.is_awaited())
     }
 
     /// Calls the output's workers that look for a chunk.
     pub fn call(&self) {
-        for bell in &self.bells {
-            bell.ring();
+        for waker in &self.wakers {
+            waker.wake();
         }
     }
 }

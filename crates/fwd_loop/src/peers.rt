@@ -96,7 +96,7 @@ impl Peers {
         registry.register(stream, Token(key), interest).ok()
     }
 
-    /// Counts a source, or a monitor. The only error is want of memory.
+    /// Counts a source, or a monitor. The only error is out of memory.
     fn count(&mut self, id: Option<u64>, key: usize) -> Result<(), AllocError> {
         match id {
             Some(id) => {

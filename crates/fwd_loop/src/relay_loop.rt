@@ -5,22 +5,21 @@ ghost use Rattle.fwd_settings.specs.Ranges.{in_range};
 ghost use Rattle.fwd_loop.specs.Ends.{AddUp};
 
 use crate::door::Door;
-use crate::draws::Draws;
+use crate::fault::StartFault;
 use crate::front::{Front, MONITORS, SOURCES, WAKER};
-use crate::lobby::Lobby;
+use crate::lobby::{Lobby, SourceSetup};
 use crate::output::counts_of;
 use crate::peers::Peers;
+use crate::random_streams::RandomStreams;
 use crate::teams::Teams;
 use crate::turns::{Opened, Own, Shared, Turns, WorkerTurns, open};
+use crate::watch::Watch;
 use fwd_chunks::Counts;
 use fwd_config::config_of;
 use fwd_core::{Config, OutputConfig};
-use fwd_handshake::Security;
-use fwd_links::{Board, StartFault};
-use fwd_peers::Watch;
+use fwd_links::Mailbox;
 use fwd_settings::{OutputSettings, Settings};
 use mio::{Events, Poll, Waker};
-use rand_chacha::ChaCha20Rng;
 use std::alloc::{AllocError, Global};
 use std::marker::Model;
 use std::net::{Net, SocketAddr, TcpListener, TcpStream};
@@ -76,7 +75,7 @@ fn servers_of(alloc: Global, outputs: &[OutputSettings]) -> Result<Vec<Vec<Socke
 fn teams_of<R: Net>(
     rt: &R,
     alloc: Global,
-    draws: &Draws,
+    random: &RandomStreams,
     run: [u8; 6],
     configs: Vec<OutputConfig>,
     servers: Vec<Vec<SocketAddr>>,
@@ -90,7 +89,7 @@ fn teams_of<R: Net>(
     let mut servers = servers.into_iter();
     while let (Some(config), Some(own)) = (configs.next(), servers.next()) {
         let number = teams.outputs.len() as u16;
-        teams.add(rt, draws, run, number, config, own)?;
+        teams.add(rt, random, run, number, config, own)?;
     }
     Ok(teams)
 }
@@ -100,9 +99,8 @@ fn front_of<R: Net>(
     rt: &R,
     alloc: Global,
     address: Address,
-    security: Security,
-    nonces: ChaCha20Rng,
-) -> Result<(Front, Board), StartFault> {
+    setup: SourceSetup,
+) -> Result<(Front, Mailbox), StartFault> {
     let poll = Poll::new(rt).map_err(|_| StartFault::Poll)?;
     let waker = Waker::new(poll.registry(), WAKER).map_err(|_| StartFault::Poll)?;
     let sources = Door::open(rt, &poll, address.listen, SOURCES)?;
@@ -113,8 +111,7 @@ fn front_of<R: Net>(
     let lobby = Lobby {
         sources,
         monitors,
-        security: Arc::new(alloc, security)?,
-        nonces,
+        setup,
         next_id: Some(1),
         limit: usize::from(address.connections),
     };
@@ -126,7 +123,7 @@ fn front_of<R: Net>(
         lobby,
         peers: Peers::new(alloc),
     };
-    Ok((front, Board::new(alloc, waker)?))
+    Ok((front, Mailbox::new(alloc, waker)?))
 }
 
 impl Loop {
@@ -147,20 +144,26 @@ impl Loop {
             monitor: relay.monitor,
             connections: relay.connections,
         };
-        let draws = Draws::new(rt, relay.seed)?;
+        let random = RandomStreams::new(rt, relay.seed)?;
         let run = match relay.run_id {
             Some(run) => run,
-            None => draws.run_id(),
+            None => random.run_id(),
         };
         let servers = servers_of(alloc, settings.outputs.as_slice())?;
         let Config {
             run: _,
             routes,
             security,
+            limits,
             outputs,
         } = config_of(alloc, settings)?;
-        let (front, board) = front_of(rt, alloc, address, security, draws.nonces())?;
-        let teams = teams_of(rt, alloc, &draws, run, outputs.into_vec(), servers)?;
+        let setup = SourceSetup {
+            security: Arc::new(alloc, security)?,
+            limits,
+            nonces: random.nonces(),
+        };
+        let (front, mailbox) = front_of(rt, alloc, address, setup)?;
+        let teams = teams_of(rt, alloc, &random, run, outputs.into_vec(), servers)?;
         let Teams {
             alloc: _,
             outputs,
@@ -170,7 +173,7 @@ impl Loop {
         let shared = Shared {
             routes,
             outputs,
-            board,
+            mailbox,
         };
         let own = Own {
             front,
@@ -181,7 +184,7 @@ impl Loop {
     }
 
     /// Opens the relay, so that its turns are made one by one, and its workers are run beside them
-    /// or not at all. The only error is want of memory.
+    /// or not at all. The only error is out of memory.
     pub fn open<'a, R: Wait + Clock>(&'a mut self, rt: &'a R) -> Result<Opened<'a, R>, StartFault> {
         open(rt, self.alloc, &self.shared, &mut self.own)
     }

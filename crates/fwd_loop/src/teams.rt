@@ -2,13 +2,14 @@
 
 ghost use Rattle.std.specs.Prelude.{◌≡◌, ◌+◌, [], length, OnOk};
 
-use crate::draws::Draws;
+use crate::fault::StartFault;
 use crate::member::Member;
 use crate::output::Output;
 use crate::pace::Pace;
+use crate::random_streams::RandomStreams;
 use fwd_core::{OutputConfig, OutputState};
 use fwd_handshake::Login;
-use fwd_links::{Bell, StartFault};
+use fwd_links::WorkerWaker;
 use fwd_workers::{Locked, Plain, SharedOutput, Worker};
 use std::alloc::Global;
 use std::net::{Net, SocketAddr};
@@ -26,7 +27,7 @@ pub(crate) struct Teams {
 /// What an output's workers share.
 #[derive(Drop)]
 struct Team<'a> {
-    draws: &'a Draws,
+    random: &'a RandomStreams,
     number: u16,
     workers: u16,
     login: Arc<Login>,
@@ -50,7 +51,7 @@ impl Teams {
     pub fn add<R: Net>(
         &mut self,
         rt: &R,
-        draws: &Draws,
+        random: &RandomStreams,
         run: [u8; 6],
         number: u16,
         config: OutputConfig,
@@ -70,31 +71,35 @@ impl Teams {
         let shared = SharedOutput::new(Locked::new(state, Plain::new(0), Plain::new(0)));
         let login = Arc::new(self.alloc, login)?;
         let team = Team {
-            draws,
+            random,
             number,
             workers,
             login,
             ack_wait,
         };
-        let bells = self.add_members(rt, &team)?;
+        let wakers = self.add_members(rt, &team)?;
         self.outputs.push(Output { shared, servers })?;
-        self.paces.push(Pace::new(limits.interval, bells))?;
+        self.paces.push(Pace::new(limits.interval, wakers))?;
         Ok(())
     }
 
     /// The workers of an output, and what calls them.
-    fn add_members<R: Net>(&mut self, rt: &R, team: &Team<'_>) -> Result<Vec<Bell>, StartFault>
+    fn add_members<R: Net>(
+        &mut self,
+        rt: &R,
+        team: &Team<'_>,
+    ) -> Result<Vec<WorkerWaker>, StartFault>
         ensures { self.new.outputs ≡ self.old.outputs }
     {
-        let mut bells = Vec::new(self.alloc);
+        let mut wakers = Vec::new(self.alloc);
         for number in 0..team.workers {
             let login = Arc::try_clone(&team.login)?;
-            let salts = team.draws.salts(team.number, number);
+            let salts = team.random.salts(team.number, number);
             let worker = Worker::new(self.alloc, number, login, team.ack_wait, salts);
-            let (member, bell) = Member::new(rt, self.alloc, team.number, worker)?;
+            let (member, waker) = Member::new(rt, self.alloc, team.number, worker)?;
             self.members.push(member)?;
-            bells.push(bell)?;
+            wakers.push(waker)?;
         }
-        Ok(bells)
+        Ok(wakers)
     }
 }

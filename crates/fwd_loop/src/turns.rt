@@ -4,16 +4,17 @@ ghost use Rattle.std.specs.Prelude.{IfOk};
 ghost use Rattle.fwd_loop.specs.Ends.{AddUp};
 
 use crate::desk::Desk;
+use crate::fault::StartFault;
 use crate::front::{Front, tell_all};
+use crate::lost_servers::LostServers;
 use crate::member::Member;
 use crate::output::{Output, counts_of};
 use crate::pace::Pace;
-use crate::roster::Roster;
-use crate::since::Since;
+use crate::run_clock::RunClock;
+use crate::watch::Watch;
 use fwd_chunks::Counts;
-use fwd_links::{Board, StartFault};
+use fwd_links::Mailbox;
 use fwd_match::Routes;
-use fwd_peers::Watch;
 use std::alloc::Global;
 use std::net::Net;
 use std::rt::Clock;
@@ -25,7 +26,7 @@ use std::time::Instant;
 pub(crate) struct Shared {
     pub routes: Routes,
     pub outputs: Vec<Output>,
-    pub board: Board,
+    pub mailbox: Mailbox,
 }
 
 /// What a relay has beside: the loop's own, and the workers.
@@ -42,7 +43,7 @@ pub(crate) struct Own {
 pub struct WorkerTurns<'a> {
     member: &'a mut Member,
     outputs: &'a [Output],
-    board: &'a Board,
+    mailbox: &'a Mailbox,
     start: Option<Instant>,
 }
 
@@ -52,10 +53,10 @@ impl<'a> WorkerTurns<'a> {
         let WorkerTurns {
             member,
             outputs,
-            board,
+            mailbox,
             start,
         } = self;
-        member.work(rt, outputs, board, start, turns);
+        member.work(rt, outputs, mailbox, start, turns);
     }
 }
 
@@ -71,7 +72,7 @@ fn workers_of<'a>(
         workers.push(WorkerTurns {
             member,
             outputs: &shared.outputs,
-            board: &shared.board,
+            mailbox: &shared.mailbox,
             start,
         })?;
     }
@@ -82,11 +83,11 @@ fn workers_of<'a>(
 pub struct Turns<'a, R: Clock> {
     alloc: Global,
     outputs: &'a [Output],
-    board: &'a Board,
+    mailbox: &'a Mailbox,
     front: &'a mut Front,
     desk: Desk<'a>,
-    roster: Roster,
-    clock: Since<'a, R>,
+    lost_servers: LostServers,
+    clock: RunClock<'a, R>,
 }
 
 /// A relay that is open: its turns, and its workers.
@@ -95,7 +96,7 @@ pub struct Opened<'a, R: Clock> {
     pub workers: Vec<WorkerTurns<'a>>,
 }
 
-/// Opens a relay of these parts. The only error is want of memory.
+/// Opens a relay of these parts. The only error is out of memory.
 pub(crate) fn open<'a, R: Wait + Clock>(
     rt: &'a R,
     alloc: Global,
@@ -108,17 +109,17 @@ pub(crate) fn open<'a, R: Wait + Clock>(
         members,
     } = own;
     let start = Instant::now(rt).ok();
-    let roster = Roster::new(alloc, &shared.outputs)?;
+    let lost_servers = LostServers::new(alloc, &shared.outputs)?;
     let workers = workers_of(alloc, shared, members, start)?;
     let desk = Desk::new(rt, alloc, &shared.routes, &shared.outputs, paces)?;
     let turns = Turns {
         alloc,
         outputs: &shared.outputs,
-        board: &shared.board,
+        mailbox: &shared.mailbox,
         front,
         desk,
-        roster,
-        clock: Since::new(rt, start),
+        lost_servers,
+        clock: RunClock::new(rt, start),
     };
     Ok(Opened { turns, workers })
 }
@@ -141,8 +142,8 @@ impl<'a, R: Wait + Clock> Turns<'a, R> {
         let (front, desk) = (&mut *self.front, &mut self.desk);
         front.wait(desk, self.clock.moment())?;
         let now = self.clock.moment();
-        let notices = self.board.take(rt, alloc);
-        tell_all(&notices, outputs, &mut self.roster, watch);
+        let notices = self.mailbox.take(rt, alloc);
+        tell_all(&notices, outputs, &mut self.lost_servers, watch);
         desk.hear(&notices);
         desk.collect(rt, &mut front.peers, watch);
         front.visit_all(rt, outputs, desk, watch, now);
@@ -166,7 +167,7 @@ impl<'a, R: Wait + Clock> Turns<'a, R> {
         Ok(())
     }
 
-    /// The counts of each output at this moment, in the settings' order. The only error is want of
+    /// The counts of each output at this moment, in the settings' order. The only error is out of
     /// memory.
     pub fn counts(&self, rt: &R) -> Result<Vec<Counts>, StartFault>
         ensures add_up { IfOk result (λ counts. AddUp counts.items) }
@@ -176,7 +177,7 @@ impl<'a, R: Wait + Clock> Turns<'a, R> {
 
     /// All workers are to end.
     pub fn stop(&self) {
-        self.board.stop();
+        self.mailbox.stop();
     }
 
     /// Hands in all tickets, writes what that has sources told, and abandons the tickets that are
@@ -190,10 +191,10 @@ impl<'a, R: Wait + Clock> Turns<'a, R> {
         let Turns {
             alloc: _,
             outputs: _,
-            board: _,
+            mailbox: _,
             front,
             mut desk,
-            roster: _,
+            lost_servers: _,
             clock: _,
         } = self;
         front.finish(rt, &mut desk, watch);

@@ -37,7 +37,7 @@ impl Model for Pattern {
 impl Pattern {
     /// Reads the text of a pattern, or answers its first fault in the order
     /// Empty, BadBrace, TooMany, BadStar. All faults are found before any
-    /// memory is taken, so want of memory (Memory) is answered only of a
+    /// memory is taken, so out of memory (Memory) is answered only of a
     /// text that is a pattern, and no more than `WORD_LIMIT` words are ever held.
     pub fn read(alloc: Global, text: &str) -> Result<Self, PatternFault>
         ensures ok { IfOk result (λ pattern. verdict text.now ≡ Good pattern) }

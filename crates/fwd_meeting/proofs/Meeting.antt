@@ -37,8 +37,8 @@ use Rattle.fwd_session.specs.declared.limits.TheConstants.{REPLY_LIMIT, REPLY_NE
 use Rattle.fwd_session.specs.declared.fault.SessionFault.TheVariants as fault
 use Rattle.fwd_session.specs.declared.handshake.Handshake.{Handshake}
 use Rattle.fwd_session.specs.declared.handshake.Handshake.TheVariants.{AwaitsHelo, AwaitsPong, Done}
-use Rattle.fwd_session.specs.declared.told.Heard.{Heard}
-use Rattle.fwd_session.specs.declared.told.Heard.TheVariants as told
+use Rattle.fwd_session.specs.declared.told.SessionHeard.{SessionHeard}
+use Rattle.fwd_session.specs.declared.told.SessionHeard.TheVariants as told
 use Rattle.fwd_session.specs.declared.word.Word.{Word}
 use Rattle.fwd_session.specs.declared.word.Word.TheVariants.{Skipped, Greets, Fails}
 use Rattle.fwd_session.specs.Said.{Said, helo_word, pong_word, spoken, word_of, word_then, said_of, said_in, silence, failing, sending, reply_stream, rest_of}
@@ -474,7 +474,7 @@ quiet_pieces setup at rest left (bytes ∷ pieces) e = by (λ r f. quiet_pieces 
         (length (bytes ∷ pieces)) told.Quiet
     by more (Open [] r) d =
         quiet_piece setup at rest bytes r pieces d
-        ∙ ap (λ (ts : List Heard). told.Quiet ∷ ts) (more r (no_front (reply_stream (r ++ concat pieces)) ∙ behind_piece rest bytes pieces (Open [] r) (Open [] left) d e))
+        ∙ ap (λ (ts : List SessionHeard). told.Quiet ∷ ts) (more r (no_front (reply_stream (r ++ concat pieces)) ∙ behind_piece rest bytes pieces (Open [] r) (Open [] left) d e))
     by more (Open (v ∷ vs) r) d = absurd (not_none v vs (reply_stream (r ++ concat pieces)) left (behind_piece rest bytes pieces (Open (v ∷ vs) r) (Open [] left) d e))
     by more (Broken vs broken) d = absurd (not_broken vs [] broken left (behind_piece rest bytes pieces (Broken vs broken) (Open [] left) d e))
 
@@ -482,12 +482,12 @@ quiet_pieces setup at rest left (bytes ∷ pieces) e = by (λ r f. quiet_pieces 
 down_pieces : (s : LiveSession) (pieces : List (List ℕ))
     → pieces_told (record s { down = true }) pieces ≡ replicate (length pieces) told.NotUp
 down_pieces s [] = refl
-down_pieces s (bytes ∷ pieces) = ap (λ (ts : List Heard). told.NotUp ∷ ts) (down_pieces s pieces)
+down_pieces s (bytes ∷ pieces) = ap (λ (ts : List SessionHeard). told.NotUp ∷ ts) (down_pieces s pieces)
 
 -- a piece that ends these values, with others behind it
 last_piece : (setup : Setup) (at : Handshake) (rest bytes left : List ℕ) (us : List (List ℕ))
     (said : Said)
-    (pieces : List (List ℕ)) (behind : Heard) → reply_stream (rest ++ bytes) ≡ Open us left
+    (pieces : List (List ℕ)) (behind : SessionHeard) → reply_stream (rest ++ bytes) ≡ Open us left
     → said_of setup.login setup.salt at None us silence ≡ said
     → pieces_told (session_takes (resting_at setup at rest) said left) pieces ≡ replicate
     (length pieces) behind
@@ -496,24 +496,24 @@ last_piece : (setup : Setup) (at : Handshake) (rest bytes left : List ℕ) (us :
 last_piece setup at rest bytes left us said pieces behind e says then =
     (λ i. told_split setup at rest bytes (Open us left) e i ∷ pieces_told (hears_split setup at rest bytes (Open us left) e i) pieces)
     ∙ (λ i. told_of at (says i) ∷ pieces_told (session_takes (resting_at setup at rest) (says i) left) pieces)
-    ∙ ap (λ (ts : List Heard). told_of at said ∷ ts) then
+    ∙ ap (λ (ts : List SessionHeard). told_of at said ∷ ts) then
 
 -- what each piece behind the value is told
-abbrev Behind : Setup → Handshake → Said → Heard → Type 0
+abbrev Behind : Setup → Handshake → Said → SessionHeard → Type 0
 Behind setup at said behind =
     (rest left : List ℕ) (pieces : List (List ℕ)) → reply_stream (left ++ concat pieces) ≡ Open [] []
     → pieces_told (session_takes (resting_at setup at rest) said left) pieces ≡ replicate (length pieces) behind
 
-told_later : (all later : List Heard) (one behind : Heard) → all ≡ told.Quiet ∷ later
+told_later : (all later : List SessionHeard) (one behind : SessionHeard) → all ≡ told.Quiet ∷ later
     → IsToldOnce later one behind → IsToldOnce all one behind
 told_later all later one behind e more = record {
   before = suc more.before;
   after = more.after;
-  all = e ∙ ap (λ (ts : List Heard). told.Quiet ∷ ts) more.all;
+  all = e ∙ ap (λ (ts : List SessionHeard). told.Quiet ∷ ts) more.all;
 }
 
 -- pieces that together are one value
-value_pieces : (setup : Setup) (at : Handshake) (v : List ℕ) (said : Said) (behind : Heard)
+value_pieces : (setup : Setup) (at : Handshake) (v : List ℕ) (said : Said) (behind : SessionHeard)
     → said_of setup.login setup.salt at None (v ∷ []) silence ≡ said → Behind setup at said behind
     → (rest some : List ℕ) (pieces : List (List ℕ)) → reply_stream rest ≡ Open [] some
     → reply_stream (rest ++ concat pieces) ≡ Open (v ∷ []) []
@@ -684,7 +684,7 @@ module _ (m : Meeting) (key : List ℕ) (client : m.client.login.shared_key ≡ 
         ∙ hears_joined m.client awaiting m.pong text_of_pong (array_some (head_bytes (Arr 5)) (concat (pong_parts passed r h d)) text_of_pong pong_head (pong_joined passed r h d)) pong_is
         ∙ hears_one m.client awaiting text_of_pong w (pong_reply passed r h d le) (pong_not_nil passed r h d) says
 
-    told_after : (behind : Heard) → Behind m.client awaiting what behind
+    told_after : (behind : SessionHeard) → Behind m.client awaiting what behind
         → IsToldOnce (pong_told m) (told_of awaiting what) behind
     told_after behind then =
         subst (λ (s : LiveSession). IsToldOnce (pieces_told s m.pong) (told_of awaiting what) behind) (sym after_ping)

@@ -11,8 +11,8 @@ use Rattle.fwd_source.specs.Live.{LiveSource, opened_source, source_drains, live
 use Rattle.fwd_session.specs.declared.limits.TheConstants.{REPLY_LIMIT}
 use Rattle.fwd_session.specs.declared.fault.SessionFault.TheVariants.{Denied}
 use Rattle.fwd_session.specs.declared.handshake.Handshake.TheVariants.{Done}
-use Rattle.fwd_session.specs.declared.told.Heard.{Heard}
-use Rattle.fwd_session.specs.declared.told.Heard.TheVariants.{Quiet, Ready, Fault, NotUp}
+use Rattle.fwd_session.specs.declared.told.SessionHeard.{SessionHeard}
+use Rattle.fwd_session.specs.declared.told.SessionHeard.TheVariants.{Quiet, Ready, Fault, NotUp}
 use Rattle.fwd_session.specs.History.{Setup}
 use Rattle.fwd_session.specs.Live.{LiveSession, live_is_ready, live_piece_told, session_begins, session_sends, session_hears, session_hears_all}
 
@@ -54,13 +54,13 @@ abbrev pub session_after_pong : Meeting → LiveSession
 session_after_pong m = session_hears_all (session_after_ping m) m.pong
 
 -- what each of a session's pieces is told, one after the other
-abbrev pub pieces_told : LiveSession → List (List ℕ) → List Heard
+abbrev pub pieces_told : LiveSession → List (List ℕ) → List SessionHeard
 pieces_told s [] = []
 pieces_told s (bytes ∷ pieces) =
     live_piece_told s bytes ∷ pieces_told (session_hears s bytes) pieces
 
 -- what each piece of PONG is told
-abbrev pub pong_told : Meeting → List Heard
+abbrev pub pong_told : Meeting → List SessionHeard
 pong_told m = pieces_told (session_after_ping m) m.pong
 
 -- ---- what is asked of it
@@ -128,7 +128,7 @@ pub record IsDenied (m : Meeting) (key : List ℕ) (denial : Denial) : Type 0 wh
 -- ---- what comes of it
 
 -- one piece is told this, each one before it Quiet, and each one behind it that
-pub record IsToldOnce (told : List Heard) (one behind : Heard) : Type 0 where
+pub record IsToldOnce (told : List SessionHeard) (one behind : SessionHeard) : Type 0 where
   pub before : ℕ
   pub after : ℕ
   pub all : told ≡ replicate before Quiet ++ one ∷ replicate after behind

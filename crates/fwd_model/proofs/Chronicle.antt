@@ -31,6 +31,7 @@ use Rattle.fwd_model.specs.Step.{step, after}
 use Rattle.fwd_model.specs.History.{Connection, ever_at, source_at, with_source, with_gone, Lane, History, histories}
 use Rattle.fwd_model.specs.Delivered.{reached, answered, NoneEnded, HasBegun, WasLoaded, WasSent, WasAcknowledged, cells_from}
 use Rattle.fwd_model.proofs.Reached.{slice_get-set}
+use Rattle.std.proofs.lemmas.Option.{same_Some}
 
 -- ---- events are added at the end
 
@@ -348,9 +349,6 @@ ever_at-with_other : (id j : ℕ) (t : SourceHistory) (cs : List Connection) →
 ever_at-with_other id j t [] d = refl
 ever_at-with_other id j t (c ∷ cs) d = grind (arith, nat_tests, ever_at-with_other id j t cs d)
 
-some_is : {X : Type 0} {x y : X} → Some x ≡ Some y → x ≡ y
-some_is h = cc
-
 pub extends_with : (id : ℕ) (s t : SourceHistory) (cs : List Connection)
     → ever_at id cs ≡ Some s → Grows s t → Extends cs (with_source id t cs)
 extends_with id s t cs here grows j u h = by_test (eqb id j) refl
@@ -359,7 +357,7 @@ extends_with id s t cs here grows j u h = by_test (eqb id j) refl
         → (v : SourceHistory) × (ever_at j (with_source id t cs) ≡ Some v) × Grows u v
     by_test true e =
         let same : id ≡ j = grind (arith, nat_tests, e) in
-        let is : s ≡ u = some_is (sym here ∙ ap (λ x. ever_at x cs) same ∙ h) in
+        let is : s ≡ u = same_Some _ _ (sym here ∙ ap (λ x. ever_at x cs) same ∙ h) in
         (t, subst (λ x. ever_at x (with_source id t cs) ≡ Some t) same (ever_at-with_same id s t cs here), subst (λ x. Grows x t) is grows)
     by_test false e = (u, ever_at-with_other id j t cs e ∙ h, (omega arith, λ i q f. f))
 
@@ -412,7 +410,7 @@ lane_still config es e cs ds o l ext quiet t = record {
 -- ---- an event that leaves the outputs, and one that changes one of them
 
 abbrev pub with_parts : History → List Connection → List Lane → History
-with_parts h cs ls = record { run = h.run; routes = h.routes; security = h.security; connections = cs; lanes = ls }
+with_parts h cs ls = record h { connections = cs; lanes = ls }
 
 module _ (config : Config) (es : List Event) (e : Event) (t : Story config es (reached config es)) where
   abbrev h : History

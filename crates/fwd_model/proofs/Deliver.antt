@@ -31,6 +31,8 @@ use Rattle.fwd_model.proofs.Follows.{reached_sane}
 use Rattle.fwd_model.proofs.Chronicle.{ever_from, frame_at, RequestStory, AllTold, LaneStory, Story, by_last, after-push}
 use Rattle.fwd_model.proofs.Chronicle.Steps.{goes_on}
 use Rattle.fwd_model.specs.declared.config.OutputConfig.{OutputConfig}
+use Rattle.std.proofs.lemmas.Option.{same_Some}
+use Rattle.std.proofs.lemmas.Bool.{eqb-true}
 
 -- ---- the chronicle of every run
 
@@ -83,9 +85,6 @@ and_parts : (a b : Bool) → (a && b) ≡ true → (a ≡ true) × (b ≡ true)
 and_parts true b h = (refl, h)
 and_parts false b h = absurd cc
 
-eq_from : (a b : ℕ) → eqb a b ≡ true → a ≡ b
-eq_from a b e = grind (arith, nat_tests, e)
-
 found_by : (routes : List (List (List ℕ))) (cs : List Connection) (o id r : ℕ)
     (output : OutputHistory) (a : Admission) (rest : List Entered) (b c : Bool)
     → is_due id output.book.settled a ≡ b → eqb a.request.origin.request r ≡ c
@@ -96,7 +95,7 @@ found_by : (routes : List (List (List ℕ))) (cs : List Connection) (o id r : �
 found_by routes cs o id r output a rest true true due_is same one later h =
     let parts = and_parts (is_owed_to id a) (is_settled output.book.settled a.request) due_is in
     let its = and_parts (is_untold a.fate) (is_of id a.request) parts.0 in
-    record { entered = a.request; story = one; conn = eq_from a.request.origin.conn id its.1; number = eq_from a.request.origin.request r same; settled = parts.1 }
+    record { entered = a.request; story = one; conn = eqb-true a.request.origin.conn id its.1; number = eqb-true a.request.origin.request r same; settled = parts.1 }
 found_by routes cs o id r output a rest true false due_is same one later h = later (grind (arith, nat_tests, h, same))
 found_by routes cs o id r output a rest false c due_is same one later h = later h
 
@@ -239,9 +238,6 @@ answer_at : (h : History) (before : List Event) (e : Event) (later : List Event)
 answer_at h [] e later = refl
 answer_at h (d ∷ before) e later = answer_at (state_of h (step histories h d)) before e later
 
-some_is : {X : Type 0} {x y : X} → Some x ≡ Some y → x ≡ y
-some_is h = cc
-
 pub told_among-delivered : (config : Config) (es events : List Event) (id r o : ℕ)
     (t : IsToldAmong events (steps.answers histories (reached config es) events) id r o)
     → IsDelivered config (es ++ t.before) id r o
@@ -253,6 +249,6 @@ told_among-delivered config es events id r o t =
       later = t.later;
       split = refl;
       told = ap (λ h. answer_of (step histories h (event.Collect id o))) (after-append (opening config) es t.before)
-          ∙ some_is (sym (answer_at (reached config es) t.before (event.Collect id o) t.later) ∙ ap (λ xs. slice_get (steps.answers histories (reached config es) xs) (length t.before)) (sym t.split) ∙ t.told);
+          ∙ same_Some _ _ (sym (answer_at (reached config es) t.before (event.Collect id o) t.later) ∙ ap (λ xs. slice_get (steps.answers histories (reached config es) xs) (length t.before)) (sym t.split) ∙ t.told);
       among = t.among;
     })

@@ -15,7 +15,7 @@ use Rattle.fwd_model.specs.declared.event.Event.TheVariants as event
 use Rattle.fwd_chunks.specs.declared.flush.FlushKind.TheVariants.{All, Due}
 use Rattle.fwd_chunks.specs.declared.limits.BufferLimits.{BufferLimits}
 use Rattle.fwd_chunks.specs.History.{adds}
-use Rattle.fwd_retry.specs.Waits.{wait_after}
+use Rattle.fwd_chunks.specs.Waits.{wait_after}
 use Rattle.fwd_model.specs.declared.fault.Refusal.TheVariants.{NoSuch, NotNow, NotUp, Closed}
 use Rattle.fwd_session.specs.declared.fault.SessionFault.TheVariants.{BadReply, WrongAck, EarlyAck}
 use Rattle.fwd_session.specs.Said.{reply_stream, word_of}
@@ -25,6 +25,7 @@ use Rattle.fwd_model.specs.declared.config.OutputConfig.{OutputConfig}
 use Rattle.fwd_model.specs.declared.config.Config.{Config}
 use Rattle.fwd_handshake.specs.declared.credentials.Security.{Security}
 use Rattle.fwd_msgpack.specs.declared.fault.ScanFault.TheVariants.{Reserved}
+use Rattle.fwd_msgpack.specs.declared.limits.Limits.{Limits}
 use Rattle.fwd_source.specs.declared.fault.SourceFault.TheVariants.{Scan}
 use Rattle.fwd_source.specs.Judged.{judged_of}
 use Rattle.fwd_model.specs.Step.{answers, after}
@@ -35,6 +36,10 @@ use Rattle.fwd_model.specs.Names.{are_unrelated}
 -- no shared key is set
 abbrev nobody : Security
 nobody = record { hostname = []; shared_key = None; users = []; hostname_fits = omega arith }
+
+-- values of at most 16,777,216 bytes, at most 64 deep
+abbrev usual : Limits
+usual = record { bytes = 16777216; depth = 64; shallow = omega arith }
 
 -- chunks of so many bytes, and so many bytes in all
 abbrev limits : (chunk total : ℕ) → BufferLimits
@@ -70,6 +75,7 @@ limited chunk total = record {
   run = replicate 6 0;
   routes = ((42 ∷ 42 ∷ []) ∷ []) ∷ [];
   security = nobody;
+  limits = usual;
   outputs = output_with 2 chunk total ∷ [];
   few = omega arith;
 }
@@ -222,6 +228,7 @@ two_outputs = record {
   run = replicate 6 0;
   routes = ((98 ∷ []) ∷ []) ∷ ((42 ∷ []) ∷ []) ∷ [];
   security = nobody;
+  limits = usual;
   outputs = output_with 1 1000 100000 ∷ output_with 1 1000 100000 ∷ [];
   few = omega arith;
 }

@@ -35,8 +35,8 @@ use Rattle.fwd_model.specs.declared.answer.Answer.{Answer}
 use Rattle.fwd_model.specs.declared.answer.Answer.TheVariants as answer
 use Rattle.fwd_model.specs.declared.event.EndKind.{EndKind}
 use Rattle.fwd_model.specs.declared.fault.Refusal.TheVariants.{NotNow, NotUp}
-use Rattle.fwd_session.specs.declared.told.Heard.{Heard}
-use Rattle.fwd_session.specs.declared.told.Heard.TheVariants as heard_as
+use Rattle.fwd_session.specs.declared.told.SessionHeard.{SessionHeard}
+use Rattle.fwd_session.specs.declared.told.SessionHeard.TheVariants as heard_as
 use Rattle.fwd_session.specs.History.{SessionHistory, IsSane as IsSaneHistory, handshake_of, is_free_for, loads, hears as hears_bytes, piece_told, piece_out}
 use Rattle.fwd_session.specs.Live.{LiveSession, live_session, session_hears}
 use Rattle.fwd_session.proofs.Following.{begins-live, begins-sane, loads-live, loads-sane, sends-live, sends-sane, told-live, out-live, hears-live as hears_bytes-live, hears-sane as hears_bytes-sane, late-live, ready-live, acked-live, looks-live, looks-sane}
@@ -386,7 +386,7 @@ wrote : (b : BufferHistory) (w count : ℕ) (s : SessionHistory) → IsSaneSessi
 unfolding live_session
 wrote b w count s fits = checked NotNow refl (λ few. goes refl (sends-live s count, record { own = wrote_sane s count fits.own few; carries = fits.carries }))
 
-heard-agrees : (b : BufferHistory) (w : ℕ) (told : Heard) (out : List ℕ) (s : SessionHistory)
+heard-agrees : (b : BufferHistory) (w : ℕ) (told : SessionHeard) (out : List ℕ) (s : SessionHistory)
     (t : LiveSession) → Leads live_session (IsSaneSession w b) s t
     → Agrees live_session (IsSaneSession w b) (of_heard told out s) (of_heard told out t)
 heard-agrees b w heard_as.NotUp out s t leads = stays
@@ -482,7 +482,7 @@ shut h id sane = sought _ _ (live_source_here h sane id) (λ s e. goes refl (lea
 pub event_agrees : (h : History) (e : Event) → IsSane h
     → Agrees live IsSane (step histories h e) (step lives (live h) e)
 unfolding live
-event_agrees h (event.Accept id nonce auth) sane = accept h (setup_of h.security id nonce auth) sane
+event_agrees h (event.Accept id nonce auth) sane = accept h (setup_of h.security h.limits id nonce auth) sane
 event_agrees h (event.Piece id bytes) sane = at_source h sane id _ (λ s. steps.piece lives s bytes) (λ s own. piece s bytes own)
 event_agrees h (event.Admit id o now) sane = at_both h sane id o _ (steps.admit lives h.routes id o now) (λ s l own its. admit h.routes id o now s l own its)
 event_agrees h (event.Flush o now kind) sane = at_lane h sane o _ (λ l. steps.flush lives l now kind) (λ l own. flush l now kind own)

@@ -35,6 +35,7 @@ use Rattle.fwd_model.proofs.Onward.{Onward, to, past, past_found, at_next, sourc
 use Rattle.fwd_model.proofs.Reached.{slice_get-set}
 use Rattle.fwd_model.proofs.Chronicle.{by_last, after-push}
 use Rattle.fwd_model.proofs.WayBack.{told_as, listed}
+use Rattle.std.proofs.lemmas.Option.{same_Some}
 
 -- each request of an output that is marked was told
 abbrev AllMarked : Config → List Event → ℕ → List Admission → Type 0
@@ -55,12 +56,9 @@ told_still config es e id r o t = record {
   among = t.among;
 }
 
-some_is : {X : Type 0} {x y : X} → Some x ≡ Some y → x ≡ y
-some_is h = cc
-
 pushed : {X : Type 0} (xs : List X) (x y : X) (i : ℕ) → slice_get (xs ++ x ∷ []) i ≡ Some y
     → (slice_get xs i ≡ Some y) ⊎ (x ≡ y)
-pushed [] x y zero h = inr (some_is h)
+pushed [] x y zero h = inr (same_Some _ _ h)
 pushed [] x y (suc i) h = absurd cc
 pushed (a ∷ xs) x y zero h = inl h
 pushed (a ∷ xs) x y (suc i) h = pushed xs x y i h
@@ -68,7 +66,7 @@ pushed (a ∷ xs) x y (suc i) h = pushed xs x y i h
 mapped : {X Y : Type 0} (f : X → Y) (o : Option X) (y : Y) → option_map f o ≡ Some y
     → (x : X) × (o ≡ Some x) × (f x ≡ y)
 mapped f None y h = absurd cc
-mapped f (Some x) y h = (x, refl, some_is h)
+mapped f (Some x) y h = (x, refl, same_Some _ _ h)
 
 and_parts : (a b : Bool) → (a && b) ≡ true → (a ≡ true) × (b ≡ true)
 and_parts true b h = (refl, h)
@@ -291,7 +289,7 @@ forget_on config es e id o m = lane_on histories (reached config es) o _ (λ l. 
 
 event_on : (config : Config) (es : List Event) (e : Event) → Marked config es (reached config es)
     → Onward (λ a k. Marked config (es ++ e ∷ []) k) (step histories (reached config es) e)
-event_on config es (event.Accept id nonce auth) m = past _ (λ fresh. to (nothing config es (event.Accept id nonce auth) m (histories.accepts (reached config es) (setup_of (reached config es).security id nonce auth)) refl))
+event_on config es (event.Accept id nonce auth) m = past _ (λ fresh. to (nothing config es (event.Accept id nonce auth) m (histories.accepts (reached config es) (setup_of (reached config es).security (reached config es).limits id nonce auth)) refl))
 event_on config es (event.Piece id bytes) m = at_source_on config es (event.Piece id bytes) m id (λ s. steps.piece histories s bytes)
 event_on config es (event.Admit id o now) m = admit_on config es (event.Admit id o now) m id o now
 event_on config es (event.Flush o now kind) m = at_lane_on config es (event.Flush o now kind) m o (λ l. steps.flush histories l now kind) (λ l. flushed_same config es (event.Flush o now kind) m l now kind)
@@ -321,7 +319,7 @@ new_lanes_unmarked : (run : List ℕ) (base : ℕ) (configs : List OutputConfig)
     (l : Lane) → slice_get (new_lanes run base configs) o ≡ Some l
     → l.output.book.admissions ≡ []
 new_lanes_unmarked run base [] o l h = absurd cc
-new_lanes_unmarked run base (c ∷ configs) zero l h = let same : new_lane run base c ≡ l = some_is h in ap (λ (x : Lane). x.output.book.admissions) (sym same)
+new_lanes_unmarked run base (c ∷ configs) zero l h = let same : new_lane run base c ≡ l = same_Some _ _ h in ap (λ (x : Lane). x.output.book.admissions) (sym same)
 new_lanes_unmarked run base (c ∷ configs) (suc o) l h = new_lanes_unmarked run (suc base) configs o l h
 
 opening_marked : (config : Config) → Marked config [] (reached config [])

@@ -16,8 +16,8 @@ use Rattle.fwd_model.specs.declared.event.Event.TheVariants as event
 use Rattle.fwd_model.specs.declared.answer.Answer.{Answer}
 use Rattle.fwd_model.specs.declared.answer.Answer.TheVariants as answer
 use Rattle.fwd_model.specs.declared.fault.Refusal.TheVariants.{Closed, NoSuch, NotNow, NotUp}
-use Rattle.fwd_session.specs.declared.told.Heard.{Heard}
-use Rattle.fwd_session.specs.declared.told.Heard.TheVariants as heard_as
+use Rattle.fwd_session.specs.declared.told.SessionHeard.{SessionHeard}
+use Rattle.fwd_session.specs.declared.told.SessionHeard.TheVariants as heard_as
 use Rattle.fwd_session.specs.Evidence.{frame_of}
 use Rattle.fwd_model.specs.declared.config.OutputConfig.{OutputConfig}
 use Rattle.fwd_model.specs.declared.event.EndKind.{EndKind}
@@ -36,7 +36,7 @@ chunk_counts : (c : Option Load) → is_refusal (chunk_answer c) ≡ false
 chunk_counts None = refl
 chunk_counts (Some c) = refl
 
-heard_counts : {S : Type 0} (told : Heard) (out : List ℕ) (s : S)
+heard_counts : {S : Type 0} (told : SessionHeard) (out : List ℕ) (s : S)
     → Onward Answered (of_heard told out s)
 heard_counts heard_as.NotUp out s = record { holds = tt }
 heard_counts heard_as.Quiet out s = to refl
@@ -106,7 +106,7 @@ module _ (L : Layers) where
   accept_counts r setup = past NotNow {b = not (L.is_fresh r setup.conn)} (λ fresh. to {a = answer.Accepted (opening_text setup)} refl)
 
   event_counts : (r : L.Relay) (e : Event) → Onward Answered (step L r e)
-  event_counts r (event.Accept id nonce auth) = accept_counts r (setup_of (L.security r) id nonce auth)
+  event_counts r (event.Accept id nonce auth) = accept_counts r (setup_of (L.security r) (L.limits r) id nonce auth)
   event_counts r (event.Piece id bytes) = source_on L r id Answered _ (λ s here. piece_counts (L.piece_answer s bytes) (length (L.waiting (L.hears s bytes))) (L.pong s bytes) (L.hears s bytes))
   event_counts r (event.Admit id o now) = both_on L r id o Answered _ (λ s l here lane. admit_counts (L.routes r) id o now s l)
   event_counts r (event.Flush o now kind) = lane_on L r o Answered (λ l. steps.flush L l now kind) (λ l here. to refl)

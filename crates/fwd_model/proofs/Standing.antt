@@ -27,6 +27,7 @@ use Rattle.fwd_model.specs.Delivered.{reached, answered, session_at, standing, N
 use Rattle.fwd_model.proofs.Onward.{Onward, to, past, past_found, at_next, Resting, rests, rest_past, rest_found, rest_within, source_on, lane_on, both_on, worker_on, session_on}
 use Rattle.fwd_model.proofs.Places.{same_at}
 use Rattle.fwd_model.proofs.Chronicle.{after-push, Stands}
+use Rattle.std.proofs.lemmas.Option.{same_Some}
 
 -- ---- a session in a list
 
@@ -37,9 +38,6 @@ stood w sessions = is_some (standing (slice_get sessions w))
 -- a session of the worker stands at the output
 abbrev pub is_up : ℕ → ℕ → List Lane → Bool
 is_up o w lanes = is_some (standing (session_at w (slice_get lanes o)))
-
-some_is : {X : Type 0} {x y : X} → Some x ≡ Some y → x ≡ y
-some_is h = cc
 
 set_stood : (v w : ℕ) (sessions : List (Option SessionHistory)) (s : Option SessionHistory)
     → (v ≡ w → is_some s ≡ true) → stood w sessions ≡ true
@@ -54,7 +52,7 @@ set_up : (p o w : ℕ) (lanes : List Lane) (l m : Lane) → slice_get lanes p �
     → (p ≡ o → stood w l.sessions ≡ true → stood w m.sessions ≡ true)
     → is_up o w lanes ≡ true → is_up o w (slice_set lanes p m) ≡ true
 set_up p o w [] l m here keeps h = absurd cc
-set_up zero zero w (x ∷ lanes) l m here keeps h = keeps refl (ap (λ (y : Lane). stood w y.sessions) (sym (some_is here)) ∙ h)
+set_up zero zero w (x ∷ lanes) l m here keeps h = keeps refl (ap (λ (y : Lane). stood w y.sessions) (sym (same_Some _ _ here)) ∙ h)
 set_up zero (suc o) w (x ∷ lanes) l m here keeps h = h
 set_up (suc p) zero w (x ∷ lanes) l m here keeps h = h
 set_up (suc p) (suc o) w (x ∷ lanes) l m here keeps h = set_up p o w lanes l m here (λ e. keeps (ap suc e)) h
@@ -233,7 +231,7 @@ get_set (a ∷ xs) (suc i) x y h = get_set xs i x y h
 there : (l : Lane) (w : ℕ) (x : Worker SessionHistory) (s : Option (Option SessionHistory))
     → option_map (history_worker l w) s ≡ Some x → s ≡ Some x.session
 there l w x None e = absurd cc
-there l w x (Some s) e = ap (λ (y : Worker SessionHistory). Some y.session) (some_is e)
+there l w x (Some s) e = ap (λ (y : Worker SessionHistory). Some y.session) (same_Some _ _ e)
 
 -- a session that begins stands
 puts_up : (h : History) (o w server : ℕ) (salt : List ℕ) (now : ℕ)

@@ -27,12 +27,8 @@ use Rattle.fwd_model.proofs.Follows.{reached_sane}
 use Rattle.fwd_model.proofs.Chronicle.{RequestStory, AllTold, AllAfter, AreNumbered, LaneStory}
 use Rattle.fwd_model.proofs.Deliver.{every_story}
 use Rattle.fwd_model.proofs.WayBack.{listed}
-
-some_is : {X : Type 0} {x y : X} → Some x ≡ Some y → x ≡ y
-some_is h = cc
-
-eq_from : (a b : ℕ) → eqb a b ≡ true → a ≡ b
-eq_from a b e = grind (arith, nat_tests, e)
+use Rattle.std.proofs.lemmas.Option.{same_Some}
+use Rattle.std.proofs.lemmas.Bool.{eqb-true}
 
 -- ---- which requests are told
 
@@ -67,7 +63,7 @@ told_found id r acked (a ∷ admissions) h = by (is_due id acked a) refl (eqb a.
     by : (b : Bool) → is_due id acked a ≡ b → (c : Bool) → eqb a.request.origin.request r ≡ c
         → (has_number r (told_of id acked admissions) ≡ true → Found id r acked (a ∷ admissions))
         → Found id r acked (a ∷ admissions)
-    by true due true same later = record { place = zero; admission = a; here = refl; due = due; number = eq_from a.request.origin.request r same }
+    by true due true same later = record { place = zero; admission = a; here = refl; due = due; number = eqb-true a.request.origin.request r same }
     by true due false same later =
         let in_front : has_number r (a.request.origin.request ∷ told_of id acked admissions) ≡ true = ap (has_number r) (sym (told_front id acked a admissions true due)) ∙ h in
         later (grind (arith, nat_tests, in_front, same))
@@ -77,7 +73,7 @@ story_at : (routes : List (List (List ℕ))) (cs : List Connection) (o : ℕ) (a
     (admissions : List Admission) (i : ℕ) (a : Admission) → AllTold routes cs o all admissions
     → slice_get admissions i ≡ Some a → RequestStory routes cs o all a.request
 story_at routes cs o all [] i a told h = absurd cc
-story_at routes cs o all (b ∷ admissions) zero a told h = subst (λ (x : Admission). RequestStory routes cs o all x.request) (some_is h) told.0
+story_at routes cs o all (b ∷ admissions) zero a told h = subst (λ (x : Admission). RequestStory routes cs o all x.request) (same_Some _ _ h) told.0
 story_at routes cs o all (b ∷ admissions) (suc i) a told h = story_at routes cs o all admissions i a told.1 h
 
 untold_is : (fate : Fate) → is_untold fate ≡ true → fate ≡ Untold
@@ -94,7 +90,7 @@ AllAbove n (m ∷ ns) = (n < m) × AllAbove n ns
 
 above_at : (n : ℕ) (ns : List ℕ) (i m : ℕ) → AllAbove n ns → slice_get ns i ≡ Some m → n < m
 above_at n [] i m all h = absurd cc
-above_at n (k ∷ ns) zero m all h = subst (λ x. n < x) (some_is h) all.0
+above_at n (k ∷ ns) zero m all h = subst (λ x. n < x) (same_Some _ _ h) all.0
 above_at n (k ∷ ns) (suc i) m all h = above_at n ns i m all.1 h
 
 rising-none : AreRising []
@@ -102,7 +98,7 @@ rising-none i j m n before at_i at_j = absurd cc
 
 rising-cons : (n : ℕ) (ns : List ℕ) → AllAbove n ns → AreRising ns → AreRising (n ∷ ns)
 rising-cons n ns above rising zero zero m k before at_i at_j = absurd (omega (arith, before))
-rising-cons n ns above rising zero (suc j) m k before at_i at_j = subst (λ x. x < k) (some_is at_i) (above_at n ns j k above at_j)
+rising-cons n ns above rising zero (suc j) m k before at_i at_j = subst (λ x. x < k) (same_Some _ _ at_i) (above_at n ns j k above at_j)
 rising-cons n ns above rising (suc i) zero m k before at_i at_j = absurd (omega (arith, before))
 rising-cons n ns above rising (suc i) (suc j) m k before at_i at_j = rising i j m k (omega (arith, before)) at_i at_j
 
@@ -112,7 +108,7 @@ due_conn : (id : ℕ) (acked : List Evidence) (a : Admission) → is_due id acke
 due_conn id acked a h =
     let parts = and_parts (is_owed_to id a) (is_settled acked a.request) h in
     let its = and_parts (is_untold a.fate) (is_of id a.request) parts.0 in
-    eq_from a.request.origin.conn id its.1
+    eqb-true a.request.origin.conn id its.1
 
 told_above : (id : ℕ) (acked : List Evidence) (origin : Origin) (admissions : List Admission)
     → origin.conn ≡ id → AllAfter origin admissions

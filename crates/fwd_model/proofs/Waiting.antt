@@ -17,9 +17,7 @@ use Rattle.fwd_model.specs.Live.{LiveLane, live, live_lane, live_source_at}
 use Rattle.fwd_model.proofs.Follows.{live_source_here, reached_sane}
 use Rattle.fwd_model.proofs.Chronicle.{RequestStory, AllTold, ever_from}
 use Rattle.fwd_model.proofs.Deliver.{every_story}
-
-some_is : {X : Type 0} {x y : X} → Some x ≡ Some y → x ≡ y
-some_is h = cc
+use Rattle.std.proofs.lemmas.Option.{same_Some}
 
 module _ (routes : List (List (List ℕ))) (cs : List Connection) (o : ℕ) (all : List Cell) (id : ℕ) (s : SourceHistory) (here : ever_at id cs ≡ Some s) where
   abbrev first : Origin
@@ -33,7 +31,7 @@ module _ (routes : List (List (List ℕ))) (cs : List Connection) (o : ℕ) (all
       by true true conn number =
           let same_conn : q.origin.conn ≡ id = grind (arith, nat_tests, conn) in
           let same_number : q.origin.request ≡ s.admitted + 1 = grind (arith, nat_tests, number) in
-          let same : t.source ≡ s = some_is (sym t.stands ∙ ap (λ x. ever_at x cs) same_conn ∙ here) in
+          let same : t.source ≡ s = same_Some _ _ (sym t.stands ∙ ap (λ x. ever_at x cs) same_conn ∙ here) in
           let le : q.origin.request ≤ s.admitted = subst (λ x. q.origin.request ≤ x.admitted) same t.admitted in
           absurd (omega (arith, le, same_number))
       by true false conn number = λ i. conn i && number i
@@ -64,7 +62,7 @@ first-new config h id o s l (es, is) stands here =
 mapped : {X Y : Type 0} (f : X → Y) (o : Option X) (y : Y) → option_map f o ≡ Some y
     → (x : X) × (o ≡ Some x) × (f x ≡ y)
 mapped f None y h = absurd cc
-mapped f (Some x) y h = (x, refl, some_is h)
+mapped f (Some x) y h = (x, refl, same_Some _ _ h)
 
 admitted-live : (s : SourceHistory) → (live_source s).admitted ≡ s.admitted
 unfolding live_source

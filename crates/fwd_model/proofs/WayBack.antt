@@ -5,8 +5,8 @@ use Rattle.std.specs.List.{list_all}
 use Rattle.std.proofs.lemmas.Bool.Decides.{nat_tests}
 use Rattle.fwd_chunks.specs.History.{Load}
 use Rattle.fwd_session.specs.declared.fault.SessionFault.{SessionFault}
-use Rattle.fwd_session.specs.declared.told.Heard.{Heard}
-use Rattle.fwd_session.specs.declared.told.Heard.TheVariants as heard_as
+use Rattle.fwd_session.specs.declared.told.SessionHeard.{SessionHeard}
+use Rattle.fwd_session.specs.declared.told.SessionHeard.TheVariants as heard_as
 use Rattle.fwd_session.specs.Said.{Said, said_in, out_of}
 use Rattle.fwd_session.specs.Evidence.{Evidence}
 use Rattle.fwd_session.specs.History.{SessionHistory, handshake_of, is_handed_on, is_done, awaited, says, newly_heard, listens, acked, told_by, told_of}
@@ -110,7 +110,7 @@ early-nothing h o w bytes l s here at none early =
         (event.Settle o w)) ≡ answer.Refused NotNow
     after = settled_after h o w l s (listens s bytes said) here at ∙ none_settled (listens s bytes said) l (with_session w (listens s bytes said) l) w still
 
-    told : (t : Heard) (out : List ℕ)
+    told : (t : SessionHeard) (out : List ℕ)
         → answer_of
         (step histories (state_of h (placed h o w l s (of_heard t out (listens s bytes said))))
         (event.Settle o w)) ≡ answer.Refused NotNow

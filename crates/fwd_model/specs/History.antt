@@ -25,13 +25,14 @@ use Rattle.std.specs.Prelude.{
   slice_set,
 }
 use Rattle.std.specs.List.{list_all}
+use Rattle.fwd_msgpack.specs.declared.limits.Limits.{Limits}
 use Rattle.fwd_handshake.specs.declared.credentials.Security.{Security}
 use Rattle.fwd_source.specs.History.{Setup, SourceHistory, opened}
 use Rattle.fwd_source.specs.Layer.{source_histories}
 use Rattle.fwd_model.specs.declared.config.Config.{Config}
 use Rattle.fwd_model.specs.declared.config.OutputConfig.{OutputConfig}
 use Rattle.fwd_model.specs.declared.event.Event.{Event}
-use Rattle.fwd_counts.specs.declared.counts.Counts.{Counts}
+use Rattle.fwd_chunks.specs.Counts.{Counts}
 use Rattle.fwd_chunks.specs.History as buffer
 use Rattle.fwd_chunks.specs.History.{BufferHistory, load_of, looks}
 use Rattle.fwd_session.specs.History.{SessionHistory, unloads}
@@ -69,11 +70,13 @@ pub record Lane : Type 0 where
   pub sessions : List (Option SessionHistory)
 
 -- the relay: what tells its run from others, the pattern of each output as its expanded words,
--- what a source has to prove, the connections ever accepted, and the outputs
+-- what a source has to prove and how long and deep its values may be, the connections ever
+-- accepted, and the outputs
 pub record History : Type 0 where
   pub run : List ℕ
   pub routes : List (List (List ℕ))
   pub security : Security
+  pub limits : Limits
   pub connections : List Connection
   pub lanes : List Lane
 
@@ -96,6 +99,7 @@ opening config = record {
   run = config.run;
   routes = config.routes;
   security = config.security;
+  limits = config.limits;
   connections = [];
   lanes = new_lanes config.run 0 config.outputs;
 }
@@ -215,6 +219,7 @@ histories = record {
   run = λ h. h.run;
   routes = λ h. h.routes;
   security = λ h. h.security;
+  limits = λ h. h.limits;
   is_fresh = λ h id. is_fresh id h.connections;
   accepts = accepts;
   source_at = λ h id. source_at id h.connections;

@@ -1,6 +1,7 @@
 -- What a step asks of a relay's layers, and what it changes in them. Sources say theirs in their
 -- own crate.
 use Rattle.std.specs.Prelude.{ℕ, Bool, List, Option}
+use Rattle.fwd_msgpack.specs.declared.limits.Limits.{Limits}
 use Rattle.fwd_handshake.specs.declared.credentials.Security.{Security}
 use Rattle.fwd_modes.specs.Requests.{Request}
 use Rattle.fwd_modes.specs.declared.origin.Origin.{Origin}
@@ -9,7 +10,7 @@ use Rattle.fwd_source.specs.Layer.{Sources}
 use Rattle.fwd_chunks.specs.declared.fault.AdmitError.{AdmitError}
 use Rattle.fwd_chunks.specs.declared.flush.FlushKind.{FlushKind}
 use Rattle.fwd_chunks.specs.History.{Load}
-use Rattle.fwd_session.specs.declared.told.Heard.{Heard}
+use Rattle.fwd_session.specs.declared.told.SessionHeard.{SessionHeard}
 use Rattle.fwd_session.specs.Evidence.{Evidence}
 use Rattle.fwd_session.specs.History as session
 use Rattle.fwd_model.specs.declared.config.OutputConfig.{OutputConfig}
@@ -40,7 +41,7 @@ pub record Sessions : Type 1 where
   -- the bytes that wait to be sent
   pub to_send : Session → List ℕ
   -- what a piece is told, and the PING that it brings
-  pub told : Session → List ℕ → Heard
+  pub told : Session → List ℕ → SessionHeard
   pub ping : Session → List ℕ → List ℕ
   -- it begins; is loaded with a chunk; its link takes bytes; a piece is heard; it is asked whether
   -- it is late; its chunk is taken out
@@ -93,10 +94,12 @@ pub record Layers : Type 1 where
   pub lanes : Lanes Session
   pub open lanes use *
   pub Relay : Type 0
-  -- what tells the run from others, the patterns of the outputs, and what a source has to prove
+  -- what tells the run from others, the patterns of the outputs, what a source has to prove, and
+  -- how long and how deep its values may be
   pub run : Relay → List ℕ
   pub routes : Relay → List (List (List ℕ))
   pub security : Relay → Security
+  pub limits : Relay → Limits
   -- the id is above every earlier one; a connection comes, is known by its id, goes
   pub is_fresh : Relay → ℕ → Bool
   pub accepts : Relay → Setup → Relay

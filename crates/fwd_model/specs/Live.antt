@@ -23,12 +23,13 @@ use Rattle.std.specs.Prelude.{
   slice_get,
   slice_set,
 }
+use Rattle.fwd_msgpack.specs.declared.limits.Limits.{Limits}
 use Rattle.fwd_handshake.specs.declared.credentials.Security.{Security}
 use Rattle.fwd_source.specs.History.{Setup}
 use Rattle.fwd_source.specs.Live.{LiveSource, live_source, opened_source}
 use Rattle.fwd_source.specs.Layer.{live_sources}
 use Rattle.fwd_model.specs.declared.config.OutputConfig.{OutputConfig}
-use Rattle.fwd_counts.specs.declared.counts.Counts.{Counts}
+use Rattle.fwd_chunks.specs.Counts.{Counts}
 use Rattle.fwd_chunks.specs.History.{Load}
 use Rattle.fwd_chunks.specs.Live as buffer
 use Rattle.fwd_chunks.specs.Live.{
@@ -81,6 +82,7 @@ pub record LiveRelay : Type 0 where
   pub run : List ℕ
   pub routes : List (List (List ℕ))
   pub security : Security
+  pub limits : Limits
   pub last : Option ℕ
   pub connections : List LiveConnection
   pub lanes : List LiveLane
@@ -126,6 +128,7 @@ live h = record {
   run = h.run;
   routes = h.routes;
   security = h.security;
+  limits = h.limits;
   last = last_id h.connections;
   connections = map live_connection (known h.connections);
   lanes = map live_lane h.lanes;
@@ -253,6 +256,7 @@ lives = record {
   run = λ r. r.run;
   routes = λ r. r.routes;
   security = λ r. r.security;
+  limits = λ r. r.limits;
   is_fresh = λ r id. is_above id r.last;
   accepts = live_accepts;
   source_at = λ r id. live_source_at id r.connections;

@@ -3,8 +3,8 @@ use Rattle.std.specs.Prelude.{ℕ, Bool, true, false, List, [], ◌∷◌, lengt
 use Rattle.fwd_modes.specs.Requests.{Request}
 use Rattle.fwd_source.specs.declared.piece.Piece.{Piece}
 use Rattle.fwd_source.specs.declared.piece.Piece.TheVariants as told
-use Rattle.fwd_session.specs.declared.told.Heard.{Heard}
-use Rattle.fwd_session.specs.declared.told.Heard.TheVariants as heard
+use Rattle.fwd_session.specs.declared.told.SessionHeard.{SessionHeard}
+use Rattle.fwd_session.specs.declared.told.SessionHeard.TheVariants as heard
 use Rattle.fwd_chunks.specs.declared.fault.AdmitError.{AdmitError}
 use Rattle.fwd_chunks.specs.declared.fault.AdmitError.TheVariants as unfit
 use Rattle.fwd_chunks.specs.History.{Load}
@@ -76,7 +76,7 @@ of_piece (told.Fault fault) count out s = Goes (answer.Faulted fault count out) 
 
 -- bytes are refused once the session is down; else it is told what they did, and the PING that
 -- they brought
-abbrev pub of_heard : {S : Type 0} → Heard → List ℕ → S → Outcome S
+abbrev pub of_heard : {S : Type 0} → SessionHeard → List ℕ → S → Outcome S
 of_heard heard.NotUp out s = Stays (answer.Refused NotUp)
 of_heard heard.Quiet out s = Goes (answer.Quiet out) s
 of_heard heard.Ready out s = Goes (answer.Ready out) s

@@ -1,20 +1,21 @@
 -- What a connection is accepted with, and what a session and an output begin with.
 use Rattle.std.specs.Prelude.{ℕ, List}
+use Rattle.fwd_msgpack.specs.declared.limits.Limits.{Limits}
 use Rattle.fwd_handshake.specs.declared.credentials.Security.{Security}
-use Rattle.fwd_source.specs.History.{Setup, source_limits}
+use Rattle.fwd_source.specs.History.{Setup}
 use Rattle.fwd_chunks.specs.History.{BufferSetting}
 use Rattle.fwd_failover.specs.History.{ServersSetting}
 use Rattle.fwd_session.specs.History as session
 use Rattle.fwd_model.specs.declared.config.OutputConfig.{OutputConfig}
 
 -- what a connection is accepted with
-abbrev pub setup_of : Security → ℕ → (nonce auth : List ℕ) → Setup
-setup_of security id nonce auth =
+abbrev pub setup_of : Security → Limits → ℕ → (nonce auth : List ℕ) → Setup
+setup_of security limits id nonce auth =
     record {
       conn = id;
       security = security;
       nonces = record { nonce = nonce; auth = auth };
-      limits = source_limits;
+      limits = limits;
     }
 
 -- what a session of an output begins with

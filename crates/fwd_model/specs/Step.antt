@@ -76,6 +76,7 @@ module _ (L : Layers) where
     run,
     routes,
     security,
+    limits,
     is_fresh,
     source_at,
     lane_at,
@@ -330,7 +331,7 @@ module _ (L : Layers) where
 
   -- what one event comes to
   abbrev pub step : Relay → Event → Outcome Relay
-  step r (event.Accept id nonce auth) = accept r (setup_of (security r) id nonce auth)
+  step r (event.Accept id nonce auth) = accept r (setup_of (security r) (limits r) id nonce auth)
   step r (event.Piece id bytes) = at_source r id (λ s. piece s bytes)
   step r (event.Admit id o now) = at_both r id o (admit (routes r) id o now)
   step r (event.Flush o now kind) = at_lane r o (λ l. flush l now kind)

@@ -5,6 +5,7 @@ use fwd_base::Seq;
 use fwd_chunks::BufferLimits;
 use fwd_handshake::{Login, Security};
 use fwd_match::Routes;
+use fwd_msgpack::Limits;
 
 /// What one output is set to.
 #[derive(Drop)]
@@ -33,6 +34,8 @@ pub struct Config {
     pub routes: Routes,
     /// What a source has to prove, and the name under which the relay answers it.
     pub security: Security,
+    /// How long and how deep a value of a source may be.
+    pub limits: Limits,
     /// The outputs, in file order: at most 65,536, since events name them by sixteen bits.
     pub outputs: Seq<OutputConfig>,
     ghost few: { length outputs ≤ 2 ^ 16 },

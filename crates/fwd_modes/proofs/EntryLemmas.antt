@@ -45,12 +45,16 @@ length_ends place [] = refl
 length_ends place (e ∷ entries) = ap suc (length_ends (place + length e) entries)
 
 -- what is joined and cut at its own ends is what it was
-cut_joined : (place : ℕ) (entries : List (List ℕ))
+pub cut_joined : (place : ℕ) (entries : List (List ℕ))
     → cut_at place (ends_from place entries) (concat entries) ≡ entries
 cut_joined place [] = refl
 cut_joined place (e ∷ entries) =
     let long : (place + length e) - place ≡ length e = omega arith in
     rw (long, take_at e (concat entries) (length e) refl, drop_at e (concat entries) (length e) refl) (ap (λ es. e ∷ es) (cut_joined (place + length e) entries))
+
+-- entries one after the other are cut at their ends
+pub cut_whole : (entries : List (List ℕ)) → AreCut 0 (ends_from 0 entries) (concat entries)
+cut_whole entries = record { joined = ap concat (cut_joined 0 entries); ending = ap (ends_from 0) (cut_joined 0 entries) }
 
 ends_push : (place : ℕ) (entries : List (List ℕ)) (e : List ℕ)
     → ends_from place (entries ++ e ∷ [])

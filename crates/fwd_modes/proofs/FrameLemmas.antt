@@ -18,6 +18,7 @@ use Rattle.fwd_modes.specs.Kinds.{fitting_text}
 use Rattle.fwd_modes.specs.Options.{option_pairs, unless_nil, chunk_under, chunk_of, is_bad_chunk, are_bad_pairs, is_bad_option, is_compression, is_compressed}
 use Rattle.fwd_modes.specs.declared.fault.InputFault.TheVariants.{BadTag, BadOption, Compressed, BadEntry}
 use Rattle.fwd_modes.specs.Requests.{Request, Heartbeat, Asks, Parts, mode_by, with_option, parts_by, parts_in, tag_of, first_fault, asked, unless_fault, of_parts, request_of}
+use Rattle.std.proofs.lemmas.Option.{same_Some}
 
 five_parts : (a b c d e : List ℕ)
     → a ++ b ++ c ++ d ++ e ≡ a ++ (b ++ (c ++ (d ++ (e ++ []))))
@@ -233,9 +234,6 @@ back deep frame is = frame_reads_back deep frame.tag frame.entries frame.name is
 pub asks_same : (r s : Request) → Asks r ≡ Asks s → r ≡ s
 asks_same r s e = cc
 
-pub some_same : {A : Type 0} (x y : A) → Some x ≡ Some y → x ≡ y
-some_same x y e = cc
-
 pub only : (deep : ℕ) (frame : Frame) (r : Request) (value : List ℕ) → IsFrame deep frame
     → request_of deep value ≡ Asks r
     → value ≡ chunk_frame frame.tag frame.entries frame.name → r ≡ asked_by frame
@@ -244,7 +242,7 @@ only deep frame r value is e same = asks_same r (asked_by frame) (sym e ∙ ap (
 -- the text of a name tells the name
 name_same : (name other : List ℕ) → length name ≤ CHUNK_LIMIT → length other ≤ CHUNK_LIMIT
     → text name ≡ text other → name ≡ other
-name_same name other short small e = some_same name other (sym (text_text name (omega (arith, short))) ∙ ap text_of e ∙ text_text other (omega (arith, small)))
+name_same name other short small e = same_Some name other (sym (text_text name (omega (arith, short))) ∙ ap text_of e ∙ text_text other (omega (arith, small)))
 
 pub differ : (deep : ℕ) (frame other : Frame) → IsFrame deep frame → IsFrame deep other
     → chunk_frame frame.tag frame.entries frame.name
@@ -254,5 +252,5 @@ differ deep frame other is are e =
     let same = asks_same (asked_by frame) (asked_by other) (sym (back deep frame is) ∙ ap (request_of deep) e ∙ back deep other are) in
     let tags : frame.tag ≡ other.tag = ap (λ (r : Request). r.tag) same in
     let lists : frame.entries ≡ other.entries = ap (λ (r : Request). r.entries) same in
-    let names : frame.name ≡ other.name = name_same frame.name other.name is.name are.name (some_same (text frame.name) (text other.name) (ap (λ (r : Request). r.chunk) same)) in
+    let names : frame.name ≡ other.name = name_same frame.name other.name is.name are.name (same_Some (text frame.name) (text other.name) (ap (λ (r : Request). r.chunk) same)) in
     λ i. record { tag = tags i; entries = lists i; name = names i }

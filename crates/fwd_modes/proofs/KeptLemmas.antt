@@ -20,7 +20,8 @@ use Rattle.fwd_modes.specs.Entries.{kept_entry, kept_if, entry_in, entry_of, bef
 use Rattle.fwd_modes.specs.Frames.{IsKept}
 use Rattle.fwd_modes.specs.declared.fault.InputFault.{InputFault}
 use Rattle.fwd_modes.specs.Requests.{Request, Reading, Heartbeat, Asks, Parts, Mode, Message, Forward, PackedForward, mode_by, one_entry, unpacked, with_option, message, parts_by, parts_in, faults_of, first_fault, asked, unless_fault, of_parts, request_of}
-use Rattle.fwd_modes.proofs.FrameLemmas.{asks_same, some_same}
+use Rattle.fwd_modes.proofs.FrameLemmas.{asks_same}
+use Rattle.std.proofs.lemmas.Option.{same_Some}
 
 -- ---- the members of an array
 
@@ -58,7 +59,7 @@ no_elements (Ext kind len) body values shut e = cc
 
 row_elements : (head : Head) (body : List ℕ) (values : List (List ℕ))
     → elements_in head body ≡ Some values → row_of_values body ≡ values
-row_elements (Arr n) body values e = some_same (row_of_values body) values e
+row_elements (Arr n) body values e = same_Some (row_of_values body) values e
 row_elements Nil body values e = absurd cc
 row_elements (Boolean b) body values e = absurd cc
 row_elements (Int neg mag) body values e = absurd cc
@@ -93,7 +94,7 @@ two_parts time fields = ap (λ xs. 0x92 ∷ (time ++ xs)) (sym (append-nil field
 
 kept_same : (b : Bool) (kept entry : List ℕ) → cond b (Some kept) None ≡ Some entry
     → kept ≡ entry
-kept_same true kept entry e = some_same kept entry e
+kept_same true kept entry e = same_Some kept entry e
 kept_same false kept entry e = absurd cc
 
 -- a time and fields, each less deep
@@ -146,7 +147,7 @@ entry_kept deep bytes entry value shallow short e = kept_by deep bytes entry (el
 entries_kept : (values entries : List (List ℕ))
     → AllByRecursion (IsWithinLimits most_bytes most_deep) values
     → entries_of values ≡ Some entries → AllByRecursion (IsKept most_deep) entries
-entries_kept [] entries each e = subst (AllByRecursion (IsKept most_deep)) (some_same [] entries e) tt
+entries_kept [] entries each e = subst (AllByRecursion (IsKept most_deep)) (same_Some [] entries e) tt
 entries_kept (value ∷ values) entries each e =
     by_first (entry_of value) refl (entries_of values) refl (λ others k. entries_kept values others each.1 k) e
   where
@@ -158,7 +159,7 @@ entries_kept (value ∷ values) entries each e =
     by_first None h p k ih f = absurd cc
     by_first (Some entry) h None k ih f = absurd cc
     by_first (Some entry) h (Some others) k ih f =
-        subst (AllByRecursion (IsKept most_deep)) (some_same (entry ∷ others) entries f) (entry_kept 63 value entry each.0.0 (omega arith) each.0.1 h, ih others k)
+        subst (AllByRecursion (IsKept most_deep)) (same_Some (entry ∷ others) entries f) (entry_kept 127 value entry each.0.0 (omega arith) each.0.1 h, ih others k)
 
 -- ---- lists of entries
 
@@ -178,7 +179,7 @@ all_within deep (value ∷ values) shallow each =
 
 to_the_end : (split : Split) (values : List (List ℕ)) → values_to_the_end split ≡ Some values
     → values_of split ≡ values
-to_the_end (Open values []) others e = some_same values others e
+to_the_end (Open values []) others e = same_Some values others e
 to_the_end (Open values (byte ∷ rest)) others e = absurd cc
 to_the_end (Broken values fault) others e = absurd cc
 
@@ -239,7 +240,7 @@ with_option_entries tag entries (option ∷ other ∷ others) parts e kept = abs
 
 -- the elements of a whole value
 record Elements (values : List (List ℕ)) : Type 0 where
-  each : AllByRecursion (IsValue 63) values
+  each : AllByRecursion (IsValue 127) values
   within : AllByRecursion (IsWithinLimits most_bytes most_deep) values
   short : length (concat values) ≤ most_bytes
 
@@ -247,7 +248,7 @@ elements_at : (bytes : List ℕ) (values : List (List ℕ)) → IsWhole bytes
     → elements_of bytes ≡ Some values → Elements values
 elements_at bytes values whole e =
     let value = whole_value bytes whole in
-    record { each = members_of 63 bytes values value.0 (omega arith) value.1 e; within = (elements_are bytes values whole e).1.each; short = omega (arith, elements_bounded bytes values e, value.1) }
+    record { each = members_of 127 bytes values value.0 (omega arith) value.1 e; within = (elements_are bytes values whole e).1.each; short = omega (arith, elements_bounded bytes values e, value.1) }
 
 message_kept : (tag time : List ℕ) (others : List (List ℕ)) (parts : Parts)
     → Elements (tag ∷ time ∷ others) → message tag time others ≡ Some parts
@@ -255,7 +256,7 @@ message_kept : (tag time : List ℕ) (others : List (List ℕ)) (parts : Parts)
 message_kept tag time [] parts is e = absurd cc
 message_kept tag time (fields ∷ others) parts is e =
     with_option_entries tag (one_entry (kept_if time fields)) others parts e
-    (one_kept (kept_if time fields) (λ entry k. kept_one 63 time fields entry is.each.1.0 is.each.1.1.0 (omega arith)
+    (one_kept (kept_if time fields) (λ entry k. kept_one 127 time fields entry is.each.1.0 is.each.1.1.0 (omega arith)
     (omega (arith, length-append tag (concat (time ∷ fields ∷ others)), length-append time (concat (fields ∷ others)), length-append fields (concat others), is.short)) k))
 
 unpacked_by : (deep : ℕ) (o : Option (List ℕ)) → deep ≤ most_deep

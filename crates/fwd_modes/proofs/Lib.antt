@@ -1,3 +1,4 @@
+pub mod Spelled
 mod Examples
 pub mod TextLemmas
 pub mod EntryLemmas

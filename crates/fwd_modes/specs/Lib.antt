@@ -8,3 +8,6 @@ pub mod Requests
 pub mod Frames
 pub mod Acks
 pub mod Readings
+-- Of the crates below, for those above.
+pub use Rattle.fwd_msgpack.specs.Heads
+pub use Rattle.fwd_msgpack.specs.Scans

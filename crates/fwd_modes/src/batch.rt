@@ -18,7 +18,7 @@ ghost use Rattle.fwd_modes.specs.Entries.{ends_of};
 ghost use Rattle.fwd_modes.specs.Readings.{entries_left};
 
 use crate::entries::Entries;
-use crate::kept::Kept;
+use crate::kept::KeptEntries;
 use crate::limits::{CHUNK_LIMIT, TAG_LIMIT};
 use smallvec::SmallVec;
 use std::alloc::{AllocError, Global};
@@ -31,7 +31,7 @@ use std::sync::Arc;
 #[derive(Drop)]
 pub struct Batch {
     tag: SmallVec<u8, 32>,
-    entries: Arc<Kept>,
+    entries: Arc<KeptEntries>,
     chunk: Option<SmallVec<u8, 32>>,
 }
 
@@ -74,7 +74,7 @@ impl Batch {
     pub(crate) fn new(
         alloc: Global,
         tag: &[u8],
-        entries: Kept,
+        entries: KeptEntries,
         chunk: Option<&[u8]>,
     ) -> Result<Self, AllocError>
         requires tag_fits { length tag.now ≤ TAG_LIMIT }
@@ -93,7 +93,7 @@ impl Batch {
     fn over(
         alloc: Global,
         tag: &[u8],
-        entries: Arc<Kept>,
+        entries: Arc<KeptEntries>,
         chunk: Option<&[u8]>,
     ) -> Result<Self, AllocError>
         requires entries_fit { length (concat (arc_value entries)) < 2 ^ 32 }
@@ -116,7 +116,7 @@ impl Batch {
         })
     }
 
-    /// A copy, which shares the entries. The only error is want of memory.
+    /// A copy, which shares the entries. The only error is out of memory.
     pub fn share(&self, alloc: Global) -> Result<Self, AllocError>
         ensures { IfOk result (λ copy. copy ≡ self.now) }
     {

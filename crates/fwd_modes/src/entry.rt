@@ -1,6 +1,7 @@
 //! One entry of a request (Forward Protocol Specification v1, "Message Modes").
 
-ghost use Rattle.std.specs.Prelude.{◌≡◌, ◌+◌, ◌≤◌, ◌<◌, ◌^◌, IfSome, length};
+ghost use Rattle.std.specs.Prelude.{◌≡◌, ◌+◌, ◌≤◌, ◌<◌, ◌^◌, IfSome, Some, true, length};
+ghost use Rattle.fwd_modes.specs.Entries.{entry_of};
 ghost use Rattle.std.specs.Option.{option_map};
 ghost use Rattle.fwd_msgpack.specs.Values.{bytes_of};
 
@@ -53,4 +54,14 @@ impl<'a> Entry<'a> {
         }
         Entry::new(time, fields)
     }
+}
+
+/// Whether a value is an entry that is spelled as it is kept.
+pub(crate) fn is_kept(value: Value<'_>) -> bool
+    ensures { result ≡ true → entry_of (bytes_of value.entry) ≡ Some (bytes_of value.entry) }
+{
+    let Some((first, _)) = value.bytes().split_first() else {
+        return false;
+    };
+    *first == 0x92 && Entry::read(value).is_some()
 }

@@ -17,7 +17,7 @@ ghost use Rattle.std.specs.Prelude.{
   OnErr,
 };
 ghost use Rattle.std.specs.List.{concat};
-ghost use Rattle.fwd_modes.specs.Entries.{kept_entry, ends_of};
+ghost use Rattle.fwd_modes.specs.Entries.{AreCut, cut_at, kept_entry, ends_of};
 ghost use Rattle.fwd_modes.specs.Readings.{entries_left, kept};
 
 use crate::entries::Entries;
@@ -28,12 +28,12 @@ use std::marker::Model;
 
 /// Entries as they are kept, one after the other, and where each of them ends.
 #[derive(Drop)]
-pub(crate) struct Kept {
+pub(crate) struct KeptEntries {
     bytes: Vec<u8>,
     ends: SmallVec<u32, 2>,
 }
 
-impl Model for Kept {
+impl Model for KeptEntries {
     ghost use Rattle.std.specs.Prelude.{List, ℕ, ◌<◌, ◌^◌, length};
     ghost use Rattle.fwd_modes.specs.Entries.{cut_at, AreCut};
 
@@ -69,12 +69,12 @@ fn append_all(bytes: &mut Vec<u8>, entry: Entry<'_>) -> Result<(), AllocError>
     bytes.extend_from_slice(entry.fields)
 }
 
-impl Kept {
+impl KeptEntries {
     /// No entries.
     pub(crate) fn new(alloc: Global) -> Self
         ensures { result ≡ [] }
     {
-        Kept {
+        KeptEntries {
             bytes: Vec::new(alloc),
             ends: SmallVec::new(alloc),
         }
@@ -84,10 +84,19 @@ impl Kept {
     pub(crate) fn with_room(alloc: Global, bytes: usize) -> Result<Self, AllocError>
         ensures { IfOk result (λ kept. kept ≡ []) }
     {
-        Ok(Kept {
+        Ok(KeptEntries {
             bytes: Vec::with_capacity(alloc, bytes)?,
             ends: SmallVec::new(alloc),
         })
+    }
+
+    /// Entries that stand one after the other as they are kept, and where each of them ends.
+    pub(crate) fn of(bytes: Vec<u8>, ends: SmallVec<u32, 2>) -> Self
+        requires cut { AreCut 0 ends.items bytes.items }
+        requires bound { length bytes.items < 2 ^ 32 }
+        ensures { result ≡ cut_at 0 ends.items bytes.items }
+    {
+        KeptEntries { bytes, ends }
     }
 
     /// Adds an entry at the end, or changes nothing.
@@ -118,7 +127,7 @@ impl Kept {
     }
 
     /// Whether the entries are the same.
-    pub(crate) fn is(&self, other: &Kept) -> bool
+    pub(crate) fn is(&self, other: &KeptEntries) -> bool
         ensures { IsTrue result ↔ (self.now ≡ other.now) }
     {
         self.bytes == other.bytes && self.ends.as_slice() == other.ends.as_slice()

@@ -46,7 +46,7 @@ pub fn only_its_frame()
 {}
 
 /// The entries that a whole value asks for are each kept as
-/// it stands, and at most 64 deep: they can stand in a frame.
+/// it stands, and at most 128 deep: they can stand in a frame.
 pub fn entries_are_kept()
     ensures { (deep : ℕ) (bytes : List ℕ) (r : Request) → deep ≤ most_deep → IsWhole bytes
         → request_of deep bytes ≡ Asks r → AllByRecursion (IsKept most_deep) r.entries }

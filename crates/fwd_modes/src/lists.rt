@@ -1,24 +1,47 @@
 //! The entries of a request that has many (Forward Protocol
 //! Specification v1, "Forward Mode" and "PackedForward Mode").
 
-ghost use Rattle.std.specs.Prelude.{◌≡◌, ◌<◌, ◌≤◌, ◌^◌, length, IfOk};
-ghost use Rattle.fwd_msgpack.specs.Values.{bytes_of};
-ghost use Rattle.fwd_modes.specs.Entries.{listed_entries, packed_entries};
+ghost use Rattle.std.specs.Prelude.{◌≡◌, ◌<◌, ◌≤◌, ◌^◌, Some, length, IfOk, IfSome};
+ghost use Rattle.std.specs.List.{concat};
+ghost use Rattle.fwd_msgpack.specs.Values.{bytes_of, members_left};
+ghost use Rattle.fwd_modes.specs.Entries.{AreCut, cut_at, ends_of, entries_of, listed_entries, packed_entries};
 
-use crate::entry::Entry;
-use crate::kept::Kept;
-use fwd_msgpack::{Cut, Limits, Value, cut};
+use crate::entry::{Entry, is_kept};
+use crate::kept::KeptEntries;
+use fwd_msgpack::{Cut, Limits, Members, Value, cut};
+use smallvec::SmallVec;
 use std::alloc::{AllocError, Global};
 
-/// The members of an array, if each is an entry.
+/// Where the members of an array end, behind its head, if each is an entry that is spelled as it is
+/// kept.
+fn ends_listed(alloc: Global, members: Members<'_>) -> Result<Option<SmallVec<u32, 2>>, AllocError>
+    requires { length (concat (members_left members)) < 2 ^ 32 }
+    ensures ends { IfOk result (λ found. IfSome found (λ ends.
+        ends.items ≡ ends_of (members_left members.entry))) }
+    ensures entries { IfOk result (λ found. IfSome found (λ ends.
+        entries_of (members_left members.entry) ≡ Some (members_left members.entry))) }
+{
+    let mut ends = SmallVec::new(alloc);
+    let mut used = 0;
+    for entry in members {
+        if !is_kept(entry) {
+            return Ok(None);
+        }
+        used += entry.bytes().len();
+        ends.push(used as u32)?;
+    }
+    Ok(Some(ends))
+}
+
+/// The same, entry by entry: where some are not spelled as they are kept.
 #[tactic(auto, unfolding(crate::specs::Entries::listed_entries))]
-pub(crate) fn read_list(alloc: Global, list: Value<'_>) -> Result<Option<Kept>, AllocError>
+fn list_each(alloc: Global, list: Value<'_>) -> Result<Option<KeptEntries>, AllocError>
     ensures { IfOk result (λ kept. kept ≡ listed_entries (bytes_of list.entry)) }
 {
     let Some(members) = list.items() else {
         return Ok(None);
     };
-    let mut kept = Kept::with_room(alloc, list.bytes().len())?;
+    let mut kept = KeptEntries::with_room(alloc, list.bytes().len())?;
     for member in members {
         let Some(entry) = Entry::read(member) else {
             return Ok(None);
@@ -28,13 +51,57 @@ pub(crate) fn read_list(alloc: Global, list: Value<'_>) -> Result<Option<Kept>, 
     Ok(Some(kept))
 }
 
-/// The entries that stand one after the other to the last byte, each at most so deep.
-pub(crate) fn read_packed(
+/// The members of an array, if each is an entry. Where all are spelled as they are kept, their bytes
+/// are copied in one.
+#[tactic(auto, unfolding(crate::specs::Entries::listed_entries))]
+pub(crate) fn read_list(alloc: Global, list: Value<'_>) -> Result<Option<KeptEntries>, AllocError>
+    ensures { IfOk result (λ kept. kept ≡ listed_entries (bytes_of list.entry)) }
+{
+    let Some(members) = list.items() else {
+        return Ok(None);
+    };
+    let Some(ends) = ends_listed(alloc, members)? else {
+        return list_each(alloc, list);
+    };
+    let bytes = Vec::from_slice(alloc, members.bytes())?;
+    Ok(Some(KeptEntries::of(bytes, ends)))
+}
+
+/// Where the entries end that stand one after the other to the last byte, each at most so deep, if
+/// each is spelled as it is kept.
+fn ends_of_kept(
     alloc: Global,
     packed: &[u8],
     depth: u8,
-) -> Result<Option<Kept>, AllocError>
-    requires shallow { depth ≤ 64 }
+) -> Result<Option<SmallVec<u32, 2>>, AllocError>
+    requires shallow { depth ≤ 128 }
+    requires fits { length packed.now < 2 ^ 32 }
+    ensures cut { IfOk result (λ found. IfSome found (λ ends. AreCut 0 ends.items packed.now)) }
+    ensures entries { IfOk result (λ found. IfSome found (λ ends.
+        packed_entries depth packed.now ≡ Some (cut_at 0 ends.items packed.now))) }
+{
+    let limits = Limits {
+        bytes: u32::MAX,
+        depth,
+    };
+    let mut ends = SmallVec::new(alloc);
+    let mut used = 0;
+    'entries: while used < packed.len() {
+        let Cut::Whole(value, len) = cut(&packed[used..], limits) else {
+            return Ok(None);
+        };
+        if !is_kept(value) {
+            return Ok(None);
+        }
+        used += len;
+        ends.push(used as u32)?;
+    }
+    Ok(Some(ends))
+}
+
+/// The same, entry by entry: where some are not spelled as they are kept.
+fn read_each(alloc: Global, packed: &[u8], depth: u8) -> Result<Option<KeptEntries>, AllocError>
+    requires shallow { depth ≤ 128 }
     requires fits { length packed.now < 2 ^ 32 }
     ensures { IfOk result (λ kept. kept ≡ packed_entries depth packed.now) }
 {
@@ -42,7 +109,7 @@ pub(crate) fn read_packed(
         bytes: u32::MAX,
         depth,
     };
-    let mut kept = Kept::with_room(alloc, packed.len())?;
+    let mut kept = KeptEntries::with_room(alloc, packed.len())?;
     let mut rest = packed;
     'entries: while !rest.is_empty() {
         let Cut::Whole(value, used) = cut(rest, limits) else {
@@ -55,4 +122,24 @@ pub(crate) fn read_packed(
         rest = &rest[used..];
     }
     Ok(Some(kept))
+}
+
+/// The entries that stand one after the other to the last byte, each at most so deep. Where all
+/// are spelled as they are kept, their bytes are copied in one.
+pub(crate) fn read_packed(
+    alloc: Global,
+    packed: &[u8],
+    depth: u8,
+) -> Result<Option<KeptEntries>, AllocError>
+    requires shallow { depth ≤ 128 }
+    requires fits { length packed.now < 2 ^ 32 }
+    ensures { IfOk result (λ kept. kept ≡ packed_entries depth packed.now) }
+{
+    match ends_of_kept(alloc, packed, depth)? {
+        Some(ends) => {
+            let bytes = Vec::from_slice(alloc, packed)?;
+            Ok(Some(KeptEntries::of(bytes, ends)))
+        }
+        None => read_each(alloc, packed, depth),
+    }
 }

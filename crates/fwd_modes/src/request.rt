@@ -12,7 +12,7 @@ use crate::asked::Asked;
 use crate::batch::Batch;
 use crate::entry::Entry;
 use crate::fault::InputFault;
-use crate::kept::Kept;
+use crate::kept::KeptEntries;
 use crate::kinds::text_within;
 use crate::limits::TAG_LIMIT;
 use crate::lists::{read_list, read_packed};
@@ -52,20 +52,24 @@ fn judge(parts: Parts<'_>) -> Result<Asked<'_>, InputFault>
 }
 
 /// One entry, if it is one.
-fn read_one(alloc: Global, entry: Option<Entry<'_>>) -> Result<Option<Kept>, AllocError>
+fn read_one(alloc: Global, entry: Option<Entry<'_>>) -> Result<Option<KeptEntries>, AllocError>
     ensures { IfOk result (λ kept. kept ≡ one_entry (option_map kept_of entry.entry)) }
 {
     let Some(entry) = entry else {
         return Ok(None);
     };
-    let mut kept = Kept::new(alloc);
+    let mut kept = KeptEntries::new(alloc);
     kept.push(entry)?;
     Ok(Some(kept))
 }
 
 /// The entries, if each is one.
-fn read_entries(alloc: Global, given: Given<'_>, depth: u8) -> Result<Option<Kept>, AllocError>
-    requires { depth ≤ 64 }
+fn read_entries(
+    alloc: Global,
+    given: Given<'_>,
+    depth: u8,
+) -> Result<Option<KeptEntries>, AllocError>
+    requires { depth ≤ 128 }
     ensures { IfOk result (λ kept. kept ≡ entries_given depth given.entry) }
 {
     match given {
@@ -85,7 +89,7 @@ fn read_asked(
     asked: Asked<'_>,
     depth: u8,
 ) -> Result<Reading, AllocError>
-    requires { depth ≤ 64 }
+    requires { depth ≤ 128 }
     ensures { IfOk result (λ r.
         shown r ≡ judged (entries_given depth given.entry) (Ok asked.entry)) }
 {
@@ -99,7 +103,7 @@ fn read_asked(
 /// option, compression, entry. Packed entries are at most as deep as the limits say, each counted
 /// from its own array; the limits' bytes are those of the value, and have been looked at when it
 /// was cut. Memory is taken only for entries: a heartbeat and the faults of shape, tag, option and
-/// compression are never answered as want of memory.
+/// compression are never answered as out of memory.
 #[tactic(auto, unfolding(crate::specs::Requests::request_of))]
 pub fn read_request(alloc: Global, value: Value<'_>, limits: Limits) -> Result<Reading, AllocError>
     ensures value { IfOk result (λ r. shown r ≡ request_of limits.depth (bytes_of value.entry)) }

@@ -5,3 +5,5 @@ pub mod Page
 pub mod Replies
 pub mod Requests
 pub mod Statuses
+-- Of the crate below, for those above.
+pub use Rattle.fwd_counts.specs.declared.counts.Counts

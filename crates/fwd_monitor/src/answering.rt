@@ -16,7 +16,7 @@ use std::alloc::{AllocError, Global};
 /// sections 2 to 5) of at most `MAX_HEADERS` headers is told the page where its method is `GET` and
 /// its target is `/`, and 404 otherwise, whatever stands behind it. A head of more headers is told
 /// 400 once their lines have come, finished or not, and so are bytes that nothing can make a head,
-/// and `HEAD_LIMIT` bytes or more without a whole head. Others wait. The only error is want of
+/// and `HEAD_LIMIT` bytes or more without a whole head. Others wait. The only error is out of
 /// memory, and to wait takes none.
 pub fn answer(alloc: Global, head: &[u8], counts: &[Counts]) -> Result<Reply, AllocError>
     ensures reply { IfOk result (IsReplyTo head.now counts.now) }

@@ -6,7 +6,7 @@ use fwd_counts::Counts;
 use std::alloc::{AllocError, Global};
 
 /// A line for each output, by rising number from 0: its number, and its counts in decimal. Its
-/// only error is want of memory.
+/// only error is out of memory.
 pub fn page(alloc: Global, counts: &[Counts]) -> Result<String, AllocError>
     ensures { IfOk result (λ text. string_bytes text ≡ page_of counts.now) }
 {

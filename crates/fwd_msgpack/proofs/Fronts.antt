@@ -2,7 +2,7 @@
 use Rattle.std.proofs.Common.{◌≡◌, ℕ, zero, suc, ◌+◌, ◌-◌, ◌<◌, ◌≤◌, Bool, true, false, cond, ltb, List, [], ◌∷◌, ◌++◌, length, take, drop, Option, Some, None, refl, sym, ap, ◌∙◌, arith, append_assoc, add-zero, sub-one}
 use Rattle.std.specs.Prelude.{fold}
 use Rattle.std.proofs.lemmas.Bool.{ltb-true, ltb-false, le-ltb, lt-ltb, cond_both}
-use Rattle.std.proofs.lemmas.List.{length-append, take_all, length-take-le, take-append-drop, drop_at}
+use Rattle.std.proofs.lemmas.List.{append-nil, length-append, take_all, length-take-le, take-append-drop, drop_at}
 use Rattle.fwd_msgpack.specs.declared.fault.ScanFault.{ScanFault}
 use Rattle.fwd_msgpack.specs.declared.fault.ScanFault.TheVariants.{Reserved}
 use Rattle.fwd_msgpack.specs.declared.head.Head.{Head}
@@ -10,7 +10,7 @@ use Rattle.fwd_msgpack.specs.declared.head.Head.TheVariants.{Nil, Bool as Boolea
 use Rattle.fwd_msgpack.specs.declared.head.HeadRead.{HeadRead}
 use Rattle.fwd_msgpack.specs.declared.head.HeadRead.TheVariants as read
 use Rattle.fwd_msgpack.specs.Heads.{Row, IsWithin, row_of, row_reading, reading_of, payload, members}
-use Rattle.fwd_msgpack.specs.Scans.{Verdict, Short, Bad, InHead, InPayload, State, Going, Ended, Failed, value_ended, payload_ended, item_begun, fault_at, unless_faulty, head_found, head_heard, scan_byte, verdict_of}
+use Rattle.fwd_msgpack.specs.Scans.{InHead, InPayload, State, Going, Ended, Failed, value_ended, payload_ended, item_begun, fault_at, unless_faulty, head_found, head_heard, scan_byte}
 
 -- the state behind more bytes
 abbrev pub scanned : (limit deep : ℕ) → State → List ℕ → State
@@ -26,20 +26,27 @@ pub scanned-Ended : (limit deep used : ℕ) (bytes : List ℕ)
 scanned-Ended limit deep used [] = refl
 scanned-Ended limit deep used (b ∷ bytes) = scanned-Ended limit deep used bytes
 
--- the verdict behind used bytes, at the start of an item inside these containers
-abbrev pub answer : (limit deep used : ℕ) → List ℕ → List ℕ → Verdict
-answer limit deep used stack bytes =
-    verdict_of (scanned limit deep (Going used stack (InHead [])) bytes)
+-- the state behind more bytes of a scan at the start of an item inside these containers
+abbrev pub from_item : (limit deep used : ℕ) → List ℕ → List ℕ → State
+from_item limit deep used stack bytes = scanned limit deep (Going used stack (InHead [])) bytes
 
 -- ---- a payload
 
 pub payload-short : (limit deep used : ℕ) (stack : List ℕ) (left : ℕ) (bytes : List ℕ)
     → length bytes < left
-    → verdict_of (scanned limit deep (Going used stack (InPayload left)) bytes) ≡ Short
-payload-short limit deep used stack left [] lt = refl
+    → scanned limit deep (Going used stack (InPayload left)) bytes
+    ≡ Going (used + length bytes) stack (InPayload (left - length bytes))
+payload-short limit deep used stack left [] lt =
+    let all : left ≡ left - 0 = omega arith in
+    ap (λ (n : ℕ). Going n stack (InPayload left)) (sym (add-zero used))
+    ∙ ap (λ (n : ℕ). Going (used + 0) stack (InPayload n)) all
 payload-short limit deep used stack left (b ∷ bytes) lt =
     let more : ltb 1 left ≡ true = lt-ltb 1 left (omega arith) in
-    rw more (payload-short limit deep (used + 1) stack (left - 1) bytes (omega arith))
+    let place : used + 1 + length bytes ≡ used + suc (length bytes) = omega arith in
+    let less : left - 1 - length bytes ≡ left - suc (length bytes) = omega arith in
+    rw more (payload-short limit deep (used + 1) stack (left - 1) bytes (omega arith)
+    ∙ ap (λ (n : ℕ). Going n stack (InPayload (left - 1 - length bytes))) place
+    ∙ ap (λ (n : ℕ). Going (used + suc (length bytes)) stack (InPayload n)) less)
 
 pub payload-whole : (limit deep used : ℕ) (stack : List ℕ) (left : ℕ) (bytes : List ℕ)
     → suc left ≤ length bytes
@@ -147,12 +154,18 @@ front_scanned limit deep used stack first row seen b (c ∷ front) after e len =
 pub front_short :
     (limit deep used : ℕ) (stack : List ℕ) (first : ℕ) (row : Row) (seen bytes : List ℕ)
     → row_of first ≡ Some row → length seen + length bytes < row.more
-    → verdict_of (scanned limit deep (Going used stack (InHead (first ∷ seen))) bytes) ≡ Short
-front_short limit deep used stack first row seen [] e lt = refl
+    → scanned limit deep (Going used stack (InHead (first ∷ seen))) bytes
+    ≡ Going (used + length bytes) stack (InHead (first ∷ (seen ++ bytes)))
+front_short limit deep used stack first row seen [] e lt =
+    ap (λ (n : ℕ). Going n stack (InHead (first ∷ seen))) (sym (add-zero used))
+    ∙ ap (λ (xs : List ℕ). Going (used + 0) stack (InHead (first ∷ xs))) (sym (append-nil seen))
 front_short limit deep used stack first row seen (b ∷ bytes) e lt =
     let short = reading_short first row (seen ++ b ∷ []) e (omega (arith, length-append seen (b ∷ []))) in
-    ap (λ (r : HeadRead). verdict_of (scanned limit deep (head_heard limit deep (used + 1) stack (first ∷ (seen ++ b ∷ [])) r) bytes)) short
+    let place : used + 1 + length bytes ≡ used + suc (length bytes) = omega arith in
+    ap (λ (r : HeadRead). scanned limit deep (head_heard limit deep (used + 1) stack (first ∷ (seen ++ b ∷ [])) r) bytes) short
     ∙ front_short limit deep (used + 1) stack first row (seen ++ b ∷ []) bytes e (omega (arith, length-append seen (b ∷ [])))
+    ∙ ap (λ (n : ℕ). Going n stack (InHead (first ∷ ((seen ++ b ∷ []) ++ bytes)))) place
+    ∙ ap (λ (xs : List ℕ). Going (used + suc (length bytes)) stack (InHead (first ∷ xs))) (append_assoc seen (b ∷ []) bytes)
 
 -- the first byte, and the rest of its head
 first_scanned :
@@ -186,7 +199,7 @@ head_scanned limit deep used stack bytes head n h =
     ∙ ap (λ (hd : Head). scanned limit deep (head_found limit deep (used + n) stack hd) r.after) (sym r.head_is)
     ∙ ap (λ (xs : List ℕ). scanned limit deep (head_found limit deep (used + n) stack head) xs) (sym behind)
 
-short_read : (b : Bool) (head : Head) (used : ℕ)
+pub short_read : (b : Bool) (head : Head) (used : ℕ)
     → cond b read.Short (read.Whole head used) ≡ read.Short → b ≡ true
 short_read true head used e = refl
 short_read false head used e = absurd cc
@@ -194,18 +207,22 @@ short_read false head used e = absurd cc
 first_short :
     (limit deep used : ℕ) (stack : List ℕ) (first : ℕ) (rest : List ℕ) (o : Option Row)
     → row_of first ≡ o → row_reading o rest ≡ read.Short
-    → answer limit deep used stack (first ∷ rest) ≡ Short
+    → from_item limit deep used stack (first ∷ rest)
+    ≡ Going (used + suc (length rest)) stack (InHead (first ∷ rest))
 first_short limit deep used stack first rest None e h = absurd cc
 first_short limit deep used stack first rest (Some row) e h =
     let lt = ltb-true (length rest) row.more (short_read (ltb (length rest) row.more) (row.spells (take row.more rest)) (row.more + 1) h) in
-    ap (λ (r : HeadRead). verdict_of (scanned limit deep (head_heard limit deep (used + 1) stack (first ∷ []) r) rest)) (reading_short first row [] e (omega arith))
+    let place : used + 1 + length rest ≡ used + suc (length rest) = omega arith in
+    ap (λ (r : HeadRead). scanned limit deep (head_heard limit deep (used + 1) stack (first ∷ []) r) rest) (reading_short first row [] e (omega arith))
     ∙ front_short limit deep (used + 1) stack first row [] rest e (omega arith)
+    ∙ ap (λ (n : ℕ). Going n stack (InHead (first ∷ rest))) place
 
-pub answer_short : (limit deep used : ℕ) (stack : List ℕ) (bytes : List ℕ)
-    → reading_of bytes ≡ read.Short → answer limit deep used stack bytes ≡ Short
+pub short_scanned : (limit deep used : ℕ) (stack : List ℕ) (bytes : List ℕ)
+    → reading_of bytes ≡ read.Short
+    → from_item limit deep used stack bytes ≡ Going (used + length bytes) stack (InHead bytes)
 unfolding reading_of
-answer_short limit deep used stack [] h = refl
-answer_short limit deep used stack (first ∷ rest) h = first_short limit deep used stack first rest (row_of first) refl h
+short_scanned limit deep used stack [] h = ap (λ (n : ℕ). Going n stack (InHead [])) (sym (add-zero used))
+short_scanned limit deep used stack (first ∷ rest) h = first_short limit deep used stack first rest (row_of first) refl h
 
 not_reserved : (b : Bool) (head : Head) (used : ℕ)
     → cond b read.Short (read.Whole head used) ≡ read.Reserved → ⊥
@@ -215,32 +232,33 @@ not_reserved false head used e = cc
 first_reserved :
     (limit deep used : ℕ) (stack : List ℕ) (first : ℕ) (rest : List ℕ) (o : Option Row)
     → row_of first ≡ o → row_reading o rest ≡ read.Reserved
-    → answer limit deep used stack (first ∷ rest) ≡ Bad Reserved
+    → from_item limit deep used stack (first ∷ rest) ≡ Failed Reserved
 unfolding reading_of
 first_reserved limit deep used stack first rest None e h =
-    ap (λ (o : Option Row). verdict_of (scanned limit deep (head_heard limit deep (used + 1) stack (first ∷ []) (row_reading o [])) rest)) e
-    ∙ ap verdict_of (scanned-Failed limit deep Reserved rest)
+    ap (λ (o : Option Row). scanned limit deep (head_heard limit deep (used + 1) stack (first ∷ []) (row_reading o [])) rest) e
+    ∙ scanned-Failed limit deep Reserved rest
 first_reserved limit deep used stack first rest (Some row) e h = absurd (not_reserved (ltb (length rest) row.more) (row.spells (take row.more rest)) (row.more + 1) h)
 
-pub answer_reserved : (limit deep used : ℕ) (stack : List ℕ) (bytes : List ℕ)
-    → reading_of bytes ≡ read.Reserved → answer limit deep used stack bytes ≡ Bad Reserved
+pub reserved_scanned : (limit deep used : ℕ) (stack : List ℕ) (bytes : List ℕ)
+    → reading_of bytes ≡ read.Reserved
+    → from_item limit deep used stack bytes ≡ Failed Reserved
 unfolding reading_of
-answer_reserved limit deep used stack [] h = absurd cc
-answer_reserved limit deep used stack (first ∷ rest) h = first_reserved limit deep used stack first rest (row_of first) refl h
+reserved_scanned limit deep used stack [] h = absurd cc
+reserved_scanned limit deep used stack (first ∷ rest) h = first_reserved limit deep used stack first rest (row_of first) refl h
 
 -- ---- an item
 
 -- a head that is faulty
-pub answer_fault :
+pub fault_scanned :
     (limit deep used : ℕ) (stack : List ℕ) (bytes : List ℕ) (head : Head) (n : ℕ)
     (fault : ScanFault)
     → reading_of bytes ≡ read.Whole head n
     → fault_at limit deep (used + n) stack head ≡ Some fault
-    → answer limit deep used stack bytes ≡ Bad fault
-answer_fault limit deep used stack bytes head n fault h bad =
-    ap verdict_of (head_scanned limit deep used stack bytes head n h
+    → from_item limit deep used stack bytes ≡ Failed fault
+fault_scanned limit deep used stack bytes head n fault h bad =
+    head_scanned limit deep used stack bytes head n h
     ∙ ap (λ (o : Option ScanFault). scanned limit deep (unless_faulty o (item_begun (used + n) stack head)) (drop n bytes)) bad
-    ∙ scanned-Failed limit deep fault (drop n bytes))
+    ∙ scanned-Failed limit deep fault (drop n bytes)
 
 -- a head with a payload opens nothing
 pub payload_shut : (head : Head) → 0 < payload head → ltb 0 (members head) ≡ false
@@ -295,14 +313,16 @@ item_scanned limit deep used stack bytes head n h good le =
     ∙ payload_scanned limit deep (used + n) stack head (payload head) (drop n bytes) refl le
 
 -- an item whose payload stops
-pub answer_payload :
+pub payload_stopped :
     (limit deep used : ℕ) (stack : List ℕ) (bytes : List ℕ) (head : Head) (n : ℕ)
     → reading_of bytes ≡ read.Whole head n
     → fault_at limit deep (used + n) stack head ≡ None → length (drop n bytes) < payload head
-    → answer limit deep used stack bytes ≡ Short
+    → from_item limit deep used stack bytes
+    ≡ Going (used + n + length (drop n bytes)) stack
+    (InPayload (payload head - length (drop n bytes)))
 unfolding item_begun
-answer_payload limit deep used stack bytes head n h good lt =
-    ap verdict_of (head_scanned limit deep used stack bytes head n h
+payload_stopped limit deep used stack bytes head n h good lt =
+    head_scanned limit deep used stack bytes head n h
     ∙ ap (λ (o : Option ScanFault). scanned limit deep (unless_faulty o (item_begun (used + n) stack head)) (drop n bytes)) good
-    ∙ ap (λ (b : Bool). scanned limit deep (cond b (Going (used + n) stack (InPayload (payload head))) (payload_ended (used + n) stack head)) (drop n bytes)) (lt-ltb 0 (payload head) (omega arith)))
+    ∙ ap (λ (b : Bool). scanned limit deep (cond b (Going (used + n) stack (InPayload (payload head))) (payload_ended (used + n) stack head)) (drop n bytes)) (lt-ltb 0 (payload head) (omega arith))
     ∙ payload-short limit deep (used + n) stack (payload head) (drop n bytes) lt

@@ -6,6 +6,7 @@ pub mod Fronts
 pub mod History
 pub mod Openings
 pub mod Parts
+pub mod Pieces
 pub mod Places
 pub mod Plains
 pub mod Readings
@@ -17,6 +18,7 @@ pub mod Solo
 pub mod Sound
 pub mod Spellings
 pub mod Splittings
+pub mod Torn
 pub mod Turns
 pub mod Uniques
 pub mod Wholes

@@ -8,10 +8,11 @@ use Rattle.fwd_msgpack.specs.declared.head.HeadRead.{HeadRead}
 use Rattle.fwd_msgpack.specs.declared.head.HeadRead.TheVariants as read
 use Rattle.fwd_msgpack.specs.Heads.{IsWithin, reading_of, payload, members}
 use Rattle.fwd_msgpack.specs.Scans.{Verdict, Whole, Short, Bad, InHead, InPayload, State, Going, Ended, value_ended, payload_ended, item_begun, fault_at, unless_faulty, head_found, verdict_of, start, first_of, whole_len, split_of, rest_of, values_of, row_of_values, most_bytes, most_deep, parts_read, parts_of, IsWhole, IsRow}
-use Rattle.fwd_msgpack.proofs.Fronts.{scanned, scanned-Ended, scanned-Failed, answer_short, answer_reserved, head_scanned, reading_within, ended_shut, ended_opened}
+use Rattle.fwd_msgpack.proofs.Fronts.{scanned, scanned-Ended, scanned-Failed, short_scanned, reserved_scanned, head_scanned, reading_within, ended_shut, ended_opened}
 use Rattle.fwd_msgpack.proofs.Solo.{solo}
 use Rattle.fwd_msgpack.proofs.Wholes.{scanned-append, state_whole, Front-from}
 use Rattle.fwd_msgpack.proofs.Rows.{split_first, rest_front, values_front, row_starts, row_of_nothing, Nonempty-from}
+use Rattle.std.proofs.lemmas.Option.{same_Some}
 
 len_whole : (v : Verdict) (n : ℕ) → whole_len v ≡ Some n → v ≡ Whole n
 len_whole (Whole m) n e = cc
@@ -28,10 +29,10 @@ whole_read : (bytes : List ℕ) (r : HeadRead) → reading_of bytes ≡ r
 unfolding first_of
 whole_read bytes (read.Whole head n) h e = (head, (n, refl))
 whole_read bytes read.Short h e =
-    let short = answer_short most_bytes most_deep 0 [] bytes h in
+    let short = ap verdict_of (short_scanned most_bytes most_deep 0 [] bytes h) in
     absurd cc
 whole_read bytes read.Reserved h e =
-    let bad = answer_reserved most_bytes most_deep 0 [] bytes h in
+    let bad = ap verdict_of (reserved_scanned most_bytes most_deep 0 [] bytes h) in
     absurd cc
 
 -- a whole value begins with a head
@@ -126,14 +127,11 @@ whole_row bytes head n whole h p =
     ap (λ (k : ℕ). scanned most_bytes most_deep (head_found most_bytes most_deep k [] head) (drop n bytes)) (sym (zero-add n)) ∙ sym (head_scanned most_bytes most_deep 0 [] bytes head n h) ∙ state in
     behind_head bytes head n (fault_at most_bytes most_deep n [] head) (members head) p refl within.1 here
 
-some_is : {A : Type 0} (x y : A) → Some x ≡ Some y → x ≡ y
-some_is x y e = cc
-
 parts_by : (bytes : List ℕ) (r : HeadRead) (head : Head) (body : List ℕ)
     → reading_of bytes ≡ r → IsWhole bytes → parts_read r bytes ≡ Some (head, body)
     → payload head ≡ 0 → RowOf (members head) body
 parts_by bytes (read.Whole head' n) head body h whole e p =
-    let both : (head', drop n bytes) ≡ (head, body) = some_is (head', drop n bytes) (head, body) e in
+    let both : (head', drop n bytes) ≡ (head, body) = same_Some (head', drop n bytes) (head, body) e in
     let same : head' ≡ head = ap (λ (x : Head × List ℕ). x.0) both in
     subst (λ (x : Head × List ℕ). RowOf (members x.0) x.1) both (whole_row bytes head' n whole h (ap payload same ∙ p))
 parts_by bytes read.Short head body h whole e p = absurd cc

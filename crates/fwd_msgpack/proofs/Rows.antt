@@ -12,6 +12,7 @@ use Rattle.fwd_msgpack.specs.Heads.{reading_of, payload, members}
 use Rattle.fwd_msgpack.specs.Scans.{Verdict, Whole, Short, Bad, Item, InHead, InPayload, State, Going, Ended, Failed, value_ended, payload_ended, item_begun, fault_at, unless_faulty, head_heard, scan_item, verdict_of, start, first_of, Split, Open, Broken, judged, hear_byte, split_of, with_front, continued, values_of, rest_of, row_of_values, most_bytes, most_deep, IsRow}
 use Rattle.fwd_msgpack.proofs.Fronts.{scanned, scanned-Ended, scanned-Failed}
 use Rattle.fwd_msgpack.proofs.Wholes.{scanned-append}
+use Rattle.std.proofs.lemmas.Option.{same_Some}
 
 -- ---- a byte counts for one
 
@@ -215,9 +216,6 @@ Nonempty-from bytes n row e =
       values = ap values_of split ∙ values_front (take n bytes ∷ []) behind;
     }
 
-some_none : {A : Type 0} (x y : A) → Some x ≡ Some y → x ≡ y
-some_none x y e = cc
-
 -- a row begins with a value, if it has any bytes
 starts_by : (bytes : List ℕ) (v : Verdict) → first_of most_bytes most_deep bytes ≡ v
     → IsRow bytes → 0 < length bytes → (n : ℕ) × (v ≡ Whole n)
@@ -225,7 +223,7 @@ unfolding split_of
 starts_by bytes (Whole n) e row lt = (n, refl)
 starts_by bytes Short e row lt =
     let split = told_first most_bytes most_deep [] bytes ∙ ap (λ (v : Verdict). by_first most_bytes most_deep [] bytes v) e in
-    let nothing : bytes ≡ [] = some_none bytes [] (ap rest_of (sym split) ∙ row) in
+    let nothing : bytes ≡ [] = same_Some bytes [] (ap rest_of (sym split) ∙ row) in
     absurd (omega (arith, ap length nothing))
 starts_by bytes (Bad fault) e row lt =
     let split = told_first most_bytes most_deep [] bytes ∙ ap (λ (v : Verdict). by_first most_bytes most_deep [] bytes v) e in

@@ -10,6 +10,7 @@ use Rattle.fwd_msgpack.specs.Heads.{Row, row_of, named_rows, reading_of, twos_co
 use Rattle.fwd_msgpack.specs.Streams.{AreBytes}
 use Rattle.fwd_msgpack.proofs.Fronts.{Reads-from}
 use Rattle.fwd_msgpack.proofs.Fillings.{AreBytes-front}
+use Rattle.std.proofs.lemmas.Option.{same_Some}
 
 -- ---- lengths by size
 
@@ -137,15 +138,12 @@ AllFine [] = Unit {0}
 AllFine (None ∷ rows) = AllFine rows
 AllFine (Some row ∷ rows) = IsFine row × AllFine rows
 
-some_is : (x y : Row) → Some x ≡ Some y → x ≡ y
-some_is x y e = cc
-
 fine_at : (rows : List (Option Row)) (i : ℕ) (row : Row) → AllFine rows
     → get_or rows i None ≡ Some row → IsFine row
 fine_at [] i row all e = absurd cc
 fine_at (None ∷ rows) zero row all e = absurd cc
 fine_at (None ∷ rows) (suc i) row all e = fine_at rows i row all e
-fine_at (Some first ∷ rows) zero row all e = subst IsFine (some_is first row e) all.0
+fine_at (Some first ∷ rows) zero row all e = subst IsFine (same_Some first row e) all.0
 fine_at (Some first ∷ rows) (suc i) row all e = fine_at rows i row all.1 e
 
 below_8 : (front : List ℕ) → AreBytes front → from_be_bytes w8 front < 2 ^ 8
@@ -260,14 +258,14 @@ named_fine = (
 fixed_fine : (b : Bool) (row : Row) (made : Row) (o : Option Row)
     → cond b (Some made) o ≡ Some row → (b ≡ true → IsFine made)
     → (b ≡ false → o ≡ Some row → IsFine row) → IsFine row
-fixed_fine true row made o e p q = subst IsFine (some_is made row e) (p refl)
+fixed_fine true row made o e p q = subst IsFine (same_Some made row e) (p refl)
 fixed_fine false row made o e p q = q refl e
 
 named_or : (b : Bool) (row : Row) (made : Row) (o : Option Row)
     → cond b o (Some made) ≡ Some row → (o ≡ Some row → IsFine row)
     → (b ≡ false → IsFine made) → IsFine row
 named_or true row made o e p q = p e
-named_or false row made o e p q = subst IsFine (some_is made row e) (q refl)
+named_or false row made o e p q = subst IsFine (same_Some made row e) (q refl)
 
 row_fine : (first : ℕ) (row : Row) → first < 256 → row_of first ≡ Some row → IsFine row
 unfolding row_of head_bytes

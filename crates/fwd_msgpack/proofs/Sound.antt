@@ -8,9 +8,9 @@ use Rattle.fwd_msgpack.specs.declared.head.Head.TheVariants.{Nil, Bool as Boolea
 use Rattle.fwd_msgpack.specs.declared.head.HeadRead.{HeadRead}
 use Rattle.fwd_msgpack.specs.declared.head.HeadRead.TheVariants as read
 use Rattle.fwd_msgpack.specs.Heads.{reading_of, payload, members, opens}
-use Rattle.fwd_msgpack.specs.Scans.{State, Going, Ended, InHead, payload_ended, fault_at, start, verdict_of}
+use Rattle.fwd_msgpack.specs.Scans.{State, Going, Ended, InHead, payload_ended, fault_at, start}
 use Rattle.fwd_msgpack.specs.Values.{AreHead, IsPlain, InARow, IsContainer, IsValue}
-use Rattle.fwd_msgpack.proofs.Fronts.{Reads-from, scanned, scanned-Ended, answer_short, answer_reserved, answer_fault, answer_payload, item_scanned, reading_full, ended_shut, ended_opened}
+use Rattle.fwd_msgpack.proofs.Fronts.{Reads-from, scanned, scanned-Ended, short_scanned, reserved_scanned, fault_scanned, payload_stopped, item_scanned, reading_full, ended_shut, ended_opened}
 use Rattle.fwd_msgpack.proofs.Within.{IsGood, IsGood-from}
 use Rattle.fwd_msgpack.proofs.Parts.{read_within}
 use Rattle.fwd_msgpack.proofs.Solo.{solo}
@@ -82,16 +82,14 @@ not_short : (limit deep : ℕ) (bytes : List ℕ) (head : Head) (n : ℕ)
     → scanned limit deep start bytes ≡ Ended (length bytes)
     → length (drop n bytes) < payload head → ⊥
 not_short limit deep bytes head n h f e lt =
-    let short = answer_payload limit deep 0 [] bytes head n h (ap (λ (k : ℕ). fault_at limit deep k [] head) (zero-add n) ∙ f) lt in
-    let whole = ap verdict_of e in
+    let short = payload_stopped limit deep 0 [] bytes head n h (ap (λ (k : ℕ). fault_at limit deep k [] head) (zero-add n) ∙ f) lt in
     cc
 
 opening_by : (limit deep : ℕ) (bytes : List ℕ) (head : Head) (n : ℕ) (o : Option ScanFault)
     → reading_of bytes ≡ read.Whole head n → fault_at limit deep n [] head ≡ o
     → scanned limit deep start bytes ≡ Ended (length bytes) → Opening limit deep bytes
 opening_by limit deep bytes head n (Some fault) h f e =
-    let bad = answer_fault limit deep 0 [] bytes head n fault h (ap (λ (k : ℕ). fault_at limit deep k [] head) (zero-add n) ∙ f) in
-    let whole = ap verdict_of e in
+    let bad = fault_scanned limit deep 0 [] bytes head n fault h (ap (λ (k : ℕ). fault_at limit deep k [] head) (zero-add n) ∙ f) in
     absurd cc
 opening_by limit deep bytes head n None h f e =
     elim (cases_lt (length (drop n bytes)) (payload head)) [
@@ -111,12 +109,10 @@ opening : (limit deep : ℕ) (bytes : List ℕ) (r : HeadRead) → reading_of by
     → scanned limit deep start bytes ≡ Ended (length bytes) → Opening limit deep bytes
 opening limit deep bytes (read.Whole head n) h e = opening_by limit deep bytes head n (fault_at limit deep n [] head) h refl e
 opening limit deep bytes read.Short h e =
-    let short = answer_short limit deep 0 [] bytes h in
-    let whole = ap verdict_of e in
+    let short = short_scanned limit deep 0 [] bytes h in
     absurd cc
 opening limit deep bytes read.Reserved h e =
-    let bad = answer_reserved limit deep 0 [] bytes h in
-    let whole = ap verdict_of e in
+    let bad = reserved_scanned limit deep 0 [] bytes h in
     absurd cc
 
 plain : (limit deep : ℕ) (bytes : List ℕ) (o : Opening limit deep bytes)

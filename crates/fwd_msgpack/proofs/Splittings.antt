@@ -18,6 +18,7 @@ use Rattle.fwd_msgpack.proofs.Rows.{Step, goes, ends, fails, one_byte, told}
 use Rattle.fwd_msgpack.proofs.Fillings.{AreBytes-back}
 use Rattle.fwd_msgpack.proofs.History.{here}
 use Rattle.fwd_msgpack.proofs.Faults.{first_is, ended_bound}
+use Rattle.std.proofs.lemmas.Option.{same_Some}
 
 concat_push : (values : List (List ℕ)) (value : List ℕ)
     → flat_map (λ v. v) (values ++ value ∷ []) ≡ flat_map (λ v. v) values ++ value
@@ -141,14 +142,11 @@ whole_value bytes whole =
     let ended = state_whole (here most_bytes most_deep bytes) (length bytes) (whole_first bytes whole) in
     (sound most_bytes most_deep bytes ended, ended_bound most_bytes most_deep bytes (length bytes) ended)
 
-some_is : {A : Type 0} (x y : A) → Some x ≡ Some y → x ≡ y
-some_is x y e = cc
-
 members_by : (bytes : List ℕ) (r : HeadRead) (head : Head) (body : List ℕ)
     → reading_of bytes ≡ r → IsWhole bytes → parts_read r bytes ≡ Some (head, body)
     → payload head ≡ 0 → HasMembers head bytes (row_of_values body)
 members_by bytes (read.Whole head' n) head body h whole e p =
-    let both : (head', drop n bytes) ≡ (head, body) = some_is (head', drop n bytes) (head, body) e in
+    let both : (head', drop n bytes) ≡ (head, body) = same_Some (head', drop n bytes) (head, body) e in
     let same : head' ≡ head = ap (λ (x : Head × List ℕ). x.0) both in
     let rows = whole_row bytes head' n whole h (ap payload same ∙ p) in
     let values = row_values (drop n bytes) rows.row in
@@ -175,7 +173,7 @@ elements_by bytes (Some parts) values h whole e = by_head parts.0 refl e
         → (n : ℕ) × HasMembers (Arr n) bytes values
     by_head (Arr n) k e' =
         let found = members_by bytes (reading_of bytes) parts.0 parts.1 refl whole h (ap payload k) in
-        (n, subst (λ (hd : Head). HasMembers hd bytes values) k (subst (HasMembers parts.0 bytes) (some_is (row_of_values parts.1) values e') found))
+        (n, subst (λ (hd : Head). HasMembers hd bytes values) k (subst (HasMembers parts.0 bytes) (same_Some (row_of_values parts.1) values e') found))
     by_head Nil k e' = absurd cc
     by_head (Boolean b) k e' = absurd cc
     by_head (Int neg mag) k e' = absurd cc
@@ -218,7 +216,7 @@ pairs_by bytes (Some parts) pairs h whole e = by_head parts.0 refl e
         let found = members_by bytes (reading_of bytes) parts.0 parts.1 refl whole h (ap payload k) in
         let count : members (Map n) ≡ length (row_of_values parts.1) = sym (ap members k) ∙ found.count in
         let row = row_pairs n (row_of_values parts.1) (omega (arith, count)) in
-        let same : row_of_values parts.1 ≡ in_a_row pairs = sym row ∙ ap in_a_row (some_is (pair_up (row_of_values parts.1)) pairs e') in
+        let same : row_of_values parts.1 ≡ in_a_row pairs = sym row ∙ ap in_a_row (same_Some (pair_up (row_of_values parts.1)) pairs e') in
         (n, subst (λ (hd : Head). HasMembers hd bytes (in_a_row pairs)) k (subst (HasMembers parts.0 bytes) same found))
     by_head Nil k e' = absurd cc
     by_head (Boolean b) k e' = absurd cc

@@ -8,6 +8,7 @@ use Rattle.fwd_msgpack.specs.declared.head.Head.{Head}
 use Rattle.fwd_msgpack.specs.declared.head.Head.TheVariants.{Nil, Int, Str, Bin, Arr, Map, Ext}
 use Rattle.fwd_msgpack.specs.declared.head.HeadRead.{HeadRead}
 use Rattle.fwd_msgpack.specs.declared.head.HeadRead.TheVariants as read
+use Rattle.fwd_msgpack.specs.declared.limits.TheConstants.{MAX_DEPTH}
 use Rattle.fwd_msgpack.specs.Heads.{reading_of, payload, members, opens}
 
 -- what stands at the front of the bytes: a value of n bytes, less than one, or a fault
@@ -113,12 +114,6 @@ start = Going 0 [] (InHead [])
 unfoldable pub first_of : (limit deep : ℕ) → List ℕ → Verdict
 first_of limit deep bytes = verdict_of (fold (scan_byte limit deep) start bytes)
 
--- what a scan finds in the end that stands behind the first
--- used bytes, where an item begins inside these containers
-abbrev pub found_behind : (limit deep used : ℕ) → List ℕ → List ℕ → Verdict
-found_behind limit deep used stack bytes =
-    verdict_of (fold (scan_byte limit deep) (Going used stack (InHead [])) (drop used bytes))
-
 -- A stream so far: the values, and the bytes behind the last
 -- one; or the values before the first fault, and the fault.
 pub data Split : Type 0 where
@@ -164,7 +159,7 @@ most_bytes = 0xffff_ffff
 
 -- how deep a value is at most
 abbrev pub most_deep : ℕ
-most_deep = 64
+most_deep = MAX_DEPTH
 
 -- the values that stand one after the other in the bytes
 unfoldable pub row_of_values : List ℕ → List (List ℕ)

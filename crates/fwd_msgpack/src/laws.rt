@@ -1,11 +1,14 @@
 //! Laws of the definitions: each is the contract of a function that does nothing.
 
-ghost use Rattle.std.specs.Prelude.{◌≡◌, ◌≤◌, List, [], ◌∷◌, ℕ, ◌++◌, length, Some};
+ghost use Rattle.std.specs.Prelude.{◌≡◌, ◌≤◌, List, [], ◌∷◌, ℕ, ◌++◌, length, Some, None};
 ghost use Rattle.std.specs.List.{flat_map};
 ghost use Rattle.fwd_msgpack.specs.declared.head.Head.{Head};
 ghost use Rattle.fwd_msgpack.specs.declared.head.Head.TheVariants.{Arr, Map};
 ghost use Rattle.fwd_msgpack.specs.declared.head.HeadRead.TheVariants as read;
-ghost use Rattle.fwd_msgpack.specs.Scans.{Verdict, IsWhole, elements_of, pairs_of, most_bytes, most_deep, first_of, split_of, continued};
+ghost use Rattle.fwd_msgpack.specs.Scans.{Verdict, IsWhole, elements_of, pairs_of, most_bytes, most_deep, first_of, verdict_of, whole_len, split_of, continued};
+ghost use Rattle.fwd_msgpack.specs.Scanners.{Standing, onward, standing_behind, taken, heard};
+ghost use Rattle.fwd_msgpack.specs.declared.limits.Limits.{Limits};
+ghost use Rattle.fwd_msgpack.specs.declared.scanner.Fed.{Fed};
 ghost use Rattle.fwd_msgpack.specs.Values.{IsValue};
 ghost use Rattle.fwd_msgpack.specs.Streams.{AreBytes, HasMembers, IsFirst, IsStream, IsWithinLimits};
 ghost use Rattle.fwd_msgpack.specs.Heads.{IsHead, IsSpelled, head_bytes, reading_of};
@@ -70,7 +73,23 @@ pub fn pairs_are_members()
         → (n : ℕ) × HasMembers (Map n) bytes (flat_map (λ p. p.0 ∷ p.1 ∷ []) pairs) }
 {}
 
-/// What is whole is a value, at most 64 deep and less than 2^32 bytes long.
+/// What is whole is a value, at most 128 deep and less than 2^32 bytes long.
 pub fn whole_is_value()
     ensures { (bytes : List ℕ) → IsWhole bytes → IsWithinLimits most_bytes most_deep bytes }
+{}
+
+/// Pieces one after the other lead a scan to where their joining does.
+pub fn pieces_are_joined()
+    ensures { (limits : Limits) (before piece : List ℕ)
+        → onward (standing_behind limits before) piece
+        ≡ standing_behind limits (before ++ piece) }
+{}
+
+/// What a scanner answers to a piece is what all its bytes begin with: the verdict of `cut` on the
+/// pieces before and this one, joined.
+pub fn answer_is_first()
+    ensures { (limits : Limits) (before piece : List ℕ) (old : Standing) (answer : Fed)
+        → old ≡ standing_behind limits before → whole_len (verdict_of old.state) ≡ None
+        → verdict_of (onward old piece).state ≡ heard (taken old.state) answer
+        → first_of limits.bytes limits.depth (before ++ piece) ≡ heard (length before) answer }
 {}

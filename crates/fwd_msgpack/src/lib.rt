@@ -3,13 +3,16 @@
 
 mod cutting;
 mod fault;
+mod front;
 mod head;
 mod laws;
 mod limits;
 mod members;
 mod plain;
 mod scan;
+mod scanner;
 mod stack;
+mod stage;
 mod stream;
 mod value;
 mod writing;
@@ -18,11 +21,13 @@ pub use cutting::cut;
 pub use fault::ScanFault;
 pub use head::{Head, HeadRead, read_head};
 pub use laws::{
-    elements_are_members, first_is_first, no_prefix, one_verdict, pairs_are_members, read_back,
-    split_continues, split_is_stream, whole_is_value, written_is_shortest,
+    answer_is_first, elements_are_members, first_is_first, no_prefix, one_verdict,
+    pairs_are_members, pieces_are_joined, read_back, split_continues, split_is_stream,
+    whole_is_value, written_is_shortest,
 };
-pub use limits::Limits;
+pub use limits::{Limits, MAX_DEPTH};
 pub use members::{Members, Pairs};
+pub use scanner::{Fed, Scanner};
 pub use stream::{Next, next_value};
 pub use value::{Cut, Value};
 pub use writing::{write_head, write_text};

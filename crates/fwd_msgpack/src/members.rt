@@ -18,6 +18,18 @@ pub struct Members<'a> {
     ghost row: { IsRow rest.now } by { Prim.hlevel props },
 }
 
+impl<'a> Members<'a> {
+    ghost use Rattle.std.specs.List.{concat};
+    ghost use Rattle.fwd_msgpack.specs.Values.{members_left};
+
+    /// The bytes of the values that are still to come, one after the other.
+    pub fn bytes(self) -> &'a [u8]
+        ensures { result.now ≡ concat (members_left self.entry) }
+    {
+        self.rest
+    }
+}
+
 impl<'a> Iterator for Members<'a> {
     type Item = Value<'a>;
 

@@ -4,6 +4,7 @@ ghost use Rattle.std.specs.Prelude.{◌≡◌, ◌+◌, ◌<◌, ◌≤◌, ◌^
 ghost use Rattle.fwd_msgpack.specs.Scans.{after_value};
 ghost use Rattle.fwd_msgpack.specs.Stacks.{innermost, less_by};
 
+use crate::limits::MAX_DEPTH;
 use std::marker::Model;
 
 /// The open containers, from the innermost: how many
@@ -12,19 +13,21 @@ use std::marker::Model;
 #[derive(Drop)]
 pub struct Stack {
     depth: usize,
-    lacking: [u32; 64],
+    lacking: [u32; MAX_DEPTH as usize],
     owed: u64,
 }
 
 impl Model for Stack {
     ghost use Rattle.std.specs.Prelude.{◌≡◌, ◌≤◌, List, ℕ, sum};
+    ghost use Rattle.fwd_msgpack.specs.declared.limits.TheConstants.{MAX_DEPTH};
     ghost use Rattle.fwd_msgpack.specs.Stacks.{from_last};
 
     ghost Value = { List ℕ };
 
     ghost view = { λ s. from_last s.depth s.lacking };
 
-    ghost invariant = { λ s. (s.depth ≤ 64) × (s.owed ≡ sum (from_last s.depth s.lacking)) };
+    ghost invariant = { λ s.
+        (s.depth ≤ MAX_DEPTH) × (s.owed ≡ sum (from_last s.depth s.lacking)) };
 }
 
 impl Stack {
@@ -35,16 +38,25 @@ impl Stack {
     {
         Stack {
             depth: 0,
-            lacking: [0; 64],
+            lacking: [0; MAX_DEPTH as usize],
             owed: 0,
         }
     }
 
-    /// How many containers are open: at most 64.
+    /// Closes all containers.
+    #[inline(always)]
+    pub fn clear(&mut self)
+        ensures { self.new ≡ [] }
+    {
+        self.depth = 0;
+        self.owed = 0;
+    }
+
+    /// How many containers are open.
     #[inline(always)]
     pub fn len(&self) -> usize
         ensures len { result ≡ length self.now }
-        ensures most { length self.now ≤ 64 }
+        ensures most { length self.now ≤ MAX_DEPTH }
     {
         self.depth
     }
@@ -85,7 +97,7 @@ impl Stack {
     /// Opens a container that lacks so many members after its first.
     #[inline(always)]
     pub fn push(&mut self, lacking: u32)
-        requires room { length self.old < 64 }
+        requires room { length self.old < MAX_DEPTH }
         requires fits { sum self.old + lacking < 2 ^ 64 }
         ensures { self.new ≡ lacking ∷ self.old }
     {

@@ -8,7 +8,7 @@ use crate::fault::ScanFault;
 use crate::head::{Head, HeadRead, read_head};
 use crate::members::{Members, Pairs};
 
-/// One whole value: its bytes, borrowed. Arrays and maps nest at most 64 deep in it, and it has
+/// One whole value: its bytes, borrowed. Arrays and maps nest at most 128 deep in it, and it has
 /// less than 2^32 bytes. Reading it takes no memory.
 #[derive(Clone, Copy)]
 pub struct Value<'a> {

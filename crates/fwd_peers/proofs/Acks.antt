@@ -1,6 +1,6 @@
 -- The bytes of an acknowledgement.
 use Rattle.std.proofs.Common.{◌≡◌, ◌+◌, ℕ, List, ◌++◌, length, refl, ap, sym, append_assoc, length-append, ◌∙◌}
-use Rattle.fwd_msgpack.specs.Heads.{head_bytes}
+use Rattle.fwd_modes.specs.Heads.{head_bytes}
 use Rattle.fwd_modes.specs.Acks.{ack_text}
 use Rattle.fwd_source.specs.Live.{LiveSource, source_appends}
 use Rattle.fwd_peers.specs.declared.limits.TheConstants.{ACK_FRONT}

@@ -1,5 +1,5 @@
--- What a reader must believe of a source's connection. Streams: what a stream is seen to do, and how
--- a visit to it ends. Peers: what a connection hears and sends, which requests it gives, and what it
--- is told.
+-- What a reader must believe of a source's connection. Streams: what a stream is seen to do, and
+-- how a visit to it ends. Peers: what a connection hears and sends, which requests it gives, and
+-- what it is told.
 pub mod Streams
 pub mod Peers

@@ -51,7 +51,7 @@ stage_visited s visit.Full = s
 stage_visited s visit.Ended = stage.Over
 
 -- Bytes come to a connection, and this is its live part then, and how far it has come. They are
--- taken in, and a fault has it linger. Or none of them is, for want of memory, and it is over.
+-- taken in, and a fault has it linger. Or none of them is, when out of memory, and it is over.
 abbrev pub IsPiece : PeerShown → (bytes : List ℕ) → LiveSource → Stage → Type 0
 IsPiece s bytes live come =
     ((live ≡ live_piece_next s.live bytes)

@@ -86,9 +86,9 @@ abbrev pub end_of : List Call → Visit
 end_of [] = visit.Full
 end_of (call ∷ calls) = ends_after (after_call call.answer) (end_of calls)
 
--- One visit to a stream, to move so many bytes at most: further calls were made, these are all bytes
--- that they moved, and so they ended. It is made to its end: where no call ended it, all the bytes
--- were moved, or there were as many calls as bytes.
+-- One visit to a stream, to move so many bytes at most: further calls were made, these are all
+-- bytes that they moved, and so they ended. It is made to its end: where no call ended it, all the
+-- bytes were moved, or there were as many calls as bytes.
 pub record IsVisit (most : ℕ) (before : List Call) (bytes : List ℕ) (end : Visit)
     (after : List Call) : Type 0 where
   pub calls : List Call

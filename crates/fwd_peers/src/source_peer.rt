@@ -16,31 +16,26 @@ ghost use Rattle.std.specs.Prelude.{
   length,
   nat_lt,
   take,
-  IfOk,
   Some,
 };
-ghost use Rattle.std.specs.Arc.{arc_value};
 ghost use Rattle.fwd_modes.specs.Acks.{ack_text};
-ghost use Rattle.fwd_source.specs.History.{source_limits};
-ghost use Rattle.fwd_source.specs.Live.{opened_source, source_appends};
+ghost use Rattle.fwd_source.specs.Live.{source_appends};
 ghost use Rattle.fwd_peers.specs.Streams.{IsVisit};
 ghost use Rattle.fwd_peers.specs.Peers as peers;
 
 use crate::limits::{ACK_FRONT, UNSENT};
+use crate::source_end::{PeerEnd, SourceEnd};
 use crate::stage::Stage;
 use crate::stream::{PeerStream, Visit};
-use crate::watch::{Fact, SourceEnd, Want};
 use fwd_book::Receipt;
-use fwd_handshake::{Nonces, Security};
 use fwd_match::Routes;
 use fwd_modes::{Batch, Origin};
-use fwd_source::{Piece, SOURCE_LIMITS, Source, SourceFault};
+use fwd_source::{Piece, Source, SourceFault};
 use fwd_workers::AdmitRefusal;
 use mio::net::TcpStream;
-use std::alloc::{AllocError, Global};
+use std::alloc::Global;
 use std::marker::Model;
 use std::net::SocketAddr;
-use std::sync::Arc;
 
 /// A source's connection: its stream, and what it sent and is sent.
 #[derive(Drop)]
@@ -52,7 +47,7 @@ pub struct SourcePeer {
     source: Source,
     stage: Stage,
     /// Why the relay closes it, until that is told.
-    fact: Option<Fact>,
+    why: Option<PeerEnd>,
     /// So many bytes of acknowledgements were promised room.
     promised: usize,
     /// It was not read when it was visited last, since too many bytes wait to be sent to it.
@@ -111,42 +106,30 @@ fn append_ack(source: &mut Source, chunk: &[u8]) -> bool
 }
 
 impl SourcePeer {
-    /// A connection before its first byte. The only error is want of memory.
-    pub fn new(
-        alloc: Global,
-        id: u64,
-        stream: TcpStream,
-        peer: SocketAddr,
-        security: Arc<Security>,
-        nonces: Nonces,
-    ) -> Result<SourcePeer, AllocError>
-        ensures { IfOk result (λ peer. peer ≡ record {
+    /// A source's connection over its stream, at the address that it comes from. `id` is the
+    /// source's.
+    pub fn new(id: u64, stream: TcpStream, peer: SocketAddr, source: Source) -> SourcePeer
+        ensures { result ≡ record {
           id = id;
           stage = Stage.Open;
           held = false;
-          live = opened_source (record {
-            conn = id;
-            security = arc_value security;
-            nonces = nonces;
-            limits = source_limits;
-          });
+          live = source.live;
           promised = 0;
-          room = peer.room;
+          room = source.room;
           reads = [];
           writes = [];
-        }) }
+        } }
     {
-        let source = Source::new(alloc, id, security, nonces, SOURCE_LIMITS)?;
-        Ok(SourcePeer {
+        SourcePeer {
             id,
             stream: PeerStream::new(stream),
             peer,
             source,
             stage: Stage::Open,
-            fact: None,
+            why: None,
             promised: 0,
             is_held: false,
-        })
+        }
     }
 
     /// Reads what is there, as far as the room goes, and says whether there may be more. A source
@@ -214,18 +197,15 @@ impl SourcePeer {
         ensures { self.new ≡ record self.old { stage = Stage.Lingering } }
     {
         self.stage = Stage::Lingering;
-        self.fact = Some(Fact::SourceClosed {
-            peer: self.peer,
-            why: SourceEnd::Fault(fault),
-        });
+        self.why = Some(PeerEnd::Closed(SourceEnd::Fault(fault)));
     }
 
-    /// It is over for want of memory.
+    /// It is over when out of memory.
     fn starve(&mut self)
         ensures { self.new ≡ record self.old { stage = Stage.Over } }
     {
         self.end();
-        self.fact = Some(Fact::Memory(Want::Source(self.peer)));
+        self.why = Some(PeerEnd::Memory);
     }
 
     /// It is over, since a request of it is not admitted.
@@ -236,17 +216,21 @@ impl SourcePeer {
             SourceEnd::Refused(AdmitRefusal::Memory) => self.starve(),
             why => {
                 self.end();
-                let peer = self.peer;
-                self.fact = Some(Fact::SourceClosed { peer, why });
+                self.why = Some(PeerEnd::Closed(why));
             }
         }
     }
 
-    /// Why the relay closes it, where it does, and that was not told yet.
-    pub fn fact(&mut self) -> Option<Fact>
+    /// Why it ended by the relay's doing, where it did and that was not told yet.
+    pub fn why_ended(&mut self) -> Option<PeerEnd>
         ensures { self.new ≡ self.old }
     {
-        self.fact.take()
+        self.why.take()
+    }
+
+    /// Where it comes from.
+    pub fn peer(&self) -> SocketAddr {
+        self.peer
     }
 
     /// How many requests wait to be admitted.
@@ -265,7 +249,7 @@ impl SourcePeer {
     }
 
     /// Takes the first request that waits, once there is room for its acknowledgement. Where there
-    /// is none, for want of memory, nothing has changed.
+    /// is none, when out of memory, nothing has changed.
     pub fn next(&mut self) -> Option<(Origin, Batch)>
         ensures { peers.Gives self.old result self.new }
     {
@@ -277,7 +261,7 @@ impl SourcePeer {
     }
 
     /// Puts the acknowledgement of a chunk of this value behind the bytes that wait to be sent, as
-    /// was promised. Where it cannot, which is for want of memory, the connection is over.
+    /// was promised. Where it cannot, which is when out of memory, the connection is over.
     fn put(&mut self, chunk: &[u8])
         ensures { peers.IsTold self.old (Some (ack_text chunk.now)) self.new }
     {
@@ -290,7 +274,7 @@ impl SourcePeer {
     }
 
     /// Tells the connection of a receipt, if it is of one of its requests and it asked to be told.
-    /// For want of memory the connection is over.
+    /// When out of memory the connection is over.
     pub fn answer(&mut self, receipt: &Receipt)
         ensures { peers.IsTold self.old (peers.told_by receipt.now self.old.id) self.new }
     {

@@ -1,3 +1,4 @@
+pub mod Finding
 pub mod Words
 pub mod Unwritten
 pub mod Flushed

@@ -8,8 +8,8 @@ use Rattle.fwd_settings.specs.declared.fault.SettingsFault.{SettingsFault}
 use Rattle.fwd_settings.specs.declared.fault.SettingsFault.TheVariants as faults
 use Rattle.fwd_script.specs.Statuses.{refused_status}
 use Rattle.fwd_script.specs.declared.status.Status.TheVariants.{Done}
-use Rattle.fwd_links.specs.declared.fault.StartFault.{StartFault}
-use Rattle.fwd_links.specs.declared.fault.StartFault.TheVariants as starts
+use Rattle.fwd_loop.specs.declared.fault.StartFault.{StartFault}
+use Rattle.fwd_loop.specs.declared.fault.StartFault.TheVariants as starts
 use Rattle.fwd_program.specs.Ends.{Found, Runs, ended_by}
 use Rattle.fwd_program.specs.declared.ending.RunEnd.{RunEnd}
 use Rattle.fwd_program.specs.declared.ending.RunEnd.TheVariants.{Ran}

@@ -1,7 +1,7 @@
 -- How a run ends, the exit status of each end, and what was written by then.
 use Rattle.std.specs.Prelude.{◌≡◌, ◌⊎◌, ℕ, List, length, Option, Result, Ok, Err}
 use Rattle.std.specs.Io.KnownBytes.{Appends, Keeps}
-use Rattle.fwd_counts.specs.declared.counts.Counts.{Counts}
+use Rattle.fwd_monitor.specs.Counts.{Counts}
 use Rattle.fwd_settings.specs.Whole.{settings_of}
 use Rattle.fwd_settings.specs.declared.settings.Settings.{Settings}
 use Rattle.fwd_settings.specs.declared.fault.SettingsFault.{SettingsFault}
@@ -10,8 +10,8 @@ use Rattle.fwd_monitor.specs.Page.{page_of}
 use Rattle.fwd_script.specs.Statuses.{exit_code}
 use Rattle.fwd_script.specs.Writes.{AppendsFront}
 use Rattle.fwd_script.specs.declared.status.Status.TheVariants as statuses
-use Rattle.fwd_links.specs.declared.fault.StartFault.{StartFault}
-use Rattle.fwd_links.specs.declared.fault.StartFault.TheVariants as starts
+use Rattle.fwd_loop.specs.declared.fault.StartFault.{StartFault}
+use Rattle.fwd_loop.specs.declared.fault.StartFault.TheVariants as starts
 use Rattle.fwd_loop.specs.Ends.{AddUp}
 use Rattle.fwd_program.specs.declared.ending.RunEnd.{RunEnd}
 use Rattle.fwd_program.specs.declared.ending.RunEnd.TheVariants.{Ran, Start}
@@ -21,7 +21,7 @@ abbrev pub run_code : RunEnd → ℕ
 run_code (Ran status) = exit_code status
 run_code (Start fault) = 4
 
--- how a run ends whose relay could not start: want of memory is told as such
+-- how a run ends whose relay could not start: out of memory is told as such
 abbrev pub ended_by : StartFault → RunEnd
 ended_by starts.Memory = Ran statuses.Memory
 ended_by fault = Start fault

@@ -1,6 +1,6 @@
 //! What a run says on standard error.
 
-use crate::pace::Pace;
+use crate::line_limit::LineLimit;
 use crate::telling::{Kind, Telling};
 use arrayvec::ArrayString;
 use fwd_loop::{Fact, Watch};
@@ -44,7 +44,7 @@ pub struct Journal<'a, R: Clock, E: Write> {
     errors: &'a mut E,
     now: Timestamp,
     /// By kinds.
-    paces: [Pace; Kind::COUNT],
+    limits: [LineLimit; Kind::COUNT],
 }
 
 impl<'a, R: Clock, E: Write> Journal<'a, R, E> {
@@ -54,7 +54,7 @@ impl<'a, R: Clock, E: Write> Journal<'a, R, E> {
             clock,
             errors,
             now: Timestamp::UNIX_EPOCH,
-            paces: [Pace::NONE; Kind::COUNT],
+            limits: [LineLimit::NONE; Kind::COUNT],
         }
     }
 
@@ -77,8 +77,8 @@ impl<'a, R: Clock, E: Write> Journal<'a, R, E> {
     /// Says how many lines of a kind were left out in a second that is over, if any were.
     fn settle(&mut self, kind: Kind) {
         let second = self.now.as_second();
-        if let Some(pace) = self.paces.get_mut(kind as usize) {
-            if let Some(count) = pace.owes(second) {
+        if let Some(limit) = self.limits.get_mut(kind as usize) {
+            if let Some(count) = limit.owes(second) {
                 self.write(&LeftOut { kind, count });
             }
         }
@@ -88,8 +88,8 @@ impl<'a, R: Clock, E: Write> Journal<'a, R, E> {
     pub fn close(&mut self) {
         self.look();
         for kind in Kind::ALL {
-            if let Some(pace) = self.paces.get_mut(kind as usize) {
-                if let Some(count) = pace.take_left_out() {
+            if let Some(limit) = self.limits.get_mut(kind as usize) {
+                if let Some(count) = limit.take_left_out() {
                     self.write(&LeftOut { kind, count });
                 }
             }
@@ -103,15 +103,15 @@ impl<'a, R: Clock, E: Write> Watch for Journal<'a, R, E> {
         let kind = Kind::of(&fact);
         self.settle(kind);
         let second = self.now.as_second();
-        if let Some(pace) = self.paces.get_mut(kind as usize) {
-            if pace.takes(second) {
+        if let Some(limit) = self.limits.get_mut(kind as usize) {
+            if limit.takes(second) {
                 self.write(&Telling { fact });
             }
         }
     }
 
     fn turned(&mut self) {
-        if self.paces.iter().all(|pace| pace.is_clear()) {
+        if self.limits.iter().all(|limit| limit.is_clear()) {
             return;
         }
         self.look();

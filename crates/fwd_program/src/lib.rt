@@ -4,7 +4,7 @@
 mod asked;
 mod ending;
 mod journal;
-mod pace;
+mod line_limit;
 mod program;
 mod running;
 mod telling;

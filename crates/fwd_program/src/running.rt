@@ -106,7 +106,7 @@ fn run_logged<
 /// Runs a relay by the settings in a file, and writes the monitor's page of the last counts, one of
 /// each output. A file that cannot be read is `Ran(BadSettings(Unreadable))`, and so are refused
 /// settings with their own fault; a failed write or flush is `Ran(Output)`, and behind it nothing
-/// was written or a front of the page; want of memory is `Ran(Memory)`. Behind all other ends but
+/// was written or a front of the page; out of memory is `Ran(Memory)`. Behind all other ends but
 /// `Done` nothing was written. Where the log asks for it the errors say what the run comes to.
 pub fn run_file<
     R: Net<Listener = TcpListener, Stream = TcpStream>

@@ -83,7 +83,7 @@ fault_checks (Err fault) text status known e h = by fault status e cc
     by (faults.Unknown key) status e h = rw h (inl e, Keeps-same known)
     by (faults.BadPattern key) status e h = rw h (inl e, Keeps-same known)
 
--- a status that is want of memory, or the one that the text's settings are refused with
+-- a status that is out of memory, or the one that the text's settings are refused with
 memory_or : (status : Status) (text : List ℕ) (known : Option (List ℕ))
     → (refused status ≢ refused Memory → refused status ≡ verdict_on (settings_of text))
     → Checks status text known known
@@ -122,7 +122,7 @@ good_reads (Ok bytes) s old new taken end failed = (bytes.items, taken, inr end)
 good_reads (Err NoRoom) s old new taken end failed = absurd cc
 good_reads (Err (Failed why)) s old new taken end failed = absurd cc
 
--- a read that failed is no want of memory
+-- a read that failed is not out of memory
 pub memory_reads : (read : Result (Vec ℕ Global) InputError) (status : Status)
     (old new : Option (List ℕ)) → IfOk read (λ bytes. Consumes old new bytes.items)
     → OnOk read (IsAtEnd new) → IfErr read (λ error. Unread error old new)

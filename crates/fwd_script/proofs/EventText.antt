@@ -12,8 +12,8 @@ use Rattle.hex.proofs.HexLemmas.{IsAscii-encode_with}
 use Rattle.fwd_model.specs.declared.event.Event.{Event}
 use Rattle.fwd_model.specs.declared.event.EndKind.{EndKind}
 use Rattle.fwd_model.specs.declared.event.EndKind.TheVariants.{Kept, Lost}
-use Rattle.fwd_chunks.specs.declared.flush.FlushKind.{FlushKind}
-use Rattle.fwd_chunks.specs.declared.flush.FlushKind.TheVariants.{Due, All}
+use Rattle.fwd_model.specs.FlushKind.{FlushKind}
+use Rattle.fwd_model.specs.FlushKind.TheVariants.{Due, All}
 use Rattle.fwd_script.specs.Words.{hex_text}
 use Rattle.fwd_script.specs.Lines.{Kind, Long, Short, Hex, Sixteen, Salt, Closing, Ending, Meaning, Fits, text_at, kind_text, ending_text, Field, AllFit, texts, said, event_of}
 use Rattle.fwd_script.proofs.Spelling.{is_ascii-name, event_of-some}

@@ -5,7 +5,7 @@ use Rattle.std.specs.Fmt.{digits}
 use Rattle.hex.specs.Hex.{decode_pairs, encode_with}
 use Rattle.fwd_model.specs.declared.event.Event.TheVariants.{Choose, Up, Wrote, Heard, Settle, Late, End, Collect}
 use Rattle.fwd_model.specs.declared.event.EndKind.TheVariants.{Kept, Lost}
-use Rattle.fwd_session.specs.declared.fault.SessionFault.TheVariants.{EarlyAck, NotHelo, Denied, BadDigest}
+use Rattle.fwd_model.specs.SessionFault.TheVariants.{EarlyAck, NotHelo, Denied, BadDigest}
 use Rattle.fwd_model.specs.declared.fault.Refusal.TheVariants.{NotUp}
 use Rattle.fwd_model.specs.declared.answer.Answer.TheVariants.{Chose, Quiet, Ready, Acked, SessionFaulted, Settled, Late as LateOrNot, Ended, Told, Refused}
 use Rattle.fwd_script.specs.Words.{number_of, bytes_of, salt_of}

@@ -18,7 +18,7 @@ refused status = Err status
 abbrev wanting : Result Config SettingsFault
 wanting = Err faults.Memory
 
--- a fault of the settings is told as that fault, and want of memory as itself
+-- a fault of the settings is told as that fault, and out of memory as itself
 by_fault : (text : List ℕ) (fault : SettingsFault) (r : Result LiveRelay Status)
     → (Err fault ≢ wanting → Configures text (Err fault)) → r ≡ refused (refused_status fault)
     → Opens text r

@@ -14,8 +14,8 @@ use Rattle.hex.specs.Hex.{IsBytes, encode_lower, encode_with}
 use Rattle.fwd_model.specs.declared.event.Event.{Event}
 use Rattle.fwd_model.specs.declared.event.EndKind.{EndKind}
 use Rattle.fwd_model.specs.declared.event.EndKind.TheVariants.{Kept, Lost}
-use Rattle.fwd_chunks.specs.declared.flush.FlushKind.{FlushKind}
-use Rattle.fwd_chunks.specs.declared.flush.FlushKind.TheVariants.{Due, All}
+use Rattle.fwd_model.specs.FlushKind.{FlushKind}
+use Rattle.fwd_model.specs.FlushKind.TheVariants.{Due, All}
 use Rattle.fwd_script.specs.Words.{words, hex_text}
 use Rattle.fwd_script.specs.Lines.{Kind, Long, Short, Hex, Sixteen, Salt, Closing, Ending, Meaning, Fits, text_at, kind_text, ending_text, Form, forms, Values, made, Field, fields_of, AllFit, texts, Spelling, said, IsLineOf, kind_of, ending_of, read_at, read_none, read_more, read_all, read_as, named, of_words, event_of}
 use Rattle.fwd_script.proofs.WordLemmas.{bytes_eq-same, bytes_eq-true, number_of-some, number_of-decimal}

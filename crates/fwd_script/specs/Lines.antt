@@ -8,8 +8,8 @@ use Rattle.fwd_model.specs.declared.event.Event.{Event}
 use Rattle.fwd_model.specs.declared.event.Event.TheVariants as events
 use Rattle.fwd_model.specs.declared.event.EndKind.{EndKind}
 use Rattle.fwd_model.specs.declared.event.EndKind.TheVariants.{Kept, Lost}
-use Rattle.fwd_chunks.specs.declared.flush.FlushKind.{FlushKind}
-use Rattle.fwd_chunks.specs.declared.flush.FlushKind.TheVariants.{Due, All}
+use Rattle.fwd_model.specs.FlushKind.{FlushKind}
+use Rattle.fwd_model.specs.FlushKind.TheVariants.{Due, All}
 use Rattle.fwd_script.specs.Words.{◌>>=◌, words, hex_text, number_of, bytes_of, sixteen_of, salt_of}
 
 -- ---- what a word says

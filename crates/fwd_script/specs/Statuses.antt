@@ -32,7 +32,7 @@ abbrev pub unread_status : InputError → Status
 unread_status reads.Memory = Memory
 unread_status (reads.Failed failed) = Input failed
 
--- how a run ends whose settings are refused: want of memory is no fault of theirs
+-- how a run ends whose settings are refused: out of memory is no fault of theirs
 abbrev pub refused_status : SettingsFault → Status
 refused_status faults.Memory = Memory
 refused_status faults.Unreadable = BadSettings faults.Unreadable

@@ -10,7 +10,7 @@ use Rattle.fwd_script.specs.declared.status.Status.TheVariants as statuses
 use Rattle.fwd_script.specs.declared.stepping.Stop.{Stop}
 use Rattle.fwd_script.specs.declared.stepping.Stop.TheVariants.{Bad, Memory, Output}
 
--- At a line that was read as an event, as none, or not for want of memory, from a state to a state,
+-- At a line that was read as an event, as none, or not when out of memory, from a state to a state,
 -- with what was written. Where memory ran out later the line is an event.
 abbrev pub Stops : {E S : Type 0} → Stop → (S → Event → Answer) → (S → Event → S) → S
     → S → Result (Option Event) E → Option (List ℕ) → Option (List ℕ) → Type 0

@@ -6,10 +6,10 @@ use Rattle.fwd_msgpack.specs.declared.fault.ScanFault.{ScanFault}
 use Rattle.fwd_msgpack.specs.declared.fault.ScanFault.TheVariants.{Reserved, TooDeep, TooLong}
 use Rattle.fwd_modes.specs.declared.fault.InputFault.{InputFault}
 use Rattle.fwd_modes.specs.declared.fault.InputFault.TheVariants.{BadShape, BadTag, BadEntry, BadOption, Compressed}
-use Rattle.fwd_source.specs.declared.fault.SourceFault.{SourceFault}
-use Rattle.fwd_source.specs.declared.fault.SourceFault.TheVariants.{Scan, Input, NotPing, Denied, Closed as SourceClosed}
-use Rattle.fwd_session.specs.declared.fault.SessionFault.{SessionFault}
-use Rattle.fwd_session.specs.declared.fault.SessionFault.TheVariants as session
+use Rattle.fwd_model.specs.SourceFault.{SourceFault}
+use Rattle.fwd_model.specs.SourceFault.TheVariants.{Scan, Input, NotPing, Denied, Closed as SourceClosed}
+use Rattle.fwd_model.specs.SessionFault.{SessionFault}
+use Rattle.fwd_model.specs.SessionFault.TheVariants as session
 use Rattle.fwd_model.specs.declared.fault.Refusal.{Refusal}
 use Rattle.fwd_model.specs.declared.fault.Refusal.TheVariants as refusal
 use Rattle.fwd_model.specs.declared.answer.Answer.{Answer}

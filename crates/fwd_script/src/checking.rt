@@ -30,7 +30,7 @@ impl From<InputError> for SettingsFault {
 }
 
 /// The settings in what was read, which are in their ranges, or their text's first fault: what was
-/// not read to its end is `Unreadable`. `Memory` is want of memory, while it was read or later.
+/// not read to its end is `Unreadable`. `Memory` is out of memory, while it was read or later.
 pub fn settings_in(
     alloc: Global,
     read: Result<Vec<u8>, InputError>,

@@ -105,13 +105,13 @@ pub fn asked(words: &[String]) -> Option<Command<'_>>
     }
 }
 
-/// The program's words, its own name before them. They are an error for want of memory, of that
+/// The program's words, its own name before them. They are an error when out of memory, of that
 /// kind, and where one is not UTF-8.
 pub fn words<R: Env + AllocGlobal>(rt: &R) -> io::Result<Vec<String>> {
     Ok(env::args(rt)?.collect(rt.alloc())?)
 }
 
-/// How the program ends where its words could not be had: that is for want of memory, or since
+/// How the program ends where its words could not be had: that is when out of memory, or since
 /// one is not UTF-8.
 fn wordless(error: &io::Error) -> End
     ensures memory { error_kind error.now ≡ ErrorKind.OutOfMemory

@@ -35,7 +35,7 @@ impl Step for Relay {
 }
 
 /// A relay before its first event, by what its settings were found to be: a fault of theirs is how
-/// a replay ends, and else only want of memory is.
+/// a replay ends, and else only out of memory is.
 fn opened(alloc: Global, found: Result<Config, SettingsFault>) -> Result<Relay, Status>
     ensures made { IfOk result (λ relay.
         (config : Config) × (found ≡ Ok config) × (relay ≡ live (opening config))) }

@@ -24,7 +24,7 @@ use std::alloc::{AllocError, Global};
 pub trait Word: Sized + Drop {
     ghost said: { List ℕ → Option Self };
 
-    /// What the word says, if it is a spelling. Want of memory is answered only for one that is,
+    /// What the word says, if it is a spelling. Out of memory is answered only for one that is,
     /// and only where it spells bytes.
     fn read_word(alloc: Global, word: &[u8]) -> Result<Option<Self>, AllocError>
         ensures value { IfOk result (λ value. value ≡ said word.now) }
@@ -35,7 +35,7 @@ pub trait Word: Sized + Drop {
 pub trait Words: Sized + Drop {
     ghost said_by: { List (List ℕ) → Option Self };
 
-    /// What just so many words say, if each is a spelling. Want of memory is answered only where
+    /// What just so many words say, if each is a spelling. Out of memory is answered only where
     /// one of them spells bytes.
     fn read_words(alloc: Global, words: &[&[u8]]) -> Result<Option<Self>, AllocError>
         ensures value { IfOk result (λ values. values ≡ said_by (map (λ w. w.now) words.now)) }

@@ -92,7 +92,7 @@ fn is_hex(word: &[u8]) -> bool
     word.len() % 2 == 0 && !has_upper_case(word) && has_digits_alone(word)
 }
 
-/// The bytes that the word spells in lower-case hexadecimal digits, or no bytes for `-`. Want of
+/// The bytes that the word spells in lower-case hexadecimal digits, or no bytes for `-`. Out of
 /// memory is answered only for a word that spells bytes.
 pub fn bytes(alloc: Global, word: &[u8]) -> Result<Option<Bytes>, AllocError>
     ensures value { IfOk result (λ b. b ≡ bytes_of word.now) }
@@ -123,7 +123,7 @@ pub fn sixteen(word: &[u8]) -> Option<[u8; 16]>
 /// A word of so many digits spells more bytes than a salt has: 2^32 or more.
 const TOO_LONG_FOR_SALT: usize = 0x2_0000_0000;
 
-/// The salt that the word spells: less than 2^32 bytes. Want of memory is answered only for a word
+/// The salt that the word spells: less than 2^32 bytes. Out of memory is answered only for a word
 /// that spells one.
 #[tactic(auto, unfolding(crate::specs::Words::salt_of))]
 pub fn salt(alloc: Global, word: &[u8]) -> Result<Option<OwnedSalt>, AllocError>

@@ -15,7 +15,7 @@ use Rattle.fwd_session.specs.declared.fault.SessionFault.{SessionFault}
 use Rattle.fwd_session.specs.declared.fault.SessionFault.TheVariants as fault
 use Rattle.fwd_session.specs.declared.handshake.Handshake.{Handshake}
 use Rattle.fwd_session.specs.declared.handshake.Handshake.TheVariants.{AwaitsHelo, AwaitsPong, Done}
-use Rattle.fwd_session.specs.declared.told.Heard.TheVariants as told
+use Rattle.fwd_session.specs.declared.told.SessionHeard.TheVariants as told
 use Rattle.fwd_session.specs.declared.word.Word.{Word}
 use Rattle.fwd_session.specs.declared.word.Word.TheVariants.{Skipped, Greets, Acks, Fails}
 use Rattle.fwd_session.specs.Evidence.{frame_of}

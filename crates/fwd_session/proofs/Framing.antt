@@ -11,6 +11,7 @@ use Rattle.fwd_session.specs.Said.{Said, out_of}
 use Rattle.fwd_session.specs.History.{Setup, SessionHistory, IsSane, IsFramed, awaited, begins, handshake_of, hears, is_done, is_free_for, is_ready, listens, loads, looks, newly_heard, says, sends, unloads}
 use Rattle.fwd_session.proofs.Following.{handshake-hears}
 use Rattle.fwd_session.proofs.Pieces.{said_mute, stays_done}
+use Rattle.std.proofs.lemmas.Option.{same_Some}
 
 pub begins-framed : (setup : Setup) → IsFramed (begins setup)
 begins-framed setup = record { done = λ e. absurd cc; framed = λ c e. absurd cc }
@@ -28,11 +29,8 @@ pub loads-framed : (s : SessionHistory) (c : Load) (now : ℕ) → is_ready s �
     → IsFramed (loads s c now)
 loads-framed s c now ready = record {
   done = λ e. free-done (handshake_of s) s.down s.has_acked ready;
-  framed = λ d e. (s.appended, ap (λ x. s.appended ++ frame_of x) (one e));
+  framed = λ d e. (s.appended, ap (λ x. s.appended ++ frame_of x) (same_Some _ _ e));
 }
-  where
-    one : {x y : Load} → Some x ≡ Some y → x ≡ y
-    one e = cc
 
 pub sends-framed : (s : SessionHistory) (count : ℕ) → IsFramed s → IsFramed (sends s count)
 sends-framed s count own = record { done = own.done; framed = own.framed }

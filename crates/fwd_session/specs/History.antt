@@ -7,8 +7,8 @@ use Rattle.fwd_chunks.specs.History.{Load}
 use Rattle.fwd_session.specs.declared.fault.SessionFault.{SessionFault}
 use Rattle.fwd_session.specs.declared.handshake.Handshake.{Handshake}
 use Rattle.fwd_session.specs.declared.handshake.Handshake.TheVariants.{AwaitsHelo, AwaitsPong, Done}
-use Rattle.fwd_session.specs.declared.told.Heard.{Heard}
-use Rattle.fwd_session.specs.declared.told.Heard.TheVariants as told
+use Rattle.fwd_session.specs.declared.told.SessionHeard.{SessionHeard}
+use Rattle.fwd_session.specs.declared.told.SessionHeard.TheVariants as told
 use Rattle.fwd_session.specs.Evidence.{frame_of}
 use Rattle.fwd_session.specs.Said.{Said, out_of, silence, said_of, said_in, reply_stream, ended_by}
 
@@ -92,18 +92,18 @@ says s bytes =
     said_in s.setup.login s.setup.salt (handshake_of s) (awaited s) (newly_heard s bytes)
 
 -- what a piece is told: a fault before an acknowledgement, and that before the handshake's end
-abbrev pub told_by : Option SessionFault → Option (List ℕ) → (before after : Bool) → Heard
+abbrev pub told_by : Option SessionFault → Option (List ℕ) → (before after : Bool) → SessionHeard
 told_by (Some f) reply before after = told.Fault f
 told_by None (Some reply) before after = told.Acked
 told_by None None false true = told.Ready
 told_by None None _ _ = told.Quiet
 
 -- what is told of what a piece says, where the handshake was this far before it
-abbrev pub told_of : Handshake → Said → Heard
+abbrev pub told_of : Handshake → Said → SessionHeard
 told_of before said = told_by said.fault said.reply (is_done before) (is_done said.handshake)
 
 -- what a piece is told
-abbrev pub piece_told : SessionHistory → List ℕ → Heard
+abbrev pub piece_told : SessionHistory → List ℕ → SessionHeard
 piece_told s bytes = if s.down then told.NotUp else told_of (handshake_of s) (says s bytes)
 
 -- what a piece puts behind the bytes that wait to be sent: the PING that answers a HELO

@@ -3,8 +3,8 @@
 use Rattle.std.specs.Prelude.{ℕ, ◌+◌, Bool, false, not, ◌&&◌, ◌||◌, List, [], ◌∷◌, ◌++◌, length, drop, Option, Some, None, option_map, is_some, nat_le, nat_lt, max, if◌then◌else◌}
 use Rattle.fwd_chunks.specs.History.{Load}
 use Rattle.fwd_session.specs.declared.handshake.Handshake.{Handshake}
-use Rattle.fwd_session.specs.declared.told.Heard.{Heard}
-use Rattle.fwd_session.specs.declared.told.Heard.TheVariants as told
+use Rattle.fwd_session.specs.declared.told.SessionHeard.{SessionHeard}
+use Rattle.fwd_session.specs.declared.told.SessionHeard.TheVariants as told
 use Rattle.fwd_session.specs.Evidence.{frame_of}
 use Rattle.fwd_session.specs.Said.{Said, out_of, said_in, reply_stream, rest_of}
 use Rattle.fwd_session.specs.History.{Setup, SessionHistory, first_handshake, handshake_of, is_free_for, is_owed, to_send, told_of, waits_from}
@@ -61,7 +61,7 @@ abbrev pub live_says : LiveSession → List ℕ → Said
 live_says s bytes = said_behind s (s.rest ++ bytes)
 
 -- what a piece is told
-abbrev pub live_piece_told : LiveSession → List ℕ → Heard
+abbrev pub live_piece_told : LiveSession → List ℕ → SessionHeard
 live_piece_told s bytes = if s.down then told.NotUp else told_of s.handshake (live_says s bytes)
 
 -- what a piece puts behind the bytes that wait to be sent

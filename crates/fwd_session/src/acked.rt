@@ -35,7 +35,7 @@ impl Model for Acked {
 }
 
 impl Acked {
-    /// A server's reply to a chunk. The only error is want of memory.
+    /// A server's reply to a chunk. The only error is out of memory.
     pub(crate) fn new(
         alloc: Global,
         chunk: &Carried,

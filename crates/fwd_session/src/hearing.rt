@@ -143,7 +143,7 @@ fn reached<'a>(next: &'a Option<Handshake>, before: &'a Handshake) -> &'a Handsh
 }
 
 /// What the bytes say where the handshake came so far and this name is awaited. The only error is
-/// want of memory, for the answer to a HELO.
+/// out of memory, for the answer to a HELO.
 pub(crate) fn hear<'a>(
     alloc: Global,
     login: &Login,

@@ -22,7 +22,7 @@ ghost use Rattle.fwd_chunks.specs.History.{Load};
 ghost use Rattle.fwd_session.specs.declared.fault.SessionFault.{SessionFault};
 ghost use Rattle.fwd_session.specs.declared.fault.SessionFault.TheVariants.{BadReply};
 ghost use Rattle.fwd_session.specs.declared.handshake.Handshake.{Handshake};
-ghost use Rattle.fwd_session.specs.declared.told.Heard.TheVariants.{Fault, NotUp};
+ghost use Rattle.fwd_session.specs.declared.told.SessionHeard.TheVariants.{Fault, NotUp};
 ghost use Rattle.fwd_session.specs.Said.{
   said_in,
   word_of,

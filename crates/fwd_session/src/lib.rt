@@ -26,5 +26,5 @@ pub use laws::{
 pub use limits::{REPLY_LIMIT, REPLY_LIMITS, REPLY_NESTING};
 pub use salt::OwnedSalt;
 pub use session::{LoadError, LoadFailed, Session};
-pub use told::{Heard, Told};
+pub use told::{SessionHeard, SessionTold};
 pub use word::Word;

@@ -37,7 +37,7 @@ impl OwnedSalt {
         }
     }
 
-    /// The same salt once more. The only error is want of memory.
+    /// The same salt once more. The only error is out of memory.
     pub fn try_clone(&self, alloc: Global) -> Result<OwnedSalt, AllocError>
         ensures { IfOk result (λ salt. salt ≡ self.now) }
     {

@@ -64,7 +64,7 @@ use crate::handshake::Handshake;
 use crate::hearing::{Hearing, hear};
 use crate::outbox::Outbox;
 use crate::salt::OwnedSalt;
-use crate::told::{Heard, Told};
+use crate::told::{SessionHeard, SessionTold};
 use fwd_base::Bytes;
 use fwd_chunks::Carried;
 use fwd_handshake::Login;
@@ -165,18 +165,18 @@ fn is_free_for(at: &Handshake, has_acked: bool) -> bool
 }
 
 /// What is told of what was heard, where the handshake was this far before it.
-fn told_of(before: &Handshake, hearing: &Hearing<'_>) -> Heard
+fn told_of(before: &Handshake, hearing: &Hearing<'_>) -> SessionHeard
     ensures { result ≡ told_of before.now (shown before.now hearing.now) }
 {
     if let Some(fault) = hearing.fault {
-        return Heard::Fault(fault);
+        return SessionHeard::Fault(fault);
     }
     if hearing.reply.is_some() {
-        return Heard::Acked;
+        return SessionHeard::Acked;
     }
     match &hearing.handshake {
-        Some(next) if is_done(next) && !is_done(before) => Heard::Ready,
-        _ => Heard::Quiet,
+        Some(next) if is_done(next) && !is_done(before) => SessionHeard::Ready,
+        _ => SessionHeard::Quiet,
     }
 }
 
@@ -289,7 +289,7 @@ impl Session {
     }
 
     /// Puts the frame of a chunk behind the bytes that wait, at a moment (milliseconds). It is
-    /// refused as NotUp where the session is not ready; else the only error is want of memory. On
+    /// refused as NotUp where the session is not ready; else the only error is out of memory. On
     /// an error nothing has changed, and the chunk comes back.
     pub fn load(&mut self, alloc: Global, chunk: Carried, now: u64) -> Result<(), LoadFailed>
         requires { self.old.loaded ≡ None }
@@ -406,7 +406,7 @@ impl Session {
 
     /// What was heard counts. On an error nothing has changed.
     #[tactic(auto, unfolding(crate::specs::Live::session_takes))]
-    fn take_in(&mut self, alloc: Global, hearing: Hearing<'_>) -> Result<Told, AllocError>
+    fn take_in(&mut self, alloc: Global, hearing: Hearing<'_>) -> Result<SessionTold, AllocError>
         requires up { self.old.down ≡ false }
         requires named { IsNamed self.old.loaded (option_copied hearing.reply) }
         ensures heard { IfOk result (λ told. told.heard
@@ -435,7 +435,7 @@ impl Session {
         self.greet(handshake);
         self.keep(acked);
         self.fall_for(fault);
-        Ok(Told { heard, out: told })
+        Ok(SessionTold { heard, out: told })
     }
 
     /// Bytes wait to be sent, and bytes of an unfinished value are left. Answers the former again.
@@ -503,8 +503,8 @@ impl Session {
     }
 
     /// Bytes are read from the link. Once the session is down each further piece is refused. The
-    /// only error is want of memory, and then nothing has changed.
-    pub fn heard(&mut self, alloc: Global, bytes: &[u8]) -> Result<Told, AllocError>
+    /// only error is out of memory, and then nothing has changed.
+    pub fn heard(&mut self, alloc: Global, bytes: &[u8]) -> Result<SessionTold, AllocError>
         ensures heard { IfOk result (λ told. told.heard ≡ live_piece_told self.old bytes.now) }
         ensures out { IfOk result (λ told. told.out ≡ live_piece_out self.old bytes.now) }
         ensures next { OnOk result (self.new ≡ session_hears self.old bytes.now) }
@@ -517,8 +517,8 @@ impl Session {
         ensures err { OnErr result (self.new ≡ self.old) }
     {
         if self.is_down() {
-            return Ok(Told {
-                heard: Heard::NotUp,
+            return Ok(SessionTold {
+                heard: SessionHeard::NotUp,
                 out: Bytes::new(alloc),
             });
         }

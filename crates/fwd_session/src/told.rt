@@ -3,7 +3,7 @@ use fwd_base::Bytes;
 
 /// What a piece of a server's bytes did to its session.
 #[derive(Clone, Copy, Debug, PartialEq, Eq)]
-pub enum Heard {
+pub enum SessionHeard {
     /// Nothing that asks for anything.
     Quiet,
     /// The handshake is done: chunks may be loaded.
@@ -19,7 +19,7 @@ pub enum Heard {
 /// What a piece did, and what it put behind the bytes that wait to be sent: the PING that answers a
 /// HELO, or nothing.
 #[derive(Drop)]
-pub struct Told {
-    pub heard: Heard,
+pub struct SessionTold {
+    pub heard: SessionHeard,
     pub out: Bytes,
 }

@@ -13,8 +13,9 @@ use Rattle.fwd_settings.specs.declared.settings.Settings.{Settings}
 use Rattle.fwd_settings.specs.declared.settings.ServerSettings.{ServerSettings}
 use Rattle.fwd_settings.specs.Faults.{fault_with, key_under}
 use Rattle.fwd_settings.specs.Kinds.{Key, optional, required, given, unless_out, is_within, number_flaw, number_of, number_key, text_flaw, text_key, optional_text_key, required_text_key, data_in, list_flaw, list_of, required_list_key, allowed_list_flaw, optional_list_key, each, fault_at, setting_at}
-use Rattle.fwd_settings.specs.Keys.{first, table_in, outputs, relay_table, relay_settings, connections, relay_hostname, shared_key, users, user_name, user_password, user_table, user_fault, user_settings, output_table, output_fault, output_settings, retry_wait, output_shared_key, username, password, servers, server_settings, is_standby, standby_fault}
+use Rattle.fwd_settings.specs.Keys.{first, table_in, outputs, relay_table, relay_settings, connections, message_limit, depth, relay_hostname, shared_key, users, user_name, user_password, user_table, user_fault, user_settings, output_table, output_fault, output_settings, retry_wait, output_shared_key, username, password, servers, server_settings, is_standby, standby_fault}
 use Rattle.fwd_settings.specs.Whole.{relay_fault, root_table, root_settings, judged, of_document, document_of, settings_of}
+use Rattle.fwd_settings.specs.declared.ranges.TheConstants.{ACK_WAIT_DEFAULT, CHUNK_LIMIT_DEFAULT, CHUNK_LIMIT_MAX, CONNECTIONS_DEFAULT, CONNECTIONS_MAX, DEPTH_DEFAULT, DEPTH_MAX, DEPTH_MIN, FLUSH_INTERVAL_DEFAULT, MESSAGE_LIMIT_DEFAULT, MESSAGE_LIMIT_MAX, MESSAGE_LIMIT_MIN, NAME_MAX, OUTPUTS_MAX, RETRY_MAX_DEFAULT, RETRY_WAIT_DEFAULT, SERVERS_MAX, SHARED_KEY_MAX, TOTAL_LIMIT_DEFAULT, TOTAL_LIMIT_MAX, WAIT_MAX, WORKERS_DEFAULT, WORKERS_MAX}
 use Rattle.fwd_settings.specs.Ranges.{user_in_range, key_in_range, have_key, relay_in_range, output_in_range, in_range}
 
 -- ---- no fault
@@ -103,10 +104,10 @@ list_within : (place : Place) (members : Members) (name : List ℕ) (most : ℕ)
 unfolding setting_at required_list_key
 list_within place members name most h = list_given most (get_member name members) (no_flaw place members (required_list_key name most) h)
 
-key_given : (value : Option Data) → optional (text_flaw 1 1024) value ≡ None
+key_given : (value : Option Data) → optional (text_flaw 1 SHARED_KEY_MAX) value ≡ None
     → key_in_range (option_and_then as_str value) ≡ true
 key_given None h = refl
-key_given (Some (string x)) h = within (is_within 1 1024 (length x)) h
+key_given (Some (string x)) h = within (is_within 1 SHARED_KEY_MAX (length x)) h
 key_given (Some (integer x)) h = absurd cc
 key_given (Some (float x)) h = absurd cc
 key_given (Some (boolean x)) h = absurd cc
@@ -179,9 +180,9 @@ users_allowed members h = users_by members (setting_at members shared_key) h
 user_within : (user : ℕ) (value : Data) → user_fault user value ≡ None
     → user_in_range (user_settings value) ≡ true
 user_within user (table members) h =
-    both (is_within 1 255 (length (setting_at members user_name))) (is_within 1 255 (length (setting_at members user_password)))
-    (required_within (User user) members (codes "name") 1 255 (none_at (user_table user members) 0 (fault_at (User user) members user_name) h refl))
-    (required_within (User user) members (codes "password") 1 255 (none_at (user_table user members) 1 (fault_at (User user) members user_password) h refl))
+    both (is_within 1 NAME_MAX (length (setting_at members user_name))) (is_within 1 NAME_MAX (length (setting_at members user_password)))
+    (required_within (User user) members (codes "name") 1 NAME_MAX (none_at (user_table user members) 0 (fault_at (User user) members user_name) h refl))
+    (required_within (User user) members (codes "password") 1 NAME_MAX (none_at (user_table user members) 1 (fault_at (User user) members user_password) h refl))
 user_within user (string x) h = absurd cc
 user_within user (integer x) h = absurd cc
 user_within user (float x) h = absurd cc
@@ -201,16 +202,15 @@ users_within n (value ∷ values) h =
 relay_within : (members : Members) → first (relay_table members) ≡ None
     → relay_in_range (relay_settings members) ≡ true
 relay_within members h =
-    let name = text_within Relay members (codes "hostname") 1 255 (codes "relay") refl (none_at (relay_table members) 2 (fault_at Relay members relay_hostname) h refl) in
+    let name = text_within Relay members (codes "hostname") 1 NAME_MAX (codes "relay") refl (none_at (relay_table members) 2 (fault_at Relay members relay_hostname) h refl) in
     let key = key_within Relay members (none_at (relay_table members) 3 (fault_at Relay members shared_key) h refl) in
-    let count = number_within Relay members (codes "connections") 1 1024 256 refl (none_at (relay_table members) 6 (fault_at Relay members connections) h refl) in
-    let allowed = users_allowed members (none_at (relay_table members) 7 (fault_at Relay members (users members)) h refl) in
-    let all = users_within 0 (setting_at members (users members)) (none_at (relay_table members) 8 (first (each user_fault 0 (setting_at members (users members)))) h refl) in
+    let count = number_within Relay members (codes "connections") 1 CONNECTIONS_MAX CONNECTIONS_DEFAULT refl (none_at (relay_table members) 6 (fault_at Relay members connections) h refl) in
+    let long = number_within Relay members (codes "message_limit") MESSAGE_LIMIT_MIN MESSAGE_LIMIT_MAX MESSAGE_LIMIT_DEFAULT refl (none_at (relay_table members) 7 (fault_at Relay members message_limit) h refl) in
+    let deep = number_within Relay members (codes "depth") DEPTH_MIN DEPTH_MAX DEPTH_DEFAULT refl (none_at (relay_table members) 8 (fault_at Relay members depth) h refl) in
+    let allowed = users_allowed members (none_at (relay_table members) 9 (fault_at Relay members (users members)) h refl) in
+    let all = users_within 0 (setting_at members (users members)) (none_at (relay_table members) 10 (first (each user_fault 0 (setting_at members (users members)))) h refl) in
     let r = relay_settings members in
-    both (is_within 1 255 (length r.hostname)) (key_in_range r.shared_key && (is_within 1 1024 r.connections && (list_all user_in_range r.users && have_key r.shared_key r.users))) name
-    (both (key_in_range r.shared_key) (is_within 1 1024 r.connections && (list_all user_in_range r.users && have_key r.shared_key r.users)) key
-    (both (is_within 1 1024 r.connections) (list_all user_in_range r.users && have_key r.shared_key r.users) count
-    (both (list_all user_in_range r.users) (have_key r.shared_key r.users) all allowed)))
+    grind (arith, nat_tests, name, key, count, long, deep, all, allowed)
 
 standby_none : (output : ℕ) (listed : List Data) → standby_fault output listed ≡ None
     → not (list_all (λ server. server.standby) (map server_settings listed)) ≡ true
@@ -225,8 +225,8 @@ standby_none output listed h =
     by true f = absurd cc
     by false f = refl
 
-greater_default : (wait : ℕ) → is_within 1 86400000 wait ≡ true
-    → is_within wait 86400000 (max 60000 wait) ≡ true
+greater_default : (wait : ℕ) → is_within 1 WAIT_MAX wait ≡ true
+    → is_within wait WAIT_MAX (max RETRY_MAX_DEFAULT wait) ≡ true
 greater_default wait h = grind (arith, nat_tests, h)
 
 at_most : (least most n : ℕ) → is_within least most n ≡ true → nat_le n most ≡ true
@@ -242,33 +242,33 @@ module _ (output : ℕ) (members : Members) (h : first (output_table output memb
       number_within (Output output) members name least most default d (none_at (output_table output members) i (fault_at (Output output) members (number_key name least most default)) h e)
 
   text_here : (i : ℕ) (name : List ℕ) (least : ℕ) (default : List ℕ)
-      → is_within least 255 (length default) ≡ true
+      → is_within least NAME_MAX (length default) ≡ true
       → slice_get (output_table output members) i ≡ Some
-      (fault_at (Output output) members (text_key name least 255 default))
-      → is_within least 255 (length (setting_at members (text_key name least 255 default))) ≡ true
+      (fault_at (Output output) members (text_key name least NAME_MAX default))
+      → is_within least NAME_MAX (length (setting_at members (text_key name least NAME_MAX default))) ≡ true
   text_here i name least default d e =
-      text_within (Output output) members name least 255 default d (none_at (output_table output members) i (fault_at (Output output) members (text_key name least 255 default)) h e)
+      text_within (Output output) members name least NAME_MAX default d (none_at (output_table output members) i (fault_at (Output output) members (text_key name least NAME_MAX default)) h e)
 
   members_within : output_in_range (output_settings (table members)) ≡ true
   members_within =
-      let wait = number_here 5 (codes "retry_wait") 1 86400000 1000 refl refl in
-      let most = number_here 6 (codes "retry_max") (setting_at members retry_wait) 86400000 (max 60000 (setting_at members retry_wait)) (greater_default (setting_at members retry_wait) wait) refl in
+      let wait = number_here 5 (codes "retry_wait") 1 WAIT_MAX RETRY_WAIT_DEFAULT refl refl in
+      let most = number_here 6 (codes "retry_max") (setting_at members retry_wait) WAIT_MAX (max RETRY_MAX_DEFAULT (setting_at members retry_wait)) (greater_default (setting_at members retry_wait) wait) refl in
       let key = key_within (Output output) members (none_at (output_table output members) 9 (fault_at (Output output) members output_shared_key) h refl) in
-      let user = at_most 0 255 (length (setting_at members username)) (text_here 10 (codes "username") 0 (codes "") refl refl) in
-      let secret = at_most 0 255 (length (setting_at members password)) (text_here 11 (codes "password") 0 (codes "") refl refl) in
-      let listed = list_within (Output output) members (codes "server") 16 (none_at (output_table output members) 12 (fault_at (Output output) members servers) h refl) in
-      let count = ap (is_within 1 16) (length-map (setting_at members servers) server_settings) ∙ listed in
+      let user = at_most 0 NAME_MAX (length (setting_at members username)) (text_here 10 (codes "username") 0 (codes "") refl refl) in
+      let secret = at_most 0 NAME_MAX (length (setting_at members password)) (text_here 11 (codes "password") 0 (codes "") refl refl) in
+      let listed = list_within (Output output) members (codes "server") SERVERS_MAX (none_at (output_table output members) 12 (fault_at (Output output) members servers) h refl) in
+      let count = ap (is_within 1 SERVERS_MAX) (length-map (setting_at members servers) server_settings) ∙ listed in
       let usable = standby_none output (setting_at members servers) (none_at (output_table output members) 13 (standby_fault output (setting_at members servers)) h refl) in
       grind (
         arith,
         nat_tests,
-        number_here 1 (codes "workers") 1 16 1 refl refl,
-        number_here 2 (codes "chunk_limit") 1 16000000 8000000 refl refl,
-        number_here 3 (codes "total_limit") 1 1000000000000 512000000 refl refl,
-        number_here 4 (codes "flush_interval") 0 86400000 5000 refl refl,
+        number_here 1 (codes "workers") 1 WORKERS_MAX WORKERS_DEFAULT refl refl,
+        number_here 2 (codes "chunk_limit") 1 CHUNK_LIMIT_MAX CHUNK_LIMIT_DEFAULT refl refl,
+        number_here 3 (codes "total_limit") 1 TOTAL_LIMIT_MAX TOTAL_LIMIT_DEFAULT refl refl,
+        number_here 4 (codes "flush_interval") 0 WAIT_MAX FLUSH_INTERVAL_DEFAULT refl refl,
         wait,
         most,
-        number_here 7 (codes "ack_wait") 1 86400000 190000 refl refl,
+        number_here 7 (codes "ack_wait") 1 WAIT_MAX ACK_WAIT_DEFAULT refl refl,
         text_here 8 (codes "hostname") 1 (codes "relay") refl refl,
         key,
         user,
@@ -318,11 +318,11 @@ root_within : (root : Members) → first (root_table root) ≡ None
     → in_range (root_settings root) ≡ true
 root_within root h =
     let relay = relay_here root (none_at (root_table root) 0 (relay_fault (get_member (codes "relay") root)) h refl) in
-    let listed = list_within Root root (codes "output") 64 (none_at (root_table root) 1 (fault_at Root root outputs) h refl) in
-    let count : is_within 1 64 (length (map output_settings (setting_at root outputs))) ≡ true = ap (is_within 1 64) (length-map (setting_at root outputs) output_settings) ∙ listed in
+    let listed = list_within Root root (codes "output") OUTPUTS_MAX (none_at (root_table root) 1 (fault_at Root root outputs) h refl) in
+    let count : is_within 1 OUTPUTS_MAX (length (map output_settings (setting_at root outputs))) ≡ true = ap (is_within 1 OUTPUTS_MAX) (length-map (setting_at root outputs) output_settings) ∙ listed in
     let all = outputs_within 0 (setting_at root outputs) (none_at (root_table root) 2 (first (each output_fault 0 (setting_at root outputs))) h refl) in
-    both (relay_in_range (root_settings root).relay) (is_within 1 64 (length (root_settings root).outputs) && list_all output_in_range (root_settings root).outputs) relay
-    (both (is_within 1 64 (length (root_settings root).outputs)) (list_all output_in_range (root_settings root).outputs) count all)
+    both (relay_in_range (root_settings root).relay) (is_within 1 OUTPUTS_MAX (length (root_settings root).outputs) && list_all output_in_range (root_settings root).outputs) relay
+    (both (is_within 1 OUTPUTS_MAX (length (root_settings root).outputs)) (list_all output_in_range (root_settings root).outputs) count all)
 
 judged_within : (fault : Option SettingsFault) (settings accepted : Settings)
     → (fault ≡ None → in_range settings ≡ true) → judged fault settings ≡ Ok accepted

@@ -1,4 +1,4 @@
--- No text is refused for want of memory, or as unreadable.
+-- No text is refused when out of memory, or as unreadable.
 use Rattle.std.proofs.Common.{◌≡◌, ◌≢◌, ℕ, ◌+◌, Bool, true, false, cond, List, [], ◌∷◌, Option, Some, None, Result, Ok, Err, refl, sym, ap, ◌∙◌, true≢false}
 use Rattle.std.specs.Prelude.{◌&&◌, codes, option_map}
 use Rattle.std.specs.List.{list_all}

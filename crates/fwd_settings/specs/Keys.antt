@@ -14,6 +14,7 @@ use Rattle.fwd_settings.specs.declared.settings.ServerSettings.{ServerSettings}
 use Rattle.fwd_settings.specs.declared.output.Sizes.{Sizes}
 use Rattle.fwd_settings.specs.declared.output.Waits.{Waits}
 use Rattle.fwd_settings.specs.declared.output.Login.{Login}
+use Rattle.fwd_settings.specs.declared.ranges.TheConstants.{ACK_WAIT_DEFAULT, CHUNK_LIMIT_DEFAULT, CHUNK_LIMIT_MAX, CONNECTIONS_DEFAULT, CONNECTIONS_MAX, DEPTH_DEFAULT, DEPTH_MAX, DEPTH_MIN, FLUSH_INTERVAL_DEFAULT, MESSAGE_LIMIT_DEFAULT, MESSAGE_LIMIT_MAX, MESSAGE_LIMIT_MIN, NAME_MAX, OUTPUTS_MAX, RETRY_MAX_DEFAULT, RETRY_WAIT_DEFAULT, SERVERS_MAX, SHARED_KEY_MAX, TOTAL_LIMIT_DEFAULT, TOTAL_LIMIT_MAX, WAIT_MAX, WORKERS_DEFAULT, WORKERS_MAX}
 use Rattle.fwd_settings.specs.Addresses.{home}
 use Rattle.fwd_settings.specs.Faults.{own_key, key_under}
 use Rattle.fwd_settings.specs.Kinds.{Key, each, fault_at, setting_at, number_key, flag_key, text_key, optional_text_key, required_text_key, digits_key, address_key, address_key_or, required_address_key, required_pattern_key, required_list_key, optional_list_key}
@@ -35,9 +36,9 @@ table_in name members = unwrap_or (option_and_then as_table (get_member name mem
 
 -- ---- the whole text
 
--- the outputs: 1 to 64
+-- the outputs: at least 1
 abbrev pub outputs : Key (List Data)
-outputs = required_list_key (codes "output") 64
+outputs = required_list_key (codes "output") OUTPUTS_MAX
 
 -- the keys at the top
 abbrev pub root_names : List (List ℕ)
@@ -53,13 +54,13 @@ listen = address_key_or (codes "listen") home
 abbrev pub monitor : Key (Option SocketAddr)
 monitor = address_key (codes "monitor")
 
--- the name that the relay gives sources in the handshake: 1 to 255 bytes
+-- the name that the relay gives sources in the handshake: at least 1 byte
 abbrev pub relay_hostname : Key (List ℕ)
-relay_hostname = text_key (codes "hostname") 1 255 (codes "relay")
+relay_hostname = text_key (codes "hostname") 1 NAME_MAX (codes "relay")
 
--- the key that a source has to prove, if one is set: 1 to 1,024 bytes
+-- the key that a source has to prove, if one is set: at least 1 byte
 abbrev pub shared_key : Key (Option (List ℕ))
-shared_key = optional_text_key (codes "shared_key") 1 1024
+shared_key = optional_text_key (codes "shared_key") 1 SHARED_KEY_MAX
 
 -- what tells this run's chunks from others': 12 hexadecimal digits
 abbrev pub run_id : Key (Option (List ℕ))
@@ -71,7 +72,15 @@ seed = digits_key (codes "seed") 32
 
 -- how many sources may be connected at once
 abbrev pub connections : Key ℕ
-connections = number_key (codes "connections") 1 1024 256
+connections = number_key (codes "connections") 1 CONNECTIONS_MAX CONNECTIONS_DEFAULT
+
+-- how long a value of a source may be, in bytes
+abbrev pub message_limit : Key ℕ
+message_limit = number_key (codes "message_limit") MESSAGE_LIMIT_MIN MESSAGE_LIMIT_MAX MESSAGE_LIMIT_DEFAULT
+
+-- how many arrays and maps may stand one in another in a value of a source
+abbrev pub depth : Key ℕ
+depth = number_key (codes "depth") DEPTH_MIN DEPTH_MAX DEPTH_DEFAULT
 
 -- only where there is a `shared_key`
 abbrev pub users : Members → Key (List Data)
@@ -82,17 +91,17 @@ abbrev pub relay_names : List (List ℕ)
 relay_names =
     codes "listen" ∷ codes "monitor" ∷ codes "hostname" ∷ codes "shared_key"
     ∷ codes "run_id" ∷ codes "seed" ∷
-    codes "connections" ∷ codes "user" ∷ []
+    codes "connections" ∷ codes "message_limit" ∷ codes "depth" ∷ codes "user" ∷ []
 
 -- ---- relay.user[i]
 
--- a user's name: 1 to 255 bytes
+-- a user's name: at least 1 byte
 abbrev pub user_name : Key (List ℕ)
-user_name = required_text_key (codes "name") 1 255
+user_name = required_text_key (codes "name") 1 NAME_MAX
 
--- a user's password: 1 to 255 bytes
+-- a user's password: at least 1 byte
 abbrev pub user_password : Key (List ℕ)
-user_password = required_text_key (codes "password") 1 255
+user_password = required_text_key (codes "password") 1 NAME_MAX
 
 -- the keys under a user
 abbrev pub user_names : List (List ℕ)
@@ -129,6 +138,8 @@ relay_table relay =
     fault_at Relay relay run_id ∷
     fault_at Relay relay seed ∷
     fault_at Relay relay connections ∷
+    fault_at Relay relay message_limit ∷
+    fault_at Relay relay depth ∷
     fault_at Relay relay (users relay) ∷
     first (each user_fault 0 (setting_at relay (users relay))) ∷ []
 
@@ -142,6 +153,8 @@ relay_settings relay = record {
   run_id = setting_at relay run_id;
   seed = setting_at relay seed;
   connections = setting_at relay connections;
+  message_limit = setting_at relay message_limit;
+  depth = setting_at relay depth;
   users = map user_settings (setting_at relay (users relay));
 }
 
@@ -186,53 +199,53 @@ pattern = required_pattern_key (codes "match")
 
 -- how many sessions an output has at once
 abbrev pub workers : Key ℕ
-workers = number_key (codes "workers") 1 16 1
+workers = number_key (codes "workers") 1 WORKERS_MAX WORKERS_DEFAULT
 
 -- how long a chunk may be, in bytes
 abbrev pub chunk_limit : Key ℕ
-chunk_limit = number_key (codes "chunk_limit") 1 16000000 8000000
+chunk_limit = number_key (codes "chunk_limit") 1 CHUNK_LIMIT_MAX CHUNK_LIMIT_DEFAULT
 
 -- how much an output may hold, in bytes
 abbrev pub total_limit : Key ℕ
-total_limit = number_key (codes "total_limit") 1 1000000000000 512000000
+total_limit = number_key (codes "total_limit") 1 TOTAL_LIMIT_MAX TOTAL_LIMIT_DEFAULT
 
 -- how old a chunk's first entry grows before the chunk is closed, in ms
 abbrev pub flush_interval : Key ℕ
-flush_interval = number_key (codes "flush_interval") 0 86400000 5000
+flush_interval = number_key (codes "flush_interval") 0 WAIT_MAX FLUSH_INTERVAL_DEFAULT
 
 -- how long a chunk or a server waits after its first loss, in ms
 abbrev pub retry_wait : Key ℕ
-retry_wait = number_key (codes "retry_wait") 1 86400000 1000
+retry_wait = number_key (codes "retry_wait") 1 WAIT_MAX RETRY_WAIT_DEFAULT
 
 -- from the output's `retry_wait` on
 abbrev pub retry_max : Members → Key ℕ
 retry_max output =
-    let wait = setting_at output retry_wait in number_key (codes "retry_max") wait 86400000
-    (max 60000 wait)
+    let wait = setting_at output retry_wait in number_key (codes "retry_max") wait WAIT_MAX
+    (max RETRY_MAX_DEFAULT wait)
 
 -- how long an acknowledgement is awaited, in ms
 abbrev pub ack_wait : Key ℕ
-ack_wait = number_key (codes "ack_wait") 1 86400000 190000
+ack_wait = number_key (codes "ack_wait") 1 WAIT_MAX ACK_WAIT_DEFAULT
 
--- the name that the relay gives servers in the handshake: 1 to 255 bytes
+-- the name that the relay gives servers in the handshake: at least 1 byte
 abbrev pub output_hostname : Key (List ℕ)
-output_hostname = text_key (codes "hostname") 1 255 (codes "relay")
+output_hostname = text_key (codes "hostname") 1 NAME_MAX (codes "relay")
 
--- the key that a server has to prove, if one is set: 1 to 1,024 bytes
+-- the key that a server has to prove, if one is set: at least 1 byte
 abbrev pub output_shared_key : Key (Option (List ℕ))
-output_shared_key = optional_text_key (codes "shared_key") 1 1024
+output_shared_key = optional_text_key (codes "shared_key") 1 SHARED_KEY_MAX
 
--- the name that servers ask for: at most 255 bytes
+-- the name that servers ask for
 abbrev pub username : Key (List ℕ)
-username = text_key (codes "username") 0 255 (codes "")
+username = text_key (codes "username") 0 NAME_MAX (codes "")
 
--- the password that servers ask for: at most 255 bytes
+-- the password that servers ask for
 abbrev pub password : Key (List ℕ)
-password = text_key (codes "password") 0 255 (codes "")
+password = text_key (codes "password") 0 NAME_MAX (codes "")
 
--- the servers of an output: 1 to 16
+-- the servers of an output: at least 1
 abbrev pub servers : Key (List Data)
-servers = required_list_key (codes "server") 16
+servers = required_list_key (codes "server") SERVERS_MAX
 
 -- the keys under an output
 abbrev pub output_names : List (List ℕ)

@@ -15,7 +15,7 @@ pub fn accepted_is_in_range()
         → in_range accepted ≡ true }
 {}
 
-/// A text is refused for what it says: never for want of memory, and never as a file that was not
+/// A text is refused for what it says: never when out of memory, and never as a file that was not
 /// read.
 #[tactic(auto, using(crate::proofs::RefusalLemmas::never_refused))]
 pub fn refusals_are_of_the_text()

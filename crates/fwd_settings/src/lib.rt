@@ -5,6 +5,7 @@ mod fault;
 mod laws;
 mod output;
 mod place;
+pub mod ranges;
 mod read;
 mod relay;
 mod section;

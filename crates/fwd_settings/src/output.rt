@@ -8,6 +8,11 @@ ghost use Rattle.fwd_settings.specs.Keys.{first, output_fault, output_settings, 
 
 use crate::fault::SettingsFault;
 use crate::place::{Flaw, Place};
+use crate::ranges::{
+    ACK_WAIT_DEFAULT, CHUNK_LIMIT_DEFAULT, CHUNK_LIMIT_MAX, FLUSH_INTERVAL_DEFAULT, NAME_MAX,
+    RETRY_WAIT_DEFAULT, SERVERS_MAX, SHARED_KEY_MAX, TOTAL_LIMIT_DEFAULT, TOTAL_LIMIT_MAX,
+    WAIT_MAX, WORKERS_DEFAULT, WORKERS_MAX,
+};
 use crate::section::Section;
 use crate::server::{check_usable, servers_of};
 use crate::settings::{OutputSettings, ServerSettings};
@@ -15,11 +20,22 @@ use fwd_base::{Seq, Text};
 use std::alloc::Global;
 use toml::{Table, Value};
 
-/// The most workers of an output.
-const WORKER_LIMIT: u16 = 16;
-
-/// The most servers of an output.
-const SERVER_LIMIT: usize = 16;
+/// The keys of an output's table, in the order in which they are judged.
+pub const OUTPUT_KEYS: [&str; 13] = [
+    "match",
+    "workers",
+    "chunk_limit",
+    "total_limit",
+    "flush_interval",
+    "retry_wait",
+    "retry_max",
+    "ack_wait",
+    "hostname",
+    "shared_key",
+    "username",
+    "password",
+    "server",
+];
 
 /// How much an output holds.
 #[derive(Clone, Copy)]
@@ -54,9 +70,21 @@ fn sizes_in(alloc: Global, output: usize, table: &Table) -> Result<Sizes, Settin
 {
     let place = Place::Output(output);
     let section = Section { place, table };
-    let workers = section.count(alloc, "workers", WORKER_LIMIT, 1)?;
-    let chunk_limit = section.number(alloc, "chunk_limit", 1, 16_000_000, 8_000_000)?;
-    let total_limit = section.number(alloc, "total_limit", 1, 1_000_000_000_000, 512_000_000)?;
+    let workers = section.count(alloc, "workers", 1, WORKERS_MAX, WORKERS_DEFAULT)?;
+    let chunk_limit = section.number(
+        alloc,
+        "chunk_limit",
+        1,
+        CHUNK_LIMIT_MAX,
+        CHUNK_LIMIT_DEFAULT,
+    )?;
+    let total_limit = section.number(
+        alloc,
+        "total_limit",
+        1,
+        TOTAL_LIMIT_MAX,
+        TOTAL_LIMIT_DEFAULT,
+    )?;
     Ok(Sizes {
         workers,
         chunk_limit,
@@ -71,10 +99,16 @@ fn waits_in(alloc: Global, output: usize, table: &Table) -> Result<Waits, Settin
 {
     let place = Place::Output(output);
     let section = Section { place, table };
-    let flush_interval = section.number(alloc, "flush_interval", 0, 86_400_000, 5000)?;
-    let retry_wait = section.number(alloc, "retry_wait", 1, 86_400_000, 1000)?;
+    let flush_interval = section.number(
+        alloc,
+        "flush_interval",
+        0,
+        WAIT_MAX,
+        FLUSH_INTERVAL_DEFAULT,
+    )?;
+    let retry_wait = section.number(alloc, "retry_wait", 1, WAIT_MAX, RETRY_WAIT_DEFAULT)?;
     let retry_max = section.retry_max(alloc, retry_wait)?;
-    let ack_wait = section.number(alloc, "ack_wait", 1, 86_400_000, 190_000)?;
+    let ack_wait = section.number(alloc, "ack_wait", 1, WAIT_MAX, ACK_WAIT_DEFAULT)?;
     Ok(Waits {
         flush_interval,
         retry_wait,
@@ -90,10 +124,10 @@ fn login_in(alloc: Global, output: usize, table: &Table) -> Result<Login, Settin
 {
     let place = Place::Output(output);
     let section = Section { place, table };
-    let hostname = section.text(alloc, "hostname", 1, 255, "relay")?;
-    let shared_key = section.optional_text(alloc, "shared_key", 1, 1024)?;
-    let username = section.text(alloc, "username", 0, 255, "")?;
-    let password = section.text(alloc, "password", 0, 255, "")?;
+    let hostname = section.text(alloc, "hostname", 1, NAME_MAX, "relay")?;
+    let shared_key = section.optional_text(alloc, "shared_key", 1, SHARED_KEY_MAX)?;
+    let username = section.text(alloc, "username", 0, NAME_MAX, "")?;
+    let password = section.text(alloc, "password", 0, NAME_MAX, "")?;
     Ok(Login {
         hostname,
         shared_key,
@@ -114,7 +148,7 @@ fn servers_in(
 {
     let place = Place::Output(output);
     let section = Section { place, table };
-    let listed = section.required_list(alloc, "server", SERVER_LIMIT)?;
+    let listed = section.required_list(alloc, "server", SERVERS_MAX)?;
     check_usable(alloc, output, listed)?;
     servers_of(alloc, output, listed)
 }

@@ -10,6 +10,7 @@ ghost use Rattle.fwd_settings.specs.Whole as spec;
 use crate::fault::SettingsFault;
 use crate::output::outputs_of;
 use crate::place::Place;
+use crate::ranges::OUTPUTS_MAX;
 use crate::relay::relay_of;
 use crate::section::Section;
 use crate::settings::Settings;
@@ -37,7 +38,7 @@ fn settings_in(alloc: Global, root: &Table) -> Result<Settings, SettingsFault>
         table: root,
     };
     let relay = relay_of(alloc, root)?;
-    let listed = section.required_list(alloc, "output", 64)?;
+    let listed = section.required_list(alloc, "output", OUTPUTS_MAX)?;
     let outputs = outputs_of(alloc, listed)?;
     check_known(alloc, root)?;
     Ok(Settings { relay, outputs })

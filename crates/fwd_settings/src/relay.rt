@@ -4,12 +4,16 @@ ghost use Rattle.std.specs.Prelude.{◌≡◌, codes};
 ghost use Rattle.toml.specs.Data.{get_member, no_members};
 ghost use Rattle.fwd_settings.specs.Whole.{relay_fault};
 ghost use Rattle.toml.specs.View.{table_view};
-ghost use Rattle.fwd_settings.specs.Kinds.{Answers};
-ghost use Rattle.fwd_settings.specs.Keys.{first, relay_table, relay_settings, table_in};
+ghost use Rattle.fwd_settings.specs.Kinds.{Answers, Reads};
+ghost use Rattle.fwd_settings.specs.Keys.{first, message_limit, relay_table, relay_settings, table_in};
 ghost use Rattle.fwd_settings.specs.Addresses.{home};
 
 use crate::fault::SettingsFault;
 use crate::place::{Flaw, Place};
+use crate::ranges::{
+    CONNECTIONS_DEFAULT, CONNECTIONS_MAX, DEPTH_DEFAULT, DEPTH_MAX, DEPTH_MIN,
+    MESSAGE_LIMIT_DEFAULT, MESSAGE_LIMIT_MAX, MESSAGE_LIMIT_MIN, NAME_MAX, SHARED_KEY_MAX,
+};
 use crate::section::Section;
 use crate::settings::RelaySettings;
 use crate::user::users_of;
@@ -17,11 +21,36 @@ use std::alloc::Global;
 use std::net::{Ipv4Addr, SocketAddr, SocketAddrV4};
 use toml::Table;
 
+/// The keys of the table `relay`, in the order in which they are judged.
+pub const RELAY_KEYS: [&str; 10] = [
+    "listen",
+    "monitor",
+    "hostname",
+    "shared_key",
+    "run_id",
+    "seed",
+    "connections",
+    "message_limit",
+    "depth",
+    "user",
+];
+
 /// 127.0.0.1:24224.
 fn home() -> SocketAddr
     ensures { result ≡ home }
 {
     SocketAddr::V4(SocketAddrV4::new(Ipv4Addr::new(127, 0, 0, 1), 24224))
+}
+
+/// How long a value of a source may be, in bytes.
+fn message_limit_in(alloc: Global, relay: &Section<'_>) -> Result<u32, SettingsFault>
+    ensures { Reads relay.now.place (table_view relay.now.table.now) message_limit result }
+{
+    let (least, most) = (MESSAGE_LIMIT_MIN, MESSAGE_LIMIT_MAX);
+    match relay.number(alloc, "message_limit", least, most, MESSAGE_LIMIT_DEFAULT) {
+        Ok(limit) => Ok(limit as u32),
+        Err(fault) => Err(fault),
+    }
 }
 
 /// The settings in the table `relay`.
@@ -35,11 +64,19 @@ fn relay_in(alloc: Global, table: &Table) -> Result<RelaySettings, SettingsFault
     };
     let listen = relay.address_or(alloc, "listen", home())?;
     let monitor = relay.address(alloc, "monitor")?;
-    let hostname = relay.text(alloc, "hostname", 1, 255, "relay")?;
-    let shared_key = relay.optional_text(alloc, "shared_key", 1, 1024)?;
+    let hostname = relay.text(alloc, "hostname", 1, NAME_MAX, "relay")?;
+    let shared_key = relay.optional_text(alloc, "shared_key", 1, SHARED_KEY_MAX)?;
     let run_id = relay.digits(alloc, "run_id")?;
     let seed = relay.digits(alloc, "seed")?;
-    let connections = relay.count(alloc, "connections", 1024, 256)?;
+    let connections = relay.count(
+        alloc,
+        "connections",
+        1,
+        CONNECTIONS_MAX,
+        CONNECTIONS_DEFAULT,
+    )?;
+    let message_limit = message_limit_in(alloc, &relay)?;
+    let depth = relay.count(alloc, "depth", DEPTH_MIN, DEPTH_MAX, DEPTH_DEFAULT)?;
     let listed = relay.optional_list(alloc, "user", shared_key.is_some())?;
     let users = users_of(alloc, listed)?;
     Ok(RelaySettings {
@@ -50,6 +87,8 @@ fn relay_in(alloc: Global, table: &Table) -> Result<RelaySettings, SettingsFault
         run_id,
         seed,
         connections,
+        message_limit,
+        depth: depth as u8,
         users,
     })
 }

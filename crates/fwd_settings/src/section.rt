@@ -8,6 +8,7 @@ ghost use Rattle.fwd_settings.specs.Keys as keys;
 
 use crate::fault::SettingsFault;
 use crate::place::{Flaw, Place};
+use crate::ranges::{RETRY_MAX_DEFAULT, WAIT_MAX};
 use crate::values::{address_in, allowed_list_in, digits_in, flag_in, list_in, number_in, text_in};
 use fwd_base::Text;
 use fwd_match::{Pattern, PatternFault};
@@ -65,30 +66,32 @@ impl<'a> Section<'a> {
     /// The greatest time between two tries, which is no shorter than the time after the first loss.
     pub fn retry_max(&self, alloc: Global, retry_wait: u64) -> Result<u64, SettingsFault>
         requires wait { retry_wait ≡ setting_at (table_view self.now.table.now) keys.retry_wait }
-        requires within { retry_wait ≤ 86400000 }
+        requires within { retry_wait ≤ WAIT_MAX }
         ensures { Reads self.now.place (table_view self.now.table.now)
             (keys.retry_max (table_view self.now.table.now)) result }
     {
-        let default = u64::max(60_000, retry_wait);
-        match self.number(alloc, "retry_max", retry_wait, 86_400_000, default) {
+        let default = u64::max(RETRY_MAX_DEFAULT, retry_wait);
+        match self.number(alloc, "retry_max", retry_wait, WAIT_MAX, default) {
             Ok(number) => Ok(number),
             Err(fault) => Err(fault),
         }
     }
 
-    /// A count from 1 on.
+    /// A count of its range.
     pub fn count(
         &self,
         alloc: Global,
         name: &str,
+        least: u16,
         most: u16,
         default: u16,
     ) -> Result<u16, SettingsFault>
-        requires { (1 ≤ default) × (default ≤ most) }
-        ensures { Reads self.now.place (table_view self.now.table.now)
-            (number_key name.now 1 most default) result }
+        requires { (least ≤ default) × (default ≤ most) }
+        ensures reads { Reads self.now.place (table_view self.now.table.now)
+            (number_key name.now least most default) result }
+        ensures most { IfOk result (λ count. count ≤ most) }
     {
-        match self.number(alloc, name, 1, most as u64, default as u64) {
+        match self.number(alloc, name, least as u64, most as u64, default as u64) {
             Ok(count) => Ok(count as u16),
             Err(fault) => Err(fault),
         }

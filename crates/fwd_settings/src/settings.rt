@@ -32,6 +32,10 @@ pub struct RelaySettings {
     pub seed: Option<[u8; 32]>,
     /// The most sources at a time, 1 to 1,024.
     pub connections: u16,
+    /// The most bytes of a value of a source, 1,024 to 67,108,864.
+    pub message_limit: u32,
+    /// The most arrays and maps that may stand one in another in a value of a source, 8 to 128.
+    pub depth: u8,
     /// The users that sources log in as, in the order of the file; where there is none, they need
     /// none. There are only users where there is a `shared_key`.
     pub users: Seq<UserSettings>,

@@ -7,45 +7,18 @@ ghost use Rattle.fwd_settings.specs.Kinds.{list_in};
 ghost use Rattle.fwd_settings.specs.Keys.{table_in};
 ghost use Rattle.fwd_settings.specs.Unknown as spec;
 
+use crate::output::OUTPUT_KEYS;
 use crate::place::Place;
+use crate::relay::RELAY_KEYS;
 use crate::section::Section;
+use crate::server::SERVER_KEYS;
+use crate::user::USER_KEYS;
 use crate::values::array_in;
 use fwd_base::Text;
 use std::alloc::{AllocError, Global};
 use toml::{Table, Value};
 
-const ROOT: [&str; 2] = ["relay", "output"];
-
-const RELAY: [&str; 8] = [
-    "listen",
-    "monitor",
-    "hostname",
-    "shared_key",
-    "run_id",
-    "seed",
-    "connections",
-    "user",
-];
-
-const USER: [&str; 2] = ["name", "password"];
-
-const OUTPUT: [&str; 13] = [
-    "match",
-    "workers",
-    "chunk_limit",
-    "total_limit",
-    "flush_interval",
-    "retry_wait",
-    "retry_max",
-    "ack_wait",
-    "hostname",
-    "shared_key",
-    "username",
-    "password",
-    "server",
-];
-
-const SERVER: [&str; 2] = ["address", "standby"];
+const ROOT_KEYS: [&str; 2] = ["relay", "output"];
 
 /// The least of a key and of one more, if there is one.
 #[tactic(auto, using(crate::proofs::LeastLemmas::lesser_steps))]
@@ -116,7 +89,7 @@ fn least_in_user(
         key ≡ spec.least (cons_option least (spec.unknown_in_user user (view value.now)))) }
 {
     match value.as_table() {
-        Some(table) => least_under(alloc, Place::User(user), &USER, table, least),
+        Some(table) => least_under(alloc, Place::User(user), &USER_KEYS, table, least),
         None => Ok(least),
     }
 }
@@ -153,7 +126,13 @@ fn least_in_server(
         (cons_option least (spec.unknown_in_server output server (view value.now)))) }
 {
     match value.as_table() {
-        Some(table) => least_under(alloc, Place::Server(output, server), &SERVER, table, least),
+        Some(table) => least_under(
+            alloc,
+            Place::Server(output, server),
+            &SERVER_KEYS,
+            table,
+            least,
+        ),
         None => Ok(least),
     }
 }
@@ -193,7 +172,7 @@ fn least_in_output(
         return Ok(least);
     };
     let place = Place::Output(output);
-    let least = least_under(alloc, place, &OUTPUT, table, least)?;
+    let least = least_under(alloc, place, &OUTPUT_KEYS, table, least)?;
     least_in_servers(alloc, output, members_of(table, place, "server"), least)
 }
 
@@ -224,7 +203,7 @@ fn least_in_relay_table(
     ensures { IfOk result (λ key.
         key ≡ spec.least (cons_option least (spec.unknown_in_relay (table_view relay.now)))) }
 {
-    let least = least_under(alloc, Place::Relay, &RELAY, relay, least)?;
+    let least = least_under(alloc, Place::Relay, &RELAY_KEYS, relay, least)?;
     least_in_users(alloc, members_of(relay, Place::Relay, "user"), least)
 }
 
@@ -256,7 +235,7 @@ fn least_in_relay(
 pub fn least_unknown(alloc: Global, root: &Table) -> Result<Option<Text>, AllocError>
     ensures { IfOk result (λ key. key ≡ spec.least (spec.unknown_keys (table_view root.now))) }
 {
-    let least = least_under(alloc, Place::Root, &ROOT, root, None)?;
+    let least = least_under(alloc, Place::Root, &ROOT_KEYS, root, None)?;
     let least = least_in_relay(alloc, root, least)?;
     least_in_outputs(alloc, members_of(root, Place::Root, "output"), least)
 }

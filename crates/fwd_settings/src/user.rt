@@ -8,11 +8,15 @@ ghost use Rattle.fwd_settings.specs.Keys.{first, user_fault, user_settings, user
 
 use crate::fault::SettingsFault;
 use crate::place::{Flaw, Place};
+use crate::ranges::NAME_MAX;
 use crate::section::Section;
 use crate::settings::UserSettings;
 use fwd_base::Seq;
 use std::alloc::Global;
 use toml::{Table, Value};
+
+/// The keys of a user's table, in the order in which they are judged.
+pub const USER_KEYS: [&str; 2] = ["name", "password"];
 
 /// The settings in a user's table.
 fn user_in(alloc: Global, user: usize, table: &Table) -> Result<UserSettings, SettingsFault>
@@ -21,8 +25,8 @@ fn user_in(alloc: Global, user: usize, table: &Table) -> Result<UserSettings, Se
 {
     let place = Place::User(user);
     let section = Section { place, table };
-    let name = section.required_text(alloc, "name", 1, 255)?;
-    let password = section.required_text(alloc, "password", 1, 255)?;
+    let name = section.required_text(alloc, "name", 1, NAME_MAX)?;
+    let password = section.required_text(alloc, "password", 1, NAME_MAX)?;
     Ok(UserSettings { name, password })
 }
 

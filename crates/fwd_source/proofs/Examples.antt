@@ -1,5 +1,5 @@
 -- A connection at work on a few pieces: open, with a shared key, and where a PING is awaited.
-use Rattle.std.proofs.Common.{◌≡◌, ℕ, false, List, [], ◌∷◌, ◌++◌, Option, Some, None, refl, arith, le_refl}
+use Rattle.std.proofs.Common.{◌≡◌, ℕ, false, List, [], ◌∷◌, ◌++◌, Option, Some, None, refl, arith}
 use Rattle.std.specs.Prelude.{codes, replicate}
 use Rattle.fwd_msgpack.specs.Heads.{row_of, named_rows, reading_of, head_bytes}
 use Rattle.fwd_msgpack.specs.Scans.{first_of, fault_at, item_begun, payload_ended, split_of, row_of_values, parts_of}
@@ -17,7 +17,7 @@ use Rattle.fwd_source.specs.Judged.{judged_of}
 use Rattle.fwd_source.specs.History.{Setup, SourceHistory, opened, piece_answer, piece_next, waiting, unsent, gives}
 
 abbrev limits : Limits
-limits = record { bytes = 16777216; depth = 64; shallow = le_refl 64 }
+limits = record { bytes = 16777216; depth = 64; shallow = omega arith }
 
 -- a server with or without a shared key, and no users
 abbrev server : Option (List ℕ) → Security

@@ -50,7 +50,7 @@ opened-sane setup = record { admits = omega arith; drains = omega arith }
 
 -- ---- a piece
 
-pub record Heard (s : SourceHistory) (bytes : List ℕ) : Type 0 where
+pub record IsHeard (s : SourceHistory) (bytes : List ℕ) : Type 0 where
   pub still : s.shut ≡ false
   pub all : judged (has_heard s bytes)
       ≡ joined (judged s).requests (judged s).pong (judged_piece (live_source s) bytes)
@@ -63,7 +63,7 @@ drop_front [] ys = refl
 drop_front (x ∷ xs) ys = drop_front xs ys
 
 pub heard : (s : SourceHistory) (bytes : List ℕ) → IsSane s → is_closed s ≡ false
-    → Heard s bytes
+    → IsHeard s bytes
 unfolding live_source
 heard s bytes sane not_closed =
     let parts = or_false s.shut (is_some (judged s).fault) not_closed in

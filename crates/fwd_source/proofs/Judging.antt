@@ -1,6 +1,6 @@
 -- What more bytes of a connection say: the requests and the PONG
 -- so far stay, and the bytes of the unfinished value go on.
-use Rattle.std.proofs.Common.{◌≡◌, ℕ, suc, ◌+◌, ◌^◌, Bool, true, false, cond, ltb, List, [], ◌∷◌, ◌++◌, length, take, drop, Some, None, refl, sym, ap, ◌∙◌, add-zero, arith}
+use Rattle.std.proofs.Common.{◌≡◌, ℕ, suc, ◌+◌, ◌^◌, Bool, true, false, cond, ltb, List, [], ◌∷◌, ◌++◌, length, take, drop, Some, None, refl, sym, ap, subst, ◌∙◌, add-zero, arith}
 use Rattle.std.specs.Prelude.{is_some}
 use Rattle.std.proofs.lemmas.List.{append_assoc}
 use Rattle.fwd_msgpack.specs.declared.limits.Limits.{Limits}
@@ -365,6 +365,14 @@ judged_next limits awaited n bytes next.Unfinished e = ap (judge_stream limits.d
 judged_next limits awaited n bytes (next.Fault fault) e = ap (judge_stream limits.depth awaited n) e
 judged_next limits awaited n bytes (next.Value value behind) e =
     ap (judge_stream limits.depth awaited n) e ∙ stream_front limits.depth awaited n (bytes_of value) (split_of limits.bytes limits.depth behind.now)
+
+-- the same, of limits that are these
+pub judged_at : (limits own : Limits) → own ≡ limits → (awaited : AwaitedPing) (n : ℕ)
+    (bytes : List ℕ) (what : Next)
+    → split_of own.bytes own.depth bytes ≡ split_by own.bytes own.depth bytes what
+    → judged_of limits awaited n bytes ≡ by_next limits awaited n bytes what
+judged_at limits own same awaited n bytes what e =
+    judged_next limits awaited n bytes what (subst (λ (l : Limits). split_of l.bytes l.depth bytes ≡ split_by l.bytes l.depth bytes what) same e)
 
 -- where no PING is awaited, none is awaited behind it
 pub judged_of-open : (limits : Limits) (n : ℕ) (a : List ℕ)

@@ -1,18 +1,22 @@
 -- What the parts of a hearing show, in the words of the definitions.
-use Rattle.std.specs.Prelude.{◌≡◌, ℕ, ◌+◌, ◌-◌, ◌≤◌, false, List, [], length, drop, Option, Some, None}
+use Rattle.std.specs.Prelude.{◌≡◌, if◌then◌else◌, option_map, ℕ, ◌+◌, ◌-◌, ◌≤◌, false, List, [], length, drop, Option, Some, None}
 use Rattle.fwd_msgpack.specs.declared.limits.Limits.{Limits}
+use Rattle.fwd_msgpack.specs.Scanners.{Standing, IsBehind, fresh}
 use Rattle.fwd_modes.specs.Requests.{Request, Reading}
 use Rattle.fwd_handshake.specs.declared.verdict.PingVerdict.{PingVerdict}
 use Rattle.fwd_handshake.specs.declared.verdict.PingVerdict.TheVariants.{Pass}
 use Rattle.fwd_source.specs.declared.fault.SourceFault.{SourceFault}
-use Rattle.fwd_source.specs.Judged.{Judged, greeted, joined, welcomed, asked, judged_of}
+use Rattle.fwd_source.specs.Judged.{Judged, AwaitedPing, greeted, joined, welcomed, asked, judged_of}
 use Rattle.fwd_source.specs.Live.{LiveSource}
-use Rattle.fwd_source.specs.declared.hearing.Heard.{Heard}
+use Rattle.fwd_source.specs.declared.hearing.SourceHeard.{SourceHeard}
 use Rattle.fwd_source.specs.declared.greeting.Greeting.{Greeting}
+use Rattle.fwd_source.specs.declared.taking.Asker.{Asker}
+use Rattle.fwd_source.specs.declared.taking.Taken.{Taken}
+use Rattle.fwd_handshake.specs.Verdicts.{ping_verdict}
 use Rattle.fwd_source.specs.declared.greeting.Greeting.TheVariants as greeting
 
 -- what was heard, with its lists as lists
-abbrev pub shown : Heard → Judged
+abbrev pub shown : SourceHeard → Judged
 shown h = record {
   requests = h.requests.items;
   rest = h.rest.now;
@@ -59,9 +63,35 @@ abbrev pub EndsIn : List ℕ → Greeting → Type 0
 EndsIn bytes (greeting.Passed pong behind) = IsEndOf behind.now bytes
 EndsIn bytes (greeting.Ended heard) = IsEndOf heard.rest.now bytes
 
+-- a greeting that ended has a fault
+abbrev pub Faults : Greeting → Type 0
+Faults (greeting.Passed pong behind) = Unit {0}
+Faults (greeting.Ended heard) = heard.fault ≡ None → ⊥
+
+-- where a scan stands once bytes were heard: behind those of an unfinished value. Behind a fault
+-- it does not matter.
+abbrev pub StandsOver : Limits → SourceHeard → Standing → Type 0
+StandsOver limits heard standing = heard.fault ≡ None → IsBehind limits heard.rest.now standing
+
+-- where a scan stands after a greeting: behind a PING the next value begins
+abbrev pub StandsIn : Limits → Greeting → Standing → Type 0
+StandsIn limits (greeting.Passed pong behind) standing = standing ≡ fresh limits
+StandsIn limits (greeting.Ended heard) standing = StandsOver limits heard standing
+
 -- what became of a greeting, by the verdict on the value, before these bytes
 abbrev pub Welcomes : PingVerdict → List ℕ → Greeting → Type 0
 Welcomes verdict bytes (greeting.Passed pong behind) =
     (verdict ≡ Pass pong) × (behind.now ≡ bytes)
 Welcomes verdict bytes (greeting.Ended heard) =
     ((others : Judged) → welcomed verdict others ≡ shown heard) × (heard.requests.items ≡ [])
+
+-- the PING that is awaited, if one is
+abbrev pub awaited_by : Asker → AwaitedPing
+awaited_by a = if a.awaits then Some (ping_verdict a.security.now a.nonces.now) else None
+
+-- what the bytes came to is what they say, but for the requests
+pub record AreTaken (said : Judged) (bytes : List ℕ) (taken : Taken) : Type 0 where
+  pub rest : kept_of bytes (option_map (λ v. v.items) taken.rest) ≡ said.rest
+  pub pong : taken.out ≡ said.pong
+  pub awaits : taken.awaits ≡ said.awaits
+  pub fault : taken.fault ≡ said.fault

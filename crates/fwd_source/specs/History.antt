@@ -1,6 +1,5 @@
 -- The history of a connection, with nothing removed.
 use Rattle.std.specs.Prelude.{ℕ, ◌+◌, ◌≤◌, Bool, true, false, ◌||◌, List, [], ◌++◌, drop, length, Option, Some, None, is_some, if◌then◌else◌}
-use Rattle.std.proofs.Math.Nat.{le_refl}
 use Rattle.fwd_msgpack.specs.declared.limits.Limits.{Limits}
 use Rattle.fwd_modes.specs.Requests.{Request}
 use Rattle.fwd_handshake.specs.declared.credentials.Security.{Security}
@@ -8,14 +7,9 @@ use Rattle.fwd_handshake.specs.declared.nonces.Nonces.{Nonces}
 use Rattle.fwd_handshake.specs.Messages.{helo_text}
 use Rattle.fwd_handshake.specs.Verdicts.{ping_verdict}
 use Rattle.fwd_source.specs.declared.fault.SourceFault.{SourceFault}
-use Rattle.fwd_source.specs.declared.limits.TheConstants.{NESTING_LIMIT, VALUE_LIMIT}
 use Rattle.fwd_source.specs.declared.piece.Piece.{Piece}
 use Rattle.fwd_source.specs.declared.piece.Piece.TheVariants as piece
 use Rattle.fwd_source.specs.Judged.{Judged, AwaitedPing, judged_of}
-
--- how long and how deep a value of a source may be, in the relay
-abbrev pub source_limits : Limits
-source_limits = record { bytes = VALUE_LIMIT; depth = NESTING_LIMIT; shallow = le_refl 64 }
 
 -- what a connection is accepted with: its id, what it has to prove, the random bytes of its
 -- handshake, and how long and deep a value may be

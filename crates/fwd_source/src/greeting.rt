@@ -1,15 +1,16 @@
 //! What a connection's bytes say where a PING is awaited.
 
-ghost use Rattle.std.specs.Prelude.{◌≡◌, ◌+◌, ◌<◌, ◌^◌, ℕ, [], None, Some, true, IfOk, length};
+ghost use Rattle.std.specs.Prelude.{◌≡◌, ◌+◌, ◌<◌, ◌^◌, ℕ, [], None, Some, true, IfOk, length, take};
+ghost use Rattle.fwd_msgpack.specs.Scanners.{IsBehind};
 ghost use Rattle.fwd_handshake.specs.Verdicts.{ping_verdict};
 ghost use Rattle.fwd_source.specs.Judged.{judged_of};
-ghost use Rattle.fwd_source.specs.Hearing.{shown, IsEndOf, EndsIn, Greets, Welcomes};
+ghost use Rattle.fwd_source.specs.Hearing.{shown, IsEndOf, EndsIn, Faults, Greets, StandsIn, StandsOver, Welcomes};
 
 use crate::fault::SourceFault;
-use crate::hearing::{Heard, failed, hear};
+use crate::hearing::{SourceHeard, Unjudged, failed, hear};
 use fwd_base::Bytes;
 use fwd_handshake::{Nonces, PingVerdict, Security, judge_ping};
-use fwd_msgpack::{Limits, Next, next_value};
+use fwd_msgpack::{Next, Scanner};
 use std::alloc::{AllocError, Global};
 
 /// What became of a greeting.
@@ -18,15 +19,15 @@ pub enum Greeting<'a> {
     /// The PING is good: its PONG, and the bytes behind the PING.
     Passed(Bytes, &'a [u8]),
     /// There is no whole value but nil yet, or the first one is no good PING.
-    Ended(Heard<'a>),
+    Ended(SourceHeard<'a>),
 }
 
 /// Nothing but nil came yet, and the bytes of an unfinished value.
-fn unfinished(alloc: Global, rest: &[u8]) -> Heard<'_>
+fn unfinished(alloc: Global, rest: &[u8]) -> SourceHeard<'_>
     ensures { shown result
         ≡ record { requests = []; rest = rest.now; pong = []; awaits = true; fault = None } }
 {
-    Heard {
+    SourceHeard {
         requests: Vec::new(alloc),
         rest,
         pong: Bytes::new(alloc),
@@ -40,6 +41,7 @@ fn unfinished(alloc: Global, rest: &[u8]) -> Heard<'_>
 fn welcome(alloc: Global, verdict: PingVerdict, behind: &[u8]) -> Greeting<'_>
     ensures what { Welcomes verdict behind.now result }
     ensures end { EndsIn behind.now result }
+    ensures faulted { Faults result }
 {
     match verdict {
         PingVerdict::Pass(pong) => Greeting::Passed(pong, behind),
@@ -59,16 +61,21 @@ fn greet<'a>(
     alloc: Global,
     security: &Security,
     nonces: &Nonces,
-    bytes: &'a [u8],
-    limits: Limits,
+    unjudged: Unjudged<'a>,
+    scanner: &mut Scanner,
 ) -> Result<Greeting<'a>, AllocError>
-    ensures what { IfOk result (λ greeting.
-        (n : ℕ) → Greets limits (ping_verdict security.now nonces.now) n bytes.now greeting) }
-    ensures end { IfOk result (λ greeting. EndsIn bytes.now greeting) }
+    requires { IsBehind scanner.old.limits
+        (take unjudged.scanned unjudged.bytes.now) scanner.old }
+    ensures what { IfOk result (λ greeting. (n : ℕ) → Greets scanner.old.limits
+        (ping_verdict security.now nonces.now) n unjudged.entry.bytes.now greeting) }
+    ensures end { IfOk result (λ greeting. EndsIn unjudged.entry.bytes.now greeting) }
+    ensures after { IfOk result (λ greeting. StandsIn scanner.old.limits greeting scanner.new) }
+    ensures limits { scanner.new.limits ≡ scanner.old.limits }
 {
-    let mut rest = bytes;
+    let mut rest = unjudged.bytes;
+    let mut scanned = unjudged.scanned;
     'values: loop {
-        match next_value(rest, limits) {
+        match scanner.next_value(rest, scanned) {
             Next::Unfinished => return Ok(Greeting::Ended(unfinished(alloc, rest))),
             Next::Fault(fault) => {
                 let heard = failed(alloc, Vec::new(alloc), SourceFault::Scan(fault));
@@ -80,32 +87,40 @@ fn greet<'a>(
                     return Ok(welcome(alloc, verdict, behind));
                 }
                 rest = behind;
+                scanned = 0;
             }
         }
     }
 }
 
-/// What the bytes say, on a connection of which `count`
-/// requests came before, where a PING is awaited.
+/// What the bytes say, on a connection of which `count` requests came before, where a PING is
+/// awaited. Of the scanner, see `hear`.
 pub fn hear_greeting<'a>(
     alloc: Global,
     security: &Security,
     nonces: &Nonces,
     count: u64,
-    bytes: &'a [u8],
-    limits: Limits,
-) -> Result<Heard<'a>, AllocError>
-    requires { count < 2 ^ 64 }
-    ensures value { IfOk result (λ heard.
-        shown heard
-        ≡ judged_of limits (Some (ping_verdict security.now nonces.now)) count bytes.now) }
-    ensures end { IfOk result (λ heard. IsEndOf heard.rest.now bytes.now) }
+    unjudged: Unjudged<'a>,
+    scanner: &mut Scanner,
+) -> Result<SourceHeard<'a>, AllocError>
+    requires count { count < 2 ^ 64 }
+    requires behind { IsBehind scanner.old.limits
+        (take unjudged.scanned unjudged.bytes.now) scanner.old }
+    ensures value { IfOk result (λ heard. shown heard ≡ judged_of scanner.old.limits
+        (Some (ping_verdict security.now nonces.now)) count unjudged.entry.bytes.now) }
+    ensures end { IfOk result (λ heard. IsEndOf heard.rest.now unjudged.entry.bytes.now) }
+    ensures after { IfOk result (λ heard. StandsOver scanner.old.limits heard scanner.new) }
+    ensures limits { scanner.new.limits ≡ scanner.old.limits }
     ensures room { IfOk result (λ heard. count + length heard.requests.items < 2 ^ 64) }
 {
-    match greet(alloc, security, nonces, bytes, limits)? {
+    match greet(alloc, security, nonces, unjudged, scanner)? {
         Greeting::Ended(heard) => Ok(heard),
         Greeting::Passed(pong, behind) => {
-            let mut heard = hear(alloc, count, behind, limits)?;
+            let unjudged = Unjudged {
+                bytes: behind,
+                scanned: 0,
+            };
+            let mut heard = hear(alloc, count, unjudged, scanner)?;
             heard.pong = pong;
             Ok(heard)
         }

@@ -1,21 +1,31 @@
 //! What a connection's bytes say where no PING is awaited: its requests, the bytes of an unfinished
 //! value, and the leftmost fault.
 
-ghost use Rattle.std.specs.Prelude.{◌≡◌, ◌+◌, ◌<◌, ◌^◌, [], None, Some, false, IfOk, length};
+ghost use Rattle.std.specs.Prelude.{◌≡◌, ◌+◌, ◌≤◌, ◌<◌, ◌^◌, [], None, Some, false, IfOk, length, take};
 ghost use Rattle.fwd_msgpack.specs.Values.{bytes_of};
 ghost use Rattle.fwd_modes.specs.Requests.{request_of};
 ghost use Rattle.fwd_source.specs.Judged.{judged_of};
-ghost use Rattle.fwd_source.specs.Hearing.{shown, IsEndOf, TakesIn};
+ghost use Rattle.fwd_msgpack.specs.Scanners.{IsBehind};
+ghost use Rattle.fwd_source.specs.Hearing.{shown, IsEndOf, StandsOver, TakesIn};
 
 use crate::fault::SourceFault;
 use fwd_base::Bytes;
 use fwd_modes::{Batch, Reading, read_request};
-use fwd_msgpack::{Limits, Next, Value, next_value};
+use fwd_msgpack::{Limits, Next, Scanner, Value};
 use std::alloc::{AllocError, Global};
+
+/// The bytes behind the last whole value of a connection, of which the first so many were scanned
+/// before.
+#[derive(Clone, Copy)]
+pub struct Unjudged<'a> {
+    pub bytes: &'a [u8],
+    pub scanned: usize,
+    ghost within: { scanned ≤ length bytes.now },
+}
 
 /// What was heard. The bytes of an unfinished value are the last of those that were judged.
 #[derive(Drop)]
-pub struct Heard<'a> {
+pub struct SourceHeard<'a> {
     pub requests: Vec<Batch>,
     pub rest: &'a [u8],
     pub pong: Bytes,
@@ -52,7 +62,7 @@ fn take_in(
 }
 
 /// Requests, and a fault behind them.
-pub fn failed<'a>(alloc: Global, requests: Vec<Batch>, fault: SourceFault) -> Heard<'a>
+pub fn failed<'a>(alloc: Global, requests: Vec<Batch>, fault: SourceFault) -> SourceHeard<'a>
     ensures { shown result
         ≡ record {
           requests = requests.items;
@@ -62,7 +72,7 @@ pub fn failed<'a>(alloc: Global, requests: Vec<Batch>, fault: SourceFault) -> He
           fault = Some fault;
         } }
 {
-    Heard {
+    SourceHeard {
         requests,
         rest: &[],
         pong: Bytes::new(alloc),
@@ -71,26 +81,34 @@ pub fn failed<'a>(alloc: Global, requests: Vec<Batch>, fault: SourceFault) -> He
     }
 }
 
-/// What the bytes say, on a connection of which `count`
-/// requests came before, and that awaits no PING.
-pub fn hear(
+/// What the bytes say, on a connection of which `count` requests came before, and that awaits no
+/// PING. The scanner stands behind those that were scanned before; then behind those of an
+/// unfinished value.
+pub fn hear<'a>(
     alloc: Global,
     count: u64,
-    bytes: &[u8],
-    limits: Limits,
-) -> Result<Heard<'_>, AllocError>
-    requires { count < 2 ^ 64 }
-    ensures value { IfOk result (λ heard. shown heard ≡ judged_of limits None count bytes.now) }
-    ensures end { IfOk result (λ heard. IsEndOf heard.rest.now bytes.now) }
+    unjudged: Unjudged<'a>,
+    scanner: &mut Scanner,
+) -> Result<SourceHeard<'a>, AllocError>
+    requires count { count < 2 ^ 64 }
+    requires behind { IsBehind scanner.old.limits
+        (take unjudged.scanned unjudged.bytes.now) scanner.old }
+    ensures value { IfOk result (λ heard.
+        shown heard ≡ judged_of scanner.old.limits None count unjudged.entry.bytes.now) }
+    ensures end { IfOk result (λ heard. IsEndOf heard.rest.now unjudged.entry.bytes.now) }
+    ensures after { IfOk result (λ heard. StandsOver scanner.old.limits heard scanner.new) }
+    ensures limits { scanner.new.limits ≡ scanner.old.limits }
     ensures room { IfOk result (λ heard. count + length heard.requests.items < 2 ^ 64) }
     ensures no_pong { IfOk result (λ heard. heard.pong ≡ []) }
 {
+    let limits = scanner.limits();
     let mut requests = Vec::new(alloc);
-    let mut rest = bytes;
+    let mut rest = unjudged.bytes;
+    let mut scanned = unjudged.scanned;
     'values: loop {
-        match next_value(rest, limits) {
+        match scanner.next_value(rest, scanned) {
             Next::Unfinished => {
-                return Ok(Heard {
+                return Ok(SourceHeard {
                     requests,
                     rest,
                     pong: Bytes::new(alloc),
@@ -104,6 +122,7 @@ pub fn hear(
                     return Ok(failed(alloc, requests, fault));
                 }
                 rest = behind;
+                scanned = 0;
             }
         }
     }

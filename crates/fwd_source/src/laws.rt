@@ -15,7 +15,6 @@ ghost use Rattle.fwd_source.specs.Judged.{AwaitedPing, judged_of, value_then, re
 ghost use Rattle.fwd_source.specs.History.{Setup, SourceHistory, IsSane, opened, is_closed, waiting, unsent, new_pong, hears, piece_next, piece_answer, gives, appends, drains, shuts};
 ghost use Rattle.fwd_source.specs.Live.{LiveSource, live_source, opened_source, judged_piece, source_hears, source_gives, source_appends, source_drains, source_shuts, live_piece_next, live_piece_answer, live_pieces_next};
 
-use crate::limits::{NESTING_LIMIT, VALUE_LIMIT};
 use crate::source::Source;
 use fwd_base::Bytes;
 
@@ -114,9 +113,3 @@ pub fn answers_fit(source: &mut Source, answers: &[Bytes])
         source.answer(answer.as_slice()).unwrap();
     }
 }
-
-/// The limits of a source's values, in bytes and in arrays and maps that stand one in another.
-pub fn value_limits()
-    ensures bytes { VALUE_LIMIT ≡ 16777216 }
-    ensures nesting { NESTING_LIMIT ≡ 64 }
-{}

@@ -6,16 +6,15 @@ mod fault;
 mod greeting;
 mod hearing;
 mod laws;
-mod limits;
 mod piece;
 mod source;
+mod taking;
 
 pub use fault::SourceFault;
 pub use fwd_modes::Origin;
 pub use laws::{
     answers_fit, faults_close, judged_by_front, live_source_follows, pieces_are_one,
-    requests_are_values, source_stays_sane, value_limits,
+    requests_are_values, source_stays_sane,
 };
-pub use limits::{NESTING_LIMIT, SOURCE_LIMITS, VALUE_LIMIT};
-pub use piece::{Piece, Told};
+pub use piece::{Piece, SourceTold};
 pub use source::{AnswerError, Source};

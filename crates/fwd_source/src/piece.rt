@@ -15,7 +15,7 @@ pub enum Piece {
 /// What a piece did, and what it put behind the bytes that
 /// wait to be sent: the PONG of a PING, or nothing.
 #[derive(Drop)]
-pub struct Told {
+pub struct SourceTold {
     pub piece: Piece,
     pub out: Bytes,
 }

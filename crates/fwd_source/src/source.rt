@@ -8,6 +8,8 @@ ghost use Rattle.std.specs.Prelude.{
   ◌^◌,
   true,
   false,
+  [],
+  None,
   length,
   IfOk,
   IfErr,
@@ -17,10 +19,9 @@ ghost use Rattle.std.specs.Prelude.{
 };
 ghost use Rattle.std.specs.Option.{option_map};
 ghost use Rattle.std.specs.Arc.{arc_value};
-ghost use Rattle.fwd_source.specs.History.{Setup, opening_text};
+ghost use Rattle.fwd_source.specs.History.{Setup, opening_text, told};
 ghost use Rattle.fwd_source.specs.Live.{
   opened_source,
-  judged_kept,
   live_piece_next,
   live_piece_answer,
   live_piece_out,
@@ -30,15 +31,17 @@ ghost use Rattle.fwd_source.specs.Live.{
   source_drains,
   source_shuts,
 };
-ghost use Rattle.fwd_source.specs.Hearing.{shown, emptied, kept_of, IsEndOf};
+ghost use Rattle.fwd_msgpack.specs.Scanners.{IsBehind, standing_behind};
+ghost use Rattle.fwd_msgpack.specs.Scans.{verdict_of, whole_len};
 
-use crate::greeting::hear_greeting;
-use crate::hearing::{Heard, hear};
-use crate::piece::{Piece, Told};
+use crate::fault::SourceFault;
+use crate::hearing::Unjudged;
+use crate::piece::{Piece, SourceTold};
+use crate::taking::{Asker, Taken, take_all};
 use fwd_base::Bytes;
 use fwd_handshake::{Nonces, Security, write_helo};
 use fwd_modes::{Batch, Origin};
-use fwd_msgpack::Limits;
+use fwd_msgpack::{Limits, Scanner};
 use std::alloc::{AllocError, AllocFailed, Global};
 use std::collections::VecDeque;
 use std::marker::Model;
@@ -59,7 +62,8 @@ pub struct Source {
     conn: u64,
     security: Arc<Security>,
     nonces: Nonces,
-    limits: Limits,
+    /// It stands behind the bytes of the unfinished value.
+    scanner: Scanner,
     awaits: bool,
     rest: Vec<u8>,
     waiting: VecDeque<Batch>,
@@ -76,7 +80,7 @@ impl Drop for Source {
             conn: _,
             security: _,
             nonces: _,
-            limits: _,
+            scanner: _,
             awaits: _,
             rest: _,
             waiting: _,
@@ -89,7 +93,8 @@ impl Drop for Source {
 }
 
 impl Model for Source {
-    ghost use Rattle.std.specs.Prelude.{◌+◌, ◌-◌, ◌<◌, ◌^◌, length, vec_len, vec_capacity};
+    ghost use Rattle.std.specs.Prelude.{◌≡◌, ◌+◌, ◌-◌, ◌<◌, ◌^◌, false, length, vec_len, vec_capacity};
+    ghost use Rattle.fwd_msgpack.specs.Scanners.{IsBehind};
     ghost use Rattle.std.specs.Arc.{arc_value};
     ghost use Rattle.fwd_source.specs.Live.{Shown};
 
@@ -101,7 +106,7 @@ impl Model for Source {
           conn = s.conn;
           security = arc_value s.security;
           nonces = s.nonces;
-          limits = s.limits;
+          limits = s.scanner.limits;
         };
         awaits = s.awaits;
         rest = s.rest.items;
@@ -114,7 +119,8 @@ impl Model for Source {
       room = vec_capacity s.unsent - vec_len s.unsent;
     } };
 
-    ghost invariant = { λ s. s.admitted + length s.waiting.items < 2 ^ 64 };
+    ghost invariant = { λ s. (s.admitted + length s.waiting.items < 2 ^ 64)
+        × (s.closed ≡ false → IsBehind s.scanner.limits s.rest.items s.scanner) };
 }
 
 /// What is written first: HELO, where a shared key is set.
@@ -130,9 +136,29 @@ fn opening(alloc: Global, security: &Security, nonces: &Nonces) -> Result<Vec<u8
     Vec::from_slice(alloc, helo.as_slice())
 }
 
+/// What is told of a piece, by how many requests wait, the PONG and the fault.
+fn told_of(waiting: usize, out: Bytes, fault: Option<SourceFault>) -> SourceTold
+    ensures { result ≡ record { piece = told fault waiting; out = out } }
+{
+    let piece = match fault {
+        None => Piece::Waiting(waiting),
+        Some(fault) => Piece::Fault(fault),
+    };
+    SourceTold { piece, out }
+}
+
+/// A scanner is put behind these bytes of an unfinished value, anew.
+fn scan_again(scanner: &mut Scanner, bytes: &[u8])
+    requires { whole_len (verdict_of (standing_behind scanner.old.limits bytes.now).state) ≡ None }
+    ensures { IsBehind scanner.old.limits bytes.now scanner.new }
+{
+    scanner.restart();
+    scanner.feed(bytes);
+}
+
 impl Source {
     /// A connection before its first byte. Where a shared key is set, HELO waits to be sent. The
-    /// only error is want of memory, which gives `security` back.
+    /// only error is out of memory, which gives `security` back.
     pub fn new(
         alloc: Global,
         conn: u64,
@@ -156,7 +182,7 @@ impl Source {
             conn,
             security,
             nonces,
-            limits,
+            scanner: Scanner::new(limits),
             awaits,
             rest: Vec::new(alloc),
             waiting: VecDeque::new(alloc),
@@ -211,7 +237,7 @@ impl Source {
     }
 
     /// Makes room for answers of so many bytes in all. The only
-    /// error is want of memory, and then nothing has changed.
+    /// error is out of memory, and then nothing has changed.
     pub fn reserve(&mut self, bytes: usize) -> Result<(), AllocError>
         ensures live { self.new.live ≡ self.old.live }
         ensures ok { OnOk result (bytes ≤ self.new.room) }
@@ -268,85 +294,95 @@ impl Source {
         Some((Origin { conn, request }, batch))
     }
 
-    /// What the bytes that are kept say, all of them.
-    fn judged(&self, alloc: Global) -> Result<Heard<'_>, AllocError>
-        ensures value { IfOk result (λ heard.
-            shown heard ≡ judged_kept self.now.live) }
-        ensures end { IfOk result (λ heard. IsEndOf heard.rest.now self.now.live.rest) }
-        ensures room { IfOk result (λ heard.
-            self.now.live.admitted + length self.now.live.waiting + length heard.requests.items
-            < 2 ^ 64) }
-    {
-        let count = self.admitted + self.waiting.len() as u64;
-        if self.awaits {
-            hear_greeting(
-                alloc,
-                &self.security,
-                &self.nonces,
-                count,
-                &self.rest,
-                self.limits,
-            )
-        } else {
-            hear(alloc, count, &self.rest, self.limits)
-        }
-    }
-
-    /// The bytes of an unfinished value in a room of their own, if others stand before them. A
-    /// value that comes in many pieces stays where it is, and is not copied at each.
-    fn apart(&self, alloc: Global, rest: &[u8]) -> Result<Option<Vec<u8>>, AllocError>
-        requires { IsEndOf rest.now self.now.live.rest }
-        ensures { IfOk result (λ apart.
-            kept_of self.now.live.rest (option_map (λ v. v.items) apart) ≡ rest.now) }
-    {
-        if rest.len() == self.rest.len() {
-            return Ok(None);
-        }
-        Ok(Some(Vec::from_slice(alloc, rest)?))
-    }
-
-    /// The bytes that are kept are heard, as if they came now. On an error nothing has changed.
+    /// Bytes come where no value is unfinished: they are judged where they are, and only those of
+    /// an unfinished value are kept. On an error nothing has changed.
     #[tactic(auto, unfolding(crate::specs::Live::source_hears))]
-    fn hears(&mut self, alloc: Global) -> Result<Told, AllocError>
-        requires { self.old.live.closed ≡ false }
+    fn hears_alone(&mut self, alloc: Global, bytes: &[u8]) -> Result<SourceTold, AllocError>
+        requires open { self.old.live.closed ≡ false }
+        requires kept { self.old.live.rest ≡ [] }
         ensures answer { IfOk result (λ told.
-            told.piece ≡ live_piece_answer (emptied self.old.live) self.old.live.rest) }
-        ensures out { IfOk result (λ told.
-            told.out ≡ live_piece_out (emptied self.old.live) self.old.live.rest) }
-        ensures live { OnOk result (
-            self.new.live ≡ live_piece_next (emptied self.old.live) self.old.live.rest) }
+            told.piece ≡ live_piece_answer self.old.live bytes.now) }
+        ensures out { IfOk result (λ told. told.out ≡ live_piece_out self.old.live bytes.now) }
+        ensures live { OnOk result (self.new.live ≡ live_piece_next self.old.live bytes.now) }
         ensures err { OnErr result (self.new.live ≡ self.old.live) }
         ensures room { length self.old.live.unsent + self.old.room
             ≤ length self.new.live.unsent + self.new.room }
     {
-        let Heard {
-            requests,
-            rest,
-            pong: out,
-            awaits,
-            fault,
-        } = self.judged(alloc)?;
-        let apart = self.apart(alloc, rest)?;
-        self.unsent.reserve(out.len())?;
-        let mut requests = VecDeque::from_vec(requests);
-        self.waiting.append(&mut requests)?;
-        self.unsent.extend_from_slice(out.as_slice()).unwrap();
-        if let Some(rest) = apart {
-            self.rest = rest;
-        }
-        self.awaits = awaits;
-        self.closed = fault.is_some();
-        let piece = match fault {
-            None => Piece::Waiting(self.waiting.len()),
-            Some(fault) => Piece::Fault(fault),
+        let asker = Asker {
+            security: &self.security,
+            nonces: &self.nonces,
+            awaits: self.awaits,
+            count: self.admitted + self.waiting.len() as u64,
         };
-        Ok(Told { piece, out })
+        let unjudged = Unjudged { bytes, scanned: 0 };
+        let (waiting, unsent) = (&mut self.waiting, &mut self.unsent);
+        match take_all(alloc, &asker, unjudged, &mut self.scanner, waiting, unsent) {
+            Ok(taken) => {
+                self.rest = taken.rest.unwrap_or(Vec::new(alloc));
+                self.awaits = taken.awaits;
+                self.closed = taken.fault.is_some();
+                Ok(told_of(self.waiting.len(), taken.out, taken.fault))
+            }
+            Err(error) => {
+                self.scanner.restart();
+                Err(error)
+            }
+        }
+    }
+
+    /// Bytes come behind those of an unfinished value. On an error nothing has changed.
+    #[tactic(auto, unfolding(crate::specs::Live::source_hears))]
+    fn hears_behind(&mut self, alloc: Global, bytes: &[u8]) -> Result<SourceTold, AllocError>
+        requires open { self.old.live.closed ≡ false }
+        requires kept { 0 < length self.old.live.rest }
+        ensures answer { IfOk result (λ told.
+            told.piece ≡ live_piece_answer self.old.live bytes.now) }
+        ensures out { IfOk result (λ told. told.out ≡ live_piece_out self.old.live bytes.now) }
+        ensures live { OnOk result (self.new.live ≡ live_piece_next self.old.live bytes.now) }
+        ensures err { OnErr result (self.new.live ≡ self.old.live) }
+        ensures room { length self.old.live.unsent + self.old.room
+            ≤ length self.new.live.unsent + self.new.room }
+    {
+        let before = self.rest.len();
+        self.rest.extend_from_slice(bytes)?;
+        let asker = Asker {
+            security: &self.security,
+            nonces: &self.nonces,
+            awaits: self.awaits,
+            count: self.admitted + self.waiting.len() as u64,
+        };
+        let unjudged = Unjudged {
+            bytes: &self.rest,
+            scanned: before,
+        };
+        let (waiting, unsent) = (&mut self.waiting, &mut self.unsent);
+        match take_all(alloc, &asker, unjudged, &mut self.scanner, waiting, unsent) {
+            Ok(taken) => {
+                let Taken {
+                    rest,
+                    out,
+                    awaits,
+                    fault,
+                } = taken;
+                if let Some(rest) = rest {
+                    self.rest = rest;
+                }
+                self.awaits = awaits;
+                self.closed = fault.is_some();
+                Ok(told_of(self.waiting.len(), out, fault))
+            }
+            Err(error) => {
+                self.rest.truncate(before);
+                scan_again(&mut self.scanner, &self.rest);
+                Err(error)
+            }
+        }
     }
 
     /// More bytes come. After a fault and once shut, each further
     /// piece is refused. On an error nothing has changed.
     #[tactic(auto, unfolding(crate::specs::Live::source_hears))]
-    pub fn piece(&mut self, alloc: Global, bytes: &[u8]) -> Result<Told, AllocError>
+    pub fn piece(&mut self, alloc: Global, bytes: &[u8]) -> Result<SourceTold, AllocError>
         ensures answer { IfOk result (λ told.
             told.piece ≡ live_piece_answer self.old.live bytes.now) }
         ensures out { IfOk result (λ told. told.out ≡ live_piece_out self.old.live bytes.now) }
@@ -358,17 +394,15 @@ impl Source {
             ≤ length self.new.live.unsent + self.new.room }
     {
         if self.closed {
-            return Ok(Told {
+            return Ok(SourceTold {
                 piece: Piece::Closed,
                 out: Bytes::new(alloc),
             });
         }
-        let before = self.rest.len();
-        self.rest.extend_from_slice(bytes)?;
-        let told = self.hears(alloc);
-        if told.is_err() {
-            self.rest.truncate(before);
+        if self.rest.is_empty() {
+            self.hears_alone(alloc, bytes)
+        } else {
+            self.hears_behind(alloc, bytes)
         }
-        told
     }
 }

@@ -21,6 +21,7 @@ use Rattle.fwd_book.specs.Receipts.{Receipt, IsRightFor, once, receipt_if, recei
 use Rattle.fwd_book.proofs.Facts.{origin-is}
 use Rattle.fwd_book.proofs.Right.{good, found_stands}
 use Rattle.fwd_workers.specs.Tickets.{Ticket, IsDue, IsRight, entered, receipt_for, ticket_of}
+use Rattle.std.proofs.lemmas.Option.{same_Some}
 use Rattle.fwd_workers.specs.Turns.{
   AreCollected,
   AreDue,
@@ -262,13 +263,10 @@ of-origin : (qs : List Entered) (o : Origin) (q : Entered) → request_at qs o �
 of-origin [] o q e = absurd cc
 of-origin (x ∷ qs) o q e = by (is_origin o x.origin) refl (of-origin qs o q)
   where
-    one : {y z : Entered} → Some y ≡ Some z → y ≡ z
-    one f = cc
-
     by : (c : Bool) → is_origin o x.origin ≡ c → (request_at qs o ≡ Some q → q.origin ≡ o)
         → q.origin ≡ o
     by true c rest =
-        let is : x ≡ q = one (ap (λ d. cond d (Some x) (request_at qs o)) (sym c) ∙ e) in
+        let is : x ≡ q = same_Some _ _ (ap (λ d. cond d (Some x) (request_at qs o)) (sym c) ∙ e) in
         ap (λ y. y.origin) (sym is) ∙ origin-is o x.origin c
     by false c rest = rest (ap (λ d. cond d (Some x) (request_at qs o)) (sym c) ∙ e)
 
@@ -390,9 +388,6 @@ next-is b all rs count back rest due h =
     length-map [] = refl
     length-map (t ∷ ts) = ap suc (length-map ts)
 
-some-is : {X : Type 0} {x y : X} → Some x ≡ Some y → x ≡ y
-some-is e = cc
-
 -- the next ticket is due, and the next receipt is of its request
 pub told-then : (b : LiveBook) (all : List Ticket) (rs : List Receipt) (count : ℕ)
     (back ts : List Ticket) (t : Ticket) (due : List Bool) (r : Receipt)
@@ -422,7 +417,7 @@ told-then b all rs count back ts t due r h next same =
         none : None ≡ Some r → ⊥
         none f = cc
     stale among (x ∷ l) e =
-        let is : x ≡ r = some-is (sym (ap (λ l. slice_get l 0) (beyond-back b before os t.origin among ∙ e))
+        let is : x ≡ r = same_Some _ _ (sym (ap (λ l. slice_get l 0) (beyond-back b before os t.origin among ∙ e))
         ∙ sym (next-is b all rs count back (t ∷ ts) (true ∷ due) h) ∙ next) in
         differ (sym among ∙ ap (is_among before) (sym same ∙ ap (λ y. y.origin) (sym is))
         ∙ first-apart b before (once os) x l e)

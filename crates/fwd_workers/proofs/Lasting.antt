@@ -3,15 +3,15 @@ use Rattle.std.proofs.Common.{arith, ◌≡◌, ◌≢◌, ◌<◌, ◌≤◌, �
 use Rattle.std.specs.Prelude.{is_some, not, option_map, ◌&&◌, ◌||◌, slice_get}
 use Rattle.std.proofs.lemmas.List.{length-append, take-append-le}
 use Rattle.std.proofs.lemmas.Bool.{leb-true}
-use Rattle.fwd_msgpack.specs.Heads.{head_bytes, reading_of, row_of}
-use Rattle.fwd_msgpack.specs.Scans.{Split, fault_at, first_of, item_begun, parts_of, payload_ended, row_of_values, split_of, values_of}
-use Rattle.fwd_msgpack.specs.Scans.Split.{Open, Broken}
+use Rattle.fwd_modes.specs.Heads.{head_bytes, reading_of, row_of}
+use Rattle.fwd_modes.specs.Scans.{Split, fault_at, first_of, item_begun, parts_of, payload_ended, row_of_values, split_of, values_of}
+use Rattle.fwd_modes.specs.Scans.Split.{Open, Broken}
 use Rattle.fwd_modes.specs.Acks.{ack_name}
 use Rattle.fwd_modes.specs.Frames.{chunk_frame}
 use Rattle.fwd_chunks.specs.History.{Load}
 use Rattle.fwd_session.specs.declared.fault.SessionFault.{SessionFault}
-use Rattle.fwd_session.specs.declared.told.Heard.{Heard}
-use Rattle.fwd_session.specs.declared.told.Heard.TheVariants as told
+use Rattle.fwd_session.specs.declared.told.SessionHeard.{SessionHeard}
+use Rattle.fwd_session.specs.declared.told.SessionHeard.TheVariants as told
 use Rattle.fwd_session.specs.Evidence.{frame_of}
 use Rattle.fwd_session.specs.Said.{behind, out_of, reply_stream, word_of}
 use Rattle.fwd_session.specs.History.{
@@ -77,6 +77,7 @@ use Rattle.fwd_session.proofs.Saying.{Names, Placed, named_in, placed_in}
 use Rattle.fwd_workers.specs.declared.serve.Served.{Served}
 use Rattle.fwd_workers.specs.declared.serve.Served.TheVariants as served
 use Rattle.fwd_workers.specs.Served.{Seen, seen_of, Sends, Gives, Hears, Rests, Fails, HasHeard, IsServed, AreTheLinks, IsOver, IsAcknowledged, Deed, Serves, Loads, Looks, Unloads, Does, Lives, IsWrittenFirst}
+use Rattle.std.proofs.lemmas.Option.{same_Some}
 
 -- the first of a list, and then of what is left
 take_more : {X : Type 0} (n m : ℕ) (xs : List X) → take (n + m) xs ≡ take n xs ++ take m (drop n xs)
@@ -140,7 +141,7 @@ abbrev IsOverFrom : SessionHistory → LiveSession → Seen → Type 0
 IsOverFrom s t seen = (over : IsOver t seen) × (IsFramed s → IsFramed over.history)
 
 -- what was given was heard
-hears-over : (s : SessionHistory) (middle t : LiveSession) (between after : Seen) (what : Heard)
+hears-over : (s : SessionHistory) (middle t : LiveSession) (between after : Seen) (what : SessionHeard)
     → IsSane s → s.down ≡ false → middle ≡ live_session s → AreTheLinks s between
     → Hears what middle t between after → IsOverFrom s t after
 hears-over s middle t between after what sane up live bytes heard = (
@@ -185,7 +186,7 @@ fails-over s middle t between after sane live bytes fails = (
   λ own. own,
 )
 
--- whatever the turn came to, but want of memory
+-- whatever the turn came to, but out of memory
 turn-over : (what : Served) (s : SessionHistory) (middle t : LiveSession) (between after : Seen)
     → IsSane s → s.down ≡ false → middle ≡ live_session s → AreTheLinks s between
     → what ≢ served.Memory → HasHeard what middle t between after → IsOverFrom s t after
@@ -232,10 +233,7 @@ awaited-is : (reply loaded-reply : Bool) (loaded : Option Load) (name : List ℕ
 awaited-is true handed loaded name e = absurd cc
 awaited-is false false loaded name e = absurd cc
 awaited-is false true None name e = absurd cc
-awaited-is false true (Some c) name e = (refl, (c, refl, one e))
-  where
-    one : {x y : List ℕ} → Some x ≡ Some y → x ≡ y
-    one e = cc
+awaited-is false true (Some c) name e = (refl, (c, refl, same_Some _ _ e))
 
 -- a list that was taken whole
 taken-whole : {X : Type 0} (n : ℕ) (xs : List X) → length xs ≤ n → take n xs ≡ xs
@@ -549,7 +547,7 @@ new-reply None before e some = absurd (nothing (sym (ap (λ o. is_some o) e) ∙
 
 -- it was heard
 heard-reply : (h : SessionHistory) (middle t : LiveSession) (before between after : Seen)
-    (what : Heard) → IsSane h → h.down ≡ false
+    (what : SessionHeard) → IsSane h → h.down ≡ false
     → (sent : Sends (live_session h) middle before between)
     → (heard : Hears what middle t between after) → h.reply ≡ None → is_some t.reply ≡ true
     → (value : List ℕ) × ((says (sends h sent.count) heard.0).reply ≡ Some value)
@@ -575,7 +573,7 @@ no-reply s middle t before between one same none some =
 -- a turn, as what its session heard, if it heard anything
 heard-what : (what : Served) (middle t : LiveSession) (between after : Seen)
     → HasHeard what middle t between after
-    → ((heard : Heard) × Hears heard middle t between after) ⊎ (t ≡ middle)
+    → ((heard : SessionHeard) × Hears heard middle t between after) ⊎ (t ≡ middle)
 heard-what served.Quiet middle t between after (inl heard) = inl (told.Quiet, heard)
 heard-what served.Quiet middle t between after (inr rests) = inr rests.0
 heard-what served.Ready middle t between after heard = inl (told.Ready, heard)
@@ -603,7 +601,7 @@ any-first setup deeds what s middle t start before between after taken given liv
     bare : alive.over.history.reply ≡ None
     bare = sym (live-reply alive.over.history) ∙ ap (λ (x : LiveSession). x.reply) (sym alive.over.live) ∙ none
 
-    by : ((heard : Heard) × Hears heard middle t between after) ⊎ (t ≡ middle)
+    by : ((heard : SessionHeard) × Hears heard middle t between after) ⊎ (t ≡ middle)
         → IsWrittenFirst s between after
     by (inl heard) =
         let up_too = up-alive s before alive up in
@@ -680,8 +678,5 @@ pub less-refused : (s : LiveSession) (chunk : Load) (written acknowledged : Seen
     → s.loaded ≡ Some chunk → length written.taken < length (frame_of chunk)
     → IsWrittenFirst s written acknowledged → ⊥
 less-refused s chunk written acknowledged loaded less first =
-    let same : frame_of first.chunk ≡ frame_of chunk = ap frame_of (one (sym first.loaded ∙ loaded)) in
+    let same : frame_of first.chunk ≡ frame_of chunk = ap frame_of (same_Some _ _ (sym first.loaded ∙ loaded)) in
     omega (arith, less, ap length first.frame, length-append first.front (frame_of first.chunk), ap length same)
-  where
-    one : {x y : Load} → Some x ≡ Some y → x ≡ y
-    one e = cc

@@ -5,8 +5,8 @@ use Rattle.std.proofs.Math.Logic.{∥∥₁_map, ∥∥₁_elim}
 use Rattle.std.proofs.Math.Bool.{Bool-set}
 use Rattle.fwd_chunks.specs.History.{Load}
 use Rattle.fwd_session.specs.declared.fault.SessionFault.{SessionFault}
-use Rattle.fwd_session.specs.declared.told.Heard.{Heard}
-use Rattle.fwd_session.specs.declared.told.Heard.TheVariants as told
+use Rattle.fwd_session.specs.declared.told.SessionHeard.{SessionHeard}
+use Rattle.fwd_session.specs.declared.told.SessionHeard.TheVariants as told
 use Rattle.fwd_session.specs.History.{Setup, is_done, told_by, told_of}
 use Rattle.fwd_session.specs.Live.{
   LiveSession,
@@ -72,7 +72,7 @@ ends-of s seen lived = record { lived = inl lived; up = λ e. absurd (no e) }
 -- ---- a turn leaves a session up, unless it is to end
 
 -- what is told without a fault
-abbrev calm : Heard → Bool
+abbrev calm : SessionHeard → Bool
 calm told.Quiet = true
 calm told.Ready = true
 calm told.Acked = true
@@ -80,7 +80,7 @@ calm (told.Fault fault) = false
 calm told.NotUp = false
 
 unfaulted : (fault : Option SessionFault) (reply : Option (List ℕ)) (before after : Bool)
-    (what : Heard) → calm what ≡ true → told_by fault reply before after ≡ what
+    (what : SessionHeard) → calm what ≡ true → told_by fault reply before after ≡ what
     → is_some fault ≡ false
 unfaulted None reply before after what quiet e = refl
 unfaulted (Some fault) reply before after what quiet e = absurd (no (ap calm e ∙ quiet))
@@ -88,7 +88,7 @@ unfaulted (Some fault) reply before after what quiet e = absurd (no (ap calm e �
     no : false ≡ true → ⊥
     no e = cc
 
-hears-up : (s : LiveSession) (bytes : List ℕ) (what : Heard) → s.down ≡ false
+hears-up : (s : LiveSession) (bytes : List ℕ) (what : SessionHeard) → s.down ≡ false
     → calm what ≡ true → live_piece_told s bytes ≡ what → (session_hears s bytes).down ≡ false
 unfolding session_takes
 hears-up s bytes what up quiet e =
@@ -97,7 +97,7 @@ hears-up s bytes what up quiet e =
     (is_done (live_says s bytes).handshake) what quiet
     (sym (ap (λ d. cond d told.NotUp (told_of s.handshake (live_says s bytes))) up) ∙ e)
 
-heard-up : (what : Heard) (s middle t : LiveSession) (before between after : Seen)
+heard-up : (what : SessionHeard) (s middle t : LiveSession) (before between after : Seen)
     → s.down ≡ false → calm what ≡ true → Sends s middle before between
     → Hears what middle t between after → t.down ≡ false
 heard-up what s middle t before between after up quiet sends heard =
@@ -222,7 +222,7 @@ loads-line s t chunk now calls ends on own free ready is =
       up = λ e. ap (λ (x : LiveSession). x.down) is ∙ own.up e;
     })
 
--- its chunk was taken out, also where a last turn ended in want of memory
+-- its chunk was taken out, also where a last turn ended out of memory
 lost-unloads : (s t : LiveSession) (seen : Seen) → is_some s.reply ≡ true → t ≡ session_unloads s
     → HasLost s seen → HasLost t seen
 lost-unloads s t seen some is lost =

@@ -4,7 +4,7 @@ use Rattle.std.proofs.lemmas.List.{append-nil}
 use Rattle.std.proofs.lemmas.List.Sums.{sum_by_push}
 use Rattle.std.proofs.lemmas.Grind.{flat_map-append}
 use Rattle.std.proofs.Math.Seq.{take-nil}
-use Rattle.fwd_session.specs.declared.told.Heard.{Heard}
+use Rattle.fwd_session.specs.declared.told.SessionHeard.{SessionHeard}
 use Rattle.fwd_session.specs.Live.{LiveSession, session_sends}
 use Rattle.fwd_workers.specs.declared.link.Read.{Read}
 use Rattle.fwd_workers.specs.declared.link.Read.TheVariants as read
@@ -134,10 +134,10 @@ sends-none s seen = record {
   };
 }
 
-same-word : {x y : Heard} → Some x ≡ Some y → y ≡ x
+same-word : {x y : SessionHeard} → Some x ≡ Some y → y ≡ x
 same-word e = cc
 
-no-word : {x : Heard} → None ≡ Some x → ⊥
+no-word : {x : SessionHeard} → None ≡ Some x → ⊥
 no-word e = cc
 
 -- bytes were read, and heard or lost

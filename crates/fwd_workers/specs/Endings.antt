@@ -1,7 +1,7 @@
 -- Why a worker's session ends, and what that counts as.
 use Rattle.std.specs.Prelude.{ℕ, ◌==◌, Bool, true, false, Option, Some, None, if◌then◌else◌}
-use Rattle.fwd_model.specs.declared.event.EndKind.{EndKind}
-use Rattle.fwd_model.specs.declared.event.EndKind.TheVariants as end
+use Rattle.fwd_core.specs.EndKind.{EndKind}
+use Rattle.fwd_core.specs.EndKind.TheVariants as end
 use Rattle.fwd_workers.specs.declared.ending.Ending.{Ending}
 use Rattle.fwd_workers.specs.declared.ending.Ending.TheVariants as ending
 use Rattle.fwd_workers.specs.declared.ending.Unmet.{Unmet}

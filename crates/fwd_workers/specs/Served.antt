@@ -25,11 +25,11 @@ use Rattle.std.specs.Prelude.{
   is_some,
   slice_get,
 }
-use Rattle.fwd_msgpack.specs.Scans.{values_of}
+use Rattle.fwd_modes.specs.Scans.{values_of}
 use Rattle.fwd_modes.specs.Acks.{ack_name}
 use Rattle.fwd_chunks.specs.History.{Load}
-use Rattle.fwd_session.specs.declared.told.Heard.{Heard}
-use Rattle.fwd_session.specs.declared.told.Heard.TheVariants as told
+use Rattle.fwd_session.specs.declared.told.SessionHeard.{SessionHeard}
+use Rattle.fwd_session.specs.declared.told.SessionHeard.TheVariants as told
 use Rattle.fwd_session.specs.Evidence.{frame_of}
 use Rattle.fwd_session.specs.Said.{reply_stream}
 use Rattle.fwd_session.specs.History.{Setup, SessionHistory, IsFramed, IsSane, says, sends, to_send}
@@ -94,7 +94,7 @@ calls_of waiting (Reads count room answer) =
     write_of waiting (Ok count) ++ read_into room answer ∷ []
 
 -- what a session is told, as what its turn comes to; the other outcomes are no word of a session
-abbrev pub word_in : Served → Option Heard
+abbrev pub word_in : Served → Option SessionHeard
 word_in served.Quiet = Some told.Quiet
 word_in served.Ready = Some told.Ready
 word_in served.Acked = Some told.Acked
@@ -150,7 +150,7 @@ abbrev pub Gives : Seen → List ℕ → Seen → Type 0
 Gives before bytes after = after ≡ record before { given = before.given ++ bytes }
 
 -- the session heard just what the link gave, and this is what it was told of it
-abbrev pub Hears : Heard → LiveSession → LiveSession → Seen → Seen → Type 0
+abbrev pub Hears : SessionHeard → LiveSession → LiveSession → Seen → Seen → Type 0
 Hears what s t before after =
     (bytes : List ℕ) × Gives before bytes after
     × (t ≡ session_hears s bytes) × (live_piece_told s bytes ≡ what)
@@ -164,7 +164,7 @@ abbrev pub Fails : LiveSession → LiveSession → Seen → Seen → Type 0
 Fails s t before after =
     (t ≡ s) × (after ≡ record before { failures = before.failures + 1 })
 
--- what the turn's read came to. For want of memory what was read is not heard.
+-- what the turn's read came to. When out of memory what was read is not heard.
 abbrev pub HasHeard : Served → LiveSession → LiveSession → Seen → Seen → Type 0
 HasHeard served.Quiet s t before after =
     Hears told.Quiet s t before after ⊎ Rests s t before after
@@ -224,7 +224,7 @@ pub data Deed : Type 0 where
 
 -- What it does with the session and its link, and when: a turn and a look come while the session is
 -- up, a load while it is ready and has no chunk, and a chunk is taken out once it is acknowledged.
--- Only a turn does anything with the link. Behind a turn that ended in want of memory nothing is
+-- Only a turn does anything with the link. Behind a turn that ended out of memory nothing is
 -- done any more.
 abbrev pub Does : Deed → LiveSession → LiveSession → Seen → Seen → Type 0
 Does (Serves what) s t before after =
@@ -250,7 +250,7 @@ pub record HasLived (s : LiveSession) (seen : Seen) : Type 0 where
   pub deeds : List Deed
   pub lives : Lives deeds (session_begins setup) s (seen_in []) seen
 
--- it had, and then a last turn ended in want of memory: what that read is lost
+-- it had, and then a last turn ended out of memory: what that read is lost
 pub record HasLost (s : LiveSession) (seen : Seen) : Type 0 where
   pub prior : LiveSession
   pub before : Seen
@@ -258,7 +258,7 @@ pub record HasLost (s : LiveSession) (seen : Seen) : Type 0 where
   pub last : IsServed served.Memory prior s before seen
 
 -- A session is of this link, which shows what is seen of it: it has lived over it. Where it is not
--- to end it is up; and only where it is to end may its last turn have ended in want of memory.
+-- to end it is up; and only where it is to end may its last turn have ended out of memory.
 pub record IsOfLink (s : LiveSession) (seen : Seen) (ends : Bool) : Type 0 where
   pub lived : HasLived s seen ⊎ ((ends ≡ true) × HasLost s seen)
   pub up : ends ≡ false → s.down ≡ false

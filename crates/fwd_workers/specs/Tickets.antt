@@ -10,7 +10,7 @@ use Rattle.fwd_chunks.specs.Live.{live_refusal, live_spans}
 use Rattle.fwd_book.specs.History.{BookSetting, Entered, entered_as, is_settled, request_at}
 use Rattle.fwd_book.specs.Live.{LiveBook}
 use Rattle.fwd_book.specs.Receipts.{Receipt, IsRightFor, span_of, receipt_of}
-use Rattle.fwd_model.specs.Outputs.{LiveOutput}
+use Rattle.fwd_core.specs.Outputs.{LiveOutput}
 use Rattle.fwd_workers.specs.declared.refusal.AdmitRefusal.{AdmitRefusal}
 use Rattle.fwd_workers.specs.declared.refusal.AdmitRefusal.TheVariants as refusal
 

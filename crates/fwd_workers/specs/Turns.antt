@@ -19,7 +19,7 @@ use Rattle.fwd_modes.specs.declared.origin.Origin.{Origin}
 use Rattle.fwd_book.specs.History.{is_among}
 use Rattle.fwd_book.specs.Live.{LiveBook, live_leaves}
 use Rattle.fwd_book.specs.Receipts.{Receipt}
-use Rattle.fwd_model.specs.Outputs.{LiveOutput, output_enters}
+use Rattle.fwd_core.specs.Outputs.{LiveOutput, output_enters}
 use Rattle.fwd_workers.specs.Tickets.{Ticket, IsDue, receipt_for}
 
 -- an output, and the totals of its two counters

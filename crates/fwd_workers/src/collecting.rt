@@ -57,7 +57,7 @@ pub(crate) struct Due {
     origins: Vec<Origin>,
 }
 
-/// Which tickets are due. The only error is want of memory.
+/// Which tickets are due. The only error is out of memory.
 pub(crate) fn due_of(
     state: &OutputState,
     alloc: Global,
@@ -95,8 +95,8 @@ fn is_of(receipt: Option<&Receipt>, origin: Origin) -> bool
 }
 
 /// Each ticket that is due is spent and given its receipt, and its request leaves the output; each
-/// other ticket comes back. Of two tickets of one request, the second comes back. On want of memory
-/// nothing has changed, and all tickets come back.
+/// other ticket comes back. Of two tickets of one request, the second comes back. When out of
+/// memory nothing has changed, and all tickets come back.
 pub(crate) fn hand_out(
     state: &mut OutputState,
     alloc: Global,

@@ -18,8 +18,8 @@ ghost use Rattle.fwd_workers.specs.Served.{
   Lives,
 };
 
-/// What a session was told of and heard is what its link took and gave, turn after turn, but for
-/// want of memory. So where a turn comes to `Acked`, the whole frame was written on that link, and
+/// What a session was told of and heard is what its link took and gave, turn after turn, but when
+/// out of memory. So where a turn comes to `Acked`, the whole frame was written on that link, and
 /// the last byte of a value that names its chunk was read afterwards.
 ///
 /// `acked` says so of a turn of any session. `whole` says it over a session's life, from its

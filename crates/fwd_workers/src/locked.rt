@@ -36,7 +36,7 @@ ghost use Rattle.fwd_chunks.specs.Live.{
 ghost use Rattle.fwd_chunks.specs.Soundness.{IsSound};
 ghost use Rattle.fwd_session.specs.Evidence.{IsEvidence};
 ghost use Rattle.fwd_book.specs.Live.{IsSound as IsSoundBook, live_leaves};
-ghost use Rattle.fwd_model.specs.Outputs.{
+ghost use Rattle.fwd_core.specs.Outputs.{
   live_count_at,
   output_choice,
   output_ends,
@@ -189,7 +189,7 @@ impl<A: Tally, S: Tally> Locked<A, S> {
     /// order. Of two tickets of one request the second comes back, and so does the ticket of
     /// another output. It costs what is handed in, and no more: who holds many tickets learns from
     /// `counts` whether anything was settled since, and need not hand them in where nothing was.
-    /// The only error is want of memory; then nothing has changed, and all tickets come back.
+    /// The only error is out of memory; then nothing has changed, and all tickets come back.
     pub fn collect(
         &mut self,
         alloc: Global,
@@ -229,9 +229,9 @@ impl<A: Tally, S: Tally> Locked<A, S> {
         ticket.spend();
     }
 
-    /// A worker claims the next free chunk from a moment on (milliseconds), for a while. Its session
-    /// was sought for a chunk that was lost, which else any worker would take, at the very moment at
-    /// which the server that lost it is tried again.
+    /// A worker claims the next free chunk from a moment on (milliseconds), for a while. Its
+    /// session was sought for a chunk that was lost, which else any worker would take, at the very
+    /// moment at which the server that lost it is tried again.
     pub(crate) fn claim(&mut self, now: u64)
         ensures { self.new ≡ self.old }
     {
@@ -269,7 +269,7 @@ impl<A: Tally, S: Tally> Locked<A, S> {
     }
 
     /// Gives a worker the free chunk of the least number at a moment (milliseconds), if there is
-    /// one. On an error, want of memory, nothing has changed.
+    /// one. On an error, out of memory, nothing has changed.
     pub fn take(
         &mut self,
         alloc: Global,

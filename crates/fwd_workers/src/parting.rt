@@ -3,8 +3,8 @@
 ghost use Rattle.std.specs.Prelude.{◌≡◌, ◌≤◌, Some, None, true, is_some, IfSome};
 ghost use Rattle.fwd_chunks.specs.History.{Load};
 ghost use Rattle.fwd_session.specs.Live.{live_acked, session_unloads};
-ghost use Rattle.fwd_model.specs.Step.{lost_server};
-ghost use Rattle.fwd_model.specs.Live.{lives};
+ghost use Rattle.fwd_core.specs.Step.{lost_server};
+ghost use Rattle.fwd_core.specs.Live.{lives};
 ghost use Rattle.fwd_core.specs.Lanes.{first_there};
 ghost use Rattle.fwd_workers.specs.Endings.{kind_in};
 ghost use Rattle.fwd_workers.specs.Working.{reply_at};

@@ -18,7 +18,7 @@ ghost use Rattle.fwd_session.specs.Live.{session_sends};
 ghost use Rattle.fwd_workers.specs.Served.{IsHeard, IsServed, IsTurn, seen_in, write_of};
 
 use crate::link::{Link, LinkFault, Read};
-use fwd_session::{Heard, Session, SessionFault};
+use fwd_session::{Session, SessionFault, SessionHeard};
 use std::alloc::Global;
 use std::sync::Wait;
 
@@ -72,11 +72,11 @@ fn hear(alloc: Global, session: &mut Session, bytes: &[u8]) -> Served
     match session.heard(alloc, bytes) {
         Err(_) => Served::Memory,
         Ok(told) => match told.heard {
-            Heard::Quiet => Served::Quiet,
-            Heard::Ready => Served::Ready,
-            Heard::Acked => Served::Acked,
-            Heard::Fault(fault) => Served::Down(fault),
-            Heard::NotUp => unreachable!(),
+            SessionHeard::Quiet => Served::Quiet,
+            SessionHeard::Ready => Served::Ready,
+            SessionHeard::Acked => Served::Acked,
+            SessionHeard::Fault(fault) => Served::Down(fault),
+            SessionHeard::NotUp => unreachable!(),
         },
     }
 }

@@ -54,7 +54,7 @@ impl<A: Tally, S: Tally> SharedOutput<A, S> {
     }
 
     /// Admits a connection's request at a moment (milliseconds), and gives a ticket for it. It is
-    /// refused as `NotNow`, `Full` or `NumbersSpent`, or for want of memory, and then comes back.
+    /// refused as `NotNow`, `Full` or `NumbersSpent`, or when out of memory, and then comes back.
     pub fn admit<R: Wait>(
         &self,
         rt: &R,
@@ -76,7 +76,7 @@ impl<A: Tally, S: Tally> SharedOutput<A, S> {
 
     /// Receipts for the tickets whose entries are all acknowledged, and the other tickets. It costs
     /// what is handed in, and no more: who holds many tickets learns from `counts` whether anything
-    /// was settled since, and need not hand them in where nothing was. The only error is want of
+    /// was settled since, and need not hand them in where nothing was. The only error is out of
     /// memory, and then all tickets come back.
     pub fn collect<R: Wait>(
         &self,
@@ -108,7 +108,7 @@ impl<A: Tally, S: Tally> SharedOutput<A, S> {
     }
 
     /// Gives a worker the free chunk of the least number at a moment (milliseconds), if there is
-    /// one. The only error is want of memory.
+    /// one. The only error is out of memory.
     pub fn take<R: Wait>(
         &self,
         rt: &R,

@@ -170,7 +170,7 @@ impl Worker {
 
     /// Closes chunks that are due and takes them, sends them to servers and settles what they
     /// acknowledged, in so many turns, or until the gate stops it. A session ends at a fault, where
-    /// its link is closed or fails, where it is late, and for want of memory; a link that cannot be
+    /// its link is closed or fails, where it is late, and when out of memory; a link that cannot be
     /// had is a loss of its server. A server that closes a session behind an acknowledgement, and
     /// owes nothing, is not lost. Behind the loss of a chunk the worker seeks a server at once, and
     /// takes the chunk when it is free; with none loaded it goes to the server that it is to try.
@@ -398,7 +398,7 @@ impl Worker {
         }
     }
 
-    /// A session with a server begins at a moment (milliseconds). The only error is want of memory.
+    /// A session with a server begins at a moment (milliseconds). The only error is out of memory.
     fn up(&mut self, server: u16, now: u64) -> Result<Session, AllocError>
         ensures { IfOk result (λ session. session ≡ session_begins (record {
           server = server;
@@ -413,7 +413,7 @@ impl Worker {
         Ok(Session::up(self.alloc, server, login, salt, self.ack_wait, now))
     }
 
-    /// The salt of the next login: 32 hexadecimal digits. The only error is want of memory.
+    /// The salt of the next login: 32 hexadecimal digits. The only error is out of memory.
     fn draw_salt(&mut self) -> Result<OwnedSalt, AllocError>
         ensures salt { IfOk result (λ salt. salt ≡ hex_drawn 0 4 self.old.rng) }
         ensures same { self.new ≡ record self.old { rng = self.new.rng } }

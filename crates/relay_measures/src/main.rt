@@ -1,18 +1,22 @@
 //! The program: `relay_measures TASK..`. It does one task after the other, each of these:
 //!
-//!     values count|speed cut|requests TURNS FILE
+//!     values count|speed cut|requests|feed:BYTES|hear:BYTES TURNS FILE
+//!     cuts COUNT
 //!     joins
 //!     buffers requests|count|speed|output ENTRIES TAGS SIZE REQUEST TURNS
 //!
-//! `values` goes over the values of a stream of MessagePack, `joins` joins entries beside a plain
+//! `values` goes over the values of a stream of MessagePack, `cuts` judges random bytes whole and in
+//! pieces, `joins` joins entries beside a plain
 //! table, and `buffers` admits requests to a buffer and settles them.
 #![tactic(auto)]
 
 mod buffers;
+mod cuts;
 mod joins;
 mod load;
 mod outputs;
 mod pairs;
+mod pieces;
 mod requests;
 mod streams;
 mod table;
@@ -29,8 +33,9 @@ fn do_task<R: Runtime + AllocGlobal>(rt: &R, words: &mut Args, task: &str) -> Re
     match task {
         "values" => streams::measure(rt, words),
         "joins" => joins::count(rt),
+        "cuts" => cuts::count(rt, words),
         "buffers" => buffers::measure(rt, words),
-        _ => bail!("values, joins or buffers?"),
+        _ => bail!("values, cuts, joins or buffers?"),
     }
 }
 

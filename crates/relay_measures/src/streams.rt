@@ -1,4 +1,4 @@
-//! A stream of MessagePack: `values count|speed cut|requests TURNS FILE`, where FILE is `-` for
+//! A stream of MessagePack: `values count|speed MEASURE TURNS FILE`, where FILE is `-` for
 //! standard input.
 //!
 //! The values of the stream are gone over, turn after turn, and it is printed what one turn found;
@@ -33,12 +33,14 @@ fn is_speed(word: &str) -> Result<bool> {
     }
 }
 
-/// The measure of a word.
+/// The measure of a word: `cut`, `requests`, `feed:BYTES` or `hear:BYTES`, the bytes of a piece.
 fn measure_of(word: &str) -> Result<Measure> {
-    match word {
-        "cut" => Ok(Measure::Cut),
-        "requests" => Ok(Measure::Requests),
-        _ => bail!("cut or requests?"),
+    match word.split_once(':') {
+        Some(("feed", size)) => Ok(Measure::Feed(size.parse()?)),
+        Some(("hear", size)) => Ok(Measure::Hear(size.parse()?)),
+        None if word == "cut" => Ok(Measure::Cut),
+        None if word == "requests" => Ok(Measure::Requests),
+        _ => bail!("cut, requests, feed:BYTES or hear:BYTES?"),
     }
 }
 
@@ -46,7 +48,7 @@ fn measure_of(word: &str) -> Result<Measure> {
 fn next_asked(words: &mut Args) -> Result<Asked> {
     Ok(Asked {
         speed: is_speed(&next_word(words, "count or speed")?)?,
-        measure: measure_of(&next_word(words, "cut or requests")?)?,
+        measure: measure_of(&next_word(words, "cut, requests, feed:BYTES or hear:BYTES")?)?,
         turns: next_number(words, "turns")?,
     })
 }

@@ -1,5 +1,6 @@
 //! The loops over the values of a stream, which are measured.
 
+use crate::pieces::{feed_pieces, hear_pieces};
 use fwd_modes::{Reading, read_request};
 use fwd_msgpack::{Cut, Limits, Value, cut};
 use std::alloc::{AllocError, Global};
@@ -8,7 +9,7 @@ use std::rt::Runtime;
 use std::time::{Duration, Instant};
 
 /// The limits of a value from a source, as the relay has them.
-const LIMITS: Limits = Limits {
+pub const LIMITS: Limits = Limits {
     bytes: 16_777_216,
     depth: 64,
 };
@@ -20,6 +21,10 @@ pub enum Measure {
     Cut,
     /// It is cut and read as a request.
     Requests,
+    /// The stream is fed to a scanner in pieces of so many bytes.
+    Feed(usize),
+    /// A connection hears the stream in pieces of so many bytes.
+    Hear(usize),
 }
 
 /// What one turn over a stream found.
@@ -91,6 +96,8 @@ pub fn fastest<R: Runtime + AllocGlobal>(
             Measure::Requests => {
                 (found.requests, found.entries) = read_requests(rt.alloc(), &values)?;
             }
+            Measure::Feed(size) => found = feed_pieces(stream, size),
+            Measure::Hear(size) => found = hear_pieces(rt.alloc(), stream, size)?,
         }
         least = least.min(start.elapsed(rt)?);
     }

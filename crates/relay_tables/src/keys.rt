@@ -51,6 +51,8 @@ fn print_relay<R: Print + AllocGlobal>(rt: &R, relay: &RelaySettings) -> Result<
         relay.seed.as_ref().map(|seed| seed.as_slice()),
     )?;
     println!(rt; "relay.connections {}", relay.connections)?;
+    println!(rt; "relay.message_limit {}", relay.message_limit)?;
+    println!(rt; "relay.depth {}", relay.depth)?;
     print_users(rt, relay.users.as_slice())
 }
 

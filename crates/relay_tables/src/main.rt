@@ -1,6 +1,7 @@
 //! The tables of the tests. A word names a table, which is a file of data/, and on standard output
 //! stands what is told of each of its cases, behind a line `== FILE`. What a table's lines are says
-//! the module that reads them. Scripts of tools/ compute all tables anew but that of the patterns.
+//! the module that reads them. Scripts of tools/ compute all tables
+//! anew but those of the pieces and of the patterns.
 #![tactic(auto)]
 
 mod handshakes;
@@ -9,6 +10,7 @@ mod keys;
 mod members;
 mod parties;
 mod patterns;
+mod pieces;
 mod servers;
 mod settings;
 mod values;
@@ -16,6 +18,7 @@ mod words;
 
 use crate::handshakes::print_handshakes;
 use crate::patterns::print_patterns;
+use crate::pieces::print_pieces;
 use crate::servers::print_servers;
 use crate::settings::print_settings;
 use crate::values::print_values;
@@ -27,6 +30,7 @@ use std::{env, fs};
 fn print_cases<R: Print + AllocGlobal>(rt: &R, name: &str, text: &str) -> Result<()> {
     match name {
         "values.txt" => print_values(rt, text),
+        "pieces.txt" => print_pieces(rt, text),
         "settings.txt" => print_settings(rt, text),
         "patterns.txt" => print_patterns(rt, text),
         "servers.txt" => print_servers(rt, text),

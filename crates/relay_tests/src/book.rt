@@ -68,8 +68,8 @@ fn a_request_without_entries_has_its_receipt(rt: HostRuntime) -> Result<(), Fail
     Ok(())
 }
 
-/// What a book of one request that is owed an answer tells of the connection: the origins of what is
-/// due, and how many receipts of an origin that it does not hold.
+/// What a book of one request that is owed an answer tells of the connection: the origins of what
+/// is due, and how many receipts of an origin that it does not hold.
 fn due(alloc: Global, book: &Book, conn: u64) -> Option<(Vec<Origin>, usize)> {
     let origins = book.due(alloc, conn).ok()?;
     let none = book.gather(alloc, &[Origin { conn, request: 9 }]).ok()?;

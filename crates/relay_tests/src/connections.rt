@@ -2,10 +2,11 @@
 
 ghost use Rattle.std.specs.Prelude.{◌≡◌, false, IfOk};
 
+use crate::limits::SOURCE_LIMITS;
 use crate::requests::{has_entries, many_entries, many_request};
 use fwd_base::{Bytes, Seq};
 use fwd_handshake::{Nonces, Security};
-use fwd_source::{AnswerError, SOURCE_LIMITS, Source};
+use fwd_source::{AnswerError, Source};
 use std::alloc::{AllocError, Global};
 use std::sync::Arc;
 use std::test::Fail;

@@ -18,6 +18,8 @@ mod greatest;
 #[cfg(test)]
 mod handshakes;
 #[cfg(test)]
+mod limits;
+#[cfg(test)]
 mod monitor;
 #[cfg(test)]
 mod program;

@@ -74,7 +74,8 @@ fn lines_wait(alloc: Global, count: usize) -> Result<bool, AllocError> {
     Ok(is_let && waits(alloc, &head)?)
 }
 
-/// Whether so many header lines are refused before their empty line, and with a further line's front.
+/// Whether so many header lines are refused before their empty line, and with a further line's
+/// front.
 fn lines_are_refused(alloc: Global, count: usize) -> Result<bool, AllocError> {
     let mut head = header_lines(alloc, count)?;
     let is_refused = is_told(alloc, &head, BAD_REQUEST)?;

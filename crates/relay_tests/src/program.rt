@@ -396,7 +396,7 @@ impl Step for Spent {
     }
 }
 
-/// Want of memory of the relay ends a run, behind the answers to the lines before.
+/// Out of memory of the relay ends a run, behind the answers to the lines before.
 #[test]
 fn want_of_memory_ends_a_run(rt: HostRuntime) {
     let alloc = rt.alloc();

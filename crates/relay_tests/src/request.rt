@@ -1,8 +1,8 @@
 //! A request, read.
 
+use crate::limits::SOURCE_LIMITS;
 use fwd_modes::{Batch, Reading, read_request};
 use fwd_msgpack::{Cut, cut};
-use fwd_source::SOURCE_LIMITS;
 use std::alloc::Global;
 use std::test::Fail;
 

@@ -1,6 +1,6 @@
+use crate::limits::SOURCE_LIMITS;
 use fwd_modes::*;
 use fwd_msgpack::{Cut, Value, cut};
-use fwd_source::SOURCE_LIMITS;
 use std::alloc::{AllocError, Global};
 use std::test::Fail;
 

@@ -7,7 +7,7 @@ use fwd_base::Bytes;
 use fwd_chunks::{Buffer, BufferLimits, Carried, FlushKind};
 use fwd_handshake::Login;
 use fwd_modes::Origin;
-use fwd_session::{Heard, LoadFailed, OwnedSalt, Session, SessionFault};
+use fwd_session::{LoadFailed, OwnedSalt, Session, SessionFault, SessionHeard};
 use std::alloc::Global;
 use std::sync::Arc;
 use std::test::Fail;
@@ -126,7 +126,11 @@ fn settle(alloc: Global, session: &mut Session) -> Result<(u64, u16, usize), Fai
 }
 
 /// A chunk is sent but for so many bytes, and then its acknowledgement is heard twice.
-fn acknowledge(alloc: Global, session: &mut Session, unsent: usize) -> Result<[Heard; 2], Fail> {
+fn acknowledge(
+    alloc: Global,
+    session: &mut Session,
+    unsent: usize,
+) -> Result<[SessionHeard; 2], Fail> {
     load(alloc, session)?;
     if session.out() != FRAME {
         return Err(Fail::from("another frame"));
@@ -142,7 +146,7 @@ fn acknowledge(alloc: Global, session: &mut Session, unsent: usize) -> Result<[H
 fn acknowledge_and_settle(
     alloc: Global,
     session: &mut Session,
-) -> Result<([Heard; 2], (u64, u16, usize)), Fail> {
+) -> Result<([SessionHeard; 2], (u64, u16, usize)), Fail> {
     let heard = acknowledge(alloc, session, 0)?;
     Ok((heard, settle(alloc, session)?))
 }
@@ -153,7 +157,13 @@ fn a_chunk_is_acknowledged(rt: HostRuntime) -> Result<(), Fail> {
     let settled = acknowledge_and_settle(rt.alloc(), &mut session);
     drop_session(rt.alloc(), session);
     let (heard, settled) = settled?;
-    assert_eq!(rt; heard, [Heard::Acked, Heard::Fault(SessionFault::EarlyAck)]);
+    assert_eq!(rt;
+        heard,
+        [
+            SessionHeard::Acked,
+            SessionHeard::Fault(SessionFault::EarlyAck)
+        ]
+    );
     assert_eq!(rt; settled, (1, 3, 30));
     Ok(())
 }
@@ -165,13 +175,16 @@ fn an_early_acknowledgement_is_a_fault(rt: HostRuntime) -> Result<(), Fail> {
     drop_session(rt.alloc(), session);
     assert_eq!(rt;
         heard?,
-        [Heard::Fault(SessionFault::EarlyAck), Heard::NotUp]
+        [
+            SessionHeard::Fault(SessionFault::EarlyAck),
+            SessionHeard::NotUp
+        ]
     );
     Ok(())
 }
 
 /// What the rest of HELO comes to, with the PING that the session has to send.
-fn hear_helo(alloc: Global, session: &mut Session, rest: &[u8]) -> Result<Heard, Fail> {
+fn hear_helo(alloc: Global, session: &mut Session, rest: &[u8]) -> Result<SessionHeard, Fail> {
     let told = session.heard(alloc, rest)?;
     if session.out() != told.out.as_slice() || told.out.len() != 155 {
         return Err(Fail::from("another PING"));
@@ -180,14 +193,14 @@ fn hear_helo(alloc: Global, session: &mut Session, rest: &[u8]) -> Result<Heard,
 }
 
 /// What PONG comes to.
-fn hear_pong(alloc: Global, session: &mut Session) -> Result<Heard, Fail> {
+fn hear_pong(alloc: Global, session: &mut Session) -> Result<SessionHeard, Fail> {
     let mut pong = Vec::from_slice(alloc, b"\x95\xa4PONG\xc3\xa0\xa5brown\xd9\x80")?;
     pong.extend_from_slice(DIGEST)?;
     Ok(session.heard(alloc, &pong)?.heard)
 }
 
 /// What a handshake comes to, where HELO is heard in two pieces.
-fn greet(alloc: Global, session: &mut Session, cut: usize) -> Result<[Heard; 3], Fail> {
+fn greet(alloc: Global, session: &mut Session, cut: usize) -> Result<[SessionHeard; 3], Fail> {
     let (first, second) = HELO.split_at(cut.min(HELO.len()));
     let quiet = session.heard(alloc, first)?.heard;
     let helo = hear_helo(alloc, session, second)?;
@@ -202,7 +215,14 @@ fn a_handshake_makes_it_ready(rt: HostRuntime) -> Result<(), Fail> {
     let heard = greet(rt.alloc(), &mut session, 20);
     let ready = session.is_ready();
     drop_session(rt.alloc(), session);
-    assert_eq!(rt; heard?, [Heard::Quiet, Heard::Quiet, Heard::Ready]);
+    assert_eq!(rt;
+        heard?,
+        [
+            SessionHeard::Quiet,
+            SessionHeard::Quiet,
+            SessionHeard::Ready
+        ]
+    );
     assert_eq!(rt; ready, true);
     Ok(())
 }

@@ -10,13 +10,13 @@ pub struct Record {
 }
 
 impl Record {
-    /// Nothing. The only error is want of memory.
+    /// Nothing. The only error is out of memory.
     pub fn new(alloc: Global) -> Result<Record, AllocError> {
         let text = Arc::new(alloc, Mutex::new(String::new(alloc)))?;
         Ok(Record { text })
     }
 
-    /// The same record, shared. The only error is want of memory.
+    /// The same record, shared. The only error is out of memory.
     pub fn share(&self) -> Result<Record, AllocError> {
         let text = Arc::try_clone(&self.text)?;
         Ok(Record { text })
@@ -36,7 +36,7 @@ impl Record {
         }
     }
 
-    /// All of it. The only error is want of memory.
+    /// All of it. The only error is out of memory.
     pub fn text<R: Wait>(&self, rt: &R) -> Result<String, AllocError> {
         let guard = self.text.lock(rt);
         let all = &*guard;

@@ -20,6 +20,7 @@ use Rattle.fwd_model.specs.History.{Connection, ever_at, Lane, with_output}
 use Rattle.fwd_model.specs.Delivered.{cells_from, WasAcknowledged}
 use Rattle.fwd_model.proofs.Reached.{IsSaneLane}
 use Rattle.fwd_model.proofs.Chronicle.{Quiet, frame_at, has_origin, Admitted, RequestStory, AllTold, LaneStory, Extends, AllBefore, numbered-push, admitted_still, lane_still}
+use Rattle.std.proofs.lemmas.Option.{same_Some}
 
 -- ---- whose the new cells are
 
@@ -127,12 +128,9 @@ module _ (config : Config) (es : List Event) (e : Event) (cs ds : List Connectio
       → (a : Entered) → RequestStory config.routes cs o buffer.cells a → a.origin.conn ≡ id
       → a.origin.request ≡ number → ⊥
   was_before s here is a t f g =
-      let same : t.source ≡ s = some_is (sym t.stands ∙ ap (λ x. ever_at x cs) f ∙ here) in
+      let same : t.source ≡ s = same_Some _ _ (sym t.stands ∙ ap (λ x. ever_at x cs) f ∙ here) in
       let le : a.origin.request ≤ s.admitted = subst (λ x. a.origin.request ≤ x.admitted) same t.admitted in
       omega (arith, le, g, is)
-    where
-      some_is : {x y : SourceHistory} → Some x ≡ Some y → x ≡ y
-      some_is h = cc
 
   -- its number is above those of all that its connection asked for before
   all_before : (s : SourceHistory) → ever_at id cs ≡ Some s → number ≡ s.admitted + 1
@@ -141,12 +139,9 @@ module _ (config : Config) (es : List Event) (e : Event) (cs ds : List Connectio
   all_before s here is [] told = tt
   all_before s here is (a ∷ admissions) told = (below, all_before s here is admissions told.1)
     where
-      some_is : {x y : SourceHistory} → Some x ≡ Some y → x ≡ y
-      some_is h = cc
-
       below : a.request.origin.conn ≡ id → a.request.origin.request < number
       below f =
-          let same : told.0.source ≡ s = some_is (sym told.0.stands ∙ ap (λ x. ever_at x cs) f ∙ here) in
+          let same : told.0.source ≡ s = same_Some _ _ (sym told.0.stands ∙ ap (λ x. ever_at x cs) f ∙ here) in
           let le : a.request.origin.request ≤ s.admitted = subst (λ x. a.request.origin.request ≤ x.admitted) same told.0.admitted in
           omega (arith, le, is)
 
@@ -189,13 +184,10 @@ module _ (config : Config) (es : List Event) (e : Event) (cs ds : List Connectio
     needs = λ p all. spans-need p buffer origin q now all;
   }
     where
-      some_is : {x y : SourceHistory} → Some x ≡ Some y → x ≡ y
-      some_is h = cc
-
       seen : (b : Bool) → has_origin id number buffer.cells ≡ b → b ≡ false
       seen true e =
           let a = own id number e in
-          let same : a.0 ≡ s = some_is (sym a.1 ∙ here) in
+          let same : a.0 ≡ s = same_Some _ _ (sym a.1 ∙ here) in
           let le : number ≤ s.admitted = subst (λ x. number ≤ x.admitted) same a.2 in
           absurd (omega (arith, le, is))
       seen false e = refl

@@ -26,6 +26,7 @@ use Rattle.fwd_model.specs.History.{Connection, Lane, with_session}
 use Rattle.fwd_model.specs.Delivered.{reached, answered, session_of, WasAcknowledged}
 use Rattle.fwd_model.proofs.Reached.{IsSaneSession, slice_get-set}
 use Rattle.fwd_model.proofs.Chronicle.{Stands, Quiet, ChunkStory, SessionStory, LaneStory, session_still, begun_still, loaded_still, sent_still, acked_still, lane_still, extends_same}
+use Rattle.std.proofs.lemmas.Option.{same_Some}
 
 -- ---- a value that acknowledges names the chunk
 
@@ -51,9 +52,6 @@ accepted_names login salt at a s value e =
 
 -- ---- one session's story goes on
 
-some_is : {X : Type 0} {x y : X} → Some x ≡ Some y → x ≡ y
-some_is h = cc
-
 true_false : (b : Bool) → b ≡ true → b ≡ false → ⊥
 true_false b e f = cc
 
@@ -75,7 +73,7 @@ put_session config es e o cs l w s quiet t story =
     at : (j : ℕ) (u : SessionHistory)
         → ((w ≡ j) × (Some s ≡ Some u)) ⊎ ((w ≡ j → ⊥) × (slice_get l.sessions j ≡ Some (Some u)))
         → SessionStory config (es ++ e ∷ []) o j u
-    at j u (inl x) = subst (λ k. SessionStory config (es ++ e ∷ []) o k u) x.0 (subst (λ v. SessionStory config (es ++ e ∷ []) o w v) (some_is x.1) story)
+    at j u (inl x) = subst (λ k. SessionStory config (es ++ e ∷ []) o k u) x.0 (subst (λ v. SessionStory config (es ++ e ∷ []) o w v) (same_Some _ _ x.1) story)
     at j u (inr x) = session_still config es e o j u (quiet j) (t.sessions j u x.1)
 
 no_split : (between : List Event) (x : Event) (rest : List Event) → [] ≡ between ++ x ∷ rest
@@ -102,7 +100,7 @@ awaits s name h = at (is_some s.reply) (is_handed_on s) s.loaded refl refl h
     at true b loaded e f g = absurd cc
     at false false loaded e f g = absurd cc
     at false true None e f g = absurd cc
-    at false true (Some c) e f g = (c, e, sym (some_is g), f)
+    at false true (Some c) e f g = (c, e, sym (same_Some _ _ g), f)
 
 module _ (config : Config) (es : List Event) (o w : ℕ) where
   pub begins : (setup : session.Setup) (server : ℕ) (salt : List ℕ) (now : ℕ)
@@ -124,7 +122,7 @@ module _ (config : Config) (es : List Event) (o w : ℕ) where
     begun = begun_still config es (event.Load o w now) o w (λ kind moment number is done. absurd cc) t.begun;
     has_one = λ e. refl;
     greeted = λ e. done;
-    chunk = λ d e. subst (λ x. ChunkStory config (es ++ event.Load o w now ∷ []) o w (session.loads s c now) x) (some_is e) (record {
+    chunk = λ d e. subst (λ x. ChunkStory config (es ++ event.Load o w now ∷ []) o w (session.loads s c now) x) (same_Some _ _ e) (record {
       was_loaded = record { before = es; moment = now; later = []; split = refl; loads = answered; kept = λ between rest kind m number at e. no_split between (event.End o w kind m) rest at; begun = t.begun };
       front = s.appended;
       ends = refl;
@@ -219,7 +217,7 @@ module _ (config : Config) (es : List Event) (o w : ℕ) where
       acked c f own (Some value) is x =
           let n = names value is in
           let a = awaits s n.name n.was in
-          let same : a.0 ≡ c = some_is (sym a.1 ∙ f) in
+          let same : a.0 ≡ c = same_Some _ _ (sym a.1 ∙ f) in
           record {
             before = es;
             bytes = bytes;

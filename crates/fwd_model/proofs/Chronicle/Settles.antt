@@ -18,6 +18,7 @@ use Rattle.fwd_model.specs.Outputs.{output_history_settles}
 use Rattle.fwd_model.specs.History.{Connection, Lane, with_session, with_output, with_book}
 use Rattle.fwd_model.proofs.Chronicle.{Quiet, IsNamed, frame_at, frame_is, LaneStory, NumberStory, RequestStory, AllTold, Extends, extends_same, lane_still, number_still, SessionStory, AreNumbered, numbered-becomes}
 use Rattle.fwd_model.proofs.Chronicle.Sessions.{put_session, unloads}
+use Rattle.std.proofs.lemmas.Bool.{eqb-true}
 
 loaded_of : (b : Bool) (loaded : Option Load) (c : Load) → cond b loaded None ≡ Some c
     → (b ≡ true) × (loaded ≡ Some c)
@@ -38,9 +39,6 @@ either : (a b : Bool) → (a || b) ≡ true → (a ≡ true) ⊎ (b ≡ true)
 either true b h = inl refl
 either false b h = inr h
 
-eq_from : (a b : ℕ) → eqb a b ≡ true → a ≡ b
-eq_from a b e = grind (arith, nat_tests, e)
-
 pub lane_settles : (config : Config) (es : List Event) (e : Event) (cs : List Connection)
     (o w server : ℕ) (reply : Option (List ℕ)) (l : Lane) (s : SessionHistory) (c : Load)
     → slice_get l.sessions w ≡ Some (Some s) → IsHis l.output.buffer w c → acked s ≡ Some c
@@ -54,7 +52,7 @@ lane_settles config es e cs o w server reply l s c here his is quiet t =
       sessions = put.sessions;
       numbers = λ j h. elim (either (has_number j l.output.buffer.acknowledged) (eqb c.number j) (sym (has_number-push j c.number l.output.buffer.acknowledged) ∙ h)) [
         | inl x ↦ put.numbers j x
-        | inr x ↦ subst (λ n. NumberStory config (es ++ e ∷ []) o cells n) (eq_from c.number j x) (number_still config es e o cells c.number (acked_number_is config es o w l.output.buffer s c own his t.named is))
+        | inr x ↦ subst (λ n. NumberStory config (es ++ e ∷ []) o cells n) (eqb-true c.number j x) (number_still config es e o cells c.number (acked_number_is config es o w l.output.buffer s c own his t.named is))
       ];
       own = put.own;
       requests = put.requests;

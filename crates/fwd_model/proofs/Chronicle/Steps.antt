@@ -14,8 +14,8 @@ use Rattle.fwd_chunks.specs.declared.fault.AdmitError.TheVariants.{Full, Numbers
 use Rattle.fwd_chunks.specs.declared.flush.FlushKind.{FlushKind}
 use Rattle.fwd_chunks.specs.History as buffer
 use Rattle.fwd_chunks.specs.History.{Load}
-use Rattle.fwd_session.specs.declared.told.Heard.{Heard}
-use Rattle.fwd_session.specs.declared.told.Heard.TheVariants as heard_as
+use Rattle.fwd_session.specs.declared.told.SessionHeard.{SessionHeard}
+use Rattle.fwd_session.specs.declared.told.SessionHeard.TheVariants as heard_as
 use Rattle.fwd_session.specs.declared.handshake.Handshake.{Handshake}
 use Rattle.fwd_session.specs.declared.handshake.Handshake.TheVariants.{AwaitsHelo, AwaitsPong, Done}
 use Rattle.fwd_session.specs.Evidence.{frame_of, evidence_of}
@@ -337,7 +337,7 @@ module _ (config : Config) (es : List Event) (sane : IsSane (reached config es))
       (ap (λ k. session_of k o w) leads ∙ stands_put o w l s (session.sends s count) lane here)))))))
 
   -- what a piece is told goes on to the same session
-  told_on : {S : Type 0} (P : Answer → S → Type 0) (told : Heard) (out : List ℕ) (s : S)
+  told_on : {S : Type 0} (P : Answer → S → Type 0) (told : SessionHeard) (out : List ℕ) (s : S)
       → ((a : Answer) → P a s) → Onward P (of_heard told out s)
   told_on P heard_as.NotUp out s holds = record { holds = tt }
   told_on P heard_as.Quiet out s holds = to (holds (answer.Quiet out))
@@ -433,7 +433,7 @@ module _ (config : Config) (es : List Event) (sane : IsSane (reached config es))
   calmly e calm on = goes_by e (λ a is. calm) on
 
   pub goes_on : (e : Event) → Story config (es ++ e ∷ []) (state_of h (step histories h e))
-  goes_on (event.Accept id nonce auth) = calmly (event.Accept id nonce auth) (λ j v kind' moment number is done. absurd cc) (anyhow _ _ (accept_on (event.Accept id nonce auth) (λ j v kind' moment number is done. absurd cc) (setup_of h.security id nonce auth)))
+  goes_on (event.Accept id nonce auth) = calmly (event.Accept id nonce auth) (λ j v kind' moment number is done. absurd cc) (anyhow _ _ (accept_on (event.Accept id nonce auth) (λ j v kind' moment number is done. absurd cc) (setup_of h.security h.limits id nonce auth)))
   goes_on (event.Piece id bytes) = calmly (event.Piece id bytes) (λ j v kind' moment number is done. absurd cc) (anyhow _ _ (piece_on (event.Piece id bytes) (λ j v kind' moment number is done. absurd cc) id bytes))
   goes_on (event.Admit id o now) = calmly (event.Admit id o now) (λ j v kind' moment number is done. absurd cc) (anyhow _ _ (admit_on (event.Admit id o now) (λ j v kind' moment number is done. absurd cc) id o now))
   goes_on (event.Flush o now kind) = calmly (event.Flush o now kind) (λ j v kind' moment number is done. absurd cc) (anyhow _ _ (flush_on (event.Flush o now kind) (λ j v kind' moment number is done. absurd cc) o now kind))

@@ -23,14 +23,7 @@ use Rattle.fwd_model.proofs.Reached.{IsSaneLane, IsSane, AllSane-set}
 pub with_lane-live : (o : ℕ) (l : Lane) (h : History)
     → live (with_lane o l h) ≡ with_live_lane o (live_lane l) (live h)
 unfolding live
-with_lane-live o l h = λ i. record {
-  run = h.run;
-  routes = h.routes;
-  security = h.security;
-  last = (live h).last;
-  connections = map live_connection (known h.connections);
-  lanes = map-set live_lane h.lanes o l i;
-}
+with_lane-live o l h = λ i. record (live h) { lanes = map-set live_lane h.lanes o l i }
 
 pub lane_at-live : (o : ℕ) (h : History)
     → slice_get (live h).lanes o ≡ option_map live_lane (slice_get h.lanes o)

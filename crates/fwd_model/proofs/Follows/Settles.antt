@@ -17,6 +17,7 @@ use Rattle.fwd_session.specs.Evidence.{evidence_of}
 use Rattle.fwd_book.proofs.Following.{follows-settles}
 use Rattle.fwd_model.proofs.Settled.{numbers_in-push}
 use Rattle.fwd_model.proofs.Reached.{IsSaneLane, IsSaneSession, slice_get-set}
+use Rattle.std.proofs.lemmas.Option.{same_Some}
 
 -- ---- the workers: one has nothing any more
 
@@ -93,9 +94,6 @@ settles-live l w s c server reply here own is = λ i. record {
 
 -- ---- an output stays sane
 
-pub some_same : {X : Type 0} {x y : X} → Some x ≡ Some y → x ≡ y
-some_same e = cc
-
 pub settles-sane : (l : Lane) (w : ℕ) (s : SessionHistory) (c : Load) (server : ℕ)
     (reply : Option (List ℕ))
     → slice_get l.sessions w ≡ Some (Some s) → IsSaneLane l → IsHis l.output.buffer w c
@@ -118,7 +116,7 @@ settles-sane l w s c server reply here own is = record {
         → IsSaneSession j after t
     still j t (inl e) =
         let fits = own.sessions w s here in
-        subst (λ x. IsSaneSession j after x) (some_same e.1) (record { own = unloads-sane s fits.own; carries = λ d f. absurd cc })
+        subst (λ x. IsSaneSession j after x) (same_Some _ _ e.1) (record { own = unloads-sane s fits.own; carries = λ d f. absurd cc })
     still j t (inr e) =
         let fits = own.sessions j t e.1 in
         record { own = fits.own; carries = λ d f. (settles-drops l.output w server reply c own.apart is).others j e.0 ∙ fits.carries d f }

@@ -25,13 +25,9 @@ pub accepts-live : (setup : Setup) (h : History)
 unfolding live
 accepts-live setup h =
     let c = new_connection setup in
-    λ i. record {
-      run = h.run;
-      routes = h.routes;
-      security = h.security;
+    λ i. record (live h) {
       last = last_id-push h.connections c i;
       connections = (known-push h.connections c refl ∙ ap (λ s. map live_connection (known h.connections) ++ record { id = setup.conn; source = s } ∷ []) (opened-live setup)) i;
-      lanes = map live_lane h.lanes;
     }
 
 lt_from : (a b : ℕ) → ltb a b ≡ true → a < b
@@ -66,13 +62,9 @@ pub with_connection-live : (id : ℕ) (s t : SourceHistory) (h : History)
     → source_at id h.connections ≡ Some t
     → live (with_connection id s h) ≡ with_live_connection id (live_source s) (live h)
 unfolding live
-with_connection-live id s t h here = λ i. record {
-  run = h.run;
-  routes = h.routes;
-  security = h.security;
+with_connection-live id s t h here = λ i. record (live h) {
   last = last_id-with_source id s h.connections i;
   connections = with_source-live id s t h.connections here i;
-  lanes = map live_lane h.lanes;
 }
 
 pub with_connection-sane : (id : ℕ) (s : SourceHistory) (h : History) → IsSane h
@@ -108,13 +100,9 @@ drained-sane s count good few =
 pub leaves-live : (h : History) (id : ℕ) (s : SourceHistory) → IsSane h
     → source_at id h.connections ≡ Some s → live (leaves id h) ≡ live_leaves id (live h)
 unfolding live
-leaves-live h id s sane here = λ i. record {
-  run = h.run;
-  routes = h.routes;
-  security = h.security;
+leaves-live h id s sane here = λ i. record (live h) {
   last = last_id-with_gone id h.connections i;
   connections = with_gone-live id s h.connections sane.once here i;
-  lanes = map live_lane h.lanes;
 }
 
 pub leaves-sane : (h : History) (id : ℕ) → IsSane h → IsSane (leaves id h)

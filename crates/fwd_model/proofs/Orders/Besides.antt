@@ -350,7 +350,7 @@ module _ (p : Change) (h : History) where
   -- an event beside a change of a part that it does not name
   pub beside : (f : Event) → does_name f (part_of p) ≡ false → (is_accept f && comes p) ≡ false
       → Spares p f h → IsBeside (made p) (λ h. step histories h f) h
-  beside (event.Accept id nonce auth) apart one spares = accept (setup_of h.security id nonce auth) (one_named (part.Connection id) (part_of p) apart) one
+  beside (event.Accept id nonce auth) apart one spares = accept (setup_of h.security h.limits id nonce auth) (one_named (part.Connection id) (part_of p) apart) one
   beside (event.Piece id bytes) apart one spares = at_source id _ (one_named (part.Connection id) (part_of p) apart)
   beside (event.Admit id o now) apart one spares =
       at_source_and_output id o (steps.admit histories h.routes id o now) (two_named (part.Connection id) (part.Output o) (part_of p) apart) (λ v t s l. admit v t id o now s l h.routes)

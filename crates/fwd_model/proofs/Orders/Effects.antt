@@ -33,10 +33,11 @@ use Rattle.fwd_model.proofs.Reached.{IsSane, IsSaneLane, AllSane-at}
 use Rattle.fwd_model.proofs.Follows.Workers.{worker_is, session_here, carried_is}
 use Rattle.fwd_model.proofs.Follows.Admits.{worker_stays}
 use Rattle.fwd_model.proofs.Follows.Takes.{others_carry}
-use Rattle.fwd_model.proofs.Follows.Settles.{acked_is, settles-drops, some_same}
+use Rattle.fwd_model.proofs.Follows.Settles.{acked_is, settles-drops}
 use Rattle.fwd_model.proofs.Follows.Ends.{backs, back-drops}
 use Rattle.fwd_model.proofs.Orders.Changes.{Change, Arrives, AtSource, Departs, AtOutput, AtSession, part_of, comes, made, all_made, changed_lane, with_place, same_number, changed-here, changed_twice}
 use Rattle.fwd_model.proofs.Orders.Besides.{same_self, named_alone, no_test}
+use Rattle.std.proofs.lemmas.Option.{same_Some}
 
 -- ---- changes that an event may make
 
@@ -130,7 +131,7 @@ module _ (e : Event) (h : History) (a : ℕ) (l : Lane) (here : slice_get h.lane
       by o w k none at false f = refl
       by o w k none at true f =
           let same = same_number a o f in
-          let lane : l ≡ k = some_same (sym here ∙ ap (slice_get h.lanes) same ∙ at) in
+          let lane : l ≡ k = same_Some _ _ (sym here ∙ ap (slice_get h.lanes) same ∙ at) in
           keeps w (ap (λ j. does_name e (part.Session j w)) same ∙ none) ∙ ap (λ (m : Lane). carried_by m.output.buffer w) lane
 
   session_own : (k : History) (w : ℕ) (s : Option SessionHistory)
@@ -324,9 +325,9 @@ module _ (h : History) (sane : IsSane h) where
 
   accept : (id : ℕ) (nonce auth : List ℕ)
       → Onward (Leads (event.Accept id nonce auth) h)
-      (steps.accept histories h (setup_of h.security id nonce auth))
+      (steps.accept histories h (setup_of h.security h.limits id nonce auth))
   accept id nonce auth =
-      let setup = setup_of h.security id nonce auth in
+      let setup = setup_of h.security h.limits id nonce auth in
       past NotNow {b = not (histories.is_fresh h setup.conn)} (λ fresh. to {a = answer.Accepted (opening_text setup)}
       (arrival (event.Accept id nonce auth) h setup (named_alone (part.Connection id)) refl))
 

@@ -1,9 +1,10 @@
-use Rattle.std.proofs.Common.{length, ap, ◌∙◌}
+use Rattle.std.proofs.Common.{arith, length, ap, ◌∙◌}
 use Rattle.std.specs.List.{list_all}
 use Rattle.std.proofs.lemmas.Bool.{and_parts}
 use Rattle.fwd_settings.specs.Kinds.{is_within}
 use Rattle.fwd_settings.specs.Ranges.{relay_in_range, output_in_range}
 use Rattle.std.specs.Prelude.{◌&&◌}
+use Rattle.fwd_config.proofs.Ranges.{outputs_few}
 use Rattle.fwd_config.proofs.config.config_of.Goals as goal
 
 pub configs_of-requires : goal.configs_of-requires
@@ -13,3 +14,8 @@ configs_of-requires c =
     let parts = and_parts (relay_in_range s.relay) (counted && list_all output_in_range s.outputs) c.requires in
     let each = and_parts counted (list_all output_in_range s.outputs) parts.1 in
     ap (list_all output_in_range) c.as_slice.ensures ∙ each.1
+
+pub new-requires : goal.new-requires
+new-requires c =
+    let few = outputs_few c.args.settings c.requires in
+    omega (arith, few, c.in_ok-patterns.ensures.len, ap length c.into_vec.ensures)

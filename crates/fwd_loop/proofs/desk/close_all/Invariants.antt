@@ -1,5 +1,5 @@
 use Rattle.std.specs.Vec.Iter.{into_iter_len}
 use Rattle.fwd_loop.proofs.desk.close_all.Given as goal
 
-abbrev pub decreases-loop-lane : goal.decreases-loop-lane
-decreases-loop-lane g l = into_iter_len l.rest
+abbrev pub decreases-loop-own : goal.decreases-loop-own
+decreases-loop-own g l = into_iter_len l.rest

@@ -1,23 +1,24 @@
-use Rattle.std.proofs.Common.{rules, ◌≡◌, [], ◌∷◌, ◌++◌, length, Some, sym, ap, ◌∙◌, arith}
+use Rattle.std.proofs.Common.{◌≡◌, Some, sym, ap, subst, ◌∙◌}
+use Rattle.std.specs.Prelude.{IfSome, option_and_then}
 use Rattle.std.specs.List.{concat}
-use Rattle.std.proofs.lemmas.List.{length-append}
-use Rattle.fwd_msgpack.specs.Values.{bytes_of, members_left}
-use Rattle.fwd_modes.specs.Entries.{entry_of, before, entries_of}
-use Rattle.fwd_modes.specs.Readings.{kept}
-use Rattle.fwd_modes.proofs.EntryLemmas.{behind, behind-more, length-concat-push}
+use Rattle.fwd_msgpack.specs.Values.{members_left}
+use Rattle.fwd_modes.specs.Entries.{AreCut, cut_at, ends_of, entries_of, listed_entries}
+use Rattle.fwd_modes.proofs.EntryLemmas.{cut_joined, cut_whole}
 use Rattle.fwd_modes.proofs.lists.read_list.Goals as goal
 
-pub loop-member-preserved : goal.loop-member-preserved
-loop-member-preserved c =
-    let member = bytes_of c.in-Some-member.member in
-    let entry = kept c.in-Some-read.entry in
-    let old = c.loop-member.kept in
-    let left = members_left c.next.new.self in
-    let steps : members_left c.loop-member.member-iterator ≡ member ∷ left = search rules in
-    let is : entry_of member ≡ Some entry = search rules in
-    let added : c.push.new.self ≡ old ++ entry ∷ [] = search rules in
-    let before_it : entries_of (members_left c.loop-member.member-iterator) ≡ before (Some entry) (entries_of left) = ap entries_of steps ∙ ap (λ o. before o (entries_of left)) is in
-    record {
-      said = ap (λ k. behind k (entries_of left)) added ∙ behind-more old entry (entries_of left) ∙ ap (behind old) (sym before_it) ∙ c.loop-member.invariant.said;
-      fits = omega (arith, ap (λ k. length (concat k)) added, length-concat-push old entry, ap (λ m. length (concat m)) steps, length-append member (concat left), length-append c.in-Some-read.entry.time.now c.in-Some-read.entry.fields.now, c.loop-member.invariant.fits, c.in-Some-read.ensures.fits);
-    }
+pub of-requires-clause-cut : goal.of-requires-clause-cut
+of-requires-clause-cut c =
+    let all = members_left c.in-Some.members in
+    let ends : c.in-Some-2.ends.items ≡ ends_of all = subst (λ f. IfSome f (λ ends. ends.items ≡ ends_of all)) c.in-Some-2.is c.in_ok-ends.ensures.ends in
+    let bytes : c.in_ok-bytes.bytes.items ≡ concat all = c.in_ok-bytes.ensures.items ∙ c.bytes.ensures in
+    subst (λ xs. AreCut 0 xs c.in_ok-bytes.bytes.items) (sym ends) (subst (AreCut 0 (ends_of all)) (sym bytes) (cut_whole all))
+
+pub returns : goal.returns
+unfolding listed_entries
+returns c =
+    let all = members_left c.in-Some.members in
+    let ends : c.in-Some-2.ends.items ≡ ends_of all = subst (λ f. IfSome f (λ ends. ends.items ≡ ends_of all)) c.in-Some-2.is c.in_ok-ends.ensures.ends in
+    let kept : entries_of all ≡ Some all = subst (λ f. IfSome f (λ ends. entries_of all ≡ Some all)) c.in-Some-2.is c.in_ok-ends.ensures.entries in
+    let bytes : c.in_ok-bytes.bytes.items ≡ concat all = c.in_ok-bytes.ensures.items ∙ c.bytes.ensures in
+    ap Some (c.of.ensures ∙ (λ i. cut_at 0 (ends i) (bytes i)) ∙ cut_joined 0 all)
+    ∙ sym kept ∙ ap (option_and_then entries_of) c.in-Some.ensures.value

@@ -17,7 +17,7 @@ ends : (error : InputError) (status : Status) (script : List ℕ) (known : Optio
 ends reads.Memory status script known e = rw e (inl (Keeps-same known))
 ends (reads.Failed failed) status script known e = rw e (Keeps-same known)
 
--- a read that failed is no want of memory
+-- a read that failed is not out of memory
 some_read : (error : InputError) (status : Status) (old new : Option (List ℕ))
     → status ≡ unread_status error → Unread error old new → status ≡ Memory → ReadsSome old new
 some_read reads.Memory status old new e front is = (front.0, front.1, inl front.2)

@@ -12,5 +12,36 @@ returns-in_err-connections c =
       c.in_ok-shared_key.ensures.0,
       c.in_ok-run_id.ensures.0,
       c.in_ok-seed.ensures.0,
-      c.in_err-connections.ensures m,
+      c.in_err-connections.ensures.reads m,
+    )
+
+pub returns-in_err-message_limit : goal.returns-in_err-message_limit
+returns-in_err-message_limit c =
+    let listen = rw c.home.ensures at c.in_ok-listen.ensures.0 in
+    told _ _ _ c.in_err-message_limit.field-0.0 c.from_residual-in_err-message_limit.ensures.1 λ m.
+    rw (
+      listen,
+      c.in_ok-monitor.ensures.0,
+      c.in_ok-hostname.ensures.0,
+      c.in_ok-shared_key.ensures.0,
+      c.in_ok-run_id.ensures.0,
+      c.in_ok-seed.ensures.0,
+      c.in_ok-connections.ensures.reads.0,
+      c.in_err-message_limit.ensures m,
+    )
+
+pub returns-in_err-depth : goal.returns-in_err-depth
+returns-in_err-depth c =
+    let listen = rw c.home.ensures at c.in_ok-listen.ensures.0 in
+    told _ _ _ c.in_err-depth.field-0.0 c.from_residual-in_err-depth.ensures.1 λ m.
+    rw (
+      listen,
+      c.in_ok-monitor.ensures.0,
+      c.in_ok-hostname.ensures.0,
+      c.in_ok-shared_key.ensures.0,
+      c.in_ok-run_id.ensures.0,
+      c.in_ok-seed.ensures.0,
+      c.in_ok-connections.ensures.reads.0,
+      c.in_ok-message_limit.ensures.0,
+      c.in_err-depth.ensures.reads m,
     )

@@ -1,15 +1,19 @@
-use Rattle.std.proofs.Common.{◌≡◌, ◌+◌, ◌^◌, ◌<◌, None, [], length}
+use Rattle.std.proofs.Common.{◌≡◌, ◌+◌, ◌^◌, ◌<◌, None, [], length, take, ◌≤◌}
 use Rattle.fwd_source.specs.Judged.{judged_of, joined}
+use Rattle.fwd_msgpack.specs.Scanners.{IsBehind}
 use Rattle.fwd_source.specs.Hearing.{IsEndOf}
 use Rattle.fwd_source.proofs.hearing.hear.Given as goal
 
 -- what was read, and what the rest says, is what all of the bytes say
 abbrev pub invariant-values : goal.invariant-values
 invariant-values l = record {
-  said : judged_of l.fn.limits None l.fn.count l.fn.bytes
+  said : judged_of l.fn.scanner.limits None l.fn.count l.fn.unjudged.bytes.now
       ≡ joined l.requests.items []
-      (judged_of l.fn.limits None (l.fn.count + length l.requests.items) l.rest);
-  end : IsEndOf l.rest l.fn.bytes;
+      (judged_of l.fn.scanner.limits None (l.fn.count + length l.requests.items) l.rest);
+  end : IsEndOf l.rest l.fn.unjudged.bytes.now;
+  limits : l.scanner.limits ≡ l.fn.scanner.limits;
+  within : l.scanned ≤ length l.rest;
+  behind : IsBehind l.fn.scanner.limits (take l.scanned l.rest) l.scanner;
   room : l.fn.count + length l.requests.items < 2 ^ 64;
 }
 

@@ -5,6 +5,7 @@ use Rattle.fwd_book.specs.History.{Entered, is_of}
 use Rattle.fwd_book.specs.Live.{LiveBook, BookState, IsSound, live_leaves, live_forgets_of, live_owed_of}
 use Rattle.fwd_book.proofs.Whose.{forgets-then, owed-less, none-forgotten}
 use Rattle.fwd_book.proofs.book.Book.forget_of.Goals as goal
+use Rattle.std.proofs.lemmas.Option.{same_Some}
 
 pub loop-origin-init : goal.loop-origin-init
 loop-origin-init c = record { same = refl; left = refl; count = omega arith }
@@ -18,10 +19,7 @@ first_is p qs o e = by (find p qs) refl e
     by : (k : Option Entered) → find p qs ≡ k → Some o ≡ option_map (λ (q : Entered). q.origin) k
         → (q : Entered) × (find p qs ≡ Some q) × (q.origin ≡ o)
     by None f g = absurd cc
-    by (Some q) f g = (q, f, sym (same g))
-      where
-        same : {x y : Origin} → Some x ≡ Some y → x ≡ y
-        same h = cc
+    by (Some q) f g = (q, f, sym (same_Some _ _ g))
 
 none_is : (p : Entered → Bool) (qs : List Entered)
     → None ≡ option_map (λ q. q.origin) (find p qs) → find p qs ≡ None

@@ -16,9 +16,9 @@ use Rattle.fwd_chunks.proofs.Closing.{number-found}
 use Rattle.fwd_chunks.proofs.Admission.{numbers-fit, first-is, room-left, fresh-above, entered, entered-spans, joining-fits, size-drop, enters-stored}
 use Rattle.fwd_chunks.proofs.Opened.{newest-kept, newest-entered, found-same}
 use Rattle.fwd_chunks.proofs.Living.{joined-has, living-entered}
-use Rattle.fwd_chunks.proofs.Calls.{chunk_of_some}
 use Rattle.fwd_chunks.specs.contracts.buffer.Buffer.{the_view}
 use Rattle.fwd_chunks.proofs.buffer.Buffer.enter.Goals as goal
+use Rattle.std.proofs.lemmas.Option.{same_Some}
 
 pub fresh_chunks-requires-clause-numbers : goal.fresh_chunks-requires-clause-numbers
 fresh_chunks-requires-clause-numbers c =
@@ -107,7 +107,7 @@ fill-requires-clause-fits c = λ n d joins at small.
     let o = find (is_open_of r.tag) c.self.inside.slots.chunks in
     let e = number-found (find (is_open_of r.tag) c.self.inside.slots.chunks) n (sym joins ∙ plan.joins) in
     let there : find (is_at n) c.self.inside.slots.chunks ≡ Some e.0 = ap (λ k. find (is_at k) c.self.inside.slots.chunks) (sym e.1.1) ∙ found-same (is_open_of r.tag) c.self.inside.slots.chunks e.0 own.sound.in_order e.1.0 in
-    let is : e.0 ≡ d = chunk_of_some (sym there ∙ ap (find (is_at n)) (sym kept) ∙ at) in
+    let is : e.0 ≡ d = same_Some _ _ (sym there ∙ ap (find (is_at n)) (sym kept) ∙ at) in
     let chunk : c.self.inside.limits.chunk < 2 ^ 32 = search rules in
     rw plan.front (joining-fits c.self.inside.limits.chunk o d r.entries (e.1.0 ∙ ap Some is) chunk small)
 

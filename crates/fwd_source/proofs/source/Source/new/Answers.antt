@@ -11,10 +11,10 @@ returns-clause-ok c =
     let text : c.in-Ok.unsent.items ≡ opening_text setup = c.in-Ok.ensures setup (sym c.deref-2.ensures) refl in
     let awaits : c.is_some-awaits.result ≡ is_guarded setup = c.is_some-awaits.ensures ∙ ap (λ (s : Security). is_some s.shared_key) c.deref.ensures in
     λ i. record {
-      setup = setup;
+      setup = record setup { limits = (c.new.ensures i).limits };
       awaits = awaits i;
-      rest = c.new.ensures.items i;
-      waiting = c.new-2.ensures.items i;
+      rest = c.new-2.ensures.items i;
+      waiting = c.new-3.ensures.items i;
       admitted = 0;
       unsent = text i;
       shut = false;

@@ -1,5 +1,5 @@
 use Rattle.std.proofs.Common.{arith, sym, ap, ◌∙◌}
-use Rattle.fwd_model.specs.Outputs.{LiveOutput}
+use Rattle.fwd_core.specs.Outputs.{LiveOutput}
 use Rattle.fwd_workers.proofs.Counting.{enters-accepted, enters-settled}
 use Rattle.fwd_workers.proofs.locked.Locked.admit.Goals as goal
 

@@ -1,0 +1,82 @@
+//! Which servers are lost.
+
+use crate::output::Output;
+use crate::watch::Fact;
+use fwd_links::Notice;
+use fwd_workers::News;
+use std::alloc::{AllocError, Global};
+use std::net::SocketAddr;
+
+/// A server, by its output's number and its place in that output's list.
+#[derive(Clone, Copy, PartialEq, Eq)]
+struct ServerId {
+    output: u16,
+    server: u16,
+}
+
+impl ServerId {
+    /// Where it is reached, if there is such a server.
+    fn address(self, outputs: &[Output]) -> Option<SocketAddr> {
+        let own = outputs.get(self.output as usize)?;
+        let address = own.servers.get(self.server as usize)?;
+        Some(*address)
+    }
+}
+
+/// The servers that were lost, and settled no chunk since.
+#[derive(Drop)]
+pub(crate) struct LostServers {
+    /// Each at most once.
+    lost: Vec<ServerId>,
+}
+
+impl LostServers {
+    /// No server of these outputs is lost. The only error is out of memory.
+    pub fn new(alloc: Global, outputs: &[Output]) -> Result<LostServers, AllocError> {
+        let mut lost = Vec::new(alloc);
+        for output in outputs {
+            lost.reserve(output.servers.len())?;
+        }
+        Ok(LostServers { lost })
+    }
+
+    /// What there is to tell of a worker's notice, if anything.
+    pub fn hear(&mut self, outputs: &[Output], notice: &Notice) -> Option<Fact> {
+        let output = notice.output;
+        match notice.news {
+            News::Settled { number: _, server } => {
+                let id = ServerId { output, server };
+                let place = self.lost.iter().position(|lost| *lost == id)?;
+                self.lost.swap_remove(place);
+                let server = id.address(outputs)?;
+                Some(Fact::ServerBack { output, server })
+            }
+            News::Went { server } => {
+                let worker = notice.worker;
+                let server = ServerId { output, server }.address(outputs)?;
+                Some(Fact::ServerChanged {
+                    output,
+                    worker,
+                    server,
+                })
+            }
+            News::Lost { server, why } => {
+                let id = ServerId { output, server };
+                self.note(id);
+                let server = id.address(outputs)?;
+                Some(Fact::ServerLost {
+                    output,
+                    server,
+                    why,
+                })
+            }
+        }
+    }
+
+    /// A server is lost. When out of memory it will not be told that it is back.
+    fn note(&mut self, id: ServerId) {
+        if !self.lost.contains(&id) {
+            let _ = self.lost.push(id);
+        }
+    }
+}

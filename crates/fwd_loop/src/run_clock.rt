@@ -1,0 +1,41 @@
+//! The clock of a run.
+
+use std::rt::Clock;
+use std::time::Instant;
+
+/// Tells how many milliseconds have passed since a start. It never goes back: where the system's
+/// clock cannot be read it stands.
+#[derive(Drop)]
+pub(crate) struct RunClock<'a, R: Clock> {
+    rt: &'a R,
+    start: Option<Instant>,
+    latest: u64,
+}
+
+impl<'a, R: Clock> RunClock<'a, R> {
+    /// The clock since this start.
+    pub fn new(rt: &'a R, start: Option<Instant>) -> Self {
+        RunClock {
+            rt,
+            start,
+            latest: 0,
+        }
+    }
+
+    /// The moment, in milliseconds since the start.
+    pub fn moment(&mut self) -> u64 {
+        if let Some(start) = self.start {
+            if let Ok(passed) = start.elapsed(self.rt) {
+                let millis = passed.as_millis().min(u64::MAX as u128) as u64;
+                self.latest = self.latest.max(millis);
+            }
+        }
+        self.latest
+    }
+}
+
+impl<'a, R: Clock> fwd_workers::Clock for RunClock<'a, R> {
+    fn now(&mut self) -> u64 {
+        self.moment()
+    }
+}

@@ -1,0 +1,24 @@
+//! Why a source's connection ends by the relay's doing.
+
+use fwd_source::SourceFault;
+use fwd_workers::AdmitRefusal;
+
+/// Why the relay closes a source that would still send.
+#[derive(Clone, Copy, Debug)]
+pub enum SourceEnd {
+    /// What it sent is no request, or it is not let in.
+    Fault(SourceFault),
+    /// An output does not admit its request.
+    Refused(AdmitRefusal),
+    /// No output takes its request's tag.
+    NoRoute,
+}
+
+/// Why a source's connection ends by the relay's doing.
+#[derive(Clone, Copy, Debug)]
+pub enum PeerEnd {
+    /// The relay closes it.
+    Closed(SourceEnd),
+    /// Memory was refused for it.
+    Memory,
+}

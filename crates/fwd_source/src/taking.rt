@@ -1,0 +1,175 @@
+//! Bytes are judged, and what they ask for is put where it waits.
+
+ghost use Rattle.std.specs.Prelude.{
+  ◌≡◌,
+  ◌+◌,
+  ◌≤◌,
+  ◌<◌,
+  ◌^◌,
+  ◌++◌,
+  None,
+  true,
+  IfOk,
+  OnErr,
+  OnOk,
+  length,
+  take,
+  is_some,
+  option_map,
+  vec_capacity,
+};
+ghost use Rattle.fwd_msgpack.specs.Scanners.{IsBehind};
+ghost use Rattle.fwd_source.specs.Judged.{judged_of};
+ghost use Rattle.fwd_source.specs.Hearing.{
+  awaited_by,
+  shown,
+  kept_of,
+  IsEndOf,
+  StandsOver,
+  AreTaken,
+};
+
+use crate::fault::SourceFault;
+use crate::greeting::hear_greeting;
+use crate::hearing::{SourceHeard, Unjudged, hear};
+use fwd_base::Bytes;
+use fwd_handshake::{Nonces, Security};
+use fwd_modes::Batch;
+use fwd_msgpack::Scanner;
+use std::alloc::{AllocError, Global};
+use std::collections::VecDeque;
+
+/// What of a connection decides what its bytes ask for.
+#[derive(Clone, Copy)]
+pub struct Asker<'a> {
+    pub security: &'a Security,
+    pub nonces: &'a Nonces,
+    /// A PING is awaited.
+    pub awaits: bool,
+    /// How many requests came before.
+    pub count: u64,
+}
+
+/// What bytes came to, whose requests and PONG wait already.
+#[derive(Drop)]
+pub struct Taken {
+    /// The bytes of the unfinished value in a room of their own: none where all bytes are that,
+    /// and some of them have a room already.
+    pub rest: Option<Vec<u8>>,
+    pub out: Bytes,
+    pub awaits: bool,
+    pub fault: Option<SourceFault>,
+}
+
+/// What the bytes say. Of the scanner, see `hear`.
+fn judge<'a>(
+    alloc: Global,
+    asker: &Asker<'_>,
+    unjudged: Unjudged<'a>,
+    scanner: &mut Scanner,
+) -> Result<SourceHeard<'a>, AllocError>
+    requires count { asker.now.count < 2 ^ 64 }
+    requires behind { IsBehind scanner.old.limits
+        (take unjudged.scanned unjudged.bytes.now) scanner.old }
+    ensures value { IfOk result (λ heard. shown heard ≡ judged_of scanner.old.limits
+        (awaited_by asker.now) asker.now.count unjudged.entry.bytes.now) }
+    ensures end { IfOk result (λ heard. IsEndOf heard.rest.now unjudged.entry.bytes.now) }
+    ensures after { IfOk result (λ heard. StandsOver scanner.old.limits heard scanner.new) }
+    ensures limits { scanner.new.limits ≡ scanner.old.limits }
+    ensures room { IfOk result (λ heard.
+        asker.now.count + length heard.requests.items < 2 ^ 64) }
+{
+    let Asker {
+        security,
+        nonces,
+        awaits,
+        count,
+    } = *asker;
+    if awaits {
+        hear_greeting(alloc, security, nonces, count, unjudged, scanner)
+    } else {
+        hear(alloc, count, unjudged, scanner)
+    }
+}
+
+/// The bytes of an unfinished value in a room of their own, unless all bytes are that and some
+/// have a room already. A value that comes in many pieces stays where it is, and is not copied at
+/// each.
+fn apart(alloc: Global, rest: &[u8], unjudged: Unjudged<'_>) -> Result<Option<Vec<u8>>, AllocError>
+    requires { IsEndOf rest.now unjudged.bytes.now }
+    ensures kept { IfOk result (λ apart.
+        kept_of unjudged.entry.bytes.now (option_map (λ v. v.items) apart) ≡ rest.now) }
+    ensures own { IfOk result (λ apart. unjudged.entry.scanned ≡ 0 → is_some apart ≡ true) }
+{
+    if rest.len() == unjudged.bytes.len() && unjudged.scanned > 0 {
+        return Ok(None);
+    }
+    Ok(Some(Vec::from_slice(alloc, rest)?))
+}
+
+/// Puts requests and a PONG where they wait. On an error none of them waits.
+fn enter(
+    requests: Vec<Batch>,
+    pong: &Bytes,
+    waiting: &mut VecDeque<Batch>,
+    unsent: &mut Vec<u8>,
+) -> Result<(), AllocError>
+    ensures waiting { OnOk result (waiting.new.items ≡ waiting.old.items ++ requests.items) }
+    ensures unsent { OnOk result (unsent.new.items ≡ unsent.old.items ++ pong.now) }
+    ensures err { OnErr result ((waiting.new.items ≡ waiting.old.items)
+        × (unsent.new.items ≡ unsent.old.items)) }
+    ensures room { vec_capacity unsent.old ≤ vec_capacity unsent.new }
+{
+    unsent.reserve(pong.len())?;
+    let mut requests = VecDeque::from_vec(requests);
+    waiting.append(&mut requests)?;
+    unsent.extend_from_slice(pong.as_slice()).unwrap();
+    Ok(())
+}
+
+/// Judges the bytes, and puts what they ask for where it waits. On an error nothing waits that did
+/// not before. Of the scanner, see `hear`.
+pub fn take_all(
+    alloc: Global,
+    asker: &Asker<'_>,
+    unjudged: Unjudged<'_>,
+    scanner: &mut Scanner,
+    waiting: &mut VecDeque<Batch>,
+    unsent: &mut Vec<u8>,
+) -> Result<Taken, AllocError>
+    requires count { asker.now.count < 2 ^ 64 }
+    requires behind { IsBehind scanner.old.limits
+        (take unjudged.scanned unjudged.bytes.now) scanner.old }
+    ensures taken { IfOk result (λ taken. AreTaken (judged_of scanner.old.limits
+        (awaited_by asker.now) asker.now.count unjudged.entry.bytes.now)
+        unjudged.entry.bytes.now taken) }
+    ensures waiting { IfOk result (λ taken. waiting.new.items ≡ waiting.old.items
+        ++ (judged_of scanner.old.limits (awaited_by asker.now) asker.now.count
+        unjudged.entry.bytes.now).requests) }
+    ensures unsent { IfOk result (λ taken. unsent.new.items ≡ unsent.old.items ++ taken.out) }
+    ensures own { IfOk result (λ taken. unjudged.entry.scanned ≡ 0 → is_some taken.rest ≡ true) }
+    ensures after { IfOk result (λ taken. taken.fault ≡ None → IsBehind scanner.old.limits
+        (kept_of unjudged.entry.bytes.now (option_map (λ v. v.items) taken.rest)) scanner.new) }
+    ensures limits { scanner.new.limits ≡ scanner.old.limits }
+    ensures count { OnOk result (asker.now.count + length waiting.new.items
+        < 2 ^ 64 + length waiting.old.items) }
+    ensures err { OnErr result ((waiting.new.items ≡ waiting.old.items)
+        × (unsent.new.items ≡ unsent.old.items)) }
+    ensures room { vec_capacity unsent.old ≤ vec_capacity unsent.new }
+{
+    let SourceHeard {
+        requests,
+        rest,
+        pong: out,
+        awaits,
+        fault,
+    } = judge(alloc, asker, unjudged, scanner)?;
+    let rest = apart(alloc, rest, unjudged)?;
+    enter(requests, &out, waiting, unsent)?;
+    Ok(Taken {
+        rest,
+        out,
+        awaits,
+        fault,
+    })
+}
