@@ -2,7 +2,7 @@
 //! closed and told nothing.
 
 use crate::course::Course;
-use crate::peer::{rest_len, source, visit};
+use crate::peer::{told_len, visit};
 use crate::server::Server;
 use crate::site::Site;
 use anyhow::Result;
@@ -13,15 +13,6 @@ use std::rt::Clock;
 /// begins with.
 const FAULTY: &[u8] = b"\x94\xa1a\x01\x80\x81\xa5chunk\xa1x\xc1";
 
-/// How many bytes the source is told before it is closed.
-fn faulty_len<R: Net<Listener = TcpListener, Stream = TcpStream> + AllocGlobal>(
-    rt: &R,
-    site: Site,
-) -> Result<usize> {
-    let source = source(rt, site, FAULTY)?;
-    rest_len(rt.alloc(), &source)
-}
-
 /// The source, its server, and another source behind it.
 pub fn play<R: Net<Listener = TcpListener, Stream = TcpStream> + Clock + AllocGlobal>(
     rt: &R,
@@ -30,7 +21,7 @@ pub fn play<R: Net<Listener = TcpListener, Stream = TcpStream> + Clock + AllocGl
     course: &mut Course,
 ) -> Result<()> {
     course.begin("Remains");
-    course.put_seen("told", faulty_len(rt, site));
+    course.put_seen("told", told_len(rt, site.sources, FAULTY));
     let link = course.accept(rt, server)?;
     course.put_served("frame", &link);
     course.put_seen("next", visit(rt, site, &link));

@@ -3,7 +3,7 @@
 
 use crate::course::Course;
 use crate::frame::MESSAGE;
-use crate::peer::{rest_len, source, visit};
+use crate::peer::{told_len, visit};
 use crate::server::Server;
 use crate::site::Site;
 use anyhow::Result;
@@ -13,15 +13,6 @@ use std::rt::Clock;
 /// The key of an output that holds one entry of three bytes.
 pub const TOTAL: &str = "total_limit = 5\n";
 
-/// How many bytes a source is told before it is closed.
-fn refused_len<R: Net<Listener = TcpListener, Stream = TcpStream> + AllocGlobal>(
-    rt: &R,
-    site: Site,
-) -> Result<usize> {
-    let source = source(rt, site, MESSAGE)?;
-    rest_len(rt.alloc(), &source)
-}
-
 /// A source whose entry fills the output, one that is refused meanwhile, and one behind them.
 pub fn play<R: Net<Listener = TcpListener, Stream = TcpStream> + Clock + AllocGlobal>(
     rt: &R,
@@ -29,11 +20,10 @@ pub fn play<R: Net<Listener = TcpListener, Stream = TcpStream> + Clock + AllocGl
     server: &Server,
     course: &mut Course,
 ) -> Result<()> {
-    let first = source(rt, site, MESSAGE)?;
-    let link = server.accept(rt)?;
+    let (first, link) = server.meet(rt, site)?;
     course.begin("Filled");
     let name = course.put_frame("frame", &link);
-    course.put_seen("refused", refused_len(rt, site));
+    course.put_seen("refused", told_len(rt, site.sources, MESSAGE));
     course.acknowledge(&link, name);
     course.put_value("told", &first);
     course.put_seen("next", visit(rt, site, &link));

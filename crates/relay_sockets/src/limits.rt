@@ -32,7 +32,7 @@ fn put_sources<R: Net<Listener = TcpListener, Stream = TcpStream> + AllocGlobal>
     let second = connect(rt, site.sources)?;
     course.begin("Crowd");
     course.put_seen("both_stand", both_stand(&first, &second));
-    course.put_seen("third", told_len(rt, site.sources));
+    course.put_seen("third", told_len(rt, site.sources, b""));
     drop(second);
     course.put_seen("next_stands", next_stands(rt, site));
     course.end()

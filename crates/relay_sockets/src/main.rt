@@ -6,7 +6,6 @@
 
 mod asking;
 mod by_hand;
-mod closings;
 mod course;
 mod ends;
 mod facts;
@@ -15,16 +14,22 @@ mod fault;
 mod frame;
 mod full;
 mod hand;
+mod heard;
 mod hostile;
 mod keys;
 mod late;
 mod liar;
 mod limits;
+mod line;
 mod monitors;
 mod outputs;
 mod pacing;
 mod peer;
+mod post;
+mod primaries;
+mod record;
 mod reset;
+mod running;
 mod scenes;
 mod sealed;
 mod server;
@@ -34,6 +39,7 @@ mod standby;
 mod starts;
 mod strangers;
 mod torn;
+mod traffic;
 mod unread;
 mod unrouted;
 mod watched;
@@ -62,8 +68,8 @@ fn say_starts<R: Net<Listener = TcpListener, Stream = TcpStream> + Print + Alloc
 }
 
 fn main(rt: HostRuntime) -> Result<()> {
-    say_scenes(&rt, scenes::play_all(&rt)?)?;
-    say_scenes(&rt, failover::play_all(&rt)?)?;
+    say_scenes(&rt, scenes::play_all(&rt, &scenes::SCENES)?)?;
+    say_scenes(&rt, scenes::play_all(&rt, &scenes::LOSSES)?)?;
     say_starts(&rt)?;
     facts::say_each(&rt);
     println!(rt; "--")?;

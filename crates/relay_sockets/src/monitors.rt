@@ -90,7 +90,7 @@ fn put_places<R: Net<Listener = TcpListener, Stream = TcpStream> + AllocGlobal>(
 ) -> Result<()> {
     let mut standing = crowd(rt, site)?;
     course.begin("Places");
-    course.put_seen("seventeenth", told_len(rt, site.monitors));
+    course.put_seen("seventeenth", told_len(rt, site.monitors, b""));
     course.put_seen("next", is_next_told(rt, site, standing.pop(), text));
     course.put_seen("standing", count_told(rt.alloc(), &standing, text));
     course.end()

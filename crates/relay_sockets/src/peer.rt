@@ -37,13 +37,21 @@ pub fn connect<R: Net<Listener = TcpListener, Stream = TcpStream>>(
     Ok(stream)
 }
 
+/// The next connection at a listener, if one waits.
+pub fn poll(listener: &TcpListener) -> Result<Option<TcpStream>> {
+    listener.set_nonblocking(true)?;
+    let Ok((stream, _)) = listener.accept() else {
+        return Ok(None);
+    };
+    stream.set_nonblocking(false)?;
+    stream.set_read_timeout(Some(Duration::from_millis(PATIENCE)))?;
+    Ok(Some(stream))
+}
+
 /// The next connection at a listener.
 pub fn accept<R: Clock>(rt: &R, listener: &TcpListener) -> Result<TcpStream> {
-    listener.set_nonblocking(true)?;
     for _ in 0..TRIES {
-        if let Ok((stream, _)) = listener.accept() {
-            stream.set_nonblocking(false)?;
-            stream.set_read_timeout(Some(Duration::from_millis(PATIENCE)))?;
+        if let Some(stream) = poll(listener)? {
             return Ok(stream);
         }
         let _slept = thread::sleep(rt, Duration::from_millis(PAUSE));
@@ -110,12 +118,14 @@ pub fn rest_len(alloc: Global, stream: &TcpStream) -> Result<usize> {
     Ok(rest.len())
 }
 
-/// How many bytes a connection is told up to the close, if it says nothing.
+/// How many bytes a connection that sends these is told up to the close.
 pub fn told_len<R: Net<Listener = TcpListener, Stream = TcpStream> + AllocGlobal>(
     rt: &R,
     addr: SocketAddr,
+    bytes: &[u8],
 ) -> Result<usize> {
     let stream = connect(rt, addr)?;
+    send(&stream, bytes)?;
     rest_len(rt.alloc(), &stream)
 }
 

@@ -1,10 +1,12 @@
-//! The scenes, side by side: each has a relay of its own, whose workers wait out their turns.
+//! The scenes, side by side: each has a relay of its own.
 
-use crate::closings::Closings;
 use crate::course::Course;
+use crate::failover::Failover;
 use crate::full::TOTAL;
+use crate::heard::Heard;
 use crate::keys::KEY;
-use crate::peer::hurry;
+use crate::primaries::{Kind, Primaries};
+use crate::running::run_until;
 use crate::sealed::Sealed;
 use crate::server::Servers;
 use crate::site::{SEED, Site, free_site, put_output, put_relay, relay};
@@ -12,26 +14,20 @@ use crate::{
     fault, full, hostile, keys, late, liar, limits, monitors, outputs, reset, split, standby, torn,
     unread, unrouted, whole_way,
 };
-use anyhow::{Result, bail};
+use anyhow::{Result, anyhow, bail};
 use fwd_chunks::Counts;
 use fwd_loop::{Loop, StartFault};
 use std::alloc::AllocError;
 use std::net::{Net, TcpListener, TcpStream};
 use std::rt::Clock;
 use std::sync::Wait;
+use std::sync::atomic::{AtomicBool, Ordering};
 use std::thread;
 use std::thread::Threads;
 
-/// The turns of a relay and of each of its workers. A worker without a chunk waits 10 ms in a turn,
-/// so that it stands for twenty seconds at least.
-const TURNS: u64 = 2_000;
-
-/// What a relay came to, and why it closed its sources.
-type Ended = (Result<Vec<Counts>, StartFault>, Closings);
-
 /// A scene.
 #[derive(Clone, Copy)]
-enum Scene {
+pub enum Scene {
     WholeWay,
     Split,
     Outputs,
@@ -48,10 +44,12 @@ enum Scene {
     Unrouted,
     Full,
     Reset,
+    Failover(Failover),
+    Primaries(Primaries),
 }
 
-/// All scenes.
-const SCENES: [Scene; 16] = [
+/// Scenes of a relay, its sources, its servers and its monitors.
+pub static SCENES: [Scene; 16] = [
     Scene::WholeWay,
     Scene::Split,
     Scene::Outputs,
@@ -68,6 +66,25 @@ const SCENES: [Scene; 16] = [
     Scene::Unrouted,
     Scene::Full,
     Scene::Reset,
+];
+
+/// Scenes of servers that are lost, and come back.
+pub static LOSSES: [Scene; 15] = [
+    Scene::Failover(Failover::Closing),
+    Scene::Failover(Failover::ClosingTwo),
+    Scene::Failover(Failover::Returning),
+    Scene::Failover(Failover::Parting),
+    Scene::Failover(Failover::Silent),
+    Scene::Primaries(Primaries(Kind::BothClose, 1)),
+    Scene::Primaries(Primaries(Kind::BothClose, 2)),
+    Scene::Primaries(Primaries(Kind::ToStandby, 1)),
+    Scene::Primaries(Primaries(Kind::FirstCloses, 1)),
+    Scene::Primaries(Primaries(Kind::FirstCloses, 2)),
+    Scene::Primaries(Primaries(Kind::ToNext, 1)),
+    Scene::Primaries(Primaries(Kind::BothDie, 1)),
+    Scene::Primaries(Primaries(Kind::BothDie, 2)),
+    Scene::Primaries(Primaries(Kind::FirstDies, 1)),
+    Scene::Primaries(Primaries(Kind::FirstDies, 2)),
 ];
 
 impl Scene {
@@ -90,6 +107,8 @@ impl Scene {
             Scene::Unrouted => "a tag that no output takes",
             Scene::Full => "a full output",
             Scene::Reset => "sources that reset",
+            Scene::Failover(scene) => scene.title(),
+            Scene::Primaries(scene) => scene.title(),
         }
     }
 
@@ -112,27 +131,41 @@ impl Scene {
             Scene::Unrouted => 18,
             Scene::Full => 19,
             Scene::Reset => 20,
+            Scene::Failover(scene) => scene.host(),
+            Scene::Primaries(scene) => scene.host(),
         }
     }
 
-    /// Appends the settings of its relay.
-    fn put_settings(self, text: &mut String, site: Site) -> Result<(), AllocError> {
+    /// Appends the settings of a relay that is to show no losses.
+    fn put_plain(self, text: &mut String, site: Site) -> Result<(), AllocError> {
         let connections = match self {
             Scene::Limits | Scene::Reset => 2,
             _ => 8,
         };
-        let key = if self == Scene::Keys { KEY } else { "" };
+        let key = match self {
+            Scene::Keys => KEY,
+            _ => "",
+        };
         put_relay(text, site, connections, key)?;
         text.push_str(SEED)?;
         match self {
             Scene::Outputs => {
                 put_output(text, "a", "", &site.servers[..1])?;
-                put_output(text, "**", "", &site.servers[1..])
+                put_output(text, "**", "", &site.servers[1..2])
             }
-            Scene::Standby | Scene::Late => put_output(text, "**", "", &site.servers),
+            Scene::Standby | Scene::Late => put_output(text, "**", "", &site.servers[..2]),
             Scene::Unrouted => put_output(text, "a", "", &site.servers[..1]),
             Scene::Full => put_output(text, "**", TOTAL, &site.servers[..1]),
             _ => put_output(text, "**", key, &site.servers[..1]),
+        }
+    }
+
+    /// Appends the settings of its relay.
+    fn put_settings(self, text: &mut String, site: Site) -> Result<(), AllocError> {
+        match self {
+            Scene::Failover(scene) => scene.put_settings(text, site),
+            Scene::Primaries(scene) => scene.put_settings(text, site),
+            _ => self.put_plain(text, site),
         }
     }
 
@@ -149,8 +182,9 @@ impl Scene {
         rt: &R,
     ) -> Result<Servers> {
         let mut servers = Servers::new(rt, self.host())?;
-        if self == Scene::Late {
-            servers.first.close();
+        match self {
+            Scene::Late | Scene::Failover(Failover::Returning) => servers.first.close(),
+            _ => {}
         }
         Ok(servers)
     }
@@ -180,10 +214,13 @@ impl Scene {
             Scene::Unrouted => unrouted::play(rt, site, &servers.first, course),
             Scene::Full => full::play(rt, site, &servers.first, course),
             Scene::Reset => reset::play(rt, site, &servers.first, course),
+            Scene::Failover(scene) => scene.play(rt, site, servers, course),
+            Scene::Primaries(scene) => scene.play(rt, site, servers, course),
         }
     }
 
-    /// Runs its relay, and plays what happens around it meanwhile: what the relay came to.
+    /// Runs its relay, and plays what happens around it meanwhile: what the relay came to. It ends
+    /// with the play, whatever that came to.
     fn run<
         R: Net<Listener = TcpListener, Stream = TcpStream>
             + Threads
@@ -195,20 +232,19 @@ impl Scene {
         self,
         rt: &R,
         site: Site,
-        relay: Loop,
         servers: &mut Servers,
         course: &mut Course,
-    ) -> Result<Ended> {
+        heard: &mut Heard,
+    ) -> Result<Result<Vec<Counts>, StartFault>> {
+        let relay = self.relay(rt, site)?;
+        let is_over = AtomicBool::new(false);
+        let over = &is_over;
         let (ended, played) = thread::join(
             rt,
-            move || {
-                let mut closings = Closings::none(rt.alloc());
-                let counts = relay.run_watched(rt, &mut closings, TURNS);
-                (counts, closings)
-            },
+            move || run_until(rt, relay, heard, over),
             move || {
                 let played = self.play(rt, site, servers, course);
-                hurry(rt, rt.alloc(), site.monitors);
+                over.store(true, Ordering::SeqCst);
                 played
             },
         );
@@ -216,7 +252,29 @@ impl Scene {
         Ok(ended)
     }
 
-    /// The same with a relay of its own. What that came to is appended too.
+    /// Appends what its relay came to.
+    fn put_end(
+        self,
+        text: &mut String,
+        ended: &Result<Vec<Counts>, StartFault>,
+        heard: &Heard,
+    ) -> Result<()> {
+        match self {
+            Scene::Failover(scene) => scene.put_end(text, heard)?,
+            Scene::Primaries(scene) => scene.put_end(text, heard)?,
+            _ => write!(text, "\n  {ended:?}")?,
+        }
+        let why = &heard.closings;
+        if !why.is_empty() {
+            write!(text, "\n  closed: {why:?}")?;
+        }
+        match ended {
+            Ok(_) => Ok(()),
+            Err(fault) => Err(anyhow!("{fault}")),
+        }
+    }
+
+    /// The same. What its relay came to is appended too.
     fn put_run<
         R: Net<Listener = TcpListener, Stream = TcpStream>
             + Threads
@@ -225,14 +283,9 @@ impl Scene {
             + AllocGlobal
             + Sync,
     >(self, rt: &R, site: Site, servers: &mut Servers, course: &mut Course) -> Result<()> {
-        let relay = self.relay(rt, site)?;
-        let (counts, closings) = self.run(rt, site, relay, servers, course)?;
-        write!(course.text, "\n  {counts:?}")?;
-        let why = closings.all;
-        if !why.is_empty() {
-            write!(course.text, "\n  closed: {why:?}")?;
-        }
-        Ok(())
+        let mut heard = Heard::nothing(rt.alloc());
+        let ended = self.run(rt, site, servers, course, &mut heard)?;
+        self.put_end(&mut course.text, &ended, &heard)
     }
 
     /// The same with servers of its own.
@@ -267,7 +320,7 @@ impl Scene {
     }
 }
 
-/// What is printed of the scene at a place among all.
+/// What is printed of the scene at a place among these.
 fn course_of<
     R: Net<Listener = TcpListener, Stream = TcpStream>
         + Threads
@@ -275,8 +328,8 @@ fn course_of<
         + Clock
         + AllocGlobal
         + Sync,
->(rt: &R, place: usize) -> Result<Course> {
-    let Some(scene) = SCENES.get(place) else {
+>(rt: &R, scenes: &[Scene], place: usize) -> Result<Course> {
+    let Some(scene) = scenes.get(place) else {
         bail!("no scene");
     };
     let mut course = Course::new(rt.alloc());
@@ -284,7 +337,7 @@ fn course_of<
     Ok(course)
 }
 
-/// What is printed of all scenes, which are played side by side.
+/// What is printed of these scenes, which are played side by side.
 pub fn play_all<
     R: Net<Listener = TcpListener, Stream = TcpStream>
         + Threads
@@ -292,6 +345,11 @@ pub fn play_all<
         + Clock
         + AllocGlobal
         + Sync,
->(rt: &R) -> Result<Vec<Result<Course>>> {
-    Ok(thread::map_indices(rt, rt.alloc(), SCENES.len(), &|place| course_of(rt, place))?)
+>(rt: &R, scenes: &[Scene]) -> Result<Vec<Result<Course>>> {
+    Ok(thread::map_indices(
+        rt,
+        rt.alloc(),
+        scenes.len(),
+        &|place| course_of(rt, scenes, place),
+    )?)
 }

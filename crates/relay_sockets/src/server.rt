@@ -1,6 +1,8 @@
 //! The listeners of a scene's servers.
 
-use crate::peer::{accept, serve_text};
+use crate::frame::MESSAGE;
+use crate::peer::{accept, poll, serve_text, source};
+use crate::site::Site;
 use anyhow::{Result, anyhow};
 use std::net::{Ipv4Addr, Net, SocketAddr, TcpListener, TcpStream};
 use std::rt::Clock;
@@ -36,6 +38,25 @@ impl Server {
         }
     }
 
+    /// The next connection, if one waits. None does where the server is closed.
+    pub fn poll(&self) -> Result<Option<TcpStream>> {
+        match &self.listener {
+            Some(listener) => poll(listener),
+            None => Ok(None),
+        }
+    }
+
+    /// A source sends a request, for which the relay connects: both connections.
+    pub fn meet<R: Net<Listener = TcpListener, Stream = TcpStream> + Clock>(
+        &self,
+        rt: &R,
+        site: Site,
+    ) -> Result<(TcpStream, TcpStream)> {
+        let source = source(rt, site, MESSAGE)?;
+        let link = self.accept(rt)?;
+        Ok((source, link))
+    }
+
     /// Takes the next connection, reads a frame there and acknowledges it: its bytes in hexadecimal
     /// digits.
     pub fn serve<R: Clock + AllocGlobal>(&self, rt: &R) -> Result<String> {
@@ -58,26 +79,32 @@ impl Server {
     }
 }
 
-/// The two servers of a scene, of which some scenes need only the first.
+/// The three servers of a scene, of which most scenes need only the first or two.
 #[derive(Drop)]
 pub struct Servers {
     pub first: Server,
     pub second: Server,
+    pub third: Server,
 }
 
 impl Servers {
-    /// Two servers at the host of this number.
+    /// Three servers at the host of this number.
     pub fn new<R: Net<Listener = TcpListener, Stream = TcpStream>>(
         rt: &R,
         host: u8,
     ) -> Result<Servers> {
         let first = Server::new(rt, host)?;
         let second = Server::new(rt, host)?;
-        Ok(Servers { first, second })
+        let third = Server::new(rt, host)?;
+        Ok(Servers {
+            first,
+            second,
+            third,
+        })
     }
 
     /// Where they listen.
-    pub fn addresses(&self) -> [SocketAddr; 2] {
-        [self.first.address, self.second.address]
+    pub fn addresses(&self) -> [SocketAddr; 3] {
+        [self.first.address, self.second.address, self.third.address]
     }
 }

@@ -17,16 +17,16 @@ pub const SEED: &str =
 pub struct Site {
     pub sources: SocketAddr,
     pub monitors: SocketAddr,
-    pub servers: [SocketAddr; 2],
+    pub servers: [SocketAddr; 3],
 }
 
 /// Two free ports of the host of this number, for a relay to these servers.
 pub fn free_site<R: Net<Listener = TcpListener, Stream = TcpStream>>(
     rt: &R,
     host: u8,
-    servers: [SocketAddr; 2],
+    servers: [SocketAddr; 3],
 ) -> Result<Site> {
-    let [sources, monitors] = Servers::new(rt, host)?.addresses();
+    let [sources, monitors, _] = Servers::new(rt, host)?.addresses();
     Ok(Site {
         sources,
         monitors,
@@ -63,8 +63,17 @@ pub fn put_output(
         "[[output]]\nmatch = \"{pattern}\"\nflush_interval = 0\nchunk_limit = 2\n\
         ack_wait = 60000\nretry_wait = 1\n{keys}"
     )?;
+    put_servers(text, servers, 1)
+}
+
+/// Appends an output's servers, of which the first so many are no standbys.
+pub fn put_servers(
+    text: &mut String,
+    servers: &[SocketAddr],
+    primaries: usize,
+) -> Result<(), AllocError> {
     for (number, server) in servers.iter().enumerate() {
-        let standby = number > 0;
+        let standby = number >= primaries;
         write!(
             text,
             "[[output.server]]\naddress = \"{server}\"\nstandby = {standby}\n"

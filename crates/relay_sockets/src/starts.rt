@@ -58,7 +58,7 @@ pub fn put_starts<R: Net<Listener = TcpListener, Stream = TcpStream> + AllocGlob
 ) -> Result<()> {
     let server = Server::new(rt, host)?;
     let taken = server.address;
-    let site = free_site(rt, host, [taken; 2])?;
+    let site = free_site(rt, host, [taken; 3])?;
     let front = Site {
         sources: taken,
         ..site

@@ -2,8 +2,7 @@
 //! source goes on.
 
 use crate::course::Course;
-use crate::frame::MESSAGE;
-use crate::peer::{rest_len, round, source};
+use crate::peer::{round, told_len};
 use crate::server::Server;
 use crate::site::Site;
 use anyhow::Result;
@@ -13,15 +12,6 @@ use std::rt::Clock;
 /// A Message under the tag `b` that asks to be acknowledged as `y`.
 const UNROUTED: &[u8] = b"\x94\xa1b\x01\x80\x81\xa5chunk\xa1y";
 
-/// How many bytes a source is told before it is closed.
-fn unrouted_len<R: Net<Listener = TcpListener, Stream = TcpStream> + AllocGlobal>(
-    rt: &R,
-    site: Site,
-) -> Result<usize> {
-    let source = source(rt, site, UNROUTED)?;
-    rest_len(rt.alloc(), &source)
-}
-
 /// The good source and its server, and the other source between two requests.
 pub fn play<R: Net<Listener = TcpListener, Stream = TcpStream> + Clock + AllocGlobal>(
     rt: &R,
@@ -29,11 +19,10 @@ pub fn play<R: Net<Listener = TcpListener, Stream = TcpStream> + Clock + AllocGl
     server: &Server,
     course: &mut Course,
 ) -> Result<()> {
-    let good = source(rt, site, MESSAGE)?;
-    let link = server.accept(rt)?;
+    let (good, link) = server.meet(rt, site)?;
     course.begin("Routed");
     course.put_round(&good, &link);
-    course.put_seen("unrouted", unrouted_len(rt, site));
+    course.put_seen("unrouted", told_len(rt, site.sources, UNROUTED));
     course.put_seen("next", round(rt.alloc(), &good, &link));
     course.end()
 }

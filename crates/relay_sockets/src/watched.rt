@@ -89,7 +89,7 @@ fn play_sources<R: Net<Listener = TcpListener, Stream = TcpStream> + AllocGlobal
     site: Site,
 ) -> Result<()> {
     let source = source(rt, site, MESSAGE)?;
-    let too_many = told_len(rt, site.sources)?;
+    let too_many = told_len(rt, site.sources, b"")?;
     send(&source, b"\xc1")?;
     let told = rest_len(rt.alloc(), &source)?;
     ensure!(told == 0 && too_many == 0, "they are told something");
@@ -120,7 +120,8 @@ fn play<R: Net<Listener = TcpListener, Stream = TcpStream> + Clock + AllocGlobal
     play_server(rt, site, server)
 }
 
-/// Runs a relay, and plays what happens around it meanwhile.
+/// Runs a relay, and plays what happens around it meanwhile. Behind a play that failed the server
+/// is gone, so that no worker waits for it.
 fn around<
     R: Net<Listener = TcpListener, Stream = TcpStream>
         + Threads
@@ -128,12 +129,15 @@ fn around<
         + Clock
         + AllocGlobal
         + Sync,
->(rt: &R, site: Site, server: &Server, relay: Loop, heard: &mut Heard) -> Result<Vec<Counts>> {
+>(rt: &R, site: Site, server: &mut Server, relay: Loop, heard: &mut Heard) -> Result<Vec<Counts>> {
     let (ended, played) = thread::join(
         rt,
         move || relay.run_watched(rt, heard, TURNS),
         move || {
             let played = play(rt, site, server);
+            if played.is_err() {
+                server.close();
+            }
             hurry(rt, rt.alloc(), site.monitors);
             played
         },
@@ -172,11 +176,11 @@ pub fn say_run<
         + AllocGlobal
         + Sync,
 >(rt: &R, host: u8) -> Result<()> {
-    let server = Server::new(rt, host)?;
-    let site = free_site(rt, host, [server.address; 2])?;
+    let mut server = Server::new(rt, host)?;
+    let site = free_site(rt, host, [server.address; 3])?;
     let relay = relay_at(rt, site)?;
     let mut heard = Heard::NOTHING;
-    let counts = around(rt, site, &server, relay, &mut heard)?;
+    let counts = around(rt, site, &mut server, relay, &mut heard)?;
     say(rt, site, &heard)?;
     println!(rt; "{counts:?}")?;
     Ok(())

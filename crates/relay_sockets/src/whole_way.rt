@@ -1,8 +1,6 @@
 //! A request goes the whole way: to the relay, to its server, and back.
 
 use crate::course::Course;
-use crate::frame::MESSAGE;
-use crate::peer::source;
 use crate::server::Server;
 use crate::site::Site;
 use anyhow::Result;
@@ -16,8 +14,7 @@ pub fn play<R: Net<Listener = TcpListener, Stream = TcpStream> + Clock>(
     server: &Server,
     course: &mut Course,
 ) -> Result<()> {
-    let source = source(rt, site, MESSAGE)?;
-    let link = server.accept(rt)?;
+    let (source, link) = server.meet(rt, site)?;
     course.begin("Seen");
     let name = course.put_frame("frame", &link);
     course.put_silence("silent", &source);
