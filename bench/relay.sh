@@ -45,7 +45,8 @@
 # Spans: requests of 1,000 entries, 200,000 bytes, one outstanding, where a chunk has at most 50,000 bytes: the row
 # fails where one that goes over several chunks is not acknowledged within 10 s.
 #
-# Pieces: one request of 4,000,000 bytes that comes in pieces of 1,448 bytes, as from a slow network, see pieces.py.
+# Pieces: one request of 8,000,000 bytes that comes in pieces of 65,536 and of 1,448 bytes, the latter as from a slow
+# network, see pieces.py.
 #
 # Minutes: one relay hands on all that ten connections send, minute after minute, a line each: what a million entries
 # take is not to rise, nor is the memory.
@@ -55,7 +56,7 @@ export LC_ALL=C
 if [ "${QUICK:-0}" = 1 ]; then
     entries=${ENTRIES:-20000} idle_conns=100 idle_s=3 trips=300 long=1000000 minute_s=2
 else
-    entries=${ENTRIES:-1000000} idle_conns=1000 idle_s=10 trips=3000 long=4000000 minute_s=60
+    entries=${ENTRIES:-1000000} idle_conns=1000 idle_s=10 trips=3000 long=8000000 minute_s=60
 fi
 window=${WINDOW:-4}
 limit=${TIMEOUT:-60}
@@ -367,7 +368,11 @@ pieces() {
     start_sink "$folder/sink"
     start_middle
     "$folder/generator" --total 1 --entries 1 --timeout "$limit" 127.0.0.1 "$port" >"$folder/generator.out"
-    /usr/bin/python3 bench/relay/pieces.py "$port" "$long" 1448 1 "$middle" || fail pieces
+    for mode in forward packed; do
+        for piece in 65536 1448; do
+            /usr/bin/python3 bench/relay/pieces.py "$port" $mode "$long" $piece 200 "$middle" || fail pieces
+        done
+    done
     end_all
 }
 

@@ -8,7 +8,8 @@
 # it removes in the end, and prints one line a stream: MB/s of the fastest of five times TURNS turns (a MB is 10^6 bytes), and the
 # ratio to mp_check's.
 #
-# read_request is measured over values that were cut beforehand, so that its figure is its own.
+# read_request is measured over values that were cut beforehand, so that its figure is its own. Then the same streams in
+# pieces of 65,536 and of 1,448 bytes: through a scanner (feed), and through a connection (hear).
 #
 # packed_forward: mp_check and cut go over the packed entries as one bin, in no time; read_request goes over each entry. So
 # there its speed is compared with mp_check's over the entries alone, the line packed_entries (whose values are no requests).
@@ -89,4 +90,15 @@ for stream in message forward packed_forward packed_entries; do
     printf '%s %s %s %s\n' "$stream" "$peer" "$cut" "$read" |
         awk '{ printf "%-16s %10d %10d %7.2f %14d %7.2f\n", $1, $2, $3, $3 / $2, $4, $4 / $2 }'
     "$bench" values count requests 1 "$folder/$stream" | sed 's/^/    /'
+done
+
+# in pieces: a scanner that is fed, and a connection that hears, makes the requests and drops them. packed_entries are no
+# requests, and end a connection
+printf '%-16s %10s %10s %7s %10s %7s %10s %7s %10s %7s\n' stream mp_check feed:65536 ratio feed:1448 ratio hear:65536 ratio hear:1448 ratio
+for stream in message forward packed_forward; do
+    speed "$folder/check" "$turns" "$folder/$stream" >"$folder/peer"
+    for way in feed:65536 feed:1448 hear:65536 hear:1448; do
+        speed "$bench" values speed "$way" "$turns" "$folder/$stream"
+    done | cat "$folder/peer" - | tr '\n' ' ' |
+        awk -v stream="$stream" '{ printf "%-16s %10d", stream, $1; for (i = 2; i <= 5; i++) printf " %10d %7.2f", $i, $i / $1; print "" }'
 done

@@ -1,10 +1,10 @@
 """Sends one request in small pieces, as a slow network brings it, and prints what the process in the middle took.
 
-    /usr/bin/python3 pieces.py PORT BYTES PIECE PAUSE_MS PID
+    /usr/bin/python3 pieces.py PORT MODE BYTES PIECE PAUSE_US PID
 
-The request has about BYTES bytes of entries, in PackedForward mode, and each PIECE bytes of it are followed by a pause.
-It prints how long it took to send, how long the acknowledgement took behind that, and the processor seconds of PID
-meanwhile.
+The request has about BYTES bytes of entries, in MODE (forward or packed), and each PIECE bytes of it are followed by a
+pause. It prints how long it took to send, how long the acknowledgement took behind that, and the processor milliseconds
+of PID meanwhile, which the scheduler counts in nanoseconds.
 """
 
 import base64
@@ -17,36 +17,39 @@ import time
 ENTRY = b"\x92\xce\x65\x53\xf1\x00\x81\xa7message\xd9\xb0" + b"x" * 0xB0
 
 
-def request(size, chunk):
+def request(mode, size, chunk):
     """A request with a chunk option."""
-    packed = ENTRY * (size // len(ENTRY))
-    return b"\x93\xa3app\xc6" + len(packed).to_bytes(4, "big") + packed + b"\x81\xa5chunk\xb8" + chunk
+    count = size // len(ENTRY)
+    many = count * len(ENTRY) if mode == "packed" else count
+    head = {"packed": b"\xc6", "forward": b"\xdd"}[mode] + many.to_bytes(4, "big")
+    return b"\x93\xa3app" + head + ENTRY * count + b"\x81\xa5chunk\xb8" + chunk
 
 
-def processor_s(pid):
-    """User and system seconds that a process took."""
-    words = pathlib.Path(f"/proc/{pid}/stat").read_text().rsplit(") ", 1)[1].split()
-    return (int(words[11]) + int(words[12])) / os.sysconf("SC_CLK_TCK")
+def processor_ms(pid):
+    """User and system milliseconds that the threads of a process took."""
+    threads = pathlib.Path(f"/proc/{pid}/task").iterdir()
+    return sum(int((thread / "schedstat").read_text().split()[0]) for thread in threads) / 1e6
 
 
-def main(port, size, piece, pause_ms, pid):
+def main(port, mode, size, piece, pause_us, pid):
     chunk = base64.b64encode(os.urandom(16))
-    whole = request(size, chunk)
+    whole = request(mode, size, chunk)
     stream = socket.create_connection(("127.0.0.1", port), timeout=60)
     stream.setsockopt(socket.IPPROTO_TCP, socket.TCP_NODELAY, 1)
-    before, start = processor_s(pid), time.monotonic()
+    before, start = processor_ms(pid), time.monotonic()
     for at in range(0, len(whole), piece):
         stream.sendall(whole[at : at + piece])
-        time.sleep(pause_ms / 1000)
+        time.sleep(pause_us / 1e6)
     sent = time.monotonic()
     heard = stream.recv(100)
     end = time.monotonic()
     assert heard.endswith(chunk), heard
-    took = processor_s(pid) - before
+    took = processor_ms(pid) - before
     print(
-        f"a request of {len(whole)} bytes in pieces of {piece}, {pause_ms} ms apart: sent in {sent - start:.2f} s, "
-        f"acknowledged {end - sent:.3f} s later, {took:.2f} processor seconds"
+        f"a {mode} request of {len(whole)} bytes in pieces of {piece}, {pause_us} us apart: sent in {sent - start:.2f} s, "
+        f"acknowledged {end - sent:.3f} s later, {took:.1f} processor ms"
     )
 
 
-main(*map(int, sys.argv[1:]))
+port, mode, *numbers = sys.argv[1:]
+main(int(port), mode, *map(int, numbers))
