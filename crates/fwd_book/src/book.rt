@@ -193,11 +193,11 @@ impl Book {
     }
 
     /// Makes room for a request. On an error nothing has changed.
-    pub fn prepare(&mut self, alloc: Global, batch: &Batch) -> Result<(), AllocError>
+    pub fn prepare(&mut self, batch: &Batch) -> Result<(), AllocError>
         ensures ok { OnOk result (self.new ≡ record self.old { ready = Some batch.now }) }
         ensures err { OnErr result (self.new ≡ self.old) }
     {
-        let request = batch.share(alloc)?;
+        let request = batch.share()?;
         self.requests.reserve()?;
         self.numbers.reserve(request.len())?;
         self.ready = Some(request);
@@ -255,7 +255,7 @@ impl Book {
           live = live_settles self.old.live (arc_value acked);
         } }
     {
-        let count = acked.ends().len();
+        let count = acked.count();
         self.numbers.put(acked);
         count
     }
@@ -418,6 +418,6 @@ impl Book {
             return Ok(None);
         }
         let parts = self.numbers.parts(alloc, kept.spans())?;
-        Ok(Some(Receipt::new(alloc, kept, parts)?))
+        Ok(Some(Receipt::new(kept, parts)?))
     }
 }

@@ -8,7 +8,7 @@ ghost use Rattle.fwd_book.specs.Receipts.{shown_by};
 use crate::entered_request::EnteredRequest;
 use fwd_modes::{Batch, Origin};
 use fwd_session::Acked;
-use std::alloc::{AllocError, Global};
+use std::alloc::AllocError;
 use std::marker::Model;
 use std::sync::Arc;
 
@@ -103,11 +103,7 @@ impl Model for Receipt {
 
 impl Receipt {
     /// The receipt of a request by its parts. The only error is out of memory.
-    pub(crate) fn new(
-        alloc: Global,
-        kept: &EnteredRequest,
-        parts: Vec<Part>,
-    ) -> Result<Self, AllocError>
+    pub(crate) fn new(kept: &EnteredRequest, parts: Vec<Part>) -> Result<Self, AllocError>
         requires shown { flat_map shown_by parts.items ≡ kept.now.entries }
         ensures { IfOk result (λ receipt. receipt ≡ record {
           origin = kept.now.origin;
@@ -119,7 +115,7 @@ impl Receipt {
     {
         Ok(Receipt {
             origin: kept.origin(),
-            request: kept.request().share(alloc)?,
+            request: kept.request().share()?,
             parts,
         })
     }

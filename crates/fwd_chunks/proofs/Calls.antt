@@ -12,7 +12,6 @@ use Rattle.fwd_chunks.specs.Soundness.{IsSound}
 use Rattle.fwd_chunks.specs.Stored.{TagFits, IsStored, put_back}
 use Rattle.fwd_chunks.proofs.Sounding.{all-map, all-filter, bytes-total, held-total, total-map, total-filter, changed-sound, settles-sound}
 use Rattle.fwd_chunks.proofs.Places.{filter-found, filter-gone, if_taken, taken-found}
-use Rattle.std.proofs.lemmas.Option.{same_Some}
 
 pub looks-stored : (b : LiveBuffer) (moment size : ℕ) → IsStored b size
     → IsStored (record b { moment = moment }) size

@@ -491,6 +491,13 @@ pub fitting-over : (limit used : ℕ) (entries : List (List ℕ)) → limit < us
 fitting-over limit used [] lt = refl
 fitting-over limit used (e ∷ entries) lt = sym (ap (λ t. cond t (suc (fitting limit (used + length e) entries)) 0) (lt-leb (used + length e) limit (omega (arith, lt))))
 
+-- where all of them fit
+pub fitting-all : (limit used : ℕ) (entries : List (List ℕ)) → used + size_of entries ≤ limit
+    → fitting limit used entries ≡ length entries
+fitting-all limit used [] le = refl
+fitting-all limit used (e ∷ entries) le =
+    ap (λ t. cond t (suc (fitting limit (used + length e) entries)) 0) (le-leb (used + length e) limit (omega (arith, le))) ∙ ap suc (fitting-all limit (used + length e) entries (omega (arith, le)))
+
 pub fitting-within : (limit used : ℕ) (entries : List (List ℕ))
     → fitting limit used entries ≤ length entries
 fitting-within limit used [] = omega arith

@@ -25,7 +25,7 @@ use Rattle.std.proofs.lemmas.Bool.{eqb-true}
 
 -- ---- the numbers of the live part
 
-abbrev live_numbers : BufferHistory → List ℕ
+abbrev pub live_numbers : BufferHistory → List ℕ
 live_numbers h = numbers_of (unsettled h)
 
 live_numbers-is : (h : BufferHistory)
@@ -38,11 +38,11 @@ live_numbers-has h k =
     ap (has_number k) (live_numbers-is h) ∙ has_number-filter k (λ j. not (has_number j h.acknowledged)) (numbers_of h.cells) ∙ ap (λ b. b && not (has_number k h.acknowledged)) (numbers-has k h.cells)
 
 -- what is known of a live number
-record InLive (h : BufferHistory) (k : ℕ) : Type 0 where
-  has : has_cell k h.cells ≡ true
-  unacked : has_number k h.acknowledged ≡ false
+pub record InLive (h : BufferHistory) (k : ℕ) : Type 0 where
+  pub has : has_cell k h.cells ≡ true
+  pub unacked : has_number k h.acknowledged ≡ false
 
-in_live : (h : BufferHistory) (k : ℕ) → has_number k (live_numbers h) ≡ true → InLive h k
+pub in_live : (h : BufferHistory) (k : ℕ) → has_number k (live_numbers h) ≡ true → InLive h k
 in_live h k e = by (has_cell k h.cells) refl (has_number k h.acknowledged) refl (sym (live_numbers-has h k) ∙ e)
   where
     by : (a : Bool) → has_cell k h.cells ≡ a → (b : Bool) → has_number k h.acknowledged ≡ b

@@ -2,6 +2,7 @@ mod Examples
 pub mod Numbers
 pub mod CellLemmas
 pub mod Packing
+pub mod Sending
 pub mod Sane
 pub mod News
 pub mod Follows
@@ -13,7 +14,10 @@ pub mod Filling
 pub mod Calls
 pub mod Admission
 pub mod Taken
-pub mod Living
+pub mod TagOrder
+pub mod Unpacking
+pub mod Counted
+pub mod Reports
 pub mod Opened
 pub mod Runs
 pub mod Slotting

@@ -1,6 +1,6 @@
 -- Each open chunk is found by its tag's number.
-use Rattle.std.proofs.Common.{◌≡◌, ◌≢◌, ℕ, suc, ◌+◌, ◌-◌, ◌<◌, ◌≤◌, Bool, true, false, cond, List, [], ◌∷◌, ◌++◌, length, Option, Some, None, IfSome, IfNone, refl, sym, ap, ◌∙◌, subst, arith}
-use Rattle.std.specs.Prelude.{find, filter, not, ◌==◌, nat_le, option_map}
+use Rattle.std.proofs.Common.{◌≡◌, ℕ, suc, ◌+◌, ◌-◌, ◌<◌, ◌≤◌, Bool, true, false, cond, List, [], ◌∷◌, ◌++◌, length, Option, Some, None, IfSome, IfNone, refl, sym, ap, ◌∙◌, subst, arith}
+use Rattle.std.specs.Prelude.{find, filter, not, ◌==◌, nat_le, option_map, IsSome}
 use Rattle.std.specs.List.{AllByRecursion}
 use Rattle.std.specs.Str.{bytes_eq}
 use Rattle.std.proofs.lemmas.Bool.{and_parts}
@@ -8,11 +8,12 @@ use Rattle.std.proofs.lemmas.List.{append-nil}
 use Rattle.std.proofs.lemmas.Slice.Eq.{bytes_eq-Decides}
 use Rattle.fwd_chunks.specs.declared.chunk.Chunk.{Chunk}
 use Rattle.fwd_chunks.specs.declared.stage.Stage.TheVariants.{Open, Closed}
+use Rattle.fwd_chunks.specs.declared.tag_entry.TagEntry.{TagEntry}
 use Rattle.fwd_chunks.specs.Cells.{size_of}
 use Rattle.fwd_chunks.specs.Live.{is_open, is_at, is_open_of, staged, changed}
 use Rattle.fwd_chunks.specs.Soundness.{IsBefore, AreInOrder}
 use Rattle.fwd_chunks.specs.Stored.{put_back}
-use Rattle.fwd_chunks.specs.Newest.{tag_number, HasNumber, AreNewest}
+use Rattle.fwd_chunks.specs.Newest.{tag_entry, tag_number, HasNumber, AreNewest}
 use Rattle.fwd_chunks.specs.Filling.{open_chunk, fresh_from, fresh_of, extra, needed, stage_last, joined_by, filled_in}
 use Rattle.fwd_chunks.proofs.Numbers.{not_from, true_false, eq_same}
 use Rattle.fwd_chunks.proofs.CellLemmas.{size_of-push}
@@ -80,13 +81,13 @@ found-same p (x ∷ xs) e h f = by (p x) refl (found-same p xs e h.1)
         ap (λ d. cond d (Some x) (find (is_at e.number) xs)) apart ∙ rest later
 
 -- an open chunk of the tag has the tag's number
-pub open-number : (numbers : List (List ℕ × ℕ)) (tag : List ℕ) (d : Chunk) → HasNumber numbers d
+pub open-number : (numbers : List (List ℕ × TagEntry)) (tag : List ℕ) (d : Chunk) → HasNumber numbers d
     → is_open_of tag d ≡ true → tag_number tag numbers ≡ Some d.number
 open-number numbers tag d has t =
     let parts = and_parts (is_open d.stage) (bytes_eq d.tag tag) t in
     ap (λ l. tag_number l numbers) (sym ((bytes_eq-Decides d.tag tag).0 parts.1)) ∙ has parts.0
 
-pub open-untold : (numbers : List (List ℕ × ℕ)) (xs : List Chunk) (tag : List ℕ)
+pub open-untold : (numbers : List (List ℕ × TagEntry)) (xs : List Chunk) (tag : List ℕ)
     → AreNewest numbers xs → tag_number tag numbers ≡ None → find (is_open_of tag) xs ≡ None
 open-untold numbers [] tag all e = refl
 open-untold numbers (x ∷ xs) tag all e =
@@ -98,7 +99,7 @@ abbrev pub if_open : List ℕ → Option Chunk → Option Chunk
 if_open tag None = None
 if_open tag (Some c) = cond (is_open_of tag c) (Some c) None
 
-pub open-told : (numbers : List (List ℕ × ℕ)) (xs : List Chunk) (tag : List ℕ) (n : ℕ)
+pub open-told : (numbers : List (List ℕ × TagEntry)) (xs : List Chunk) (tag : List ℕ) (n : ℕ)
     → AreNewest numbers xs → AreInOrder xs → tag_number tag numbers ≡ Some n
     → find (is_open_of tag) xs ≡ if_open tag (find (is_at n) xs)
 open-told numbers [] tag n all order e = refl
@@ -125,7 +126,7 @@ open-told numbers (x ∷ xs) tag n all order e = by (is_open_of tag x) (is_at n 
 -- ---- what calls leave
 
 -- where no chunk is opened
-pub newest-changed : (numbers : List (List ℕ × ℕ)) (test : Chunk → Bool) (f : Chunk → Chunk)
+pub newest-changed : (numbers : List (List ℕ × TagEntry)) (test : Chunk → Bool) (f : Chunk → Chunk)
     (xs : List Chunk) → ((c : Chunk) → is_open (f c).stage ≡ false) → AreNewest numbers xs
     → AreNewest numbers (changed test f xs)
 newest-changed numbers test f xs shut all = all-map (HasNumber numbers) (HasNumber numbers) (λ c. cond (test c) (f c) c) (λ c has. by c has (test c)) xs all
@@ -134,21 +135,23 @@ newest-changed numbers test f xs shut all = all-map (HasNumber numbers) (HasNumb
     by c has true = λ now. absurd (true_false (is_open (f c).stage) now (shut c))
     by c has false = has
 
-pub newest-put_back : (numbers : List (List ℕ × ℕ)) (n : ℕ) (lost : Bool) (moment : ℕ)
+pub newest-put_back : (numbers : List (List ℕ × TagEntry)) (n : ℕ) (lost : Bool) (moment : ℕ)
     (xs : List Chunk) → AreNewest numbers xs
     → AreNewest numbers (changed (is_at n) (put_back lost moment) xs)
 newest-put_back numbers n true moment xs all = newest-changed numbers (is_at n) (put_back true moment) xs (λ c. refl) all
 newest-put_back numbers n false moment xs all = newest-changed numbers (is_at n) (put_back false moment) xs (λ c. refl) all
 
--- where a chunk leaves, and its number
-pub newest-filter : (numbers after : List (List ℕ × ℕ)) (n : ℕ) (xs : List Chunk)
-    → ((t : List ℕ) (m : ℕ) → m ≢ n → tag_number t numbers ≡ Some m → tag_number t after ≡ Some m)
+-- where a chunk leaves: a tag that something is kept for has the number that it had
+pub newest-filter : (numbers after : List (List ℕ × TagEntry)) (n : ℕ) (xs : List Chunk)
+    → ((t : List ℕ) → IsSome (tag_entry t after) → tag_number t after ≡ tag_number t numbers)
+    → AllByRecursion (λ d. IsSome (tag_entry d.tag after)) (filter (λ d. not (is_at n d)) xs)
     → AreNewest numbers xs → AreNewest after (filter (λ d. not (is_at n d)) xs)
-newest-filter numbers after n xs kept all = all-kept (HasNumber numbers) (HasNumber after) (λ d. not (is_at n d)) xs (λ d other has now.
-    kept d.tag d.number (λ same. true_false (not (is_at n d)) other (ap not (ap (λ k. k == n) same ∙ eq_same n))) (has now)) all
+newest-filter numbers after n xs kept there all =
+    all-with (HasNumber numbers) (λ d. IsSome (tag_entry d.tag after)) (HasNumber after) (filter (λ d. not (is_at n d)) xs) (λ d has some now. kept d.tag some ∙ has now)
+    (all-kept (HasNumber numbers) (HasNumber numbers) (λ d. not (is_at n d)) xs (λ d other has. has) all) there
 
 -- where no number changes
-pub newest-kept : (numbers after : List (List ℕ × ℕ)) (xs : List Chunk)
+pub newest-kept : (numbers after : List (List ℕ × TagEntry)) (xs : List Chunk)
     → ((t : List ℕ) (m : ℕ) → tag_number t numbers ≡ Some m → tag_number t after ≡ Some m)
     → AreNewest numbers xs → AreNewest after xs
 newest-kept numbers after xs kept all = all-with (HasNumber numbers) (HasNumber numbers) (HasNumber after) xs (λ c has also now. kept c.tag c.number (has now)) all all
@@ -214,7 +217,7 @@ before-found q [] ys d h e = tt
 before-found q (x ∷ xs) ys d h e = (found-all (IsBefore x) q ys d e (all-right (IsBefore x) xs ys h.0), before-found q xs ys d h.1 e)
 
 -- the chunks that are not new
-newest-joined : (numbers : List (List ℕ × ℕ)) (items : List Chunk) (tag : List ℕ) (c : Chunk)
+newest-joined : (numbers : List (List ℕ × TagEntry)) (items : List Chunk) (tag : List ℕ) (c : Chunk)
     (front : List (List ℕ)) (b : Bool) → AreInOrder items → AreNewest numbers items
     → find (is_open_of tag) items ≡ Some c
     → AreNewest numbers (changed (is_at c.number) (joined_by front (stage_last b)) items)
@@ -239,7 +242,7 @@ newest-joined numbers (x ∷ xs) tag c front b order all e = by (is_open_of tag 
         let apart : is_at c.number x ≡ false = not_from (is_at c.number x) (λ g. absurd (omega (arith, lower, eqb-true x.number c.number g))) in
         subst (AreNewest numbers) (λ i. cond (sym apart i) (f x) x ∷ changed (is_at c.number) f xs) (all.0, rest later)
 
-newest-filled : (numbers : List (List ℕ × ℕ)) (items : List Chunk) (joins : Option ℕ)
+newest-filled : (numbers : List (List ℕ × TagEntry)) (items : List Chunk) (joins : Option ℕ)
     (front : List (List ℕ)) (tag : List ℕ) (b : Bool)
     → joins ≡ option_map (λ c. c.number) (find (is_open_of tag) items) → AreInOrder items
     → AreNewest numbers items → AreNewest numbers (filled_in joins front (stage_last b) items)
@@ -250,7 +253,7 @@ newest-filled numbers items joins front tag b e order all = subst (λ o. AreNewe
     by None f = all
     by (Some c) f = newest-joined numbers items tag c front b order all f
 
-pub newest-entered : (numbers after : List (List ℕ × ℕ)) (items : List Chunk) (joins : Option ℕ)
+pub newest-entered : (numbers after : List (List ℕ × TagEntry)) (items : List Chunk) (joins : Option ℕ)
     (front back : List (List ℕ)) (limit : ℕ) (tag : List ℕ) (since first : ℕ) (newest : Option ℕ)
     → AreNewest numbers items → AreInOrder items
     → joins ≡ option_map (λ c. c.number) (find (is_open_of tag) items)
@@ -258,7 +261,7 @@ pub newest-entered : (numbers after : List (List ℕ × ℕ)) (items : List Chun
     → (needed limit back ≤ 0 → newest ≡ None)
     → IfSome newest
     (λ n. (t : List ℕ) → tag_number t after ≡ cond (bytes_eq tag t) (Some n) (tag_number t numbers))
-    → IfNone newest (after ≡ numbers)
+    → IfNone newest ((t : List ℕ) → tag_number t after ≡ tag_number t numbers)
     → AreInOrder
     (filled_in joins front (stage_last (length (fresh_of limit tag since first back) == 0)) items
     ++ fresh_of limit tag since first back)
@@ -267,9 +270,9 @@ pub newest-entered : (numbers after : List (List ℕ × ℕ)) (items : List Chun
     ++ fresh_of limit tag since first back)
 newest-entered numbers after items joins front [] limit tag since first newest all sorted at some none put same order =
     let last : newest ≡ None = none (omega arith) in
-    let equal : after ≡ numbers = subst (λ o. IfNone o (after ≡ numbers)) last same in
+    let equal : (t : List ℕ) → tag_number t after ≡ tag_number t numbers = subst (λ o. IfNone o ((t : List ℕ) → tag_number t after ≡ tag_number t numbers)) last same in
     let old = newest-filled numbers items joins front tag true at sorted all in
-    subst (λ l. AreNewest after l) (sym (append-nil (filled_in joins front Open items))) (subst (λ l. AreNewest l (filled_in joins front Open items)) (sym equal) old)
+    subst (λ l. AreNewest after l) (sym (append-nil (filled_in joins front Open items))) (newest-kept numbers after (filled_in joins front Open items) (λ t m h. equal t ∙ h) old)
 newest-entered numbers after items joins front (e ∷ back) limit tag since first newest all sorted at some none put same order =
     let fresh = fresh_from limit tag since first (e ∷ []) back in
     let kept = filled_in joins front (stage_last (length fresh == 0)) items in

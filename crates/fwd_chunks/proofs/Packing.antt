@@ -1,34 +1,18 @@
--- Entries one after the other: how many, how many bytes, where they end, and what is cut of them.
-use Rattle.std.proofs.Common.{◌≡◌, ℕ, zero, suc, ◌+◌, ◌-◌, ◌<◌, ◌≤◌, List, [], ◌∷◌, ◌++◌, length, take, drop, get_or, map, refl, sym, ap, ◌∙◌, subst, append_assoc, arith}
-use Rattle.std.specs.List.{concat, AllByRecursion}
-use Rattle.std.proofs.lemmas.List.{length-append, take_at, drop_at}
-use Rattle.fwd_modes.specs.Entries.{cut_at, ends_from, AreCut}
-use Rattle.fwd_modes.proofs.EntryLemmas.{length_ends}
+-- Entries one after the other: how many bytes, where they end, and what is cut of them.
+use Rattle.std.proofs.Common.{◌≡◌, ℕ, zero, suc, ◌+◌, ◌-◌, ◌<◌, ◌≤◌, List, [], ◌∷◌, ◌++◌, length, take, drop, get_or, refl, sym, ap, ◌∙◌, arith, take-add, take-take, drop-drop, length-drop, length-take-le, length-append}
+use Rattle.std.specs.List.{concat}
+use Rattle.std.proofs.lemmas.List.{drop-take}
+use Rattle.fwd_modes.specs.Entries.{AreFull, cut_at, ends_from, ends_of}
+use Rattle.fwd_modes.proofs.EntryLemmas.{cut_joined}
 use Rattle.fwd_chunks.specs.Cells.{size_of}
 
 pub size_joined : (entries : List (List ℕ)) → size_of entries ≡ length (concat entries)
 size_joined [] = refl
 size_joined (e ∷ entries) = omega (arith, size_joined entries, length-append e (concat entries))
 
-pub ends_count : (start : ℕ) (ends bytes : List ℕ) → AreCut start ends bytes
-    → length (cut_at start ends bytes) ≡ length ends
-ends_count start ends bytes cut = sym (length_ends start (cut_at start ends bytes)) ∙ ap length cut.ending
-
-pub joined_size : (start : ℕ) (ends bytes : List ℕ) → AreCut start ends bytes
-    → size_of (cut_at start ends bytes) ≡ length bytes
-joined_size start ends bytes cut = size_joined (cut_at start ends bytes) ∙ ap length cut.joined
-
--- what is joined and cut at its own ends is what it was
-pub cut_joined : (place : ℕ) (entries : List (List ℕ))
-    → cut_at place (ends_from place entries) (concat entries) ≡ entries
-cut_joined place [] = refl
-cut_joined place (e ∷ entries) =
-    let long : (place + length e) - place ≡ length e = omega arith in
-    rw (long, take_at e (concat entries) (length e) refl, drop_at e (concat entries) (length e) refl) (ap (λ es. e ∷ es) (cut_joined (place + length e) entries))
-
-pub AreCut-joined : (place : ℕ) (entries : List (List ℕ))
-    → AreCut place (ends_from place entries) (concat entries)
-AreCut-joined place entries = record { joined = ap concat (cut_joined place entries); ending = ap (ends_from place) (cut_joined place entries) }
+pub size_append : (xs ys : List (List ℕ)) → size_of (xs ++ ys) ≡ size_of xs + size_of ys
+size_append [] ys = omega arith
+size_append (x ∷ xs) ys = omega (arith, size_append xs ys)
 
 -- ---- the first so many, and the others
 
@@ -67,46 +51,48 @@ concat-drop (suc n) (e ∷ entries) = front e (size_of (take n entries)) (concat
     front [] k ys = (let same : 0 + k ≡ k = omega arith in ap (λ m. drop m ys) same)
     front (x ∷ xs) k ys = (let same : suc (length xs) + k ≡ suc (length xs + k) = omega arith in ap (λ m. drop m (x ∷ (xs ++ ys))) same ∙ front xs k ys)
 
-module _ (start : ℕ) (ends bytes : List ℕ) (cut : AreCut start ends bytes) (n : ℕ) where
-  abbrev cut_size : ℕ
-  cut_size = size_of (take n (cut_at start ends bytes))
+-- ---- a row of entries, behind so many others
 
-  front-ends : take n ends ≡ ends_from start (take n (cut_at start ends bytes))
-  front-ends = ap (take n) (sym cut.ending) ∙ ends-take n start (cut_at start ends bytes)
+pub row_size : (f c : ℕ) (entries : List (List ℕ))
+    → size_of (take (f + c) entries)
+    ≡ size_of (take f entries) + size_of (take c (drop f entries))
+row_size f c entries = ap size_of (take-add f c entries) ∙ size_append (take f entries) (take c (drop f entries))
 
-  front-bytes : take cut_size bytes ≡ concat (take n (cut_at start ends bytes))
-  front-bytes = ap (take cut_size) (sym cut.joined) ∙ concat-take n (cut_at start ends bytes)
+pub row_bytes : (f c : ℕ) (entries : List (List ℕ))
+    → take (size_of (take c (drop f entries))) (drop (size_of (take f entries)) (concat entries))
+    ≡ concat (take c (drop f entries))
+row_bytes f c entries = ap (take (size_of (take c (drop f entries)))) (concat-drop f entries) ∙ concat-take c (drop f entries)
 
-  back-ends : drop n ends ≡ ends_from (start + cut_size) (drop n (cut_at start ends bytes))
-  back-ends = ap (drop n) (sym cut.ending) ∙ ends-drop n start (cut_at start ends bytes)
+pub row_ends : (f c : ℕ) (entries : List (List ℕ))
+    → take c (drop f (ends_of entries))
+    ≡ ends_from (size_of (take f entries)) (take c (drop f entries))
+row_ends f c entries =
+    let place : 0 + size_of (take f entries) ≡ size_of (take f entries) = omega arith in
+    ap (take c) (ends-drop f 0 entries ∙ ap (λ p. ends_from p (drop f entries)) place) ∙ ends-take c (size_of (take f entries)) (drop f entries)
 
-  back-bytes : drop cut_size bytes ≡ concat (drop n (cut_at start ends bytes))
-  back-bytes = ap (drop cut_size) (sym cut.joined) ∙ concat-drop n (cut_at start ends bytes)
+pub row_length : (f c : ℕ) (entries : List (List ℕ)) → f + c ≤ length entries
+    → length (take c (drop f entries)) ≡ c
+row_length f c entries le = length-take-le c (drop f entries) (omega (arith, le, length-drop f entries))
 
-  pub front_cut : AreCut start (take n ends)
-      (take (size_of (take n (cut_at start ends bytes))) bytes)
-  front_cut = rw (front-ends, front-bytes) (AreCut-joined start (take n (cut_at start ends bytes)))
+pub row_front : (f c n : ℕ) (entries : List (List ℕ)) → n ≤ c
+    → take n (drop f entries) ≡ take n (take c (drop f entries))
+row_front f c n entries le = sym (take-take n c (drop f entries) le)
 
-  pub front_is : cut_at start (take n ends)
-      (take (size_of (take n (cut_at start ends bytes))) bytes) ≡ take n (cut_at start ends bytes)
-  front_is = (λ i. cut_at start (front-ends i) (front-bytes i)) ∙ cut_joined start (take n (cut_at start ends bytes))
+pub row_back : (f c n : ℕ) (entries : List (List ℕ)) → n ≤ c
+    → take (c - n) (drop (f + n) entries) ≡ drop n (take c (drop f entries))
+row_back f c n entries le =
+    let all : n + (c - n) ≡ c = omega (arith, le) in
+    ap (take (c - n)) (sym (drop-drop n f entries)) ∙ sym (drop-take n (c - n) (drop f entries)) ∙ ap (λ k. drop n (take k (drop f entries))) all
 
-  pub back_cut : AreCut (start + size_of (take n (cut_at start ends bytes))) (drop n ends)
-      (drop (size_of (take n (cut_at start ends bytes))) bytes)
-  back_cut = rw (back-ends, back-bytes) (AreCut-joined (start + cut_size) (drop n (cut_at start ends bytes)))
+pub size_take : (n : ℕ) (entries : List (List ℕ)) → size_of (take n entries) ≤ size_of entries
+size_take zero entries = omega arith
+size_take (suc n) [] = omega arith
+size_take (suc n) (e ∷ entries) = omega (arith, size_take n entries)
 
-  pub back_is : cut_at (start + size_of (take n (cut_at start ends bytes))) (drop n ends)
-      (drop (size_of (take n (cut_at start ends bytes))) bytes) ≡ drop n (cut_at start ends bytes)
-  back_is = (λ i. cut_at (start + cut_size) (back-ends i) (back-bytes i)) ∙ cut_joined (start + cut_size) (drop n (cut_at start ends bytes))
-
-size-take : (n : ℕ) (entries : List (List ℕ)) → size_of (take n entries) ≤ size_of entries
-size-take zero entries = omega arith
-size-take (suc n) [] = omega arith
-size-take (suc n) (e ∷ entries) = omega (arith, size-take n entries)
-
-pub cut_within : (start : ℕ) (ends bytes : List ℕ) → AreCut start ends bytes → (n : ℕ)
-    → size_of (take n (cut_at start ends bytes)) ≤ length bytes
-cut_within start ends bytes cut n = omega (arith, size-take n (cut_at start ends bytes), joined_size start ends bytes cut)
+-- rows that have the same ends and bytes
+pub row_same : (place : ℕ) (xs ys : List (List ℕ)) → ends_from place xs ≡ ends_from place ys
+    → concat xs ≡ concat ys → xs ≡ ys
+row_same place xs ys ends bytes = sym (cut_joined place xs) ∙ (λ i. cut_at place (ends i) (bytes i)) ∙ cut_joined place ys
 
 -- the end of an entry
 ends-at : (i place d : ℕ) (entries : List (List ℕ)) → i < length entries
@@ -115,72 +101,26 @@ ends-at i place d [] lt = absurd (omega arith)
 ends-at zero place d (e ∷ entries) lt = omega arith
 ends-at (suc i) place d (e ∷ entries) lt = omega (arith, ends-at i (place + length e) d entries (omega (arith, lt)))
 
-pub end_at : (start : ℕ) (ends bytes : List ℕ) → AreCut start ends bytes → (i d : ℕ)
-    → i < length ends
-    → get_or ends i d ≡ start + size_of (take (suc i) (cut_at start ends bytes))
-end_at start ends bytes cut i d lt =
-    ap (λ ns. get_or ns i d) (sym cut.ending) ∙ ends-at i start d (cut_at start ends bytes) (omega (arith, lt, ends_count start ends bytes cut))
+pub end_at : (i d : ℕ) (entries : List (List ℕ)) → i < length entries
+    → get_or (ends_of entries) i d ≡ size_of (take (suc i) entries)
+end_at i d entries lt = omega (arith, ends-at i 0 d entries lt)
 
--- ---- entries behind others
+-- ---- each entry has a byte
 
-ends-append : (place : ℕ) (xs ys : List (List ℕ))
-    → ends_from place (xs ++ ys) ≡ ends_from place xs ++ ends_from (place + size_of xs) ys
-ends-append place [] ys = (let same : place ≡ place + 0 = omega arith in ap (λ p. ends_from p ys) same)
-ends-append place (x ∷ xs) ys =
-    let same : place + length x + size_of xs ≡ place + (length x + size_of xs) = omega arith in
-    ap (λ ns. (place + length x) ∷ ns) (ends-append (place + length x) xs ys ∙ ap (λ p. ends_from (place + length x) xs ++ ends_from p ys) same)
+full-take : (n : ℕ) (entries : List (List ℕ)) → AreFull entries → AreFull (take n entries)
+full-take zero entries full = tt
+full-take (suc n) [] full = tt
+full-take (suc n) (e ∷ entries) full = (full.0, full-take n entries full.1)
 
-concat-both : (xs ys : List (List ℕ)) → concat (xs ++ ys) ≡ concat xs ++ concat ys
-concat-both [] ys = refl
-concat-both (x ∷ xs) ys = ap (λ bs. x ++ bs) (concat-both xs ys) ∙ sym (append_assoc x (concat xs) (concat ys))
+full-drop : (n : ℕ) (entries : List (List ℕ)) → AreFull entries → AreFull (drop n entries)
+full-drop zero entries full = full
+full-drop (suc n) [] full = tt
+full-drop (suc n) (e ∷ entries) full = full-drop n entries full.1
 
--- ends as they are told from another place
-ends-moved : (base start at : ℕ) (entries : List (List ℕ)) → start ≤ at
-    → map (λ e. base + (e - start)) (ends_from at entries)
-    ≡ ends_from (base + (at - start)) entries
-ends-moved base start at [] le = refl
-ends-moved base start at (e ∷ entries) le =
-    let here : base + ((at + length e) - start) ≡ base + (at - start) + length e = omega (arith, le) in
-    (λ i. here i ∷ ends-moved base start (at + length e) entries (omega (arith, le)) i) ∙ ap (λ p. (base + (at - start) + length e) ∷ ends_from p entries) here
+pub few : (entries : List (List ℕ)) → AreFull entries → length entries ≤ size_of entries
+few [] full = omega arith
+few (e ∷ entries) full = omega (arith, full.0, few entries full.1)
 
-pub ends_moved : (base start : ℕ) (ends bytes : List ℕ) → AreCut start ends bytes
-    → map (λ e. base + (e - start)) ends ≡ ends_from base (cut_at start ends bytes)
-ends_moved base start ends bytes cut =
-    let same : base + (start - start) ≡ base = omega arith in
-    ap (map (λ e. base + (e - start))) (sym cut.ending) ∙ ends-moved base start start (cut_at start ends bytes) (omega arith) ∙ ap (λ p. ends_from p (cut_at start ends bytes)) same
-
-ends-fit : (base start most at : ℕ) (entries : List (List ℕ)) → start ≤ at
-    → base + (at - start) + size_of entries < most
-    → AllByRecursion (λ e. (start ≤ e) × (base + (e - start) < most)) (ends_from at entries)
-ends-fit base start most at [] le lt = tt
-ends-fit base start most at (e ∷ entries) le lt = ((omega (arith, le), omega (arith, le, lt)), ends-fit base start most (at + length e) entries (omega (arith, le)) (omega (arith, le, lt)))
-
-pub ends_fit : (base start most : ℕ) (ends bytes : List ℕ) → AreCut start ends bytes
-    → base + size_of (cut_at start ends bytes) < most
-    → AllByRecursion (λ e. (start ≤ e) × (base + (e - start) < most)) ends
-ends_fit base start most ends bytes cut lt =
-    subst (AllByRecursion (λ e. (start ≤ e) × (base + (e - start) < most))) cut.ending (ends-fit base start most start (cut_at start ends bytes) (omega arith) (omega (arith, lt)))
-
--- two in a row
-module _ (ends bytes : List ℕ) (cut : AreCut 0 ends bytes) (entries : List (List ℕ)) where
-  both-ends : ends ++ ends_from (length bytes) entries ≡ ends_from 0
-      (cut_at 0 ends bytes ++ entries)
-  both-ends =
-      let base : length bytes ≡ 0 + size_of (cut_at 0 ends bytes) = omega (arith, joined_size 0 ends bytes cut) in
-      (λ i. sym cut.ending i ++ ends_from (base i) entries) ∙ sym (ends-append 0 (cut_at 0 ends bytes) entries)
-
-  both-bytes : bytes ++ concat entries ≡ concat (cut_at 0 ends bytes ++ entries)
-  both-bytes = ap (λ bs. bs ++ concat entries) (sym cut.joined) ∙ sym (concat-both (cut_at 0 ends bytes) entries)
-
-  pub both_cut : AreCut 0 (ends ++ ends_from (length bytes) entries) (bytes ++ concat entries)
-  both_cut = rw (both-ends, both-bytes) (AreCut-joined 0 (cut_at 0 ends bytes ++ entries))
-
-  pub both_is : cut_at 0 (ends ++ ends_from (length bytes) entries)
-      (bytes ++ concat entries) ≡ cut_at 0 ends bytes ++ entries
-  both_is = (λ i. cut_at 0 (both-ends i) (both-bytes i)) ∙ cut_joined 0 (cut_at 0 ends bytes ++ entries)
-
--- the same entries have the same bytes and ends
-pub same_parts : (ends bytes ends2 bytes2 : List ℕ) → AreCut 0 ends bytes
-    → AreCut 0 ends2 bytes2 → cut_at 0 ends bytes ≡ cut_at 0 ends2 bytes2
-    → (bytes ≡ bytes2) × (ends ≡ ends2)
-same_parts ends bytes ends2 bytes2 one two e = (sym one.joined ∙ ap concat e ∙ two.joined, sym one.ending ∙ ap (ends_from 0) e ∙ two.ending)
+pub row_few : (f c : ℕ) (entries : List (List ℕ)) → AreFull entries
+    → length (take c (drop f entries)) ≤ size_of (take c (drop f entries))
+row_few f c entries full = few (take c (drop f entries)) (full-take c (drop f entries) (full-drop f entries full))

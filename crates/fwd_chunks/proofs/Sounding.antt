@@ -267,7 +267,7 @@ module _ (b : LiveBuffer) (tag entry : List ℕ) (own : IsSorted b) where
       shut true d s = s
       shut false d s = s
 
-  abbrev closing_one : Chunk → Chunk
+  abbrev pub closing_one : Chunk → Chunk
   closing_one d = cond (is_open_of tag d) (staged Closed d) d
 
   closed-number : (d : Chunk) → (closing_one d).number ≡ d.number
@@ -277,14 +277,14 @@ module _ (b : LiveBuffer) (tag entry : List ℕ) (own : IsSorted b) where
       by true = refl
       by false = refl
 
-  closed-tag : (d : Chunk) → (closing_one d).tag ≡ d.tag
+  pub closed-tag : (d : Chunk) → (closing_one d).tag ≡ d.tag
   closed-tag d = by (is_open_of tag d)
     where
       by : (t : Bool) → (cond t (staged Closed d) d).tag ≡ d.tag
       by true = refl
       by false = refl
 
-  closed-entries : (d : Chunk) → (closing_one d).entries ≡ d.entries
+  pub closed-entries : (d : Chunk) → (closing_one d).entries ≡ d.entries
   closed-entries d = by (is_open_of tag d)
     where
       by : (t : Bool) → (cond t (staged Closed d) d).entries ≡ d.entries

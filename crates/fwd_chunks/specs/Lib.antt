@@ -1,4 +1,4 @@
--- Definitions. A reader who asks what a buffer promises must believe these seven: the public calls
+-- Definitions. A reader who asks what a buffer promises must believe these eight: the public calls
 -- and laws speak of them.
 pub mod Cells
 pub mod History
@@ -7,16 +7,24 @@ pub mod Live
 pub mod Free
 pub mod Soundness
 pub mod Spans
+pub mod TagCounts
+-- So do those of what a chunk's readers give.
+pub mod Rows
+pub mod Parts
+pub mod Pieces
+pub mod Endings
 -- These eight only describe how the code keeps chunks and fills them. No public clause speaks of
 -- them.
 pub mod Earliest
 pub mod Levels
 pub mod Slots
 pub mod Newest
+pub mod Listing
 pub mod Stored
 pub mod Filling
-pub mod Parts
 pub mod Plans
 -- Of the crates below, for those above.
 pub use Rattle.fwd_counts.specs.declared.counts.Counts
+pub use Rattle.fwd_counts.specs.declared.report.Report
+pub use Rattle.fwd_counts.specs.declared.tag_count.TagCount
 pub use Rattle.fwd_retry.specs.Waits

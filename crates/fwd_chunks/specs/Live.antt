@@ -1,36 +1,6 @@
 -- What of a history still matters: the chunks that are not settled, and the counts. The same
 -- events, taken on that.
-use Rattle.std.specs.Prelude.{
-  ◌≡◌,
-  ℕ,
-  ◌+◌,
-  ◌^◌,
-  ◌&&◌,
-  ◌||◌,
-  ◌==◌,
-  min,
-  max,
-  nat_le,
-  nat_lt,
-  Bool,
-  true,
-  false,
-  not,
-  List,
-  [],
-  ◌∷◌,
-  ◌++◌,
-  length,
-  map,
-  filter,
-  find,
-  Option,
-  Some,
-  None,
-  is_some,
-  option_map,
-  if◌then◌else◌,
-}
+use Rattle.std.specs.Prelude.{◌≡◌, ℕ, ◌+◌, ◌^◌, ◌&&◌, ◌||◌, ◌==◌, max, nat_le, nat_lt, Bool, true, false, not, List, [], ◌∷◌, ◌++◌, length, map, filter, find, Option, Some, None, is_some, option_map, if◌then◌else◌}
 use Rattle.std.specs.Str.{bytes_eq}
 use Rattle.fwd_modes.specs.Requests.{Request}
 use Rattle.fwd_modes.specs.Frames.{chunk_name}
@@ -41,7 +11,6 @@ use Rattle.fwd_counts.specs.declared.counts.Counts.{Counts}
 use Rattle.fwd_chunks.specs.declared.span.Span.{Span}
 use Rattle.fwd_chunks.specs.declared.fault.AdmitError.{AdmitError}
 use Rattle.fwd_chunks.specs.declared.fault.AdmitError.TheVariants.{Full, NumbersSpent}
-use Rattle.fwd_retry.specs.declared.losses.Losses.{Losses}
 use Rattle.fwd_chunks.specs.declared.stage.Stage.{Stage}
 use Rattle.fwd_chunks.specs.declared.stage.Stage.TheVariants.{Open, Closed, Taken}
 use Rattle.fwd_retry.specs.Tallies.{tally_of, tally_more, live_is_over}

@@ -1,8 +1,7 @@
 -- Entries of a request that stand in a row.
-use Rattle.std.specs.Prelude.{ℕ, List}
-use Rattle.fwd_modes.specs.Entries.{cut_at}
+use Rattle.std.specs.Prelude.{ℕ, List, take, drop}
 use Rattle.fwd_chunks.specs.declared.part.Part.{Part}
 
--- the entries
+-- the entries: so many of the request's, behind so many others
 abbrev pub entries_in : Part → List (List ℕ)
-entries_in p = cut_at p.start p.ends.now p.bytes.now
+entries_in p = take p.count (drop p.first p.batch.now.entries)

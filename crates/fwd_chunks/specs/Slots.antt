@@ -1,34 +1,8 @@
 -- How the code keeps chunks: each in a slot, which is empty once the chunk left, with keys by which
 -- the first that is free and the first that is due are found.
-use Rattle.std.specs.Prelude.{
-  ◌≡◌,
-  ◌<◌,
-  ◌≤◌,
-  ℕ,
-  ◌+◌,
-  ◌-◌,
-  ◌^◌,
-  ◌==◌,
-  ◌++◌,
-  ◌&&◌,
-  nat_lt,
-  nat_le,
-  Bool,
-  List,
-  [],
-  ◌∷◌,
-  length,
-  replicate,
-  Option,
-  Some,
-  None,
-  is_some,
-  option_to_list,
-  if◌then◌else◌,
-}
+use Rattle.std.specs.Prelude.{◌≡◌, ◌<◌, ◌≤◌, ℕ, ◌-◌, ◌^◌, ◌==◌, ◌++◌, ◌&&◌, nat_le, Bool, List, [], ◌∷◌, length, replicate, Option, Some, None, is_some, option_to_list, if◌then◌else◌}
 use Rattle.std.specs.List.{AllByRecursion}
 use Rattle.fwd_chunks.specs.declared.chunk.Chunk.{Chunk}
-use Rattle.fwd_retry.specs.declared.losses.Losses.{Losses}
 use Rattle.fwd_retry.specs.declared.retry.Retry.{Retry}
 use Rattle.fwd_chunks.specs.declared.slot.Slot.{Slot}
 use Rattle.fwd_retry.specs.Tallies.{end_of_wait}

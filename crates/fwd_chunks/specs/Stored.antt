@@ -3,12 +3,13 @@ use Rattle.std.specs.Prelude.{◌≡◌, ◌≤◌, ℕ, List, Bool, true, false
 use Rattle.std.specs.List.{AllByRecursion}
 use Rattle.fwd_modes.specs.declared.limits.TheConstants.{TAG_LIMIT}
 use Rattle.fwd_chunks.specs.declared.chunk.Chunk.{Chunk}
+use Rattle.fwd_chunks.specs.declared.tag_entry.TagEntry.{TagEntry}
 use Rattle.fwd_retry.specs.declared.retry.Retry.{Retry}
 use Rattle.fwd_chunks.specs.declared.stage.Stage.TheVariants.{Closed}
 use Rattle.fwd_chunks.specs.Live.{LiveBuffer, bytes_in}
 use Rattle.fwd_retry.specs.Tallies.{tally_more}
 use Rattle.fwd_chunks.specs.Soundness.{IsSound}
-use Rattle.fwd_chunks.specs.Newest.{AreLiving, AreNewest}
+use Rattle.fwd_chunks.specs.Newest.{AreCounted, AreNewest}
 
 -- the tag fits a frame
 abbrev pub TagFits : Chunk → Type 0
@@ -24,13 +25,13 @@ pub record IsStored (b : LiveBuffer) (size : ℕ) : Type 0 where
 abbrev pub retry_of : LiveBuffer → Retry
 retry_of b = record { wait = b.setting.limits.retry_wait; max = b.setting.limits.retry_max }
 
--- so it is, each open chunk has its tag's number, no other tag has one than those of chunks that
--- live, and lost chunks wait as the limits say
-pub record IsKept (b : LiveBuffer) (size : ℕ) (numbers : List (List ℕ × ℕ))
+-- so it is, each open chunk has its tag's number, what is held of each tag is kept and nothing of
+-- others, and lost chunks wait as the limits say
+pub record IsKept (b : LiveBuffer) (size : ℕ) (entries : List (List ℕ × TagEntry))
     (retry : Retry) : Type 0 where
   pub stored : IsStored b size
-  pub newest : AreNewest numbers b.chunks
-  pub living : AreLiving numbers b.chunks
+  pub newest : AreNewest entries b.chunks
+  pub counted : AreCounted entries b.chunks
   pub waits : retry ≡ retry_of b
 
 -- the chunk is closed again, with a loss where it was lost

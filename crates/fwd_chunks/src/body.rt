@@ -1,4 +1,4 @@
-//! The entries of a chunk, in memory that its owners share.
+//! The entries of a chunk, in memory that their requests share.
 
 ghost use Rattle.std.specs.Prelude.{
   ◌≡◌,
@@ -17,27 +17,32 @@ ghost use Rattle.std.specs.List.{concat};
 ghost use Rattle.fwd_modes.specs.Entries.{ends_of};
 ghost use Rattle.fwd_chunks.specs.Cells.{size_of};
 ghost use Rattle.fwd_chunks.specs.Parts.{entries_in};
+ghost use Rattle.fwd_chunks.specs.Pieces.{parts_left};
+ghost use Rattle.fwd_chunks.specs.Endings.{ends_left};
 
-use crate::packed::Packed;
 use crate::part::Part;
+use crate::parts::{Ends, Parts};
+use crate::slices::Slices;
+use crate::unsent::Unsent;
 use std::alloc::{AllocError, Global};
 use std::marker::Model;
 use std::sync::Arc;
 
-/// The entries of a chunk. The buffer, a worker and what was acknowledged share them, so that none
-/// of them copies an entry.
+/// The entries of a chunk. They are slices of what the requests keep, and the buffer, a worker and
+/// what was acknowledged share the list of them, so that none of them copies an entry.
 #[derive(Drop)]
 pub struct Body {
-    packed: Arc<Packed>,
+    slices: Arc<Slices>,
 }
 
 impl Model for Body {
     ghost use Rattle.std.specs.Prelude.{List, ℕ};
     ghost use Rattle.std.specs.Arc.{arc_value};
+    ghost use Rattle.fwd_chunks.specs.Rows.{joined};
 
     ghost Value = { List (List ℕ) };
 
-    ghost view = { λ b. arc_value b.packed };
+    ghost view = { λ b. joined (arc_value b.slices) };
 }
 
 impl Body {
@@ -46,42 +51,51 @@ impl Body {
         requires { size_of (entries_in part) < 2 ^ 32 }
         ensures { IfOk result (λ body. body ≡ entries_in part.entry) }
     {
-        let mut packed = Packed::new(alloc);
-        packed.extend(part)?;
-        match Arc::new(alloc, packed) {
-            Ok(packed) => Ok(Body { packed }),
+        let mut slices = Slices::new(alloc);
+        slices.extend(part)?;
+        match Arc::new(alloc, slices) {
+            Ok(slices) => Ok(Body { slices }),
             Err(_) => Err(AllocError),
         }
     }
 
-    /// The entries, one after the other: less than 2^32 bytes.
-    pub fn bytes(&self) -> &[u8]
-        ensures value { result.now ≡ concat self.now }
-        ensures bound { length (concat self.now) < 2 ^ 32 }
+    /// The entries' bytes, in the pieces that they lie in, in order. Joined they are less than 2^32
+    /// bytes, and each piece has one.
+    pub fn parts(&self) -> Parts<'_>
+        ensures { concat (parts_left result) ≡ concat self.now }
     {
-        self.packed.bytes()
+        Parts::new(self.slices.as_slice())
     }
 
     /// Where each entry ends, in bytes from the front of the first.
-    pub fn ends(&self) -> &[u32]
-        ensures { result.now ≡ ends_of self.now }
+    pub fn ends(&self) -> Ends<'_>
+        ensures { ends_left result ≡ ends_of self.now }
     {
-        self.packed.ends()
+        let _size = self.slices.size();
+        Ends::new(self.slices.iter())
+    }
+
+    /// All its bytes, to be sent. The only error is out of memory, and it is answered only where
+    /// there are more owners than can be counted.
+    pub fn unsent(&self) -> Result<Unsent, AllocError>
+        ensures { IfOk result (λ unsent. unsent ≡ concat self.now) }
+    {
+        Ok(Unsent::new(Arc::try_clone(&self.slices)?))
     }
 
     /// How many entries there are.
     pub fn len(&self) -> usize
         ensures { result ≡ length self.now }
     {
-        self.packed.len()
+        self.slices.len()
     }
 
     /// The bytes of the entries.
-    pub(crate) fn size(&self) -> u64
+    pub fn size(&self) -> u64
         ensures value { result ≡ size_of self.now }
         ensures bound { result < 2 ^ 32 }
     {
-        self.packed.size()
+        self.slices.size()
     }
 
     /// Adds entries at the end, or changes nothing. Other owners do not see them.
@@ -90,14 +104,14 @@ impl Body {
         ensures ok { OnOk result (self.new ≡ self.old ++ entries_in part.entry) }
         ensures err { OnErr result (self.new ≡ self.old) }
     {
-        Arc::make_mut(&mut self.packed)?.extend(part)
+        Arc::make_mut(&mut self.slices)?.extend(part)
     }
 
     /// Whether the entries are the same.
     pub(crate) fn is(&self, other: &Body) -> bool
         ensures { IsTrue result ↔ (self.now ≡ other.now) }
     {
-        self.packed.is(&other.packed)
+        self.slices.is(&other.slices)
     }
 
     /// The same entries, for one owner more.
@@ -105,7 +119,7 @@ impl Body {
         ensures { IfOk result (λ body. body ≡ self.now) }
     {
         Ok(Body {
-            packed: Arc::try_clone(&self.packed)?,
+            slices: Arc::try_clone(&self.slices)?,
         })
     }
 }

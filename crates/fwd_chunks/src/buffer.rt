@@ -53,6 +53,7 @@ ghost use Rattle.fwd_chunks.specs.Live.{
 };
 ghost use Rattle.fwd_chunks.specs.Soundness.{IsSound};
 ghost use Rattle.fwd_chunks.specs.Plans.{IsPlan};
+ghost use Rattle.fwd_chunks.specs.TagCounts.{live_report, IsSnapshot};
 
 use crate::carried::Carried;
 use crate::chunk::Chunk;
@@ -63,11 +64,12 @@ use crate::limits::BufferLimits;
 use crate::part::Part;
 use crate::plan::Plan;
 use crate::slots::Slots;
+use crate::snapshot::Snapshot;
 use crate::span::Span;
 use crate::stage::Stage;
 use crate::tags::Tags;
 use fwd_base::Seq;
-use fwd_counts::Counts;
+use fwd_counts::{Counts, Report};
 use fwd_modes::{Batch, Origin, TAG_LIMIT, chunk_name};
 use fwd_retry::Retry;
 use std::alloc::{AllocError, Global};
@@ -80,7 +82,7 @@ pub struct Buffer {
     run: [u8; 6],
     output: u16,
     slots: Slots,
-    /// The number of each tag's newest chunk.
+    /// What is held of each tag, and the number of its newest chunk.
     tags: Tags,
     accepted: u64,
     settled: u64,
@@ -174,6 +176,24 @@ impl Buffer {
         }
     }
 
+    /// The same, and what is held of each tag, the tags in no order. It takes time for each tag, and
+    /// none for entries or chunks. The only error is out of memory.
+    pub fn snapshot(&self, alloc: Global) -> Result<Snapshot, AllocError>
+        ensures { IfOk result (λ snapshot. IsSnapshot self.now snapshot) }
+    {
+        Ok(Snapshot {
+            counts: self.held(),
+            tags: self.tags.listed(alloc)?,
+        })
+    }
+
+    /// The same with the tags by rising bytes. The only error is out of memory.
+    pub fn report(&self, alloc: Global) -> Result<Report, AllocError>
+        ensures { IfOk result (λ report. report ≡ live_report self.now) }
+    {
+        self.snapshot(alloc)?.report(alloc)
+    }
+
     /// Whether the bytes that are held, with a request's, are more than the total limit.
     fn is_full(&self, batch: &Batch) -> bool
         ensures { result ≡ live_is_full self.now batch.now }
@@ -185,7 +205,7 @@ impl Buffer {
     fn open_of(&self, tag: &[u8]) -> Option<&Chunk>
         ensures { option_copied result ≡ find (is_open_of tag.now) self.now.chunks }
     {
-        let number = self.tags.get(tag)?;
+        let number = self.tags.number(tag)?;
         let chunk = self.slots.get(number)?;
         if chunk.is_open_of(tag) {
             Some(chunk)
@@ -276,6 +296,7 @@ impl Buffer {
         ensures err { OnErr result (self.new ≡ self.old) }
     {
         let size = batch.entries().len() as u64;
+        let count = batch.len() as u64;
         let moment = self.moment.max(now);
         let limit = u64::from(self.limits.chunk);
         let first = self.next_number().unwrap_or(0);
@@ -287,8 +308,8 @@ impl Buffer {
         self.slots.reserve(alloc, fresh.len())?;
         self.tags.prepare(alloc, tag, newest)?;
         entering::fill(&mut self.slots, plan.joins, plan.front, fresh)?;
-        self.tags.put(tag, newest);
-        self.accepted += batch.len() as u64;
+        self.tags.put(tag, newest, count, size);
+        self.accepted += count;
         self.bytes += size;
         self.moment = moment;
         Ok(spans)
@@ -317,10 +338,13 @@ impl Buffer {
         ensures memory { live_refusal self.old batch.now now ≡ None
             → IfErr result (λ error. error ≡ AdmitError.Memory) }
     {
-        if let Some(fault) = self.fault(batch) {
-            return Err(fault);
+        if self.is_full(batch) {
+            return Err(AdmitError::Full);
         }
         let plan = self.plan(batch);
+        if self.is_spent(batch, plan) {
+            return Err(AdmitError::NumbersSpent);
+        }
         self.enter(alloc, batch, plan, now)
             .map_err(|_| AdmitError::Memory)
     }
@@ -413,9 +437,11 @@ impl Buffer {
         ensures { self.new ≡ live_settles self.old number }
     {
         if let Some(chunk) = self.slots.remove(number) {
-            self.tags.forget(chunk.tag.as_slice(), chunk.number);
-            self.bytes -= chunk.entries.size();
-            self.settled += chunk.entries.len() as u64;
+            let count = chunk.entries.len() as u64;
+            let size = chunk.entries.size();
+            self.tags.take(chunk.tag.as_slice(), count, size);
+            self.bytes -= size;
+            self.settled += count;
         }
     }
 

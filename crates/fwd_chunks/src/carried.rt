@@ -1,9 +1,12 @@
-ghost use Rattle.std.specs.Prelude.{◌≡◌, ◌≤◌, ◌<◌, ◌^◌, ◌↔◌, IsTrue, length};
+ghost use Rattle.std.specs.Prelude.{◌≡◌, ◌≤◌, ◌↔◌, IsTrue, length};
 ghost use Rattle.std.specs.List.{concat};
 ghost use Rattle.fwd_modes.specs.Entries.{ends_of};
+ghost use Rattle.fwd_chunks.specs.Pieces.{parts_left};
+ghost use Rattle.fwd_chunks.specs.Endings.{ends_left};
 
 use crate::body::Body;
 use crate::chunk::Chunk;
+use crate::parts::{Ends, Parts};
 use fwd_base::Bytes;
 use fwd_modes::TAG_LIMIT;
 use std::marker::Model;
@@ -60,17 +63,17 @@ impl Carried {
         &self.entries
     }
 
-    /// The entries as they are kept, one after the other: less than 2^32 bytes.
-    pub fn entries(&self) -> &[u8]
-        ensures value { result.now ≡ concat self.now.entries }
-        ensures bound { length (concat self.now.entries) < 2 ^ 32 }
+    /// The entries as they are kept, one after the other, in the pieces that they lie in: less than
+    /// 2^32 bytes.
+    pub fn parts(&self) -> Parts<'_>
+        ensures { concat (parts_left result) ≡ concat self.now.entries }
     {
-        self.entries.bytes()
+        self.entries.parts()
     }
 
     /// Where each entry ends, in bytes from the front of the first.
-    pub fn ends(&self) -> &[u32]
-        ensures { result.now ≡ ends_of self.now.entries }
+    pub fn ends(&self) -> Ends<'_>
+        ensures { ends_left result ≡ ends_of self.now.entries }
     {
         self.entries.ends()
     }

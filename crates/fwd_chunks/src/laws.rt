@@ -66,6 +66,14 @@ ghost use Rattle.fwd_chunks.specs.Live.{
   live_frees,
   live_counts,
 };
+ghost use Rattle.fwd_chunks.specs.TagCounts.{
+  Tagged,
+  AddsUp,
+  AreTagCounts,
+  tag_counts,
+  report,
+  live_report,
+};
 ghost use Rattle.fwd_chunks.specs.Free.{IsLeastFree};
 ghost use Rattle.fwd_chunks.specs.Soundness.{IsSound};
 ghost use Rattle.fwd_chunks.specs.Spans.{run_in, AreRising, AreCutBy, IsHeld, AreHeld, IsGone};
@@ -103,6 +111,16 @@ pub fn live_answers()
         live_carried (live_buffer h) number
         ≡ (if is_carried number h.carried then Some (load_of h number) else None) }
     ensures counts { (h : BufferHistory) → counts h ≡ live_counts (live_buffer h) }
+{}
+
+/// What is held of each tag: each tag that an entry has stands once, by rising bytes, and no other,
+/// each with how many of the entries have it, at least one, and their bytes. Over all tags these add
+/// up to what is held. The history's report is that of its live part.
+pub fn tags_add_up()
+    ensures counts { (held : List Tagged) → AreTagCounts held (tag_counts held) }
+    ensures adds_up { (b : LiveBuffer) → IsSound b → AddsUp (live_report b) }
+    ensures live { (setting : BufferSetting) (h : BufferHistory) → IsReached setting h
+        → report h ≡ live_report (live_buffer h) }
 {}
 
 /// The number that a worker is given is free, and no free number is below it; where none is

@@ -1,21 +1,34 @@
 //! Entries of a request that stand in a row.
 
-ghost use Rattle.std.specs.Prelude.{◌≡◌, ◌+◌, ◌≤◌, ◌<◌, ◌^◌, ◌==◌, length, take, drop};
+ghost use Rattle.std.specs.Prelude.{◌≡◌, ◌+◌, ◌≤◌, ◌<◌, ◌^◌, ◌==◌, IsTrue, length, take, drop};
+ghost use Rattle.std.specs.List.{concat};
 ghost use Rattle.std.proofs.Props.{props};
-ghost use Rattle.fwd_modes.specs.Entries.{AreCut};
+ghost use Rattle.fwd_modes.specs.Entries.{ends_from};
 ghost use Rattle.fwd_chunks.specs.Cells.{size_of};
 ghost use Rattle.fwd_chunks.specs.Filling.{fitting, cut_count, needed};
 
 use fwd_modes::Batch;
 
-/// Entries in a row, one after the other in less than 2^32 bytes. Their ends are told from a
-/// place that the first of them begins at.
+/// Entries of a request that stand in a row: so many of them, behind so many others.
 #[derive(Clone, Copy)]
 pub(crate) struct Part<'a> {
-    pub(crate) start: u32,
-    pub(crate) ends: &'a [u32],
-    pub(crate) bytes: &'a [u8],
-    ghost cut: { AreCut start ends.now bytes.now } by { Prim.hlevel props },
+    pub(crate) batch: &'a Batch,
+    pub(crate) first: u32,
+    pub(crate) count: u32,
+    ghost within: { first + count ≤ length batch.now.entries } by { Prim.hlevel props },
+    ghost bound: { first + count < 2 ^ 32 } by { Prim.hlevel props },
+}
+
+/// Where the first entries of a request end, so many of them, in bytes from the front of the first.
+fn end_of(batch: &Batch, count: u32) -> usize
+    requires { count ≤ length batch.now.entries }
+    ensures { result ≡ size_of (take count batch.now.entries) }
+{
+    if count == 0 {
+        0
+    } else {
+        batch.ends()[count as usize - 1] as usize
+    }
 }
 
 impl<'a> Part<'a> {
@@ -26,10 +39,11 @@ impl<'a> Part<'a> {
         ensures value { entries_in result ≡ batch.now.entries }
         ensures bound { size_of (entries_in result) < 2 ^ 32 }
     {
+        let _bytes = batch.entries();
         Part {
-            start: 0,
-            ends: batch.ends(),
-            bytes: batch.entries(),
+            batch,
+            first: 0,
+            count: batch.len() as u32,
         }
     }
 
@@ -37,33 +51,58 @@ impl<'a> Part<'a> {
     pub(crate) fn len(self) -> usize
         ensures { result ≡ length (entries_in self.entry) }
     {
-        self.ends.len()
+        self.count as usize
     }
 
     /// Whether there is no entry.
     pub(crate) fn is_empty(self) -> bool
         ensures { result ≡ (length (entries_in self.entry) == 0) }
     {
-        self.ends.is_empty()
+        self.count == 0
     }
 
-    /// The bytes of the entries.
-    pub(crate) fn size(self) -> u64
-        ensures { result ≡ size_of (entries_in self.entry) }
+    /// The bytes of the entries, one after the other. Each entry has one.
+    pub(crate) fn bytes(self) -> &'a [u8]
+        ensures value { result.now ≡ concat (entries_in self.entry) }
+        ensures some { 0 < length (entries_in self.entry) → 0 < length result.now }
     {
-        self.bytes.len() as u64
+        let start = end_of(self.batch, self.first);
+        let end = end_of(self.batch, self.first + self.count);
+        let (_, behind) = self.batch.entries().split_at(start);
+        behind.split_at(end - start).0
     }
 
-    /// Where the first entries end, so many of them.
-    fn end_of(self, count: usize) -> u32
-        requires { count ≤ length (entries_in self) }
-        ensures { result ≡ self.entry.start + size_of (take count (entries_in self.entry)) }
+    /// Where each of the entries ends, in bytes from the front of the request's first.
+    fn ends(self) -> &'a [u32]
+        ensures { result.now ≡ ends_from
+            (size_of (take self.entry.first self.entry.batch.now.entries)) (entries_in self.entry) }
     {
-        if count == 0 {
-            self.start
-        } else {
-            self.ends[count - 1]
+        let (_, behind) = self.batch.ends().split_at(self.first as usize);
+        behind.split_at(self.count as usize).0
+    }
+
+    /// Whether the entries have the same bytes, at the same places of their requests. If so, they
+    /// are the same.
+    pub(crate) fn is_alike(self, other: Part<'_>) -> bool
+        ensures { IsTrue result → entries_in self.entry ≡ entries_in other.entry }
+    {
+        if end_of(self.batch, self.first) != end_of(other.batch, other.first) {
+            return false;
         }
+        if self.ends() != other.ends() {
+            return false;
+        }
+        self.bytes() == other.bytes()
+    }
+
+    /// The bytes of the entries: at least one for each.
+    pub(crate) fn size(self) -> u64
+        ensures value { result ≡ size_of (entries_in self.entry) }
+        ensures each { length (entries_in self.entry) ≤ result }
+    {
+        let _bytes = self.batch.entries();
+        let end = end_of(self.batch, self.first + self.count);
+        (end - end_of(self.batch, self.first)) as u64
     }
 
     /// The first entries, so many of them, and the others.
@@ -72,25 +111,23 @@ impl<'a> Part<'a> {
         ensures front { entries_in result.0 ≡ take count (entries_in self.entry) }
         ensures back { entries_in result.1 ≡ drop count (entries_in self.entry) }
     {
-        let end = self.end_of(count);
-        let (ends, ends_behind) = self.ends.split_at(count);
-        let (bytes, bytes_behind) = self.bytes.split_at((end - self.start) as usize);
+        let count = count as u32;
         let front = Part {
-            start: self.start,
-            ends,
-            bytes,
+            batch: self.batch,
+            first: self.first,
+            count,
         };
         let back = Part {
-            start: end,
-            ends: ends_behind,
-            bytes: bytes_behind,
+            batch: self.batch,
+            first: self.first + count,
+            count: self.count - count,
         };
         (front, back)
     }
 
     /// How many of the entries fit into a limit, one after the other, where so many bytes of it
-    /// are used.
-    pub(crate) fn fitting(self, limit: u64, used: u64) -> usize
+    /// are used, and not all of them do.
+    fn fitting_each(self, limit: u64, used: u64) -> usize
         ensures { result ≡ fitting limit used (entries_in self.entry) }
     {
         let Some(mut room) = limit.checked_sub(used) else {
@@ -105,6 +142,17 @@ impl<'a> Part<'a> {
             count += 1;
         }
         count
+    }
+
+    /// How many of the entries fit into a limit, one after the other, where so many bytes of it
+    /// are used.
+    pub(crate) fn fitting(self, limit: u64, used: u64) -> usize
+        ensures { result ≡ fitting limit used (entries_in self.entry) }
+    {
+        match limit.checked_sub(used) {
+            Some(room) if self.size() <= room => self.len(),
+            _ => self.fitting_each(limit, used),
+        }
     }
 }
 
@@ -150,13 +198,11 @@ impl<'a> Iterator for Part<'a> {
     ghost remaining = { item_count entries_in };
 
     fn next(&mut self) -> Option<&'a [u8]> {
-        let (end, ends) = self.ends.split_first()?;
-        let (entry, bytes) = self.bytes.split_at((*end - self.start) as usize);
-        *self = Part {
-            start: *end,
-            ends,
-            bytes,
-        };
-        Some(entry)
+        if self.is_empty() {
+            return None;
+        }
+        let (front, others) = self.split_at(1);
+        *self = others;
+        Some(front.bytes())
     }
 }

@@ -1,92 +1,117 @@
-//! A number for each tag.
+//! What is kept for each tag that has entries.
 
 ghost use Rattle.std.specs.Prelude.{
   ◌≡◌,
-  ◌≢◌,
+  ◌≤◌,
+  ◌<◌,
+  ◌+◌,
+  ◌-◌,
+  ◌^◌,
   ◌⊎◌,
   ℕ,
   List,
   [],
   Some,
   None,
+  true,
   IsSome,
+  IfOk,
   IfSome,
   IfNone,
   OnOk,
   OnErr,
+  map,
+  option_map,
+  option_copied,
   if◌then◌else◌,
 };
 ghost use Rattle.std.specs.Str.{bytes_eq};
-ghost use Rattle.fwd_chunks.specs.Newest.{tag_number};
+ghost use Rattle.std.specs.List.{IsDistinct};
+ghost use Rattle.fwd_chunks.specs.declared.tag_entry.TagEntry.{TagEntry};
+ghost use Rattle.fwd_chunks.specs.Newest.{
+  tag_entry,
+  tag_number,
+  held_by,
+  bytes_by,
+  raised,
+  AreSome,
+};
+ghost use Rattle.fwd_chunks.specs.Listing.{listed};
 
+use crate::tag_entry::TagEntry;
+use crate::tag_list::TagList;
 use indexmap::IndexMap;
 use std::alloc::{AllocError, Global};
 use std::marker::Model;
 
-/// The number of the newest chunk of each tag that has chunks, found by the tag's hash.
+/// What is kept for each tag that has entries, found by the tag's hash.
 #[derive(Drop)]
 pub(crate) struct Tags {
-    numbers: IndexMap<Vec<u8>, u64>,
+    entries: IndexMap<Vec<u8>, TagEntry>,
 }
 
 impl Model for Tags {
     ghost use Rattle.std.specs.Prelude.{List, ℕ, map};
+    ghost use Rattle.fwd_chunks.specs.declared.tag_entry.TagEntry.{TagEntry};
 
-    ghost Value = { List (List ℕ × ℕ) };
+    ghost Value = { List (List ℕ × TagEntry) };
 
-    ghost view = { λ t. map (λ e. (e.0.items, e.1)) t.numbers.entries };
+    ghost view = { λ t. map (λ e. (e.0.items, e.1)) t.entries.entries };
 }
 
 impl Tags {
-    /// No tag has a number.
+    /// Nothing is kept.
     pub(crate) fn new(alloc: Global) -> Self
         ensures { result ≡ [] }
     {
         Tags {
-            numbers: IndexMap::new(alloc),
+            entries: IndexMap::new(alloc),
         }
+    }
+
+    /// What is kept for a tag.
+    fn entry(&self, tag: &[u8]) -> Option<TagEntry>
+        ensures { result ≡ tag_entry tag.now self.now }
+    {
+        self.entries.get(tag).copied()
     }
 
     /// The number of a tag.
-    pub(crate) fn get(&self, tag: &[u8]) -> Option<u64>
+    pub(crate) fn number(&self, tag: &[u8]) -> Option<u64>
         ensures { result ≡ tag_number tag.now self.now }
     {
-        self.numbers.get(tag).copied()
+        let entry = self.entry(tag)?;
+        Some(entry.newest)
     }
 
-    /// The tag has the number. On an error nothing has changed.
-    pub(crate) fn insert(
-        &mut self,
-        alloc: Global,
-        tag: &[u8],
-        number: u64,
-    ) -> Result<(), AllocError>
-        ensures ok { OnOk result ((t : List ℕ) → tag_number t self.new
-            ≡ (if bytes_eq tag.now t then Some number else tag_number t self.old)) }
+    /// This is kept for the tag. On an error nothing has changed.
+    fn insert(&mut self, alloc: Global, tag: &[u8], entry: TagEntry) -> Result<(), AllocError>
+        ensures ok { OnOk result ((t : List ℕ) → tag_entry t self.new
+            ≡ (if bytes_eq tag.now t then Some entry else tag_entry t self.old)) }
         ensures err { OnErr result (self.new ≡ self.old) }
     {
         let key = Vec::from_slice(alloc, tag)?;
-        self.numbers.insert(key, number)?;
+        self.entries.insert(key, entry)?;
         Ok(())
     }
 
-    /// The tag, which has a number, has this one.
-    pub(crate) fn set(&mut self, tag: &[u8], number: u64)
-        requires { IsSome (tag_number tag.now self.old) }
-        ensures { (t : List ℕ) → tag_number t self.new
-            ≡ (if bytes_eq tag.now t then Some number else tag_number t self.old) }
+    /// This is kept for the tag, for which something was.
+    fn set(&mut self, tag: &[u8], entry: TagEntry)
+        requires { IsSome (tag_entry tag.now self.old) }
+        ensures { (t : List ℕ) → tag_entry t self.new
+            ≡ (if bytes_eq tag.now t then Some entry else tag_entry t self.old) }
     {
-        if let Some(place) = self.numbers.get_mut(tag) {
-            *place = number;
+        if let Some(place) = self.entries.get_mut(tag) {
+            *place = entry;
         }
     }
 
-    /// The tag has no number.
-    pub(crate) fn remove(&mut self, tag: &[u8])
-        ensures { (t : List ℕ) → tag_number t self.new
-            ≡ (if bytes_eq tag.now t then None else tag_number t self.old) }
+    /// Nothing is kept for the tag.
+    fn remove(&mut self, tag: &[u8])
+        ensures { (t : List ℕ) → tag_entry t self.new
+            ≡ (if bytes_eq tag.now t then None else tag_entry t self.old) }
     {
-        self.numbers.swap_remove(tag);
+        self.entries.swap_remove(tag);
     }
 
     /// The tag has a number: the one that it had, or else this one, if there is one. On an error
@@ -100,41 +125,108 @@ impl Tags {
         ensures kept { (t : List ℕ) (n : ℕ) → tag_number t self.old ≡ Some n
             → tag_number t self.new ≡ Some n }
         ensures ok { OnOk result (IfSome number (λ n. IsSome (tag_number tag.now self.new))) }
-        ensures only { (t : List ℕ) (n : ℕ) → tag_number t self.new ≡ Some n
-            → (tag_number t self.old ≡ Some n) ⊎ ((tag.now ≡ t) × (number ≡ Some n)) }
+        ensures held { (t : List ℕ) → held_by (tag_entry t self.new)
+            ≡ held_by (tag_entry t self.old) }
+        ensures bytes { (t : List ℕ) → bytes_by (tag_entry t self.new)
+            ≡ bytes_by (tag_entry t self.old) }
+        ensures only { (t : List ℕ) (e : TagEntry) → tag_entry t self.new ≡ Some e
+            → (tag_entry t self.old ≡ Some e) ⊎ ((tag.now ≡ t) × IsSome number) }
         ensures same { IsSome (tag_number tag.now self.old) → self.new ≡ self.old }
         ensures err { OnErr result (self.new ≡ self.old) }
     {
-        if let Some(number) = number
-            && self.get(tag).is_none()
+        if let Some(newest) = number
+            && self.entry(tag).is_none()
         {
-            self.insert(alloc, tag, number)?;
+            let entry = TagEntry {
+                newest,
+                held: 0,
+                bytes: 0,
+            };
+            self.insert(alloc, tag, entry)?;
         }
         Ok(())
     }
 
-    /// The tag, which was prepared, has the number, if there is one.
-    pub(crate) fn put(&mut self, tag: &[u8], number: Option<u64>)
-        requires { IfSome number (λ n. IsSome (tag_number tag.now self.old)) }
-        ensures some { IfSome number (λ n. (t : List ℕ) → tag_number t self.new
-            ≡ (if bytes_eq tag.now t then Some n else tag_number t self.old)) }
-        ensures none { IfNone number (self.new ≡ self.old) }
+    /// So many entries more are held of the tag, for which something is kept, and so many bytes; its
+    /// newest chunk has the number, if there is one.
+    fn raise(&mut self, tag: &[u8], number: Option<u64>, count: u64, size: u64)
+        requires there { IsSome (tag_entry tag.now self.old) }
+        requires held { held_by (tag_entry tag.now self.old) + count < 2 ^ 64 }
+        requires bytes { bytes_by (tag_entry tag.now self.old) + size < 2 ^ 64 }
+        ensures { (t : List ℕ) → tag_entry t self.new ≡ (if bytes_eq tag.now t
+            then option_map (raised number count size) (tag_entry tag.now self.old)
+            else tag_entry t self.old) }
     {
-        if let Some(number) = number {
-            self.set(tag, number);
+        if let Some(place) = self.entries.get_mut(tag) {
+            *place = place.raised(number, count, size);
         }
     }
 
-    /// The tag has no number where it had this one.
-    pub(crate) fn forget(&mut self, tag: &[u8], number: u64)
-        ensures kept { (t : List ℕ) (n : ℕ) → n ≢ number → tag_number t self.old ≡ Some n
-            → tag_number t self.new ≡ Some n }
-        ensures only { (t : List ℕ) (n : ℕ) → tag_number t self.new ≡ Some n
-            → tag_number t self.old ≡ Some n }
-        ensures gone { tag_number tag.now self.new ≢ Some number }
+    /// So many entries more are held of the tag, which was prepared, and so many bytes; its newest
+    /// chunk has the number, if there is one.
+    pub(crate) fn put(&mut self, tag: &[u8], number: Option<u64>, count: u64, size: u64)
+        requires new { IfSome number (λ n. 0 < count) }
+        requires some { 0 < count → IsSome (tag_entry tag.now self.old) }
+        requires none { count ≤ 0 → size ≤ 0 }
+        requires held { held_by (tag_entry tag.now self.old) + count < 2 ^ 64 }
+        requires bytes { bytes_by (tag_entry tag.now self.old) + size < 2 ^ 64 }
+        ensures some { IfSome number (λ n. (t : List ℕ) → tag_number t self.new
+            ≡ (if bytes_eq tag.now t then Some n else tag_number t self.old)) }
+        ensures none { IfNone number ((t : List ℕ) → tag_number t self.new
+            ≡ tag_number t self.old) }
+        ensures held { (t : List ℕ) → held_by (tag_entry t self.new)
+            ≡ held_by (tag_entry t self.old) + (if bytes_eq tag.now t then count else 0) }
+        ensures bytes { (t : List ℕ) → bytes_by (tag_entry t self.new)
+            ≡ bytes_by (tag_entry t self.old) + (if bytes_eq tag.now t then size else 0) }
+        ensures each { (t : List ℕ) (e : TagEntry) → tag_entry t self.new ≡ Some e
+            → ((d : TagEntry) × (tag_entry t self.old ≡ Some d) × (d.held ≤ e.held))
+            × (bytes_eq tag.now t ≡ true → count ≤ e.held) }
     {
-        if self.get(tag) == Some(number) {
-            self.remove(tag);
+        if count > 0 {
+            self.raise(tag, number, count, size);
         }
+    }
+
+    /// So many entries less are held of the tag, and so many bytes.
+    pub(crate) fn take(&mut self, tag: &[u8], count: u64, size: u64)
+        requires held { count ≤ held_by (tag_entry tag.now self.old) }
+        requires bytes { size ≤ bytes_by (tag_entry tag.now self.old) }
+        requires all { held_by (tag_entry tag.now self.old) ≡ count
+            → bytes_by (tag_entry tag.now self.old) ≡ size }
+        ensures number { (t : List ℕ) → IsSome (tag_entry t self.new)
+            → tag_number t self.new ≡ tag_number t self.old }
+        ensures held { (t : List ℕ) → held_by (tag_entry t self.new)
+            ≡ held_by (tag_entry t self.old) - (if bytes_eq tag.now t then count else 0) }
+        ensures bytes { (t : List ℕ) → bytes_by (tag_entry t self.new)
+            ≡ bytes_by (tag_entry t self.old) - (if bytes_eq tag.now t then size else 0) }
+        ensures some { AreSome self.old → AreSome self.new }
+    {
+        let Some(entry) = self.entry(tag) else {
+            return;
+        };
+        if entry.held == count {
+            self.remove(tag);
+            return;
+        }
+        let left = TagEntry {
+            newest: entry.newest,
+            held: entry.held - count,
+            bytes: entry.bytes - size,
+        };
+        self.set(tag, left);
+    }
+
+    /// What is held of each tag, and that no tag stands twice.
+    pub(crate) fn listed(&self, alloc: Global) -> Result<TagList, AllocError>
+        ensures list { IfOk result (λ list. list ≡ listed self.now) }
+        ensures once { IfOk result (λ list. IsDistinct bytes_eq (map (λ e. e.0) self.now)) }
+    {
+        let mut list = TagList::new(alloc);
+        for place in 0..self.entries.len() {
+            if let Some((tag, entry)) = self.entries.get_index(place) {
+                list.push(tag, entry.held, entry.bytes)?;
+            }
+        }
+        Ok(list)
     }
 }

@@ -19,6 +19,7 @@ ghost use Rattle.std.specs.Prelude.{
 };
 ghost use Rattle.std.specs.List.{concat};
 ghost use Rattle.fwd_chunks.specs.Live.{live_refusal, live_counts};
+ghost use Rattle.fwd_chunks.specs.TagCounts.{live_report};
 ghost use Rattle.fwd_model.specs.Outputs.{output_enters};
 ghost use Rattle.fwd_model.specs.Live.{with_live_output, with_live_book, lives};
 ghost use Rattle.fwd_book.specs.History.{request_at};
@@ -49,7 +50,7 @@ use crate::leaving::Leaving;
 use crate::output::OutputState;
 use crate::worker::Worker;
 use fwd_book::Receipt;
-use fwd_chunks::{AdmitError, Carried, Counts, FlushKind};
+use fwd_chunks::{AdmitError, Carried, Counts, FlushKind, Report};
 use fwd_model::{Answer, EndKind, Origin, OutputConfig, OwnedSalt, Refusal};
 use fwd_modes::Batch;
 use std::alloc::{AllocError, Global};
@@ -142,6 +143,13 @@ impl Lane {
         ensures { result ≡ live_counts self.now.output.buffer }
     {
         self.output.counts()
+    }
+
+    /// The same, and what is held of each tag.
+    pub fn report(&self, alloc: Global) -> Result<Report, AllocError>
+        ensures { IfOk result (λ report. report ≡ live_report self.now.output.buffer) }
+    {
+        self.output.report(alloc)
     }
 
     /// A request is entered. On an error nothing has changed.

@@ -47,6 +47,7 @@ ghost use Rattle.fwd_chunks.specs.Live.{
   live_counts,
 };
 ghost use Rattle.fwd_chunks.specs.Soundness.{IsSound};
+ghost use Rattle.fwd_chunks.specs.TagCounts.{live_report, IsSnapshot};
 ghost use Rattle.fwd_session.specs.Evidence.{IsEvidence};
 ghost use Rattle.fwd_book.specs.History.{Entered, entered_as, is_of, request_at};
 ghost use Rattle.fwd_book.specs.Receipts.{
@@ -79,7 +80,9 @@ ghost use Rattle.fwd_core.specs.Lanes.{chunk_at, IsHere};
 
 use fwd_base::Seq;
 use fwd_book::{Book, Receipt};
-use fwd_chunks::{AdmitError, Buffer, BufferLimits, Carried, Counts, FlushKind, Span};
+use fwd_chunks::{
+    AdmitError, Buffer, BufferLimits, Carried, Counts, FlushKind, Report, Snapshot, Span,
+};
 use fwd_failover::Servers;
 use fwd_model::Origin;
 use fwd_modes::Batch;
@@ -206,6 +209,21 @@ impl OutputState {
         self.buffer.held()
     }
 
+    /// The same, and what is held of each tag, the tags in no order: made quickly, while others wait
+    /// for the output. The only error is out of memory.
+    pub fn snapshot(&self, alloc: Global) -> Result<Snapshot, AllocError>
+        ensures { IfOk result (λ snapshot. IsSnapshot self.now.buffer snapshot) }
+    {
+        self.buffer.snapshot(alloc)
+    }
+
+    /// The same with the tags by rising bytes. The only error is out of memory.
+    pub fn report(&self, alloc: Global) -> Result<Report, AllocError>
+        ensures { IfOk result (λ report. report ≡ live_report self.now.buffer) }
+    {
+        self.buffer.report(alloc)
+    }
+
     /// Enters a request at a moment (milliseconds): each of its entries joins its tag's open
     /// chunk, or begins a new one. It is refused as `Full` where the bytes held would be more
     /// than the total limit, and then as `NumbersSpent`. On an error nothing has changed. Answers
@@ -228,7 +246,7 @@ impl OutputState {
         ensures err { OnErr result (self.new ≡ self.old) }
     {
         self.buffer.is_sound();
-        let Ok(()) = self.book.prepare(alloc, batch) else {
+        let Ok(()) = self.book.prepare(batch) else {
             return Err(self.buffer.fault(batch).unwrap_or(AdmitError::Memory));
         };
         let Ok(room) = Vec::with_capacity(alloc, batch.len()) else {

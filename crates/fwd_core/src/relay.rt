@@ -16,9 +16,10 @@ ghost use Rattle.fwd_model.specs.History.{
   History,
   histories,
   counts as counts_of,
+  reports as reports_of,
   IsReached,
 };
-ghost use Rattle.fwd_model.specs.Live.{live, live_relay_counts, lives};
+ghost use Rattle.fwd_model.specs.Live.{live, live_relay_counts, live_relay_reports, lives};
 ghost use Rattle.fwd_model.specs.declared.config.Config.{Config as Settings};
 ghost use Rattle.fwd_core.specs.Runs.{told, kept, takes_none, is_free};
 ghost use Rattle.fwd_model.specs.declared.event.Event.{Event as AbstractEvent};
@@ -27,7 +28,7 @@ ghost use Rattle.fwd_model.specs.Outcome.{answer_of, state_of};
 ghost use Rattle.fwd_model.specs.Step.{step, answers as answers_to, after};
 
 use crate::state::State;
-use fwd_chunks::Counts;
+use fwd_chunks::{Counts, Report};
 use fwd_model::{
     Answer, Config, Event, live_follows, live_run_follows, refusal_changes_nothing,
     told_among_is_delivered, waiting_is_new,
@@ -122,5 +123,16 @@ impl Relay {
     {
         live_follows();
         self.state.counts(alloc)
+    }
+
+    /// The same, and what is held of each tag, by rising bytes.
+    pub fn reports(&self, alloc: Global) -> Result<Vec<Report>, AllocError>
+        ensures live { IfOk result (λ reports. reports.items ≡ live_relay_reports self.now) }
+        // They are those of any history that a run reaches and whose live part this relay is.
+        ensures history { IfOk result (λ reports. (config : Settings) (h : History)
+            → IsReached config h → self.now ≡ live h → reports.items ≡ reports_of h) }
+    {
+        live_follows();
+        self.state.reports(alloc)
     }
 }

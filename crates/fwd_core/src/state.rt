@@ -15,8 +15,9 @@ ghost use Rattle.std.specs.Prelude.{
   length,
 };
 ghost use Rattle.fwd_model.specs.History.{opening};
-ghost use Rattle.fwd_model.specs.Live.{live, live_relay_counts, lives};
+ghost use Rattle.fwd_model.specs.Live.{live, live_relay_counts, live_relay_reports, lives};
 ghost use Rattle.fwd_chunks.specs.Live.{live_counts};
+ghost use Rattle.fwd_chunks.specs.TagCounts.{live_report};
 ghost use Rattle.fwd_book.specs.Live.{live_due};
 ghost use Rattle.fwd_core.specs.Runs.{takes_none, is_free, is_free_at};
 ghost use Rattle.fwd_core.specs.Standing.{AreNew, IsNew};
@@ -30,7 +31,7 @@ use crate::due::Due;
 use crate::lane::Lane;
 use fwd_base::{Bytes, Seq};
 use fwd_book::{due_is_found, origins_are_enough};
-use fwd_chunks::{AdmitError, Counts};
+use fwd_chunks::{AdmitError, Counts, Report};
 use fwd_handshake::{Nonces, Security};
 use fwd_match::Routes;
 use fwd_model::{
@@ -117,6 +118,13 @@ impl State {
         ensures { IfOk result (λ counts. counts.items ≡ live_relay_counts self.now) }
     {
         counts_of(alloc, &self.lanes)
+    }
+
+    /// The same, and what is held of each tag.
+    pub fn reports(&self, alloc: Global) -> Result<Vec<Report>, AllocError>
+        ensures { IfOk result (λ reports. reports.items ≡ live_relay_reports self.now) }
+    {
+        reports_of(alloc, &self.lanes)
     }
 
     /// What an event does. On an error nothing has changed.
@@ -510,6 +518,18 @@ fn counts_of(alloc: Global, lanes: &[Lane]) -> Result<Vec<Counts>, AllocError>
         counts.push(lane.counts())?;
     }
     Ok(counts)
+}
+
+/// What each output has to do with, in all and of each tag.
+fn reports_of(alloc: Global, lanes: &[Lane]) -> Result<Vec<Report>, AllocError>
+    ensures { IfOk result (λ reports.
+        reports.items ≡ map (λ l. live_report l.output.buffer) lanes.now) }
+{
+    let mut reports = Vec::new(alloc);
+    for lane in lanes {
+        reports.push(lane.report(alloc)?)?;
+    }
+    Ok(reports)
 }
 
 /// The outputs, none of which has an entry.

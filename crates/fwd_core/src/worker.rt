@@ -234,7 +234,7 @@ impl Worker {
         let Some(session) = &mut self.session else {
             return Answer::Refused(Refusal::NotNow);
         };
-        if count > session.out().len() as u64 {
+        if count > session.waiting() {
             return Answer::Refused(Refusal::NotNow);
         }
         session.wrote(count as usize);

@@ -1,7 +1,9 @@
--- What a run counts at its end.
-use Rattle.std.specs.Prelude.{◌≡◌, ◌+◌, List, All}
-use Rattle.fwd_monitor.specs.Counts.{Counts}
+-- What a run reports at its end.
+use Rattle.std.specs.Prelude.{List, All}
+use Rattle.fwd_monitor.specs.Report.{Report}
+use Rattle.fwd_chunks.specs.TagCounts.{AddsUp}
 
--- of each output, the entries ever accepted are those settled and those held
-abbrev pub AddUp : List Counts → Type 0
-AddUp counts = All (λ (c : Counts). c.accepted ≡ c.settled + c.held) counts
+-- of each output, the entries ever accepted are those settled and those held, and what is held is
+-- what is held of its tags
+abbrev pub AddUp : List Report → Type 0
+AddUp reports = All AddsUp reports

@@ -2,8 +2,8 @@
 
 ghost use Rattle.std.specs.Prelude.{◌≤◌, length};
 
-use crate::output::{Output, counts_of};
-use fwd_monitor::{Reply, answer};
+use crate::output::{Output, reports_of};
+use fwd_monitor::{Reply, answer, wants_page};
 use fwd_peers::{PeerStream, Visit};
 use mio::net::TcpStream;
 use std::alloc::{AllocError, Global};
@@ -63,8 +63,12 @@ impl MonitorPeer {
         bytes: &[u8],
     ) -> Result<(), AllocError> {
         self.heard.extend_from_slice(bytes)?;
-        let counts = counts_of(rt, alloc, outputs)?;
-        if let Reply::Bytes(reply) = answer(alloc, &self.heard, &counts)? {
+        let reports = if wants_page(&self.heard) {
+            reports_of(rt, alloc, outputs)?
+        } else {
+            Vec::new(alloc)
+        };
+        if let Reply::Bytes(reply) = answer(alloc, &self.heard, &reports)? {
             self.sending = Some(Sending { reply, sent: 0 });
         }
         Ok(())

@@ -3,7 +3,7 @@
 ghost use Rattle.std.specs.Prelude.{◌≡◌, length, IfOk};
 ghost use Rattle.fwd_loop.specs.Ends.{AddUp};
 
-use fwd_chunks::Counts;
+use fwd_chunks::Report;
 use fwd_workers::{Plain, SharedOutput};
 use std::alloc::{AllocError, Global};
 use std::net::SocketAddr;
@@ -16,18 +16,19 @@ pub(crate) struct Output {
     pub servers: Vec<SocketAddr>,
 }
 
-/// The counts of all outputs, in their order. The only error is out of memory.
-pub(crate) fn counts_of<R: Wait>(
+/// What each output has to do with, in all and of each tag, in their order. Each is locked by
+/// itself for a moment. The only error is out of memory.
+pub(crate) fn reports_of<R: Wait>(
     rt: &R,
     alloc: Global,
     outputs: &[Output],
-) -> Result<Vec<Counts>, AllocError>
-    ensures count { IfOk result (λ counts. length counts.items ≡ length outputs.now) }
-    ensures add_up { IfOk result (λ counts. AddUp counts.items) }
+) -> Result<Vec<Report>, AllocError>
+    ensures count { IfOk result (λ reports. length reports.items ≡ length outputs.now) }
+    ensures add_up { IfOk result (λ reports. AddUp reports.items) }
 {
-    let mut counts = Vec::with_capacity(alloc, outputs.len())?;
+    let mut reports = Vec::with_capacity(alloc, outputs.len())?;
     for output in outputs {
-        counts.push(output.shared.counts(rt))?;
+        reports.push(output.shared.report(rt, alloc)?)?;
     }
-    Ok(counts)
+    Ok(reports)
 }

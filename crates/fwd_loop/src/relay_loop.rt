@@ -8,13 +8,13 @@ use crate::door::Door;
 use crate::fault::StartFault;
 use crate::front::{Front, MONITORS, SOURCES, WAKER};
 use crate::lobby::{Lobby, SourceSetup};
-use crate::output::counts_of;
+use crate::output::reports_of;
 use crate::peers::Peers;
 use crate::random_streams::RandomStreams;
 use crate::teams::Teams;
 use crate::turns::{Opened, Own, Shared, Turns, WorkerTurns, open};
 use crate::watch::Watch;
-use fwd_chunks::Counts;
+use fwd_chunks::Report;
 use fwd_config::config_of;
 use fwd_core::{Config, OutputConfig};
 use fwd_links::Mailbox;
@@ -190,9 +190,9 @@ impl Loop {
     }
 
     /// Runs the loop for so many turns in this thread, and each worker for as many in a thread of
-    /// its own, and answers the counts of each output once all have ended, in the settings' order.
-    /// Whoever still waits for an acknowledgement by then is told, if its request's entries are
-    /// settled.
+    /// its own, and answers what each output has to do with once all have ended, in the settings'
+    /// order. Whoever still waits for an acknowledgement by then is told, if its request's entries
+    /// are settled.
     ///
     /// It fails with `Thread` where a worker's thread cannot be had, with `Poll` where a wait
     /// failed, and with `Memory`. All threads that were started have ended then, too.
@@ -203,9 +203,9 @@ impl Loop {
             + Clock
             + AllocGlobal
             + Sync,
-    >(self, rt: &R, turns: u64) -> Result<Vec<Counts>, StartFault>
-        ensures count { IfOk result (λ counts. length counts.items ≡ self) }
-        ensures add_up { IfOk result (λ counts. AddUp counts.items) }
+    >(self, rt: &R, turns: u64) -> Result<Vec<Report>, StartFault>
+        ensures count { IfOk result (λ reports. length reports.items ≡ self) }
+        ensures add_up { IfOk result (λ reports. AddUp reports.items) }
     {
         self.run_watched(rt, &mut (), turns)
     }
@@ -219,9 +219,9 @@ impl Loop {
             + AllocGlobal
             + Sync,
         W: Watch,
-    >(self, rt: &R, watch: &mut W, count: u64) -> Result<Vec<Counts>, StartFault>
-        ensures count { IfOk result (λ counts. length counts.items ≡ self) }
-        ensures add_up { IfOk result (λ counts. AddUp counts.items) }
+    >(self, rt: &R, watch: &mut W, count: u64) -> Result<Vec<Report>, StartFault>
+        ensures count { IfOk result (λ reports. length reports.items ≡ self) }
+        ensures add_up { IfOk result (λ reports. AddUp reports.items) }
     {
         let Loop {
             alloc,
@@ -232,7 +232,7 @@ impl Loop {
         let served = serve(rt, &mut turns, workers, watch, count);
         turns.close_watched(rt, watch);
         served?;
-        Ok(counts_of(rt, alloc, &shared.outputs)?)
+        Ok(reports_of(rt, alloc, &shared.outputs)?)
     }
 }
 

@@ -8,11 +8,11 @@ use crate::fault::StartFault;
 use crate::front::{Front, tell_all};
 use crate::lost_servers::LostServers;
 use crate::member::Member;
-use crate::output::{Output, counts_of};
+use crate::output::{Output, reports_of};
 use crate::pace::Pace;
 use crate::run_clock::RunClock;
 use crate::watch::Watch;
-use fwd_chunks::Counts;
+use fwd_chunks::Report;
 use fwd_links::Mailbox;
 use fwd_match::Routes;
 use std::alloc::Global;
@@ -167,12 +167,12 @@ impl<'a, R: Wait + Clock> Turns<'a, R> {
         Ok(())
     }
 
-    /// The counts of each output at this moment, in the settings' order. The only error is out of
-    /// memory.
-    pub fn counts(&self, rt: &R) -> Result<Vec<Counts>, StartFault>
-        ensures add_up { IfOk result (λ counts. AddUp counts.items) }
+    /// What each output has to do with at this moment, in all and of each tag, in the settings'
+    /// order. The only error is out of memory.
+    pub fn reports(&self, rt: &R) -> Result<Vec<Report>, StartFault>
+        ensures add_up { IfOk result (λ reports. AddUp reports.items) }
     {
-        Ok(counts_of(rt, self.alloc, self.outputs)?)
+        Ok(reports_of(rt, self.alloc, self.outputs)?)
     }
 
     /// All workers are to end.

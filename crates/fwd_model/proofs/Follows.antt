@@ -26,6 +26,8 @@ use Rattle.fwd_chunks.specs.declared.flush.FlushKind.{FlushKind}
 use Rattle.fwd_chunks.specs.History.{BufferHistory, Load, counts as buffer_counts}
 use Rattle.fwd_chunks.specs.Live.{live_counts}
 use Rattle.fwd_chunks.proofs.Follows as buffer
+use Rattle.fwd_chunks.specs.TagCounts.{report, live_report}
+use Rattle.fwd_chunks.proofs.Reports.{report-live}
 use Rattle.fwd_chunks.proofs.Sane.{opening-sane}
 use Rattle.fwd_model.specs.declared.config.Config.{Config}
 use Rattle.fwd_model.specs.declared.config.OutputConfig.{OutputConfig}
@@ -46,8 +48,8 @@ use Rattle.fwd_model.specs.Step as steps
 use Rattle.fwd_model.specs.Step.{step, answers, after, with_session}
 use Rattle.fwd_model.specs.Setups.{setup_of, session_setup, setting_of}
 use Rattle.fwd_model.specs.Outputs.{returned, live_output}
-use Rattle.fwd_model.specs.History.{Lane, History, histories, source_at, new_lane, new_lanes, counts, opening, is_fresh, with_connection, IsReached}
-use Rattle.fwd_model.specs.Live.{LiveLane, live, live_lane, lives, last_id, is_above, live_source_at, with_live_lane, with_live_worker, live_relay_counts}
+use Rattle.fwd_model.specs.History.{Lane, History, histories, source_at, new_lane, new_lanes, counts, reports, opening, is_fresh, with_connection, IsReached}
+use Rattle.fwd_model.specs.Live.{LiveLane, live, live_lane, lives, last_id, is_above, live_source_at, with_live_lane, with_live_worker, live_relay_counts, live_relay_reports}
 use Rattle.fwd_model.proofs.Agree.{Agrees, Leads, stays, goes, checked, sought, inside}
 use Rattle.fwd_model.proofs.Places.{source_at-live, option_id}
 use Rattle.fwd_model.proofs.Reached.{IsSaneSession, IsSaneLane, AllSane, IsSane, AllSources-at, AllSane-at}
@@ -524,6 +526,21 @@ all_counts (l ∷ ls) = λ i. lane_counts l i ∷ all_counts ls i
 pub counts_follow : (h : History) → counts h ≡ live_relay_counts (live h)
 unfolding live
 counts_follow h = all_counts h.lanes
+
+lane_report : (l : Lane) → IsSaneLane l
+    → report l.output.buffer ≡ live_report (live_lane l).output.buffer
+unfolding live_lane live_output
+lane_report l own = report-live l.output.buffer own.buffer
+
+all_reports : (ls : List Lane) → AllSane ls
+    → map (λ l. report l.output.buffer) ls
+    ≡ map (λ l. live_report l.output.buffer) (map live_lane ls)
+all_reports [] all = refl
+all_reports (l ∷ ls) all = λ i. lane_report l all.0 i ∷ all_reports ls all.1 i
+
+pub reports_follow : (h : History) → IsSane h → reports h ≡ live_relay_reports (live h)
+unfolding live
+reports_follow h sane = all_reports h.lanes sane.lanes
 
 -- ---- runs
 

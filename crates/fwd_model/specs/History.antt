@@ -33,6 +33,8 @@ use Rattle.fwd_model.specs.declared.config.Config.{Config}
 use Rattle.fwd_model.specs.declared.config.OutputConfig.{OutputConfig}
 use Rattle.fwd_model.specs.declared.event.Event.{Event}
 use Rattle.fwd_chunks.specs.Counts.{Counts}
+use Rattle.fwd_chunks.specs.Report.{Report}
+use Rattle.fwd_chunks.specs.TagCounts.{report}
 use Rattle.fwd_chunks.specs.History as buffer
 use Rattle.fwd_chunks.specs.History.{BufferHistory, load_of, looks}
 use Rattle.fwd_session.specs.History.{SessionHistory, unloads}
@@ -232,6 +234,10 @@ histories = record {
 -- entries accepted, settled and held, the bytes held and the chunks, of each output
 abbrev pub counts : History → List Counts
 counts h = map (λ l. buffer.counts l.output.buffer) h.lanes
+
+-- the same, and what is held of each tag
+abbrev pub reports : History → List Report
+reports h = map (λ l. report l.output.buffer) h.lanes
 
 -- a list of events leads from the opening state of the settings to this one
 abbrev pub IsReached : Config → History → Type 0

@@ -30,6 +30,8 @@ use Rattle.fwd_source.specs.Live.{LiveSource, live_source, opened_source}
 use Rattle.fwd_source.specs.Layer.{live_sources}
 use Rattle.fwd_model.specs.declared.config.OutputConfig.{OutputConfig}
 use Rattle.fwd_chunks.specs.Counts.{Counts}
+use Rattle.fwd_chunks.specs.Report.{Report}
+use Rattle.fwd_chunks.specs.TagCounts.{live_report}
 use Rattle.fwd_chunks.specs.History.{Load}
 use Rattle.fwd_chunks.specs.Live as buffer
 use Rattle.fwd_chunks.specs.Live.{
@@ -269,3 +271,7 @@ lives = record {
 -- entries accepted, settled and held, the bytes held and the chunks, of each output
 abbrev pub live_relay_counts : LiveRelay → List Counts
 live_relay_counts r = map (λ l. live_counts l.output.buffer) r.lanes
+
+-- the same, and what is held of each tag
+abbrev pub live_relay_reports : LiveRelay → List Report
+live_relay_reports r = map (λ l. live_report l.output.buffer) r.lanes

@@ -32,7 +32,7 @@ ghost use Rattle.fwd_book.specs.History.{Untold, Told, Admission, request_at, un
 ghost use Rattle.fwd_chunks.specs.History.{Load};
 ghost use Rattle.fwd_session.specs.declared.fault.SessionFault.{SessionFault};
 ghost use Rattle.fwd_session.specs.History.{SessionHistory, is_handed_on, says};
-ghost use Rattle.fwd_model.specs.History.{History, Lane, histories, source_at, counts, IsReached};
+ghost use Rattle.fwd_model.specs.History.{History, Lane, histories, source_at, counts, reports, IsReached};
 ghost use Rattle.fwd_model.specs.Names.{Commute, are_unrelated, is_accept};
 ghost use Rattle.fwd_model.specs.Delivered.{
   IsDueAt,
@@ -50,6 +50,7 @@ ghost use Rattle.fwd_model.specs.Live.{
   live,
   lives,
   live_relay_counts,
+  live_relay_reports,
   live_source_at,
 };
 
@@ -59,6 +60,8 @@ pub fn live_follows()
     ensures step { (config : Config) (h : History) (e : Event) → IsReached config h →
         within live (step histories h e) ≡ step lives (live h) e }
     ensures counts { (h : History) → counts h ≡ live_relay_counts (live h) }
+    ensures reports { (config : Config) (h : History) → IsReached config h →
+        reports h ≡ live_relay_reports (live h) }
 {}
 
 /// The same over a list of events.

@@ -1,13 +1,17 @@
 -- Entries one after the other, and where they end.
-use Rattle.std.proofs.Common.{◌≡◌, ℕ, suc, ◌+◌, ◌-◌, ◌<◌, List, [], ◌∷◌, ◌++◌, length, take, drop, Option, Some, None, refl, sym, ap, ◌∙◌, append_assoc, arith}
-use Rattle.std.specs.Prelude.{option_and_then}
+use Rattle.std.proofs.Common.{◌≡◌, ℕ, suc, ◌+◌, ◌-◌, ◌<◌, Bool, true, false, cond, List, [], ◌∷◌, ◌++◌, length, take, drop, Option, Some, None, refl, sym, ap, subst, ◌∙◌, append_assoc, arith}
+use Rattle.std.specs.Prelude.{option_and_then, ◌&&◌}
 use Rattle.std.specs.List.{concat}
 use Rattle.std.specs.Option.{option_map}
 use Rattle.std.proofs.lemmas.List.{append-nil, length-append, take_at, drop_at}
 use Rattle.fwd_msgpack.specs.declared.fault.ScanFault.{ScanFault}
 use Rattle.fwd_msgpack.specs.Scans.{Verdict, Whole, Short, Bad, Split, Open, Broken, first_of, split_of, with_front, most_bytes}
 use Rattle.fwd_msgpack.proofs.Rows.{by_first, told_first, split_first}
-use Rattle.fwd_modes.specs.Entries.{entry_of, before, entries_of, values_to_the_end, packed_entries, ends_from, cut_at, AreCut}
+use Rattle.std.proofs.lemmas.Option.{same_Some}
+use Rattle.fwd_modes.specs.Kinds.{is_map}
+use Rattle.fwd_modes.specs.Times.{is_time}
+use Rattle.fwd_msgpack.specs.Scans.{elements_of}
+use Rattle.fwd_modes.specs.Entries.{AreFull, kept_entry, entry_in, entry_of, before, entries_of, values_to_the_end, packed_entries, ends_from, cut_at, AreCut}
 
 -- entries in front of others
 abbrev pub behind : List (List ℕ) → Option (List (List ℕ)) → Option (List (List ℕ))
@@ -87,6 +91,61 @@ AreCut-push ends bytes e cut =
       joined = ap concat more ∙ concat-push entries e ∙ ap (λ bs. bs ++ e) cut.joined;
       ending = ap (ends_from 0) more ∙ ends_push 0 entries e ∙ ap (λ n. ends_from 0 entries ++ n ∷ []) (omega (arith, last)) ∙ ap (λ es. es ++ (length bytes + length e) ∷ []) cut.ending;
     }
+
+-- ---- each has a byte
+
+-- one entry more, which has one
+pub full_push : (entries : List (List ℕ)) (e : List ℕ) → AreFull entries → 0 < length e
+    → AreFull (entries ++ e ∷ [])
+full_push [] e full some = (some, tt)
+full_push (x ∷ entries) e full some = (full.0, full_push entries e full.1 some)
+
+full_if : (time fields entry : List ℕ) (b : Bool)
+    → cond b (Some (kept_entry time fields)) None ≡ Some entry → 0 < length entry
+full_if time fields entry true e = omega (arith, ap length (same_Some (kept_entry time fields) entry e))
+full_if time fields entry false e = absurd cc
+
+full_in : (values : List (List ℕ)) (entry : List ℕ) → entry_in values ≡ Some entry
+    → 0 < length entry
+full_in [] entry e = absurd cc
+full_in (time ∷ []) entry e = absurd cc
+full_in (time ∷ fields ∷ []) entry e = full_if time fields entry (is_time time && is_map fields) e
+full_in (time ∷ fields ∷ other ∷ others) entry e = absurd cc
+
+full_by : (o : Option (List (List ℕ))) (entry : List ℕ) → option_and_then entry_in o ≡ Some entry
+    → 0 < length entry
+full_by None entry e = absurd cc
+full_by (Some values) entry e = full_in values entry e
+
+full_entry : (bytes entry : List ℕ) → entry_of bytes ≡ Some entry → 0 < length entry
+unfolding entry_of
+full_entry bytes entry e = full_by (elements_of bytes) entry e
+
+-- entries that were read have one
+pub full_entries : (values entries : List (List ℕ)) → entries_of values ≡ Some entries
+    → AreFull entries
+full_entries [] entries e = subst AreFull (same_Some [] entries e) tt
+full_entries (value ∷ values) entries e =
+    by_first (entry_of value) refl (entries_of values) refl (λ others k. full_entries values others k) e
+  where
+    by_first : (o : Option (List ℕ)) → entry_of value ≡ o → (p : Option (List (List ℕ)))
+        → entries_of values ≡ p
+        → ((others : List (List ℕ)) → entries_of values ≡ Some others → AreFull others)
+        → before o p ≡ Some entries → AreFull entries
+    by_first None h p k ih f = absurd cc
+    by_first (Some entry) h None k ih f = absurd cc
+    by_first (Some entry) h (Some others) k ih f =
+        subst AreFull (same_Some (entry ∷ others) entries f) (full_entry value entry h, ih others k)
+
+full_packed_by : (o : Option (List (List ℕ))) (entries : List (List ℕ))
+    → option_and_then entries_of o ≡ Some entries → AreFull entries
+full_packed_by None entries e = absurd cc
+full_packed_by (Some values) entries e = full_entries values entries e
+
+pub full_packed : (deep : ℕ) (packed : List ℕ) (entries : List (List ℕ))
+    → packed_entries deep packed ≡ Some entries → AreFull entries
+unfolding packed_entries
+full_packed deep packed entries e = full_packed_by (values_to_the_end (split_of most_bytes deep packed)) entries e
 
 pub take_front : (xs ys : List ℕ) → take (length xs) (xs ++ ys) ≡ xs
 take_front xs ys = take_at xs ys (length xs) refl

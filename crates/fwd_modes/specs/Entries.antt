@@ -1,11 +1,15 @@
 -- Entries (Forward Protocol Specification v1, "Message Modes"):
 -- what is one, how it is kept, and where many of them stand.
-use Rattle.std.specs.Prelude.{◌≡◌, ℕ, ◌+◌, ◌-◌, ◌&&◌, List, [], ◌∷◌, ◌++◌, length, take, drop, Option, Some, None, option_and_then, if◌then◌else◌}
-use Rattle.std.specs.List.{concat}
+use Rattle.std.specs.Prelude.{◌≡◌, ℕ, ◌+◌, ◌-◌, ◌<◌, ◌&&◌, List, [], ◌∷◌, ◌++◌, length, take, drop, Option, Some, None, option_and_then, if◌then◌else◌}
+use Rattle.std.specs.List.{concat, AllByRecursion}
 use Rattle.std.specs.Option.{option_map}
 use Rattle.fwd_msgpack.specs.Scans.{Split, Open, Broken, split_of, most_bytes, elements_of}
 use Rattle.fwd_modes.specs.Kinds.{is_map}
 use Rattle.fwd_modes.specs.Times.{is_time}
+
+-- each has a byte
+abbrev pub AreFull : List (List ℕ) → Type 0
+AreFull entries = AllByRecursion (λ e. 0 < length e) entries
 
 -- an entry as it is kept: an array of two, the time and the fields as they are spelled
 abbrev pub kept_entry : (time fields : List ℕ) → List ℕ

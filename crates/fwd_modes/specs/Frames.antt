@@ -25,6 +25,10 @@ frame_option count name =
     head_bytes (Map 2) ++ text (codes "size") ++ head_bytes (Int false count)
     ++ text (codes "chunk") ++ text name
 
+-- what stands before the packed entries, which have so many bytes
+abbrev pub frame_head : List ℕ → ℕ → List ℕ
+frame_head tag length = head_bytes (Arr 3) ++ text tag ++ head_bytes (Bin length)
+
 -- a frame: [tag, packed entries, option]
 abbrev pub packed_frame : List ℕ → List ℕ → ℕ → List ℕ → List ℕ
 packed_frame tag packed count name =

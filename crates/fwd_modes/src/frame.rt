@@ -5,11 +5,17 @@ ghost use Rattle.std.specs.Prelude.{◌≡◌, ◌+◌, ◌^◌, ◌<◌, ◌++�
 ghost use Rattle.std.specs.Int.{w16, w64, to_be_bytes};
 ghost use Rattle.base64.specs.GeneralPurpose.{encode_of};
 ghost use Rattle.base64.specs.Engines.{standard};
-ghost use Rattle.fwd_modes.specs.Frames.{chunk_name, packed_frame, frame_option};
+ghost use Rattle.fwd_modes.specs.Frames.{chunk_name, packed_frame, frame_head, frame_option};
 
 use base64::engine::general_purpose::STANDARD;
 use fwd_msgpack::{Head, write_head, write_text};
 use std::alloc::{AllocError, Global};
+
+/// The most bytes of the three heads before a frame's entries.
+const MOST_HEADS: usize = 11;
+
+/// The most bytes behind a frame's entries, but for its name.
+const MOST_OPTION: usize = 26;
 
 /// The Base64 of sixteen bytes.
 fn encoded(bytes: &[u8; 16]) -> [u8; 24]
@@ -56,6 +62,28 @@ fn write_option(out: &mut Vec<u8>, count: u64, name: &[u8]) -> Result<(), AllocE
     write_text(out, name)
 }
 
+/// What stands before the entries in the frame of a chunk whose entries have so many bytes.
+pub fn write_chunk_head(alloc: Global, tag: &[u8], size: u32) -> Result<Vec<u8>, AllocError>
+    requires { length tag.now < 2 ^ 32 }
+    ensures { IfOk result (λ head. head.items ≡ frame_head tag.now size) }
+{
+    let mut out = Vec::with_capacity(alloc, MOST_HEADS.saturating_add(tag.len()))?;
+    write_head(&mut out, Head::Arr(3))?;
+    write_text(&mut out, tag)?;
+    write_head(&mut out, Head::Bin(size))?;
+    Ok(out)
+}
+
+/// What stands behind the entries in the frame of a chunk with so many entries.
+pub fn write_chunk_tail(alloc: Global, count: u64, name: &[u8]) -> Result<Vec<u8>, AllocError>
+    requires { length name.now < 2 ^ 32 }
+    ensures { IfOk result (λ tail. tail.items ≡ frame_option count name.now) }
+{
+    let mut out = Vec::with_capacity(alloc, MOST_OPTION.saturating_add(name.len()))?;
+    write_option(&mut out, count, name)?;
+    Ok(out)
+}
+
 /// The frame of a chunk with so many entries, which stand one after the other in `packed`.
 pub fn write_chunk(
     alloc: Global,
@@ -70,10 +98,7 @@ pub fn write_chunk(
     ensures { IfOk result (λ frame.
         frame.items ≡ packed_frame tag.now packed.now count name.now) }
 {
-    let mut out = Vec::new(alloc);
-    write_head(&mut out, Head::Arr(3))?;
-    write_text(&mut out, tag)?;
-    write_head(&mut out, Head::Bin(packed.len() as u32))?;
+    let mut out = write_chunk_head(alloc, tag, packed.len() as u32)?;
     out.extend_from_slice(packed)?;
     write_option(&mut out, count, name)?;
     Ok(out)

@@ -17,7 +17,7 @@ ghost use Rattle.std.specs.Prelude.{
   OnErr,
 };
 ghost use Rattle.std.specs.List.{concat};
-ghost use Rattle.fwd_modes.specs.Entries.{AreCut, cut_at, kept_entry, ends_of};
+ghost use Rattle.fwd_modes.specs.Entries.{AreCut, AreFull, cut_at, kept_entry, ends_of};
 ghost use Rattle.fwd_modes.specs.Readings.{entries_left, kept};
 
 use crate::entries::Entries;
@@ -35,14 +35,15 @@ pub(crate) struct KeptEntries {
 
 impl Model for KeptEntries {
     ghost use Rattle.std.specs.Prelude.{List, ℕ, ◌<◌, ◌^◌, length};
-    ghost use Rattle.fwd_modes.specs.Entries.{cut_at, AreCut};
+    ghost use Rattle.fwd_modes.specs.Entries.{cut_at, AreCut, AreFull};
 
     ghost Value = { List (List ℕ) };
 
     ghost view = { λ k. cut_at 0 k.ends.items k.bytes.items };
 
     ghost invariant = { λ k.
-        AreCut 0 k.ends.items k.bytes.items × (length k.bytes.items < 2 ^ 32) };
+        AreCut 0 k.ends.items k.bytes.items × (length k.bytes.items < 2 ^ 32)
+        × AreFull (cut_at 0 k.ends.items k.bytes.items) };
 }
 
 /// Adds an entry to the bytes, or changes nothing.
@@ -94,6 +95,7 @@ impl KeptEntries {
     pub(crate) fn of(bytes: Vec<u8>, ends: SmallVec<u32, 2>) -> Self
         requires cut { AreCut 0 ends.items bytes.items }
         requires bound { length bytes.items < 2 ^ 32 }
+        requires full { AreFull (cut_at 0 ends.items bytes.items) }
         ensures { result ≡ cut_at 0 ends.items bytes.items }
     {
         KeptEntries { bytes, ends }
@@ -111,10 +113,11 @@ impl KeptEntries {
         Ok(())
     }
 
-    /// The entries, one after the other.
+    /// The entries, one after the other. Each has a byte.
     pub(crate) fn bytes(&self) -> &[u8]
         ensures value { result.now ≡ concat self.now }
         ensures bound { length (concat self.now) < 2 ^ 32 }
+        ensures full { AreFull self.now }
     {
         &self.bytes
     }

@@ -5,6 +5,7 @@
 mod ack;
 mod asked;
 mod batch;
+mod contents;
 mod entries;
 mod entry;
 mod fault;
@@ -24,7 +25,7 @@ pub use ack::{NoAck, read_ack, write_ack};
 pub use batch::Batch;
 pub use entries::Entries;
 pub use fault::InputFault;
-pub use frame::{chunk_name, write_chunk};
+pub use frame::{chunk_name, write_chunk, write_chunk_head, write_chunk_tail};
 pub use laws::{
     entries_are_kept, frame_is_value, frame_reads_back, frames_differ, only_its_frame,
     request_limits,

@@ -1,4 +1,3 @@
 pub mod HeadLemmas
 pub mod LineLemmas
-pub mod PageLemmas
 pub mod ReplyLemmas

@@ -1,11 +1,15 @@
 -- The bytes of a monitor come to one reply.
-use Rattle.std.proofs.Common.{◌≡◌, ℕ, inl, inr, List, [], ◌++◌, refl, sym, ap, ◌∙◌, arith}
+use Rattle.std.proofs.Common.{◌≡◌, ℕ, Bool, true, false, inl, inr, List, [], ◌++◌, Option, Some, None, refl, sym, ap, ◌∙◌, subst, arith}
+use Rattle.std.specs.Prelude.{IsTrue, IsFalse}
 use Rattle.httparse.specs.Grammar.{RequestHead}
 use Rattle.httparse.proofs.GrammarLemmas.{request_unique, ReadsRequest-append}
-use Rattle.fwd_counts.specs.declared.counts.Counts.{Counts}
+use Rattle.fwd_counts.specs.declared.report.Report.{Report}
 use Rattle.fwd_monitor.specs.declared.reply.Reply.{Reply}
 use Rattle.fwd_monitor.specs.declared.reply.Reply.TheVariants.{More, Bytes}
-use Rattle.fwd_monitor.specs.Requests.{BeginsWith, HasManyLines, IsBad, IsDue, MustWait}
+use Rattle.fwd_monitor.specs.Requests.{BeginsWith, HasManyLines, IsBad, IsDue, MustWait, WantsPage, is_for_page}
+use Rattle.fwd_monitor.specs.Statuses.{IsJudged, is_found}
+use Rattle.fwd_monitor.specs.declared.status.Status.{Status}
+use Rattle.fwd_monitor.specs.declared.status.Status.TheVariants.{Found, NotFound, BadRequest}
 use Rattle.fwd_monitor.specs.Replies.{IsReplyTo, IsDueText, HasReason, bad_request, reply_to}
 use Rattle.fwd_monitor.proofs.HeadLemmas.{many-fields, many-more, whole-many}
 
@@ -44,35 +48,35 @@ must-none heard must (inr (inr (inr long))) =
     omega (arith, short, least)
 
 -- bytes to which these are the reply
-due-any : (heard : List ℕ) (counts : List Counts) (text : List ℕ)
-    → IsDueText heard counts text → IsDue heard
-due-any heard counts text (inl (h, x, is)) = inl (h, x)
-due-any heard counts text (inr (bad, is)) = inr bad
+due-any : (heard : List ℕ) (reports : List Report) (text : List ℕ)
+    → IsDueText heard reports text → IsDue heard
+due-any heard reports text (inl (h, x, is)) = inl (h, x)
+due-any heard reports text (inr (bad, is)) = inr bad
 
 -- the reply to bytes that begin with a head
-due-whole : (heard : List ℕ) (counts : List Counts) (text : List ℕ) (h : RequestHead)
-    → IsDueText heard counts text → BeginsWith heard h → text ≡ reply_to h counts
-due-whole heard counts text h (inl (k, y, is)) x =
-    is ∙ ap (λ (v : RequestHead). reply_to v counts) (begins-one heard k h y x)
-due-whole heard counts text h (inr (bad, is)) x = absurd (begins-good heard h x bad)
+due-whole : (heard : List ℕ) (reports : List Report) (text : List ℕ) (h : RequestHead)
+    → IsDueText heard reports text → BeginsWith heard h → text ≡ reply_to h reports
+due-whole heard reports text h (inl (k, y, is)) x =
+    is ∙ ap (λ (v : RequestHead). reply_to v reports) (begins-one heard k h y x)
+due-whole heard reports text h (inr (bad, is)) x = absurd (begins-good heard h x bad)
 
 -- the reply to bytes that are bad
-due-bad : (heard : List ℕ) (counts : List Counts) (text : List ℕ)
-    → IsDueText heard counts text → IsBad heard → text ≡ bad_request
-due-bad heard counts text (inl (k, y, is)) bad = absurd (begins-good heard k y bad)
-due-bad heard counts text (inr (worse, is)) bad = is
+due-bad : (heard : List ℕ) (reports : List Report) (text : List ℕ)
+    → IsDueText heard reports text → IsBad heard → text ≡ bad_request
+due-bad heard reports text (inl (k, y, is)) bad = absurd (begins-good heard k y bad)
+due-bad heard reports text (inr (worse, is)) bad = is
 
 -- the bytes have one reply
-pub due-one : (heard : List ℕ) (counts : List Counts) (text other : List ℕ)
-    → IsDueText heard counts text → IsDueText heard counts other → text ≡ other
-due-one heard counts text other due (inl (h, x, is)) =
-    due-whole heard counts text h due x ∙ sym is
-due-one heard counts text other due (inr (bad, is)) = due-bad heard counts text due bad ∙ sym is
+pub due-one : (heard : List ℕ) (reports : List Report) (text other : List ℕ)
+    → IsDueText heard reports text → IsDueText heard reports other → text ≡ other
+due-one heard reports text other due (inl (h, x, is)) =
+    due-whole heard reports text h due x ∙ sym is
+due-one heard reports text other due (inr (bad, is)) = due-bad heard reports text due bad ∙ sym is
 
 -- a reply with a reason is the reply to what the bytes are
-pub reason-reply : (heard : List ℕ) (counts : List Counts) (reply : Reply)
-    → HasReason heard counts reply → IsReplyTo heard counts reply
-reason-reply heard counts More may = record {
+pub reason-reply : (heard : List ℕ) (reports : List Report) (reply : Reply)
+    → HasReason heard reports reply → IsReplyTo heard reports reply
+reason-reply heard reports More may = record {
   whole = λ h x. may.unfinished h x.whole.0 x.whole.1;
   crowded = λ h rest x many. may.unfinished h rest x;
   overfull = λ many. may.few many;
@@ -81,12 +85,33 @@ reason-reply heard counts More may = record {
   long = λ long. let short = may.short in let least = long.long in omega (arith, short, least);
   waits = λ must. refl;
 }
-reason-reply heard counts (Bytes out) due = record {
-  whole = λ h x. due-whole heard counts out.items h due x;
+reason-reply heard reports (Bytes out) due = record {
+  whole = λ h x. due-whole heard reports out.items h due x;
   crowded = λ h rest x many.
-      due-bad heard counts out.items due (inr (inl (whole-many heard h rest x many)));
-  overfull = λ many. due-bad heard counts out.items due (inr (inl many));
-  hopeless = λ never outside. due-bad heard counts out.items due (inl never);
-  long = λ long. due-bad heard counts out.items due (inr (inr long));
-  waits = λ must. absurd (must-none heard must (due-any heard counts out.items due));
+      due-bad heard reports out.items due (inr (inl (whole-many heard h rest x many)));
+  overfull = λ many. due-bad heard reports out.items due (inr (inl many));
+  hopeless = λ never outside. due-bad heard reports out.items due (inl never);
+  long = λ long. due-bad heard reports out.items due (inr (inr long));
+  waits = λ must. absurd (must-none heard must (due-any heard reports out.items due));
 }
+
+-- bytes are told the page just where they are judged so
+pub found-wants : (heard : List ℕ) (status : Option Status) → IsJudged heard status
+    → (IsTrue (is_found status) → WantsPage heard) × (WantsPage heard → IsTrue (is_found status))
+found-wants heard None is = ((λ t. absurd (no t)), (λ w. absurd (is.unfinished w.0 w.1.whole.0 w.1.whole.1)))
+  where
+    no : IsTrue false → ⊥
+    no t = cc
+found-wants heard (Some Found) is = ((λ t. is), (λ w. refl))
+found-wants heard (Some NotFound) is = ((λ t. absurd (no t)), (λ w. absurd (differ (is_for_page w.0.method w.0.target) w.2 (subst (λ (h : RequestHead). IsFalse (is_for_page h.method h.target)) (begins-one heard is.0 w.0 is.1 w.1) is.2))))
+  where
+    no : IsTrue false → ⊥
+    no t = cc
+
+    differ : (b : Bool) → IsTrue b → IsFalse b → ⊥
+    differ true t f = cc
+    differ false t f = cc
+found-wants heard (Some BadRequest) is = ((λ t. absurd (no t)), (λ w. absurd (begins-good heard w.0 w.1 is)))
+  where
+    no : IsTrue false → ⊥
+    no t = cc

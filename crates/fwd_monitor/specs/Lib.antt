@@ -7,3 +7,5 @@ pub mod Requests
 pub mod Statuses
 -- Of the crate below, for those above.
 pub use Rattle.fwd_counts.specs.declared.counts.Counts
+pub use Rattle.fwd_counts.specs.declared.report.Report
+pub use Rattle.fwd_counts.specs.declared.tag_count.TagCount

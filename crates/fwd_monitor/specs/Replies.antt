@@ -15,7 +15,7 @@ use Rattle.std.specs.Prelude.{
 use Rattle.std.specs.Fmt.{decimal}
 use Rattle.httparse.specs.Ascii.{crlf_bytes}
 use Rattle.httparse.specs.Grammar.{RequestHead, ReadsRequest, NeverHasRequest, EndsInTarget}
-use Rattle.fwd_counts.specs.declared.counts.Counts.{Counts}
+use Rattle.fwd_counts.specs.declared.report.Report.{Report}
 use Rattle.fwd_monitor.specs.declared.limits.TheConstants.{MAX_HEADERS}
 use Rattle.fwd_monitor.specs.declared.reply.Reply.{Reply}
 use Rattle.fwd_monitor.specs.declared.reply.Reply.TheVariants.{More, Bytes}
@@ -46,8 +46,8 @@ page_head size =
     ∷ [])
 
 -- the page behind its head
-abbrev pub page_reply : List Counts → List ℕ
-page_reply counts = page_head (length (page_of counts)) ++ page_of counts
+abbrev pub page_reply : List Report → List ℕ
+page_reply reports = page_head (length (page_of reports)) ++ page_of reports
 
 -- a reply that is a head alone
 abbrev pub bare : List ℕ → List ℕ
@@ -62,8 +62,8 @@ abbrev pub bad_request : List ℕ
 bad_request = bare (codes "HTTP/1.1 400 Bad Request")
 
 -- to a whole head
-abbrev pub reply_to : RequestHead → List Counts → List ℕ
-reply_to h counts = if is_for_page h.method h.target then page_reply counts else not_found
+abbrev pub reply_to : RequestHead → List Report → List ℕ
+reply_to h reports = if is_for_page h.method h.target then page_reply reports else not_found
 
 -- the reply is these bytes
 abbrev pub Sends : Reply → List ℕ → Type 0
@@ -71,8 +71,8 @@ Sends More bytes = ⊥
 Sends (Bytes out) bytes = out.items ≡ bytes
 
 -- what a monitor that has sent these bytes is told, by what they are
-pub record IsReplyTo (heard : List ℕ) (counts : List Counts) (reply : Reply) : Type 0 where
-  pub whole : (h : RequestHead) → BeginsWith heard h → Sends reply (reply_to h counts)
+pub record IsReplyTo (heard : List ℕ) (reports : List Report) (reply : Reply) : Type 0 where
+  pub whole : (h : RequestHead) → BeginsWith heard h → Sends reply (reply_to h reports)
   pub crowded : (h : RequestHead) (rest : List ℕ) → ReadsRequest heard h rest
       → MAX_HEADERS < length h.fields → Sends reply bad_request
   pub overfull : HasManyLines heard → Sends reply bad_request
@@ -81,12 +81,12 @@ pub record IsReplyTo (heard : List ℕ) (counts : List Counts) (reply : Reply) :
   pub waits : MustWait heard → reply ≡ More
 
 -- these bytes are the reply that is due, and why
-abbrev pub IsDueText : List ℕ → List Counts → List ℕ → Type 0
-IsDueText heard counts text =
-    ((h : RequestHead) × BeginsWith heard h × (text ≡ reply_to h counts))
+abbrev pub IsDueText : List ℕ → List Report → List ℕ → Type 0
+IsDueText heard reports text =
+    ((h : RequestHead) × BeginsWith heard h × (text ≡ reply_to h reports))
     ⊎ (IsBad heard × (text ≡ bad_request))
 
 -- why the reply is right
-abbrev pub HasReason : List ℕ → List Counts → Reply → Type 0
-HasReason heard counts More = MayWait heard
-HasReason heard counts (Bytes out) = IsDueText heard counts out.items
+abbrev pub HasReason : List ℕ → List Report → Reply → Type 0
+HasReason heard reports More = MayWait heard
+HasReason heard reports (Bytes out) = IsDueText heard reports out.items

@@ -1,5 +1,5 @@
 -- What the bytes of a monitor are: a whole request, none, or not yet either.
-use Rattle.std.specs.Prelude.{ℕ, ◌<◌, ◌≤◌, ◌⊎◌, Bool, ◌&&◌, List, ◌++◌, length, codes}
+use Rattle.std.specs.Prelude.{ℕ, ◌<◌, ◌≤◌, ◌⊎◌, Bool, ◌&&◌, List, ◌++◌, length, codes, IsTrue}
 use Rattle.std.specs.Str.{bytes_eq}
 use Rattle.httparse.specs.Grammar.{
   RequestHead,
@@ -33,6 +33,10 @@ pub record IsTooLong (heard : List ℕ) : Type 0 where
 -- nothing makes the bytes a head, or they have too many header lines, or are too many
 abbrev pub IsBad : List ℕ → Type 0
 IsBad heard = NeverHasRequest heard ⊎ HasManyLines heard ⊎ IsTooLong heard
+
+-- a whole head of few enough headers stands in front, and it asks for the page
+abbrev pub WantsPage : List ℕ → Type 0
+WantsPage heard = (h : RequestHead) × BeginsWith heard h × IsTrue (is_for_page h.method h.target)
 
 -- a reply is due
 abbrev pub IsDue : List ℕ → Type 0

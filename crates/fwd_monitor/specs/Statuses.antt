@@ -1,7 +1,7 @@
 -- The status of a reply, and its bytes.
-use Rattle.std.specs.Prelude.{ℕ, List, Option, Some, None, IsTrue, IsFalse}
+use Rattle.std.specs.Prelude.{ℕ, Bool, true, false, List, Option, Some, None, IsTrue, IsFalse}
 use Rattle.httparse.specs.Grammar.{RequestHead}
-use Rattle.fwd_counts.specs.declared.counts.Counts.{Counts}
+use Rattle.fwd_counts.specs.declared.report.Report.{Report}
 use Rattle.fwd_monitor.specs.declared.status.Status.{Status}
 use Rattle.fwd_monitor.specs.declared.status.Status.TheVariants.{Found, NotFound, BadRequest}
 use Rattle.fwd_monitor.specs.Replies.{page_reply, not_found, bad_request}
@@ -20,8 +20,13 @@ abbrev pub IsJudged : List ℕ → Option Status → Type 0
 IsJudged heard (Some status) = HasStatus heard status
 IsJudged heard None = MayWait heard
 
+-- the status is that of the page
+abbrev pub is_found : Option Status → Bool
+is_found (Some Found) = true
+is_found _ = false
+
 -- the bytes of the reply of each status
-abbrev pub reply_of : Status → List Counts → List ℕ
-reply_of Found counts = page_reply counts
-reply_of NotFound counts = not_found
-reply_of BadRequest counts = bad_request
+abbrev pub reply_of : Status → List Report → List ℕ
+reply_of Found reports = page_reply reports
+reply_of NotFound reports = not_found
+reply_of BadRequest reports = bad_request

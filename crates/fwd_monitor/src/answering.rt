@@ -9,7 +9,7 @@ use crate::judging::judge;
 use crate::pages::page;
 use crate::reply::Reply;
 use crate::status::Status;
-use fwd_counts::Counts;
+use fwd_counts::Report;
 use std::alloc::{AllocError, Global};
 
 /// What a monitor that has sent the bytes of `head` so far is told. A whole request head (RFC 9112,
@@ -18,15 +18,15 @@ use std::alloc::{AllocError, Global};
 /// 400 once their lines have come, finished or not, and so are bytes that nothing can make a head,
 /// and `HEAD_LIMIT` bytes or more without a whole head. Others wait. The only error is out of
 /// memory, and to wait takes none.
-pub fn answer(alloc: Global, head: &[u8], counts: &[Counts]) -> Result<Reply, AllocError>
-    ensures reply { IfOk result (IsReplyTo head.now counts.now) }
-    ensures reason { IfOk result (HasReason head.now counts.now) }
+pub fn answer(alloc: Global, head: &[u8], reports: &[Report]) -> Result<Reply, AllocError>
+    ensures reply { IfOk result (IsReplyTo head.now reports.now) }
+    ensures reason { IfOk result (HasReason head.now reports.now) }
     ensures memory { OnErr result (IsDue head.now) }
     ensures waits { MustWait head.now → result ≡ Ok Reply.More }
 {
     match judge(head) {
         Some(status) => {
-            let text = text(alloc, status, counts)?;
+            let text = text(alloc, status, reports)?;
             Ok(Reply::Bytes(text.into_bytes()))
         }
         None => Ok(Reply::More),
@@ -34,11 +34,11 @@ pub fn answer(alloc: Global, head: &[u8], counts: &[Counts]) -> Result<Reply, Al
 }
 
 /// The bytes of a status's reply.
-fn text(alloc: Global, status: Status, counts: &[Counts]) -> Result<String, AllocError>
-    ensures { IfOk result (λ text. string_bytes text ≡ reply_of status counts.now) }
+fn text(alloc: Global, status: Status, reports: &[Report]) -> Result<String, AllocError>
+    ensures { IfOk result (λ text. string_bytes text ≡ reply_of status reports.now) }
 {
     match status {
-        Status::Found => found(alloc, counts),
+        Status::Found => found(alloc, reports),
         Status::NotFound => String::from_str(
             alloc,
             "HTTP/1.1 404 Not Found\r\nContent-Length: 0\r\nConnection: close\r\n\r\n",
@@ -51,10 +51,10 @@ fn text(alloc: Global, status: Status, counts: &[Counts]) -> Result<String, Allo
 }
 
 /// The page behind its head.
-fn found(alloc: Global, counts: &[Counts]) -> Result<String, AllocError>
-    ensures { IfOk result (λ text. string_bytes text ≡ page_reply counts.now) }
+fn found(alloc: Global, reports: &[Report]) -> Result<String, AllocError>
+    ensures { IfOk result (λ text. string_bytes text ≡ page_reply reports.now) }
 {
-    let body = page(alloc, counts)?;
+    let body = page(alloc, reports)?;
     let mut text = page_head(alloc, body.len())?;
     text.push_str(&body)?;
     Ok(text)

@@ -1,7 +1,7 @@
-ghost use Rattle.std.specs.Prelude.{◌≡◌, ◌+◌, nat_lt};
+ghost use Rattle.std.specs.Prelude.{◌≡◌, ◌+◌, ◌↔◌, IsTrue, nat_lt};
 ghost use Rattle.fwd_monitor.specs.Lines.{head_lines};
-ghost use Rattle.fwd_monitor.specs.Requests.{is_for_page};
-ghost use Rattle.fwd_monitor.specs.Statuses.{IsJudged};
+ghost use Rattle.fwd_monitor.specs.Requests.{WantsPage, is_for_page};
+ghost use Rattle.fwd_monitor.specs.Statuses.{IsJudged, is_found};
 
 use crate::limits::{HEAD_LIMIT, MAX_HEADERS};
 use crate::status::Status;
@@ -24,6 +24,21 @@ pub(crate) fn judge(heard: &[u8]) -> Option<Status>
         Ok(Parsed::Partial) if heard.len() < HEAD_LIMIT && !has_many_lines(heard) => None,
         Ok(Parsed::Partial) | Err(_) => Some(Status::BadRequest),
     }
+}
+
+/// Whether a monitor that has sent these bytes so far is told the page: before that nobody has to
+/// make the reports that are shown on it. It takes no memory.
+pub fn wants_page(heard: &[u8]) -> bool
+    ensures { IsTrue result ↔ WantsPage heard.now }
+{
+    is_found(judge(heard))
+}
+
+/// Whether the status is that of the page.
+fn is_found(status: Option<Status>) -> bool
+    ensures { result ≡ is_found status }
+{
+    matches!(status, Some(Status::Found))
 }
 
 /// Whether a request is for the page.

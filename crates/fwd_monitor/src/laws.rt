@@ -2,7 +2,7 @@
 
 ghost use Rattle.std.specs.Prelude.{◌≡◌, ◌++◌, ℕ, List};
 ghost use Rattle.httparse.specs.Grammar.{ReadsRequest, RequestHead};
-ghost use Rattle.fwd_counts.specs.declared.counts.Counts.{Counts as TheCounts};
+ghost use Rattle.fwd_counts.specs.declared.report.Report.{Report};
 ghost use Rattle.fwd_monitor.specs.Replies.{IsDueText};
 ghost use Rattle.fwd_monitor.specs.Requests.{BeginsWith, HasManyLines, IsBad, IsDue, MustWait};
 
@@ -21,8 +21,8 @@ pub fn one_head()
 /// bytes are to wait. Where bytes can follow that make a head of few enough headers, no more header
 /// lines than that have come.
 pub fn one_reply()
-    ensures one { (heard : List ℕ) (counts : List TheCounts) (text other : List ℕ)
-        → IsDueText heard counts text → IsDueText heard counts other → text ≡ other }
+    ensures one { (heard : List ℕ) (reports : List Report) (text other : List ℕ)
+        → IsDueText heard reports text → IsDueText heard reports other → text ≡ other }
     ensures apart { (heard : List ℕ) (h : RequestHead) → BeginsWith heard h → ¬ (IsBad heard) }
     ensures early { (heard : List ℕ) → MustWait heard → ¬ (IsDue heard) }
     ensures few { (heard more : List ℕ) (h : RequestHead) → BeginsWith (heard ++ more) h

@@ -1,5 +1,6 @@
-//! The monitor's page, which has a line for each output, and what a connection that asks for it
-//! over HTTP/1.x (RFC 9112) is told, by the bytes that it has sent. Sizes are in bytes.
+//! The monitor's page, which has a line for each output and each of its tags, and what a connection
+//! that asks for it over HTTP/1.x (RFC 9112) is told, by the bytes that it has sent. Sizes are in
+//! bytes.
 #![tactic(auto)]
 
 mod answering;
@@ -11,6 +12,7 @@ mod reply;
 mod status;
 
 pub use answering::answer;
+pub use judging::wants_page;
 pub use laws::{head_limits, one_head, one_reply};
 pub use limits::{HEAD_LIMIT, MAX_HEADERS};
 pub use pages::page;

@@ -119,7 +119,7 @@ impl Scanner {
         ensures after { StandsAfterCut self.old.limits bytes.now result self.new }
         ensures limits { self.new.limits ≡ self.old.limits }
     {
-        self.limit();
+        self.is_bounded();
         match self.feed(&bytes[known..]) {
             Fed::More => Cut::Short,
             Fed::Bad(fault) => Cut::Bad(fault),
@@ -162,12 +162,12 @@ impl Scanner {
         self.limits
     }
 
-    /// The most bytes of a value: a number of 32 bits.
+    /// 32 bits hold the most bytes of a value.
     #[inline(always)]
-    fn limit(&self) -> u32
-        ensures bound { self.now.limits.bytes < 2 ^ 32 }
+    fn is_bounded(&self)
+        ensures { self.now.limits.bytes < 2 ^ 32 }
     {
-        self.limits.bytes
+        let _limits = self.limits;
     }
 
     /// How many bytes of the value there were.

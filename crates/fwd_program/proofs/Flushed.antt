@@ -14,18 +14,18 @@ use Rattle.fwd_program.specs.declared.ending.RunEnd.TheVariants.{Ran}
 -- what a run wrote still stands after what writes nothing more
 kept : (status : Status) (text : List ℕ) (old mid new : Option (List ℕ))
     → Runs (Ran status) text old mid → Keeps mid new → Runs (Ran status) text old new
-kept Done text old mid new (s, good, counts, fit, wrote) k = (s, good, counts, fit, Appends-kept old mid new (page_of counts) wrote k)
+kept Done text old mid new (s, good, reports, fit, wrote) k = (s, good, reports, fit, Appends-kept old mid new (page_of reports) wrote k)
 kept (BadSettings fault) text old mid new (why, wrote) k = (why, Keeps-trans old mid new wrote k)
 kept (BadLine n) text old mid new wrote k = absurd wrote
 kept Memory text old mid new wrote k = Keeps-trans old mid new wrote k
 kept (Input failed) text old mid new wrote k = absurd wrote
 kept (Output failed) text old mid new (inl wrote) k = inl (Keeps-trans old mid new wrote k)
-kept (Output failed) text old mid new (inr (s, good, counts, fit, (front, rest, is, wrote))) k = inr (s, good, counts, fit, (front, rest, is, Appends-kept old mid new front wrote k))
+kept (Output failed) text old mid new (inr (s, good, reports, fit, (front, rest, is, wrote))) k = inr (s, good, reports, fit, (front, rest, is, Appends-kept old mid new front wrote k))
 
 -- what a run wrote is a front of its page, or nothing
 front : (status : Status) (failed : WriteFailed) (text : List ℕ) (old new : Option (List ℕ))
     → Runs (Ran status) text old new → Runs (Ran (Output failed)) text old new
-front Done failed text old new (s, good, counts, fit, wrote) = inr (s, good, counts, fit, AppendsFront-all old new (page_of counts) wrote)
+front Done failed text old new (s, good, reports, fit, wrote) = inr (s, good, reports, fit, AppendsFront-all old new (page_of reports) wrote)
 front (BadSettings fault) failed text old new (why, wrote) = inl wrote
 front (BadLine n) failed text old new wrote = absurd wrote
 front Memory failed text old new wrote = inl wrote

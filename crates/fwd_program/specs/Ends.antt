@@ -1,7 +1,7 @@
 -- How a run ends, the exit status of each end, and what was written by then.
 use Rattle.std.specs.Prelude.{◌≡◌, ◌⊎◌, ℕ, List, length, Option, Result, Ok, Err}
 use Rattle.std.specs.Io.KnownBytes.{Appends, Keeps}
-use Rattle.fwd_monitor.specs.Counts.{Counts}
+use Rattle.fwd_monitor.specs.Report.{Report}
 use Rattle.fwd_settings.specs.Whole.{settings_of}
 use Rattle.fwd_settings.specs.declared.settings.Settings.{Settings}
 use Rattle.fwd_settings.specs.declared.fault.SettingsFault.{SettingsFault}
@@ -32,23 +32,23 @@ abbrev pub Found : Result Settings SettingsFault → List ℕ → Type 0
 Found found text =
     (found ≡ Err faults.Memory) ⊎ (found ≡ Err faults.Unreadable) ⊎ (found ≡ settings_of text)
 
--- what a run by these settings may count at its end: of each output once, and so that it adds up
-abbrev pub CountsFor : Settings → List Counts → Type 0
-CountsFor settings counts = (length counts ≡ length settings.outputs) × AddUp counts
+-- what a run by these settings may report at its end: of each output once, and so that it adds up
+abbrev pub ReportsFor : Settings → List Report → Type 0
+ReportsFor settings reports = (length reports ≡ length settings.outputs) × AddUp reports
 
--- How a run by the settings in a text ended, and what it wrote: all of the page of its counts, and
+-- How a run by the settings in a text ended, and what it wrote: all of the page of its reports, and
 -- where a write or a flush failed a front of it, or nothing. Only a text that was not read is
 -- unreadable. It has no script to end at.
 abbrev pub Runs : RunEnd → List ℕ → Option (List ℕ) → Option (List ℕ) → Type 0
 Runs (Ran statuses.Done) text old new =
-    (s : Settings) × (settings_of text ≡ Ok s) × (counts : List Counts) × CountsFor s counts
-    × Appends old new (page_of counts)
+    (s : Settings) × (settings_of text ≡ Ok s) × (reports : List Report) × ReportsFor s reports
+    × Appends old new (page_of reports)
 Runs (Ran (statuses.BadSettings fault)) text old new =
     ((settings_of text ≡ Err fault) ⊎ (fault ≡ faults.Unreadable)) × Keeps old new
 Runs (Ran (statuses.BadLine number)) text old new = ⊥
 Runs (Ran statuses.Memory) text old new = Keeps old new
 Runs (Ran (statuses.Input failed)) text old new = ⊥
 Runs (Ran (statuses.Output failed)) text old new =
-    Keeps old new ⊎ ((s : Settings) × (settings_of text ≡ Ok s) × (counts : List Counts)
-    × CountsFor s counts × AppendsFront old new (page_of counts))
+    Keeps old new ⊎ ((s : Settings) × (settings_of text ≡ Ok s) × (reports : List Report)
+    × ReportsFor s reports × AppendsFront old new (page_of reports))
 Runs (Start fault) text old new = (s : Settings) × (settings_of text ≡ Ok s) × Keeps old new

@@ -33,7 +33,7 @@ fn settings_at<F: Files>(alloc: Global, files: &F, path: &str) -> Result<Setting
     }
 }
 
-/// Runs by the settings that were found, under a watch, and writes the page of the last counts:
+/// Runs by the settings that were found, under a watch, and writes the page of the last reports:
 /// nothing else is written before.
 fn run_found<
     R: Net<Listener = TcpListener, Stream = TcpStream>
@@ -60,8 +60,8 @@ fn run_found<
 {
     let settings = found?;
     let relay = Loop::new(rt, settings)?;
-    let counts = relay.run_watched(rt, watch, turns)?;
-    let text = page(rt.alloc(), &counts)?;
+    let reports = relay.run_watched(rt, watch, turns)?;
+    let text = page(rt.alloc(), &reports)?;
     Ok(write_all(output, text.as_bytes())?)
 }
 
@@ -76,7 +76,7 @@ fn ended(ran: Result<(), RunEnd>) -> RunEnd
 }
 
 /// Runs by the settings in a file, under a journal where the log asks for one, and writes the page
-/// of the last counts.
+/// of the last reports.
 fn run_logged<
     R: Net<Listener = TcpListener, Stream = TcpStream>
         + Threads
@@ -103,8 +103,8 @@ fn run_logged<
     }
 }
 
-/// Runs a relay by the settings in a file, and writes the monitor's page of the last counts, one of
-/// each output. A file that cannot be read is `Ran(BadSettings(Unreadable))`, and so are refused
+/// Runs a relay by the settings in a file, and writes the monitor's page of the last reports, one
+/// of each output. A file that cannot be read is `Ran(BadSettings(Unreadable))`, and so are refused
 /// settings with their own fault; a failed write or flush is `Ran(Output)`, and behind it nothing
 /// was written or a front of the page; out of memory is `Ran(Memory)`. Behind all other ends but
 /// `Done` nothing was written. Where the log asks for it the errors say what the run comes to.

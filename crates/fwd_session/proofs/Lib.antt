@@ -3,3 +3,4 @@ pub mod Following
 pub mod Taking
 pub mod Pieces
 pub mod Framing
+pub mod Gathering

@@ -1,5 +1,5 @@
 -- What the parts of a hearing show, in the words of the definitions.
-use Rattle.std.specs.Prelude.{ℕ, Bool, true, false, ◌++◌, List, Option, option_copied, unwrap_or, is_some, if◌then◌else◌}
+use Rattle.std.specs.Prelude.{◌≡◌, ℕ, Bool, true, false, [], ◌++◌, List, Option, None, option_copied, unwrap_or, is_some, if◌then◌else◌}
 use Rattle.fwd_session.specs.declared.handshake.Handshake.{Handshake}
 use Rattle.fwd_session.specs.declared.hearing.Hearing.{Hearing}
 use Rattle.fwd_session.specs.declared.word.Word.{Word}
@@ -10,6 +10,10 @@ use Rattle.fwd_session.specs.Said.{Said}
 abbrev pub is_greeting : Word → Bool
 is_greeting (Greets out next) = true
 is_greeting _ = false
+
+-- it says nothing of the handshake, and nothing is sent for it
+abbrev pub IsOver : Hearing → Type 0
+IsOver h = (h.handshake ≡ None) × (h.out.items ≡ [])
 
 -- what was heard, where the handshake was this far before it
 abbrev pub shown : Handshake → Hearing → Said

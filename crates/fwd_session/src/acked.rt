@@ -1,11 +1,13 @@
 //! What is kept of a chunk that a server acknowledged.
 
-ghost use Rattle.std.specs.Prelude.{◌≡◌, IfOk};
+ghost use Rattle.std.specs.Prelude.{◌≡◌, IfOk, length};
 ghost use Rattle.std.specs.List.{concat};
 ghost use Rattle.fwd_modes.specs.Entries.{ends_of};
+ghost use Rattle.fwd_chunks.specs.Pieces.{parts_left};
+ghost use Rattle.fwd_chunks.specs.Endings.{ends_left};
 
 use fwd_base::Bytes;
-use fwd_chunks::{Body, Carried};
+use fwd_chunks::{Body, Carried, Ends, Parts};
 use std::alloc::{AllocError, Global};
 use std::marker::Model;
 
@@ -73,18 +75,25 @@ impl Acked {
         self.tag.as_slice()
     }
 
-    /// The entries as they were sent, one after the other.
-    pub fn entries(&self) -> &[u8]
-        ensures { result.now ≡ concat self.now.entries }
+    /// The entries as they were sent, one after the other, in the pieces that they lie in.
+    pub fn parts(&self) -> Parts<'_>
+        ensures { concat (parts_left result) ≡ concat self.now.entries }
     {
-        self.entries.bytes()
+        self.entries.parts()
     }
 
     /// Where each entry ends, in bytes from the front of the first.
-    pub fn ends(&self) -> &[u32]
-        ensures { result.now ≡ ends_of self.now.entries }
+    pub fn ends(&self) -> Ends<'_>
+        ensures { ends_left result ≡ ends_of self.now.entries }
     {
         self.entries.ends()
+    }
+
+    /// How many entries there are.
+    pub fn count(&self) -> usize
+        ensures { result ≡ length self.now.entries }
+    {
+        self.entries.len()
     }
 
     /// The server that acknowledged the chunk, by its place in the output's list.

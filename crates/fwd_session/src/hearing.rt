@@ -26,7 +26,7 @@ ghost use Rattle.fwd_session.specs.Said.{
 ghost use Rattle.fwd_handshake.specs.Verdicts.{helo_answer, pong_verdict};
 ghost use Rattle.fwd_modes.specs.Acks.{ack_name};
 ghost use Rattle.fwd_session.specs.History.{is_done};
-ghost use Rattle.fwd_session.specs.Hearing.{shown, is_greeting};
+ghost use Rattle.fwd_session.specs.Hearing.{shown, is_greeting, IsOver};
 
 use crate::fault::SessionFault;
 use crate::handshake::Handshake;
@@ -157,6 +157,7 @@ pub(crate) fn hear<'a>(
         (reply_stream bytes.now)) }
     ensures rest { IfOk result (λ heard. heard.fault ≡ None
         → heard.rest.now ≡ rest_of (reply_stream bytes.now)) }
+    ensures over { IfOk result (λ heard. is_done before.now ≡ true → IsOver heard) }
     ensures sure { is_done before.now ≡ true → IsOk result }
 {
     let mut awaited = awaited;

@@ -14,10 +14,11 @@ mod salt;
 mod session;
 mod told;
 mod word;
+mod writing;
+mod written;
 
 pub use acked::Acked;
 pub use fault::{NotUp, SessionFault};
-pub use frame::frame_of;
 pub use handshake::Handshake;
 pub use laws::{
     faults_put_down, live_follows, pieces_are_one, reply_limits, said_by_front, stays_framed,
@@ -28,3 +29,4 @@ pub use salt::OwnedSalt;
 pub use session::{LoadError, LoadFailed, Session};
 pub use told::{SessionHeard, SessionTold};
 pub use word::Word;
+pub use writing::frame_of;

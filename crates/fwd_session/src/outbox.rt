@@ -1,71 +1,152 @@
-ghost use Rattle.std.specs.Prelude.{◌≡◌, ◌≤◌, [], ◌++◌, length, drop, OnOk, OnErr};
+//! The frames that wait to be sent.
 
+ghost use Rattle.std.specs.Prelude.{
+  ◌≡◌,
+  ◌≤◌,
+  ◌<◌,
+  ◌^◌,
+  ◌==◌,
+  [],
+  ◌++◌,
+  length,
+  take,
+  drop,
+  min,
+  OnOk,
+  OnErr,
+};
+
+use crate::frame::Frame;
 use std::alloc::{AllocError, Global};
+use std::collections::VecDeque;
 use std::marker::Model;
 
-/// Bytes that wait to be sent.
+/// How many bytes wait at most: as many as a vector may have.
+const MOST: u64 = 0x7fff_ffff_ffff_ffff;
+
+/// The frames that wait to be sent, of which each has a byte.
 #[derive(Drop)]
 pub(crate) struct Outbox {
-    bytes: Vec<u8>,
-    /// How many of them were sent.
-    sent: usize,
+    frames: VecDeque<Frame>,
+    /// How many bytes that are.
+    left: u64,
 }
 
 impl Model for Outbox {
-    ghost use Rattle.std.specs.Prelude.{List, ℕ, ◌≤◌, length, drop};
+    ghost use Rattle.std.specs.Prelude.{List, ℕ, ◌≡◌, ◌<◌, ◌^◌, length};
+    ghost use Rattle.std.specs.List.{concat, AllByRecursion};
 
     ghost Value = { List ℕ };
 
-    ghost view = { λ o. drop o.sent o.bytes.items };
+    ghost view = { λ o. concat o.frames.items };
 
-    ghost invariant = { λ o. o.sent ≤ length o.bytes.items };
+    ghost invariant = { λ o. AllByRecursion (λ f. 0 < length f) o.frames.items
+        × (o.left ≡ length (concat o.frames.items))
+        × (o.left < 2 ^ 63) };
 }
 
 impl Outbox {
-    /// No bytes.
+    /// No frames.
     pub(crate) fn new(alloc: Global) -> Self
         ensures { result ≡ [] }
     {
         Outbox {
-            bytes: Vec::new(alloc),
-            sent: 0,
+            frames: VecDeque::new(alloc),
+            left: 0,
         }
     }
 
-    /// The bytes that wait.
-    pub(crate) fn as_slice(&self) -> &[u8]
-        ensures { result.now ≡ self.now }
+    /// How many bytes wait.
+    pub(crate) fn len(&self) -> u64
+        ensures value { result ≡ length self.now }
+        ensures bound { result < 2 ^ 63 }
     {
-        &self.bytes[self.sent..]
+        self.left
     }
 
-    /// Puts bytes behind those that wait, which are not copied where none does. On an error nothing
-    /// has changed.
-    pub(crate) fn append(&mut self, bytes: Vec<u8>) -> Result<(), AllocError>
-        ensures ok { OnOk result (self.new ≡ self.old ++ bytes.items) }
+    /// The first of the bytes that wait, as far as they lie in one piece: none only where none
+    /// waits.
+    pub(crate) fn front(&self) -> &[u8]
+        ensures front { result.now ≡ take (length result.now) self.now }
+        ensures some { 0 < length self.now → 0 < length result.now }
+    {
+        match self.frames.front() {
+            None => &[],
+            Some(frame) => frame.front(),
+        }
+    }
+
+    /// Puts a frame behind those that wait. On an error nothing has changed.
+    pub(crate) fn push(&mut self, frame: Frame) -> Result<(), AllocError>
+        ensures ok { OnOk result (self.new ≡ self.old ++ frame) }
         ensures err { OnErr result (self.new ≡ self.old) }
     {
-        if self.sent == self.bytes.len() {
-            self.bytes = bytes;
-            self.sent = 0;
+        let len = frame.len().ok_or(AllocError)?;
+        let left = self.left.checked_add(len).ok_or(AllocError)?;
+        if left > MOST {
+            return Err(AllocError);
+        }
+        if len == 0 {
             return Ok(());
         }
-        self.bytes.extend_from_slice(&bytes)
+        if self.frames.push_back(frame).is_err() {
+            return Err(AllocError);
+        }
+        self.left = left;
+        Ok(())
     }
 
-    /// So many of the bytes were sent.
+    /// So many bytes more are sent, or as many as the next piece has: how many.
+    fn step(&mut self, count: usize) -> usize
+        requires some { 0 < count }
+        requires within { count ≤ length self.old }
+        ensures sent { self.new ≡ drop result self.old }
+        ensures some { 0 < result }
+        ensures within { result ≤ count }
+    {
+        if self.frames.is_empty() {
+            return count;
+        }
+        let len = self.frames[0].front().len();
+        let step = self.frames[0].step(count.min(len));
+        self.left -= step as u64;
+        if self.frames[0].is_empty() {
+            let _sent = self.frames.pop_front();
+        }
+        step
+    }
+
+    /// So many bytes more are sent.
     pub(crate) fn advance(&mut self, count: usize)
         requires { count ≤ length self.old }
         ensures { self.new ≡ drop count self.old }
     {
-        self.sent += count;
+        let mut rest = count;
+        while rest > 0 {
+            rest -= self.step(rest);
+        }
+    }
+
+    /// Copies the first of the bytes that wait into a room, as many as fit: how many.
+    pub(crate) fn gather(&self, room: &mut [u8]) -> usize
+        ensures count { result ≡ min (length room.old) (length self.now) }
+        ensures bytes { room.new ≡ take result self.now ++ drop result room.old }
+    {
+        let mut filled = 0;
+        for place in 0..self.frames.len() {
+            if filled == room.len() {
+                break;
+            }
+            filled += self.frames[place].gather(room.split_at_mut(filled).1);
+        }
+        filled
     }
 
     /// No byte waits any more.
     pub(crate) fn clear(&mut self)
         ensures { self.new ≡ [] }
     {
-        self.bytes.clear();
-        self.sent = 0;
+        self.frames.clear();
+        self.left = 0;
     }
 }

@@ -4,6 +4,7 @@ ghost use Rattle.std.specs.Prelude.{
   ◌≡◌,
   ◌≢◌,
   ◌≤◌,
+  ◌<◌,
   None,
   Some,
   Ok,
@@ -16,6 +17,9 @@ ghost use Rattle.std.specs.Prelude.{
   nat_le,
   if◌then◌else◌,
   length,
+  take,
+  drop,
+  min,
   is_some,
   option_copied,
   unwrap_or,
@@ -30,7 +34,7 @@ ghost use Rattle.std.specs.Prelude.{
 ghost use Rattle.std.specs.Option.{option_map};
 ghost use Rattle.std.specs.Arc.{arc_value};
 ghost use Rattle.fwd_session.specs.Evidence.{frame_of, reply_in, IsEvidence, IsBacked, IsNamed};
-ghost use Rattle.fwd_session.specs.Hearing.{shown};
+ghost use Rattle.fwd_session.specs.Hearing.{shown, IsOver};
 ghost use Rattle.fwd_session.specs.Said.{out_of, reply_stream, rest_of};
 ghost use Rattle.fwd_session.specs.History.{
   first_handshake,
@@ -59,12 +63,13 @@ ghost use Rattle.fwd_session.specs.Live.{
 
 use crate::acked::Acked;
 use crate::fault::{NotUp, SessionFault};
-use crate::frame::frame_of;
+use crate::frame::Frame;
 use crate::handshake::Handshake;
 use crate::hearing::{Hearing, hear};
 use crate::outbox::Outbox;
 use crate::salt::OwnedSalt;
 use crate::told::{SessionHeard, SessionTold};
+use crate::written::Written;
 use fwd_base::Bytes;
 use fwd_chunks::Carried;
 use fwd_handshake::Login;
@@ -96,7 +101,9 @@ pub struct Session {
     ack_wait: u64,
     start: u64,
     handshake: Handshake,
-    waiting: Outbox,
+    /// What is sent of the handshake, before any frame.
+    greeting: Written,
+    frames: Outbox,
     rest: Vec<u8>,
     loaded: Option<Carried>,
     acked: Option<Arc<Acked>>,
@@ -109,7 +116,9 @@ pub struct Session {
 impl Model for Session {
     ghost use Rattle.std.specs.Option.{option_map};
     ghost use Rattle.std.specs.Arc.{arc_value};
+    ghost use Rattle.std.specs.Prelude.{◌≡◌, false, [], ◌++◌};
     ghost use Rattle.fwd_session.specs.Evidence.{reply_in, IsBacked};
+    ghost use Rattle.fwd_session.specs.History.{is_done};
     ghost use Rattle.fwd_session.specs.Live.{LiveSession};
 
     ghost Value = { LiveSession };
@@ -123,7 +132,7 @@ impl Model for Session {
         start = s.start;
       };
       handshake = s.handshake;
-      waiting = s.waiting;
+      waiting = s.greeting ++ s.frames;
       rest = s.rest.items;
       loaded = s.loaded;
       reply = reply_in (option_map arc_value s.acked);
@@ -133,7 +142,8 @@ impl Model for Session {
       moment = s.moment;
     } };
 
-    ghost invariant = { λ s. IsBacked s.server (option_map arc_value s.acked) s.loaded };
+    ghost invariant = { λ s. IsBacked s.server (option_map arc_value s.acked) s.loaded
+        × (is_done s.handshake ≡ false → s.frames ≡ []) };
 }
 
 /// How far the handshake is before the first byte.
@@ -207,7 +217,8 @@ impl Session {
             ack_wait,
             start: now,
             handshake,
-            waiting: Outbox::new(alloc),
+            greeting: Written::new(alloc),
+            frames: Outbox::new(alloc),
             rest: Vec::new(alloc),
             loaded: None,
             acked: None,
@@ -262,11 +273,36 @@ impl Session {
         self.server
     }
 
-    /// The bytes that wait to be sent.
+    /// The first of the bytes that wait to be sent, as far as they lie in one piece: none only where
+    /// none waits, and all of them until the handshake is done.
     pub fn out(&self) -> &[u8]
-        ensures { result.now ≡ self.now.waiting }
+        ensures front { result.now ≡ take (length result.now) self.now.waiting }
+        ensures some { 0 < length self.now.waiting → 0 < length result.now }
+        ensures whole { is_done self.now.handshake ≡ false → result.now ≡ self.now.waiting }
     {
-        self.waiting.as_slice()
+        let greeting = self.greeting.as_slice();
+        if greeting.is_empty() {
+            self.frames.front()
+        } else {
+            greeting
+        }
+    }
+
+    /// How many bytes wait to be sent.
+    pub fn waiting(&self) -> u64
+        ensures { result ≡ length self.now.waiting }
+    {
+        self.greeting.as_slice().len() as u64 + self.frames.len()
+    }
+
+    /// Copies the first of the bytes that wait to be sent into a room, as many as fit, whatever the
+    /// pieces are that they lie in: how many.
+    pub fn gather(&self, room: &mut [u8]) -> usize
+        ensures count { result ≡ min (length room.old) (length self.now.waiting) }
+        ensures bytes { room.new ≡ take result self.now.waiting ++ drop result room.old }
+    {
+        let filled = self.greeting.gather(room);
+        filled + self.frames.gather(room.split_at_mut(filled).1)
     }
 
     /// The link took so many bytes of those that wait to be sent.
@@ -274,7 +310,9 @@ impl Session {
         requires { count ≤ length self.old.waiting }
         ensures { self.new ≡ session_sends self.old count }
     {
-        self.waiting.advance(count);
+        let greeting = count.min(self.greeting.as_slice().len());
+        self.greeting.advance(greeting);
+        self.frames.advance(count - greeting);
     }
 
     /// The session, which has none, has the chunk.
@@ -322,13 +360,14 @@ impl Session {
 
     /// Puts the frame of a chunk behind the bytes that wait. On an error nothing has changed.
     fn queue(&mut self, alloc: Global, chunk: &Carried) -> Result<(), AllocError>
+        requires { is_done self.old.handshake ≡ true }
         ensures ok { OnOk result (self.new ≡ record self.old {
           waiting = self.old.waiting ++ frame_of chunk.now;
         }) }
         ensures err { OnErr result (self.new ≡ self.old) }
     {
-        let frame = frame_of(alloc, chunk)?;
-        self.waiting.append(frame)
+        let frame = Frame::of(alloc, chunk)?;
+        self.frames.push(frame)
     }
 
     /// The name of the chunk whose acknowledgement is awaited: one that was handed on whole and is
@@ -336,7 +375,7 @@ impl Session {
     fn awaited(&self) -> Option<&[u8]>
         ensures { option_copied result ≡ live_awaited self.now }
     {
-        if self.acked.is_some() || !self.waiting.as_slice().is_empty() {
+        if self.acked.is_some() || self.waiting() > 0 {
             return None;
         }
         match &self.loaded {
@@ -353,6 +392,8 @@ impl Session {
             → hearing.rest.now ≡ rest_of (reply_stream bytes.now)) }
         ensures named { IfOk result (λ hearing.
             IsNamed self.now.loaded (option_copied hearing.reply)) }
+        ensures over { IfOk result (λ hearing.
+            is_done self.now.handshake ≡ true → IsOver hearing) }
         ensures sure { is_done self.now.handshake ≡ true → IsOk result }
     {
         hear(
@@ -409,6 +450,7 @@ impl Session {
     fn take_in(&mut self, alloc: Global, hearing: Hearing<'_>) -> Result<SessionTold, AllocError>
         requires up { self.old.down ≡ false }
         requires named { IsNamed self.old.loaded (option_copied hearing.reply) }
+        requires over { is_done self.old.handshake ≡ true → IsOver hearing }
         ensures heard { IfOk result (λ told. told.heard
             ≡ told_of self.old.handshake (shown self.old.handshake hearing.entry)) }
         ensures out { IfOk result (λ told. told.out
@@ -441,6 +483,7 @@ impl Session {
     /// Bytes wait to be sent, and bytes of an unfinished value are left. Answers the former again.
     /// On an error nothing has changed.
     fn put_by(&mut self, alloc: Global, out: Vec<u8>, rest: &[u8]) -> Result<Bytes, AllocError>
+        requires { is_done self.old.handshake ≡ true → out.items ≡ [] }
         ensures told { IfOk result (λ told. told ≡ out.items) }
         ensures next { OnOk result (self.new ≡ record self.old {
           waiting = self.old.waiting ++ out.items;
@@ -450,13 +493,14 @@ impl Session {
     {
         let rest = Vec::from_slice(alloc, rest)?;
         let told = Bytes::from_slice(alloc, &out)?;
-        self.waiting.append(out)?;
+        self.greeting.append(out)?;
         self.rest = rest;
         Ok(told)
     }
 
     /// The handshake went on, if this says how far.
     fn greet(&mut self, next: Option<Handshake>)
+        requires { is_done self.old.handshake ≡ true → next ≡ None }
         ensures { self.new ≡ record self.old { handshake = unwrap_or next self.old.handshake } }
     {
         if let Some(next) = next {
@@ -497,7 +541,8 @@ impl Session {
     fn fall(&mut self)
         ensures { self.new ≡ record self.old { waiting = []; rest = []; down = true } }
     {
-        self.waiting.clear();
+        self.greeting.clear();
+        self.frames.clear();
         self.rest.clear();
         self.down = true;
     }
@@ -599,7 +644,8 @@ impl Session {
             ack_wait: _,
             start: _,
             handshake: _,
-            waiting: _,
+            greeting: _,
+            frames: _,
             rest: _,
             loaded,
             acked: _,

@@ -31,7 +31,7 @@ use Rattle.fwd_workers.specs.declared.serve.Served.TheVariants as served
 use Rattle.fwd_workers.specs.Endings.{loss_in}
 use Rattle.fwd_workers.specs.Working.{IsTended}
 use Rattle.fwd_workers.specs.Links.{Call}
-use Rattle.fwd_workers.specs.Served.{Seen, seen_in, IsTurn, Sends, Hears, HasHeard, IsServed, Deed, Serves, Loads, Looks, Unloads, Does, Lives, HasLived, HasLost, IsOfLink}
+use Rattle.fwd_workers.specs.Served.{Seen, seen_in, HasTurned, Sends, Hears, HasHeard, IsServed, Deed, Serves, Loads, Looks, Unloads, Does, Lives, HasLived, HasLost, IsOfLink}
 
 -- ---- a life goes on
 
@@ -295,12 +295,12 @@ neither a b x y e = no (sym (λ i. x i || y i) ∙ e)
 -- it was not late, and its turn came to this
 pub served-tended : (what : Served) (s m t : LiveSession) (now : ℕ) (before after : List Call)
     (why : Option Ending) → s.down ≡ false → live_is_late s now ≡ false
-    → m ≡ session_looks s now → IsTurn what m t before after
+    → m ≡ session_looks s now → HasTurned what m t before after
     → IsServed what m t (seen_in before) (seen_in after)
     → why ≡ option_map ending.Lost (loss_in what) → IsTended s t now before after why
 served-tended what s m t now before after why up on is turn served ends = record {
   late = λ e. absurd (neither s.down (live_is_late s now) up on e);
-  served = λ e. (what, subst (λ x. IsTurn what x t before after) is turn, ends);
+  served = λ e. (what, subst (λ x. HasTurned what x t before after) is turn, ends);
   up = λ none. goes-up what m t (seen_in before) (seen_in after) (looks-up s m now on is)
       (no-loss (loss_in what) (sym ends ∙ none)) served;
 }

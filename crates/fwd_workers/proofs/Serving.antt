@@ -1,5 +1,5 @@
 -- What one turn of a session comes to.
-use Rattle.std.proofs.Common.{arith, ◌≡◌, ◌≢◌, ◌≤◌, ◌+◌, ◌++◌, inl, inr, ℕ, List, [], ◌∷◌, take, length, Result, Ok, Err, Some, None, refl, sym, ap, subst, ◌∙◌, append_assoc}
+use Rattle.std.proofs.Common.{arith, ◌≡◌, ◌≢◌, ◌≤◌, ◌+◌, ◌++◌, inl, inr, ℕ, List, [], ◌∷◌, zero, suc, ◌<◌, take, length, Result, Ok, Err, Some, None, refl, sym, ap, subst, ◌∙◌, append_assoc, take-take, ◌-◌, length-drop}
 use Rattle.std.proofs.lemmas.List.{append-nil}
 use Rattle.std.proofs.lemmas.List.Sums.{sum_by_push}
 use Rattle.std.proofs.lemmas.Grind.{flat_map-append}
@@ -12,7 +12,7 @@ use Rattle.fwd_workers.specs.declared.link.LinkFault.{LinkFault}
 use Rattle.fwd_workers.specs.declared.serve.Served.{Served}
 use Rattle.fwd_workers.specs.declared.serve.Served.TheVariants as served
 use Rattle.fwd_workers.specs.Links.{Call, DidWrite, read_into, taken_by, given_by, failures_by, taken_in, given_in, failures_in}
-use Rattle.fwd_workers.specs.Served.{Seen, seen_in, write_of, Exchange, Breaks, Reads, calls_of, IsHeard, ComesOfRead, ComesOf, IsTurn, Sends, HasHeard, IsServed}
+use Rattle.fwd_workers.specs.Served.{Seen, seen_in, write_of, Exchange, Breaks, Reads, calls_of, IsHeard, ComesOfRead, ComesOf, IsOffer, HasSent, IsTurn, Sends, HasHeard, IsServed}
 
 -- what is seen of one call more
 abbrev seen_more : Seen → Call → Seen
@@ -37,6 +37,13 @@ pub write-some : (waiting : List ℕ) (answer : Result ℕ LinkFault) → waitin
     → write_of waiting answer ≡ DidWrite waiting answer ∷ []
 write-some [] answer some = absurd (some refl)
 write-some (byte ∷ bytes) answer some = refl
+
+-- what is offered of some bytes is some
+offered-some : (size : ℕ) (waiting : List ℕ) → IsOffer size waiting → waiting ≢ []
+    → take size waiting ≢ []
+offered-some size [] offer some = absurd (some refl)
+offered-some zero (byte ∷ bytes) offer some = absurd (omega (arith, offer.some (omega arith)))
+offered-some (suc size) (byte ∷ bytes) offer some = λ e. omega (arith, ap length e)
 
 -- what is seen of a write that did not fail
 write-seen : (before : List Call) (waiting : List ℕ) (count : ℕ)
@@ -174,31 +181,34 @@ of-read what s t calls room (Err fault) comes =
 of-exchange : (what : Served) (s t : LiveSession) (before : List Call) (exchange : Exchange)
     → ComesOf what s t exchange
     → IsServed what s t (seen_in before) (seen_in (before ++ calls_of s.waiting exchange))
-of-exchange what s t before (Breaks fault) comes =
-    subst (λ w. IsServed w s t (seen_in before) (seen_in (before ++ write_of s.waiting (Err fault))))
-    (sym comes.1) (
+of-exchange what s t before (Breaks size fault) comes =
+    let bytes : List ℕ = take size s.waiting in
+    subst (λ w. IsServed w s t (seen_in before) (seen_in (before ++ write_of bytes (Err fault))))
+    (sym comes.2) (
       s,
       seen_in before,
       sends-none s (seen_in before),
       (
-        comes.2,
-        ap (λ calls. seen_in (before ++ calls)) (write-some s.waiting (Err fault) comes.0)
-            ∙ broken-seen before s.waiting fault,
+        comes.3,
+        ap (λ calls. seen_in (before ++ calls)) (write-some bytes (Err fault) (offered-some size s.waiting comes.0 comes.1))
+            ∙ broken-seen before bytes fault,
       ),
     )
-of-exchange what s t before (Reads count room answer) comes =
-    let between : List Call = before ++ write_of s.waiting (Ok count) in (
+of-exchange what s t before (Reads size count room answer) comes =
+    let bytes : List ℕ = take size s.waiting in
+    let between : List Call = before ++ write_of bytes (Ok count) in (
       session_sends s count,
       seen_in between,
       record {
         count = count;
-        within = comes.0;
+        within = omega (arith, comes.0.within, comes.1);
         told = refl;
-        seen = write-seen before s.waiting count;
+        seen = write-seen before bytes count
+            ∙ (λ i. record (seen_in before) { taken = taken_in before ++ take-take count size s.waiting comes.1 i });
       },
       subst (λ calls. HasHeard what (session_sends s count) t (seen_in between) (seen_in calls))
-          (append_assoc before (write_of s.waiting (Ok count)) (read_into room answer ∷ []))
-          (of-read what (session_sends s count) t between room answer comes.3),
+          (append_assoc before (write_of bytes (Ok count)) (read_into room answer ∷ []))
+          (of-read what (session_sends s count) t between room answer comes.4),
     )
 
 pub served-of : (what : Served) (s t : LiveSession) (before after : List Call)
@@ -211,29 +221,68 @@ served-of what s t before after turn =
 
 -- its write failed
 pub breaks-turn : (s t : LiveSession) (before after : List Call) (fault : LinkFault)
-    → s.waiting ≢ [] → t ≡ s → after ≡ before ++ write_of s.waiting (Err fault)
+    → (size : ℕ) × IsOffer size s.waiting × (s.waiting ≢ []) × (t ≡ s)
+    × (after ≡ before ++ write_of (take size s.waiting) (Err fault))
     → IsTurn (served.Failed fault) s t before after
-breaks-turn s t before after fault some same calls = record {
-  exchange = Breaks fault;
-  calls = calls;
-  comes = (some, refl, same);
+breaks-turn s t before after fault failed = record {
+  exchange = Breaks failed.0 fault;
+  calls = failed.4;
+  comes = (failed.1, failed.2, refl, failed.3);
 }
+
+-- it only sent
+pub sent-served : (what : Served) (s t : LiveSession) (before after : List Call)
+    → HasSent what s t before after → IsServed what s t (seen_in before) (seen_in after)
+sent-served what s t before after h =
+    subst (λ w. IsServed w s t (seen_in before) (seen_in after)) (sym h.quiet) (
+      t,
+      seen_in after,
+      record {
+        count = h.count;
+        within = omega (arith, h.more);
+        told = h.told;
+        seen = ap seen_in h.calls ∙ write-seen before (take h.size s.waiting) h.count
+            ∙ (λ i. record (seen_in before) { taken = taken_in before ++ take-take h.count h.size s.waiting h.within i });
+      },
+      inr (refl, refl),
+    )
+
+pub has-sent : (s t : LiveSession) (before after : List Call)
+    → (size : ℕ) × (count : ℕ) × IsOffer size s.waiting × (count ≤ size)
+    × (t ≡ session_sends s count) × (after ≡ before ++ write_of (take size s.waiting) (Ok count))
+    → 0 < length t.waiting → length t.waiting < length s.waiting
+    → HasSent served.Quiet s t before after
+has-sent s t before after sent some less =
+    let long : length t.waiting ≡ length s.waiting - sent.1 = ap (λ (x : LiveSession). length x.waiting) sent.4 ∙ length-drop sent.1 s.waiting in
+    record {
+      size = sent.0;
+      count = sent.1;
+      offer = sent.2;
+      within = sent.3;
+      some = omega (arith, less, long);
+      more = omega (arith, some, long);
+      calls = sent.5;
+      quiet = refl;
+      told = sent.4;
+    }
 
 -- its read was answered
 pub reads-turn : (what : Served) (s middle t : LiveSession) (before between after : List Call)
     (room : List ℕ) (answer : Result Read LinkFault)
-    → (count : ℕ) × (count ≤ length s.waiting) × (middle ≡ session_sends s count)
-    × (between ≡ before ++ write_of s.waiting (Ok count))
+    → (size : ℕ) × (count : ℕ) × IsOffer size s.waiting × (count ≤ size)
+    × (middle ≡ session_sends s count)
+    × (between ≡ before ++ write_of (take size s.waiting) (Ok count))
     → after ≡ between ++ read_into room answer ∷ [] → 1 ≤ length room → length room ≤ 65536
     → ComesOfRead what middle t room answer → IsTurn what s t before after
 reads-turn what s middle t before between after room answer sent calls some within comes = record {
-  exchange = Reads sent.0 room answer;
-  calls = calls ∙ ap (λ x. x ++ read_into room answer ∷ []) sent.3
-      ∙ append_assoc before (write_of s.waiting (Ok sent.0)) (read_into room answer ∷ []);
+  exchange = Reads sent.0 sent.1 room answer;
+  calls = calls ∙ ap (λ x. x ++ read_into room answer ∷ []) sent.5
+      ∙ append_assoc before (write_of (take sent.0 s.waiting) (Ok sent.1)) (read_into room answer ∷ []);
   comes = (
-    sent.1,
+    sent.2,
+    sent.3,
     some,
     within,
-    subst (λ m. ComesOfRead what m t room answer) sent.2 comes,
+    subst (λ m. ComesOfRead what m t room answer) sent.4 comes,
   );
 }

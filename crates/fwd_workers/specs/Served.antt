@@ -4,6 +4,7 @@ use Rattle.std.specs.Prelude.{
   ◌≡◌,
   ◌≢◌,
   ◌≤◌,
+  ◌<◌,
   ◌⊎◌,
   ◌+◌,
   ℕ,
@@ -23,6 +24,7 @@ use Rattle.std.specs.Prelude.{
   Ok,
   Err,
   is_some,
+  IfOk,
   slice_get,
 }
 use Rattle.fwd_modes.specs.Scans.{values_of}
@@ -76,22 +78,36 @@ seen_in calls = seen_of (taken_in calls) (given_in calls) (failures_in calls)
 
 -- ---- what a turn asks of its link
 
--- the one write of a turn, of all bytes that wait, and what it was answered; none where none wait
-abbrev pub write_of : (waiting : List ℕ) → Result ℕ LinkFault → List Call
+-- the one write of a turn, of these bytes, and what it was answered; none of no bytes
+abbrev pub write_of : (bytes : List ℕ) → Result ℕ LinkFault → List Call
 write_of [] answer = []
 write_of (byte ∷ bytes) answer = DidWrite (byte ∷ bytes) answer ∷ []
 
--- What a link answers in a turn. Its write failed. Or it took so many bytes, none where none wait,
--- and then one read was answered, after which the room is this.
+-- so many of the bytes that wait are offered to the link: one at least, where some wait
+pub record IsOffer (size : ℕ) (waiting : List ℕ) : Type 0 where
+  pub within : size ≤ length waiting
+  pub some : 0 < length waiting → 0 < size
+
+-- the link was offered the first bytes of those that wait, of which there are some, and answered
+pub record HasOffered (waiting : List ℕ) (before after : List Call)
+    (answer : Result ℕ LinkFault) : Type 0 where
+  pub size : ℕ
+  pub offer : IsOffer size waiting
+  pub within : IfOk answer (λ count. count ≤ size)
+  pub calls : after ≡ before ++ write_of (take size waiting) answer
+
+-- What a link answers in a turn in which it is offered the first so many bytes of those that wait.
+-- Its write failed. Or it took so many of them, none where none wait, and then one read was
+-- answered, after which the room is this.
 pub data Exchange : Type 0 where
-  Breaks : (fault : LinkFault) → Exchange
-  Reads : (count : ℕ) (room : List ℕ) (answer : Result Read LinkFault) → Exchange
+  Breaks : (size : ℕ) (fault : LinkFault) → Exchange
+  Reads : (size count : ℕ) (room : List ℕ) (answer : Result Read LinkFault) → Exchange
 
 -- the calls of a turn, in their order: at most one write; and then one read, unless that failed
 abbrev pub calls_of : (waiting : List ℕ) → Exchange → List Call
-calls_of waiting (Breaks fault) = write_of waiting (Err fault)
-calls_of waiting (Reads count room answer) =
-    write_of waiting (Ok count) ++ read_into room answer ∷ []
+calls_of waiting (Breaks size fault) = write_of (take size waiting) (Err fault)
+calls_of waiting (Reads size count room answer) =
+    write_of (take size waiting) (Ok count) ++ read_into room answer ∷ []
 
 -- what a session is told, as what its turn comes to; the other outcomes are no word of a session
 abbrev pub word_in : Served → Option SessionHeard
@@ -120,13 +136,13 @@ ComesOfRead what s t room (Ok read.Closed) = (what ≡ served.Closed) × (t ≡ 
 ComesOfRead what s t room (Err fault) = (what ≡ served.Failed fault) × (t ≡ s)
 
 -- What a turn comes to by what the link answered, and what the session is then: it is told how many
--- bytes the link took, of those that waited. The read asks for a byte at least, and for 65,536 at
--- most.
+-- bytes the link took, of those that it was offered. The read asks for a byte at least, and for
+-- 65,536 at most.
 abbrev pub ComesOf : Served → LiveSession → LiveSession → Exchange → Type 0
-ComesOf what s t (Breaks fault) =
-    (s.waiting ≢ []) × (what ≡ served.Failed fault) × (t ≡ s)
-ComesOf what s t (Reads count room answer) =
-    (count ≤ length s.waiting) × (1 ≤ length room) × (length room ≤ 65536)
+ComesOf what s t (Breaks size fault) =
+    IsOffer size s.waiting × (s.waiting ≢ []) × (what ≡ served.Failed fault) × (t ≡ s)
+ComesOf what s t (Reads size count room answer) =
+    IsOffer size s.waiting × (count ≤ size) × (1 ≤ length room) × (length room ≤ 65536)
     × ComesOfRead what (session_sends s count) t room answer
 
 -- one turn of a session: its calls stand behind the link's calls before it, and what it comes to is
@@ -135,6 +151,31 @@ pub record IsTurn (what : Served) (s t : LiveSession) (before after : List Call)
   pub exchange : Exchange
   pub calls : after ≡ before ++ calls_of s.waiting exchange
   pub comes : ComesOf what s t exchange
+
+-- a link is read, and this is what that comes to
+pub record HasRead (what : Served) (s t : LiveSession) (before after : List Call) : Type 0 where
+  pub room : List ℕ
+  pub answer : Result Read LinkFault
+  pub calls : after ≡ before ++ read_into room answer ∷ []
+  pub some : 1 ≤ length room
+  pub within : length room ≤ 65536
+  pub comes : ComesOfRead what s t room answer
+
+-- a turn that only sent: the link took some of the bytes that it was offered, and more wait
+pub record HasSent (what : Served) (s t : LiveSession) (before after : List Call) : Type 0 where
+  pub size : ℕ
+  pub count : ℕ
+  pub offer : IsOffer size s.waiting
+  pub within : count ≤ size
+  pub some : 0 < count
+  pub more : count < length s.waiting
+  pub calls : after ≡ before ++ write_of (take size s.waiting) (Ok count)
+  pub quiet : what ≡ served.Quiet
+  pub told : t ≡ session_sends s count
+
+-- a turn, or one that only sent
+abbrev pub HasTurned : Served → LiveSession → LiveSession → (before after : List Call) → Type 0
+HasTurned what s t before after = IsTurn what s t before after ⊎ HasSent what s t before after
 
 -- ---- what it does with the bytes
 

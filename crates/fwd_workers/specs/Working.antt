@@ -23,7 +23,7 @@ use Rattle.fwd_workers.specs.declared.link.Place.TheVariants as place
 use Rattle.fwd_workers.specs.declared.serve.Served.{Served}
 use Rattle.fwd_workers.specs.Endings.{idle_ending, loss_in, news_of, went_of}
 use Rattle.fwd_workers.specs.Links.{Call}
-use Rattle.fwd_workers.specs.Served.{IsTurn}
+use Rattle.fwd_workers.specs.Served.{HasTurned}
 
 -- where the gate is asked: nowhere while the server is waited for
 abbrev pub place_of : {L : Type 0} {g : _} → Stage L g → Option Place
@@ -55,7 +55,7 @@ pub record IsTended (s t : LiveSession) (now : ℕ) (before after : List Call)
   pub late : s.down || live_is_late s now ≡ true
       → (why ≡ Some (ending.Lost loss.Late)) × (after ≡ before)
   pub served : s.down || live_is_late s now ≡ false
-      → (what : Served) × IsTurn what (session_looks s now) t before after
+      → (what : Served) × HasTurned what (session_looks s now) t before after
       × (why ≡ option_map ending.Lost (loss_in what))
   pub up : why ≡ None → t.down ≡ false
 

@@ -22,7 +22,7 @@ pub use laws::served_bytes_are_the_links;
 pub use link::{Clock, Gate, Hub, Link, LinkFault, Loss, News, Pass, Place, Read};
 pub use locked::{Closing, Locked};
 pub use refusal::AdmitRefusal;
-pub use serve::{Served, serve_turn};
+pub use serve::{Served, serve_gathered, serve_turn};
 pub use shared::SharedOutput;
 pub use tally::{Ledgered, Plain, Seat, Tally, open};
 pub use ticket::Ticket;

@@ -34,6 +34,7 @@ ghost use Rattle.fwd_chunks.specs.Live.{
   live_takes,
 };
 ghost use Rattle.fwd_chunks.specs.Soundness.{IsSound};
+ghost use Rattle.fwd_chunks.specs.TagCounts.{AddsUp, IsSnapshot, live_report};
 ghost use Rattle.fwd_session.specs.Evidence.{IsEvidence};
 ghost use Rattle.fwd_book.specs.Live.{IsSound as IsSoundBook, live_leaves};
 ghost use Rattle.fwd_core.specs.Outputs.{
@@ -69,7 +70,7 @@ use crate::refusal::AdmitRefusal;
 use crate::tally::{Ledgered, Seat, Tally};
 use crate::ticket::Ticket;
 use fwd_book::Receipt;
-use fwd_chunks::{Carried, Counts, FlushKind};
+use fwd_chunks::{Carried, Counts, FlushKind, Report, Snapshot, tags_add_up};
 use fwd_core::OutputState;
 use fwd_modes::{Batch, Origin};
 use fwd_session::Acked;
@@ -145,6 +146,28 @@ impl<A: Tally, S: Tally> Locked<A, S> {
     {
         self.state.is_sound();
         self.state.counts()
+    }
+
+    /// The same, and what is held of each tag, the tags in no order: made quickly, while others wait
+    /// for the lock. The only error is out of memory.
+    pub fn snapshot(&self, alloc: Global) -> Result<Snapshot, AllocError>
+        ensures snapshot { IfOk result (λ snapshot.
+            IsSnapshot self.now.output.buffer snapshot) }
+        ensures sound { IsSound self.now.output.buffer }
+    {
+        self.state.is_sound();
+        self.state.snapshot(alloc)
+    }
+
+    /// The same with the tags by rising bytes. The only error is out of memory.
+    pub fn report(&self, alloc: Global) -> Result<Report, AllocError>
+        ensures report { IfOk result (λ report.
+            report ≡ live_report self.now.output.buffer) }
+        ensures adds_up { IfOk result (λ report. AddsUp report) }
+    {
+        tags_add_up();
+        self.state.is_sound();
+        self.state.report(alloc)
     }
 
     /// Admits a connection's request at a moment (milliseconds), and gives a ticket for it. It is

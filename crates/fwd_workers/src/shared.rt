@@ -14,6 +14,9 @@ ghost use Rattle.std.specs.Prelude.{
 };
 ghost use Rattle.std.specs.Arc.{arc_value};
 ghost use Rattle.std.specs.List.Sorted.{IsPermutation};
+ghost use Rattle.fwd_chunks.specs.Live.{LiveBuffer};
+ghost use Rattle.fwd_chunks.specs.Soundness.{IsSound};
+ghost use Rattle.fwd_chunks.specs.TagCounts.{AddsUp, IsSnapshot};
 ghost use Rattle.fwd_session.specs.Evidence.{IsEvidence};
 ghost use Rattle.fwd_book.specs.History.{BookSetting};
 ghost use Rattle.fwd_workers.specs.Seats.{parts_of, counts_of};
@@ -24,7 +27,7 @@ use crate::refusal::AdmitRefusal;
 use crate::tally::{Ledgered, Seat, Tally};
 use crate::ticket::Ticket;
 use fwd_book::Receipt;
-use fwd_chunks::{Carried, Counts, FlushKind};
+use fwd_chunks::{Carried, Counts, FlushKind, Report, Snapshot, tags_add_up};
 use fwd_modes::{Batch, Origin};
 use fwd_session::Acked;
 use std::alloc::{AllocError, Global};
@@ -51,6 +54,24 @@ impl<A: Tally, S: Tally> SharedOutput<A, S> {
         ensures { result.accepted ≡ result.settled + result.held }
     {
         self.lock.lock(rt).counts()
+    }
+
+    /// The same, and what is held of each tag, by rising bytes. The only error is out of memory. The
+    /// lock is held while the tags are written down, and free again while they are put in order.
+    pub fn report<R: Wait>(&self, rt: &R, alloc: Global) -> Result<Report, AllocError>
+        ensures { IfOk result (λ report. AddsUp report) }
+    {
+        tags_add_up();
+        let snapshot = self.snapshot(rt, alloc)?;
+        snapshot.report(alloc)
+    }
+
+    /// What the output has to do with, the tags in no order.
+    fn snapshot<R: Wait>(&self, rt: &R, alloc: Global) -> Result<Snapshot, AllocError>
+        ensures { IfOk result (λ snapshot.
+            (b : LiveBuffer) × IsSound b × IsSnapshot b snapshot) }
+    {
+        self.lock.lock(rt).snapshot(alloc)
     }
 
     /// Admits a connection's request at a moment (milliseconds), and gives a ticket for it. It is

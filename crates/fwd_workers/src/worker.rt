@@ -40,7 +40,7 @@ use crate::line::{FreeLine, Line, Stage};
 use crate::link::{Clock, Gate, Hub, Link, Loss, News, Pass, Place};
 use crate::parting::{end_free, end_line, finish, miss, settle_line};
 use crate::round::{Round, World};
-use crate::serve::serve_turn;
+use crate::serve::serve_gathered;
 use crate::shared::SharedOutput;
 use crate::tally::Tally;
 use fwd_base::Bytes;
@@ -128,7 +128,7 @@ fn serve<L: Link, R: Wait>(rt: &R, alloc: Global, line: Line<L>, now: u64) -> Li
             ending: Some(Ending::Lost(Loss::Late)),
         };
     };
-    let served = serve_turn(rt, alloc, &mut link, &mut session);
+    let served = serve_gathered(rt, alloc, &mut link, &mut session);
     Line {
         link,
         session,

@@ -1,4 +1,4 @@
-//! A buffer: `buffers requests|count|speed|output ENTRIES TAGS SIZE REQUEST TURNS`.
+//! A buffer: `buffers requests|count|speed|output|reports ENTRIES TAGS SIZE REQUEST TURNS`.
 //!
 //! Requests are admitted to a buffer until it has so many entries, all chunks are closed, and each
 //! of them is taken and settled; and the same bytes are copied. Each request has REQUEST entries of
@@ -6,10 +6,11 @@
 //! under `speed` also how long each part took in the fastest of the turns. Under `requests` the
 //! requests alone are made, so that the memory of the two can be told apart. Under `output` the
 //! same is done through an output, with a session that sends each chunk and hears its reply, and
-//! collects.
+//! collects. Under `reports` what is held of each tag is reported, once all is admitted.
 
 use crate::load::{Load, batches, next_load};
 use crate::outputs::{OutputTimes, output_turn};
+use crate::reports::report_turn;
 use crate::turns::{Found, Times, fastest};
 use crate::words::{next_number, next_word};
 use anyhow::{Context, Result, bail};
@@ -29,6 +30,8 @@ enum Mode {
     Speed,
     /// The same through an output, which also keeps who is owed an answer.
     Output,
+    /// What is held of each tag.
+    Reports,
 }
 
 /// What is asked of a buffer.
@@ -47,14 +50,15 @@ fn mode_of(word: &str) -> Result<Mode> {
         "count" => Ok(Mode::Count),
         "speed" => Ok(Mode::Speed),
         "output" => Ok(Mode::Output),
-        _ => bail!("requests, count, speed or output?"),
+        "reports" => Ok(Mode::Reports),
+        _ => bail!("requests, count, speed, output or reports?"),
     }
 }
 
 /// What the next words ask.
 fn next_asked(words: &mut Args) -> Result<Asked> {
     Ok(Asked {
-        mode: mode_of(&next_word(words, "requests, count, speed or output")?)?,
+        mode: mode_of(&next_word(words, "requests, count, speed, output or reports")?)?,
         load: next_load(words)?,
         turns: next_number(words, "turns")?,
     })
@@ -96,6 +100,19 @@ fn report_output<R: Runtime + AllocGlobal>(
     report(rt, "take", rounds.take, chunks, "a chunk")?;
     report(rt, "settle", rounds.give, chunks, "a chunk")?;
     report(rt, "collect", collect, told, "a request")
+}
+
+/// Reports what is held of each tag, and prints how long each part took in the fastest turn.
+fn report_tags<R: Runtime + AllocGlobal>(rt: &R, asked: Asked, batches: &Vec<Batch>) -> Result<()> {
+    let mut times = report_turn(rt, batches, asked.load)?;
+    for _ in 0..asked.turns {
+        times = times.min(report_turn(rt, batches, asked.load)?);
+    }
+    let (tags, bytes) = (times.tags, times.bytes);
+    println!(rt; "tags {tags} page {bytes}")?;
+    report(rt, "snapshot", times.snapshot, tags, "a tag")?;
+    report(rt, "order", times.order, tags, "a tag")?;
+    report(rt, "page", times.page, tags, "a tag")
 }
 
 /// What the buffer was left with.
@@ -154,6 +171,7 @@ pub fn measure<R: Runtime + AllocGlobal>(rt: &R, words: &mut Args) -> Result<()>
             Ok(())
         }
         Mode::Output => report_output(rt, asked, &batches),
+        Mode::Reports => report_tags(rt, asked, &batches),
         Mode::Count | Mode::Speed => report_buffer(rt, asked, &batches),
     }
 }

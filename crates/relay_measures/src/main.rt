@@ -3,11 +3,11 @@
 //!     values count|speed cut|requests|feed:BYTES|hear:BYTES TURNS FILE
 //!     cuts COUNT
 //!     joins
-//!     buffers requests|count|speed|output ENTRIES TAGS SIZE REQUEST TURNS
+//!     buffers requests|count|speed|output|reports ENTRIES TAGS SIZE REQUEST TURNS
 //!
-//! `values` goes over the values of a stream of MessagePack, `cuts` judges random bytes whole and in
-//! pieces, `joins` joins entries beside a plain
-//! table, and `buffers` admits requests to a buffer and settles them.
+//! `values` goes over the values of a stream of MessagePack, `cuts` judges random bytes whole and
+//! in pieces, `joins` joins entries beside a plain table, and `buffers` admits requests to a buffer
+//! and settles them.
 #![tactic(auto)]
 
 mod buffers;
@@ -17,6 +17,7 @@ mod load;
 mod outputs;
 mod pairs;
 mod pieces;
+mod reports;
 mod requests;
 mod streams;
 mod table;

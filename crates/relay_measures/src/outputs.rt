@@ -79,7 +79,7 @@ fn send(alloc: Global, session: &mut Session, chunk: Carried) -> Result<()> {
         drop_chunk(alloc, chunk);
         bail!("not loaded");
     }
-    session.wrote(session.out().len());
+    session.wrote(session.waiting() as usize);
     let _told = session.heard(alloc, &reply?)?;
     Ok(())
 }

@@ -175,6 +175,13 @@ fn go_round<R: Runtime + AllocGlobal>(
     Ok(rounds)
 }
 
+/// A buffer to which all is admitted.
+pub fn filled(alloc: Global, batches: &Vec<Batch>, requests: u32) -> Result<Buffer> {
+    let mut buffer = Buffer::new(alloc, LIMITS, [0; 6], 0);
+    admit_all(alloc, &mut buffer, batches, requests)?;
+    Ok(buffer)
+}
+
 /// Admits all, closes it, and takes and settles each chunk.
 fn settle_turn<R: Runtime + AllocGlobal>(
     rt: &R,
@@ -210,8 +217,7 @@ fn behind_turn<R: Runtime + AllocGlobal>(
     batches: &Vec<Batch>,
     requests: u32,
 ) -> Result<Rounds> {
-    let mut buffer = Buffer::new(rt.alloc(), LIMITS, [0; 6], 0);
-    admit_all(rt.alloc(), &mut buffer, batches, requests)?;
+    let mut buffer = filled(rt.alloc(), batches, requests)?;
     buffer.flush(0, FlushKind::All);
     go_round(rt, &mut buffer, u64::MAX, Fate::Lost)?;
     admit_all(rt.alloc(), &mut buffer, batches, 1)?;

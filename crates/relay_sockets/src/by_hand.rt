@@ -3,10 +3,12 @@
 use crate::course::Course;
 use crate::frame::MESSAGE;
 use crate::peer::{connect, send};
+use crate::running::counts_in;
 use crate::server::{Server, Servers};
 use crate::site::{SEED, Site, free_site, put_output, put_relay, relay};
 use anyhow::{Result, anyhow};
 use fwd_loop::{Loop, Opened, Turns, WorkerTurns};
+use fwd_monitor::page;
 use std::alloc::AllocError;
 use std::net::{Net, SocketAddr, TcpListener, TcpStream};
 use std::rt::{Clock, Files};
@@ -51,9 +53,25 @@ fn put_counts<R: Wait + Clock>(
     field: &str,
     course: &mut Course,
 ) -> Result<()> {
-    match turns.counts(rt) {
-        Ok(counts) => {
-            course.put(field, &counts);
+    match turns.reports(rt) {
+        Ok(reports) => {
+            course.put(field, &counts_in(course.alloc(), &reports)?);
+            Ok(())
+        }
+        Err(fault) => Err(anyhow!("{fault}")),
+    }
+}
+
+/// Appends the monitor's page of what the outputs have to do with.
+fn put_page<R: Wait + Clock>(
+    rt: &R,
+    turns: &Turns<'_, R>,
+    field: &str,
+    course: &mut Course,
+) -> Result<()> {
+    match turns.reports(rt) {
+        Ok(reports) => {
+            course.put(field, &page(course.alloc(), &reports)?);
             Ok(())
         }
         Err(fault) => Err(anyhow!("{fault}")),
@@ -74,6 +92,7 @@ fn play_alone<R: Net<Listener = TcpListener, Stream = TcpStream> + Wait + Clock>
     put_counts(rt, turns, "before", course)?;
     turn(rt, turns, 1)?;
     put_counts(rt, turns, "after", course)?;
+    put_page(rt, turns, "page", course)?;
     turn(rt, turns, FEW)?;
     course.put_silence("alone", &source);
     Ok(source)

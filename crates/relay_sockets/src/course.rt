@@ -34,6 +34,11 @@ impl Course {
         }
     }
 
+    /// The allocator of what the steps append.
+    pub fn alloc(&self) -> Global {
+        self.alloc
+    }
+
     /// What the steps up to here came to.
     pub fn finish(&mut self) -> Result<()> {
         mem::replace(&mut self.result, Ok(()))

@@ -1,8 +1,9 @@
 //! A relay runs until it is told to end.
 
 use crate::heard::Heard;
-use fwd_chunks::Counts;
+use fwd_chunks::{Counts, Report};
 use fwd_loop::{Loop, Opened, StartFault, Turns, WorkerTurns};
+use std::alloc::{AllocError, Global};
 use std::net::{Net, TcpListener, TcpStream};
 use std::rt::Clock;
 use std::sync::Wait;
@@ -57,6 +58,15 @@ fn serve<
     })
 }
 
+/// The counts of reports.
+pub fn counts_in(alloc: Global, reports: &[Report]) -> Result<Vec<Counts>, AllocError> {
+    let mut counts = Vec::with_capacity(alloc, reports.len())?;
+    for report in reports {
+        counts.push(report.counts)?;
+    }
+    Ok(counts)
+}
+
 /// Runs a relay until it is to end, which it does within a turn, and answers the counts of its
 /// outputs. All its threads have ended then.
 pub fn run_until<
@@ -71,10 +81,10 @@ pub fn run_until<
     match relay.open(rt) {
         Ok(Opened { mut turns, workers }) => {
             let served = serve(rt, &mut turns, workers, heard, over);
-            let counts = turns.counts(rt);
+            let reports = turns.reports(rt);
             turns.close(rt);
             served?;
-            counts
+            Ok(counts_in(rt.alloc(), &reports?)?)
         }
         Err(fault) => Err(fault),
     }

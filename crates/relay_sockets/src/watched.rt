@@ -1,6 +1,7 @@
 //! What a run over sockets tells its watch.
 
 use crate::peer::{hurry, rest_len, send, serve_text, source, told_len};
+use crate::running::counts_in;
 use crate::server::Server;
 use crate::site::{Site, free_site, relay};
 use anyhow::{Result, anyhow, ensure};
@@ -144,7 +145,7 @@ fn around<
     );
     played?;
     match ended {
-        Ok(counts) => Ok(counts),
+        Ok(reports) => Ok(counts_in(rt.alloc(), &reports)?),
         Err(fault) => Err(anyhow!("{fault}")),
     }
 }

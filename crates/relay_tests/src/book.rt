@@ -51,7 +51,7 @@ fn told(alloc: Global, batch: &Batch) -> Option<(usize, usize)>
 {
     let mut book = Book::new(alloc, [0; 6], 0);
     let mut told = None;
-    if book.prepare(alloc, batch).is_ok() {
+    if book.prepare(batch).is_ok() {
         book.enter(ORIGIN, Vec::new(alloc));
         told = given_and_left(alloc, &mut book);
     }
@@ -82,7 +82,7 @@ fn tells_what_is_due(alloc: Global, batch: &Batch) -> bool
     requires { batch.now.entries ≡ [] }
 {
     let mut book = Book::new(alloc, [0; 6], 0);
-    if book.prepare(alloc, batch).is_err() {
+    if book.prepare(batch).is_err() {
         return false;
     }
     book.enter(ORIGIN, Vec::new(alloc));

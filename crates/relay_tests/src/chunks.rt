@@ -345,8 +345,12 @@ fn a_carried_chunk_is_told(rt: HostRuntime) -> Result<(), Fail> {
     let mut buffer = closed_buffer(rt.alloc(), [0; 6])?;
     let carried = take_chunk(rt.alloc(), &mut buffer)?;
     assert_eq!(rt; carried.tag(), b"a".as_slice());
-    assert_eq!(rt; carried.entries(), b"\x92\x01\x80".as_slice());
-    assert_eq!(rt; carried.ends(), [3].as_slice());
+    let mut parts = carried.parts();
+    assert!(rt; parts.next() == Some(b"\x92\x01\x80".as_slice()));
+    assert!(rt; parts.next().is_none());
+    let mut ends = carried.ends();
+    assert_eq!(rt; ends.next(), Some(3));
+    assert_eq!(rt; ends.next(), None);
     assert_eq!(rt; carried.name(), b"AAAAAAAAAAAAAAAAAAAAAQ==".as_slice());
     assert!(rt; buffer.carries(&carried));
     buffer.settle(carried);
@@ -369,7 +373,7 @@ fn another_buffer_only_spends_a_chunk(rt: HostRuntime) -> Result<(), Fail> {
     let carried = take_chunk(rt.alloc(), &mut buffer)?;
     let (body, is_spent) = hand_to_another(&mut another, carried)?;
     assert!(rt; is_spent);
-    assert_eq!(rt; body.bytes(), b"\x92\x01\x80".as_slice());
+    assert!(rt; body.parts().next() == Some(b"\x92\x01\x80".as_slice()));
     assert_eq!(rt; buffer.held().settled, 0);
     Ok(())
 }

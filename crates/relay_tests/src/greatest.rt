@@ -6,7 +6,7 @@ use crate::request::batch;
 use crate::requests::{many_entries, many_frame, many_request};
 use crate::session::{ACK, drop_chunk, drop_session, load_chunk, session};
 use fwd_book::Receipt;
-use fwd_chunks::{BufferLimits, Carried, FlushKind};
+use fwd_chunks::{BufferLimits, Carried, FlushKind, Parts};
 use fwd_core::OutputState;
 use fwd_modes::Origin;
 use fwd_session::Session;
@@ -37,13 +37,25 @@ fn output_of(alloc: Global, entries: &[u8]) -> Result<OutputState, Fail> {
     Ok(output)
 }
 
+/// Whether the pieces, one behind the other, are these bytes.
+fn is_joined(parts: Parts<'_>, bytes: &[u8]) -> bool {
+    let mut rest = bytes;
+    for part in parts {
+        if rest.get(..part.len()) != Some(part) {
+            return false;
+        }
+        rest = rest.get(part.len()..).unwrap_or(&[]);
+    }
+    rest.is_empty()
+}
+
 /// The chunk that a worker takes, if it has these entries.
 fn take_chunk(alloc: Global, output: &mut OutputState, entries: &[u8]) -> Result<Carried, Fail> {
     output.flush(0, FlushKind::All);
     let Some(chunk) = output.take(alloc, 0, 0)? else {
         return Err(Fail::from("no chunk"));
     };
-    if chunk.count() != 100_000 || chunk.entries() != entries {
+    if chunk.count() != 100_000 || !is_joined(chunk.parts(), entries) {
         drop_chunk(alloc, chunk);
         return Err(Fail::from("another chunk"));
     }
@@ -52,10 +64,13 @@ fn take_chunk(alloc: Global, output: &mut OutputState, entries: &[u8]) -> Result
 
 /// All of the frame is sent, if it is this one, and its acknowledgement is heard.
 fn send(alloc: Global, session: &mut Session, frame: &[u8]) -> Result<(), Fail> {
-    if session.out() != frame {
+    let mut room = Vec::new(alloc);
+    room.resize(frame.len().saturating_add(1), 0)?;
+    let count = session.gather(&mut room);
+    if room.get(..count) != Some(frame) {
         return Err(Fail::from("another frame"));
     }
-    session.wrote(session.out().len());
+    session.wrote(session.waiting() as usize);
     session.heard(alloc, ACK)?;
     Ok(())
 }

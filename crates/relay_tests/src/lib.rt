@@ -14,6 +14,8 @@ mod counts;
 #[cfg(test)]
 mod edges;
 #[cfg(test)]
+mod frames;
+#[cfg(test)]
 mod greatest;
 #[cfg(test)]
 mod handshakes;

@@ -1,7 +1,8 @@
 //! The texts that the rules give for a few worked heads.
 
-use fwd_chunks::Counts;
-use fwd_monitor::{Reply, answer, page};
+use fwd_base::{Bytes, Seq};
+use fwd_chunks::{Counts, Report, TagCount};
+use fwd_monitor::{Reply, answer, page, wants_page};
 use std::alloc::{AllocError, Global};
 use std::test::Fail;
 
@@ -21,11 +22,13 @@ const SECOND: Counts = Counts {
     chunks: 2,
 };
 
-const PAGE: &str = "HTTP/1.1 200 OK\r\nContent-Type: text/plain\r\nContent-Length: 149\r\n\
+const PAGE: &str = "HTTP/1.1 200 OK\r\nContent-Type: text/plain\r\nContent-Length: 218\r\n\
     Connection: close\r\n\r\n\
     output 0 accepted 3 settled 2 held 1 bytes 3 chunks 1\n\
+    tag 61 held 1 bytes 3\n\
     output 1 accepted 18446744073709551615 settled 18446744073709551605 held 10 \
-    bytes 120 chunks 2\n";
+    bytes 120 chunks 2\n\
+    tag - held 4 bytes 50\ntag 61ff held 6 bytes 70\n";
 
 const NOT_FOUND: &str = "HTTP/1.1 404 Not Found\r\nContent-Length: 0\r\nConnection: close\r\n\r\n";
 
@@ -34,9 +37,39 @@ const BAD_REQUEST: &str =
 
 const ASKED: &[u8] = b"GET / HTTP/1.1\r\nHost: a\r\n\r\n";
 
+/// What is held of a tag.
+fn tag_count(alloc: Global, tag: &[u8], held: u64, bytes: u64) -> Result<TagCount, AllocError> {
+    Ok(TagCount {
+        tag: Bytes::from_slice(alloc, tag)?,
+        held,
+        bytes,
+    })
+}
+
+/// The first output, which holds an entry of the tag `a`.
+fn first(alloc: Global) -> Result<Report, AllocError> {
+    let mut tags = Seq::new(alloc);
+    tags.push(tag_count(alloc, b"a", 1, 3)?)?;
+    Ok(Report {
+        counts: FIRST,
+        tags,
+    })
+}
+
+/// The second one, which holds entries of the empty tag and of one that is no text.
+fn second(alloc: Global) -> Result<Report, AllocError> {
+    let mut tags = Seq::new(alloc);
+    tags.push(tag_count(alloc, b"", 4, 50)?)?;
+    tags.push(tag_count(alloc, b"a\xff", 6, 70)?)?;
+    Ok(Report {
+        counts: SECOND,
+        tags,
+    })
+}
+
 /// Whether these bytes are told this text.
 fn is_told(alloc: Global, head: &[u8], text: &str) -> Result<bool, AllocError> {
-    match answer(alloc, head, &[FIRST, SECOND])? {
+    match answer(alloc, head, &[first(alloc)?, second(alloc)?])? {
         Reply::More => Ok(false),
         Reply::Bytes(bytes) => Ok(bytes.as_slice() == text.as_bytes()),
     }
@@ -44,7 +77,7 @@ fn is_told(alloc: Global, head: &[u8], text: &str) -> Result<bool, AllocError> {
 
 /// Whether these bytes are told nothing yet.
 fn waits(alloc: Global, head: &[u8]) -> Result<bool, AllocError> {
-    match answer(alloc, head, &[FIRST, SECOND])? {
+    match answer(alloc, head, &[first(alloc)?, second(alloc)?])? {
         Reply::More => Ok(true),
         Reply::Bytes(_) => Ok(false),
     }
@@ -94,7 +127,11 @@ fn unfinished(alloc: Global, value: usize) -> Result<Vec<u8>, AllocError> {
 
 #[test]
 fn a_line_for_each_output(rt: HostRuntime) -> Result<(), Fail> {
-    let text = page(rt.alloc(), &[FIRST])?;
+    let alone = Report {
+        counts: FIRST,
+        tags: Seq::new(rt.alloc()),
+    };
+    let text = page(rt.alloc(), &[alone])?;
     assert_eq!(rt;
         text.as_str(),
         "output 0 accepted 3 settled 2 held 1 bytes 3 chunks 1\n"
@@ -102,6 +139,26 @@ fn a_line_for_each_output(rt: HostRuntime) -> Result<(), Fail> {
     assert_eq!(rt; text.len(), 54);
     let text = page(rt.alloc(), &[])?;
     assert_eq!(rt; text.as_str(), "");
+    Ok(())
+}
+
+#[test]
+fn a_line_for_each_tag(rt: HostRuntime) -> Result<(), Fail> {
+    let text = page(rt.alloc(), &[first(rt.alloc())?])?;
+    assert_eq!(rt;
+        text.as_str(),
+        "output 0 accepted 3 settled 2 held 1 bytes 3 chunks 1\ntag 61 held 1 bytes 3\n"
+    );
+    assert_eq!(rt; text.len(), 76);
+    Ok(())
+}
+
+#[test]
+fn the_page_is_wanted_by_its_head_alone(rt: HostRuntime) -> Result<(), Fail> {
+    assert!(rt; wants_page(ASKED));
+    assert!(rt; !wants_page(b"GET /metrics HTTP/1.1\r\n\r\n"));
+    assert!(rt; !wants_page(b"GET / HTTP/1.1\r\n"));
+    assert!(rt; !wants_page(b"\x01"));
     Ok(())
 }
 

@@ -25,7 +25,7 @@ fn is_copied(
     entries: &[u8],
     chunk: Option<&[u8]>,
 ) -> Result<bool, Fail> {
-    let copy = request.share(alloc)?;
+    let copy = request.share()?;
     Ok(copy.is(request) && copy.tag() == tag && copy.entries() == entries && copy.chunk() == chunk)
 }
 

@@ -13,7 +13,7 @@ use std::sync::Arc;
 use std::test::Fail;
 
 /// The limits of a chunk.
-const LIMITS: BufferLimits = BufferLimits {
+pub const LIMITS: BufferLimits = BufferLimits {
     chunk: 1000,
     total: 100_000,
     interval: 1000,
@@ -125,6 +125,13 @@ fn settle(alloc: Global, session: &mut Session) -> Result<(u64, u16, usize), Fai
     }
 }
 
+/// Whether just the frame waits to be sent.
+fn waits(session: &Session) -> bool {
+    let mut room = [0; 64];
+    let count = session.gather(&mut room);
+    room.get(..count) == Some(FRAME)
+}
+
 /// A chunk is sent but for so many bytes, and then its acknowledgement is heard twice.
 fn acknowledge(
     alloc: Global,
@@ -132,10 +139,10 @@ fn acknowledge(
     unsent: usize,
 ) -> Result<[SessionHeard; 2], Fail> {
     load(alloc, session)?;
-    if session.out() != FRAME {
+    if !waits(session) {
         return Err(Fail::from("another frame"));
     }
-    session.wrote(session.out().len().saturating_sub(unsent));
+    session.wrote((session.waiting() as usize).saturating_sub(unsent));
     Ok([
         session.heard(alloc, ACK)?.heard,
         session.heard(alloc, ACK)?.heard,
@@ -204,7 +211,7 @@ fn greet(alloc: Global, session: &mut Session, cut: usize) -> Result<[SessionHea
     let (first, second) = HELO.split_at(cut.min(HELO.len()));
     let quiet = session.heard(alloc, first)?.heard;
     let helo = hear_helo(alloc, session, second)?;
-    session.wrote(session.out().len());
+    session.wrote(session.waiting() as usize);
     Ok([quiet, helo, hear_pong(alloc, session)?])
 }
 

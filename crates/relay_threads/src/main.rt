@@ -125,6 +125,13 @@ fn main(rt: HostRuntime) -> Result<()> {
     println!(rt; "a link that takes 45 bytes: {served:?}")?;
     let served = serving::served(&rt, alloc, 46)?;
     println!(rt; "a link that takes 46 bytes: {served:?}")?;
+    for most in [1, 2, 45, 46] {
+        let (pieces, gathered, is_frame) = serving::turns(&rt, alloc, most)?;
+        println!(rt;
+            "writes of at most {most} bytes: {pieces} turns by pieces, {gathered} gathered, \
+            the frame: {is_frame}"
+        )?;
+    }
     tell_day(&rt, alloc)?;
     tell_seats(&rt, alloc)?;
     tell_gates(&rt, alloc)

@@ -51,6 +51,11 @@ impl Wire {
         }
     }
 
+    /// Whether it took just these bytes.
+    pub fn has_taken(&self, bytes: &[u8]) -> bool {
+        self.taken.as_slice() == bytes
+    }
+
     /// The end of the first frame that is not acknowledged, if it is there whole.
     fn frame_end(&self) -> Option<usize> {
         let rest = self.taken.get(self.answered..)?;

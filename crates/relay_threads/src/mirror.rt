@@ -70,8 +70,7 @@ fn acknowledged(alloc: Global, chunk: Carried) -> Option<(Arc<Acked>, Carried)>
     if let Err(LoadFailed { chunk, error: _ }) = session.load(alloc, chunk, 0) {
         drop_chunk(alloc, chunk);
     }
-    let waiting = session.out().len();
-    session.wrote(waiting);
+    session.wrote(session.waiting() as usize);
     let _told = session.heard(alloc, &reply);
     let acked = session.acked();
     drop_session(alloc, session);

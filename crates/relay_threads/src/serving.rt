@@ -3,15 +3,22 @@
 ghost use Rattle.std.specs.Prelude.{◌≡◌, ◌≤◌, None, false, length, IfOk};
 
 use crate::batches::{ACK, MESSAGE, batch, drop_chunk, drop_session, login, output};
-use crate::memory::give;
+use crate::memory::{Wire, give};
 use anyhow::{Result, bail};
 use fwd_base::Bytes;
 use fwd_core::{FlushKind, Origin, OutputState, OwnedSalt};
 use fwd_handshake::Login;
 use fwd_session::{LoadFailed, Session};
-use fwd_workers::{Calls, Link, LinkFault, Read, Served, serve_turn};
+use fwd_workers::{Calls, Link, LinkFault, Read, Served, serve_gathered, serve_turn};
 use std::alloc::Global;
 use std::sync::{Arc, Wait};
+
+/// The frame of a Message `["a", 1, {}]`, under the name of the first chunk.
+const FRAME: &[u8] =
+    b"\x93\xa1a\xc4\x03\x92\x01\x80\x82\xa4size\x01\xa5chunk\xb8AAAAAAAAAAAAAAAAAAAAAQ==";
+
+/// More turns than a byte of the frame at a time takes.
+const MOST_TURNS: u32 = 100;
 
 /// A link that takes so many bytes in all, and gives an acknowledgement whatever it took.
 #[derive(Drop)]
@@ -91,6 +98,66 @@ fn closed_output(alloc: Global) -> Result<OutputState> {
     Ok(state)
 }
 
+/// A session that is loaded with the output's chunk, if there is memory for it.
+fn loaded_session(alloc: Global, state: &mut OutputState) -> Result<Session> {
+    let mut session = session(alloc)?;
+    if let Ok(Some(chunk)) = state.take(alloc, 0, 0) {
+        if let Err(LoadFailed { chunk, error: _ }) = session.load(alloc, chunk, 0) {
+            drop_chunk(alloc, chunk);
+        }
+    }
+    Ok(session)
+}
+
+/// How a session writes: a piece a turn, or what is gathered of many.
+#[derive(Clone, Copy)]
+enum Writing {
+    Pieces,
+    Gathered,
+}
+
+/// How many turns it takes until the server has acknowledged the frame.
+fn turns_over<R: Wait>(
+    rt: &R,
+    alloc: Global,
+    session: &mut Session,
+    link: &mut Wire,
+    writing: Writing,
+) -> Result<u32> {
+    for turn in 1..=MOST_TURNS {
+        if session.is_down() {
+            bail!("down");
+        }
+        let served = match writing {
+            Writing::Pieces => serve_turn(rt, alloc, link, session),
+            Writing::Gathered => serve_gathered(rt, alloc, link, session),
+        };
+        if matches!(served, Served::Acked) {
+            return Ok(turn);
+        }
+    }
+    bail!("not acknowledged")
+}
+
+/// The same over a link that takes at most so many bytes at once, and whether it took just the
+/// frame.
+fn sent<R: Wait>(rt: &R, alloc: Global, most: usize, writing: Writing) -> Result<(u32, bool)> {
+    let mut state = closed_output(alloc)?;
+    let mut session = loaded_session(alloc, &mut state)?;
+    let mut link = Wire::new(alloc, most);
+    let turns = turns_over(rt, alloc, &mut session, &mut link, writing);
+    drop_session(alloc, session);
+    Ok((turns?, link.has_taken(FRAME)))
+}
+
+/// How many turns the frame of one Message takes over a link that takes at most so many bytes at
+/// once, piece by piece and gathered, and whether the link took just the frame both times.
+pub fn turns<R: Wait>(rt: &R, alloc: Global, most: usize) -> Result<(u32, u32, bool)> {
+    let (pieces, is_frame) = sent(rt, alloc, most, Writing::Pieces)?;
+    let (gathered, is_same) = sent(rt, alloc, most, Writing::Gathered)?;
+    Ok((pieces, gathered, is_frame && is_same))
+}
+
 /// What one turn comes to where the link takes at most so many bytes of the frame's 46.
 pub fn served<R: Wait>(rt: &R, alloc: Global, most: usize) -> Result<Served> {
     let mut state = closed_output(alloc)?;
@@ -104,12 +171,7 @@ fn serve_first<R: Wait>(
     state: &mut OutputState,
     most: usize,
 ) -> Result<Served> {
-    let mut session = session(alloc)?;
-    if let Ok(Some(chunk)) = state.take(alloc, 0, 0) {
-        if let Err(LoadFailed { chunk, error: _ }) = session.load(alloc, chunk, 0) {
-            drop_chunk(alloc, chunk);
-        }
-    }
+    let mut session = loaded_session(alloc, state)?;
     let mut link = Hasty {
         taken: 0,
         most,

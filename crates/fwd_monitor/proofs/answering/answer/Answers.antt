@@ -7,6 +7,6 @@ use Rattle.fwd_monitor.proofs.answering.answer.Goals as goal
 pub returns-in_ok-text-in-Some-clause-reply : goal.returns-in_ok-text-in-Some-clause-reply
 returns-in_ok-text-in-Some-clause-reply c =
     let heard = c.args.head.now in
-    let counts = c.args.counts.now in
-    let reason : HasReason heard counts (Bytes c.into_bytes.result) = search rules in
-    reason-reply heard counts (Bytes c.into_bytes.result) reason
+    let reports = c.args.reports.now in
+    let reason : HasReason heard reports (Bytes c.into_bytes.result) = search rules in
+    reason-reply heard reports (Bytes c.into_bytes.result) reason

@@ -32,7 +32,7 @@ values-preserved c =
     record {
       said = c.values.invariant.said ∙ ap (before_others out reply) (goes ∙ ap (λ (w : Word). word_then at awaited value w others) word) ∙ kept;
       rests = c.values.invariant.rests ∙ rest_next c.values.rest.now (next.Value c.in-Value.value c.in-Value.behind) c.in-Value.ensures.split;
-      done = c.values.invariant.done;
+      over = c.values.invariant.over;
     }
 
 pub values-preserved-in-Skipped : goal.values-preserved-in-Skipped
@@ -64,7 +64,7 @@ values-preserved-in_ok-extend_from_slice-in-Greets c =
     record {
       said = c.values.invariant.said ∙ ap (before_others out reply) (goes ∙ ap (λ (w : Word). word_then at awaited value w others) word) ∙ kept;
       rests = c.values.invariant.rests ∙ rest_next c.values.rest.now what c.in-Value.ensures.split;
-      done = search rules;
+      over = search rules;
     }
 
 pub returns-clause-value : goal.returns-clause-value

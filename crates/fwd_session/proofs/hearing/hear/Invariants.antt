@@ -1,4 +1,4 @@
-use Rattle.std.proofs.Common.{◌≡◌, true, length}
+use Rattle.std.proofs.Common.{◌≡◌, true, [], None, length}
 use Rattle.std.specs.Prelude.{option_copied, unwrap_or}
 use Rattle.fwd_handshake.specs.Shown.{salt_bytes}
 use Rattle.fwd_session.specs.Said.{said_in, reply_stream, rest_of}
@@ -13,7 +13,7 @@ invariant-values l = record {
       ≡ before_others l.out.items (option_copied l.reply)
       (said_in l.fn.login (salt_bytes l.fn.salt) (unwrap_or l.handshake l.fn.before) (option_copied l.awaited) (reply_stream l.rest));
   rests : rest_of (reply_stream l.fn.bytes) ≡ rest_of (reply_stream l.rest);
-  done : is_done l.fn.before ≡ true → is_done (unwrap_or l.handshake l.fn.before) ≡ true;
+  over : is_done l.fn.before ≡ true → (l.handshake ≡ None) × (l.out.items ≡ []);
 }
 
 abbrev pub decreases-values : goal.decreases-values

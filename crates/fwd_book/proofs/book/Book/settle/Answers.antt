@@ -2,8 +2,6 @@ use Rattle.std.proofs.Common.{arith, ◌≡◌, ℕ, Some, List, ◌++◌, ◌�
 use Rattle.std.specs.Prelude.{slice_get}
 use Rattle.std.specs.Arc.{arc_value}
 use Rattle.fwd_modes.specs.Acks.{ack_name}
-use Rattle.fwd_modes.proofs.EntryLemmas.{length_ends}
-use Rattle.fwd_modes.specs.Entries.{ends_of}
 use Rattle.fwd_session.specs.Evidence.{Evidence}
 use Rattle.fwd_book.specs.History.{BookSetting, Entered, name_at}
 use Rattle.fwd_book.specs.Live.{BookState, IsOf, IsSound, evidence_for, found_for, live_settles}
@@ -30,7 +28,7 @@ invariant_of-self c =
     )
 
 pub returns-clause-count : goal.returns-clause-count
-returns-clause-count c = ap length c.ends-count.ensures ∙ ap (λ (x : Evidence). length (ends_of x.entries)) c.deref.ensures ∙ length_ends 0 (arc_value c.args.acked).entries
+returns-clause-count c = c.count-count.ensures ∙ ap (λ (x : Evidence). length x.entries) c.deref.ensures
 
 pub returns-clause-settled : goal.returns-clause-settled
 returns-clause-settled c =

@@ -3,7 +3,7 @@ use Rattle.std.specs.Prelude.{is_some}
 use Rattle.fwd_chunks.specs.Live.{changed, is_at, live_frees}
 use Rattle.fwd_chunks.specs.Stored.{put_back}
 use Rattle.fwd_chunks.proofs.Opened.{newest-put_back}
-use Rattle.fwd_chunks.proofs.Living.{living-put_back}
+use Rattle.fwd_chunks.proofs.Counted.{counted-put_back}
 use Rattle.fwd_chunks.proofs.Calls.{moment_after, put_back-stored, frees-is}
 use Rattle.fwd_chunks.proofs.buffer.Buffer.put_back.Goals as goal
 use Rattle.fwd_chunks.proofs.buffer.Buffer.put_back.Goals.{in-None, in-Some}
@@ -13,7 +13,7 @@ pub invariant_of-self : goal.invariant_of-self
 invariant_of-self c = rw c.put_back.ensures (record {
   stored = put_back-stored (the_view c.self.inside) c.args.number c.is_some.result c.match-loss.moment c.self.inside.bytes c.self.invariant.stored;
   newest = newest-put_back c.self.inside.tags c.args.number c.is_some.result c.match-loss.moment c.self.inside.slots.chunks c.self.invariant.newest;
-  living = living-put_back c.self.inside.tags c.args.number c.is_some.result c.match-loss.moment c.self.inside.slots.chunks c.self.invariant.living;
+  counted = counted-put_back c.self.inside.tags c.args.number c.is_some.result c.match-loss.moment c.self.inside.slots.chunks c.self.invariant.counted;
   waits = c.self.invariant.waits;
 })
 

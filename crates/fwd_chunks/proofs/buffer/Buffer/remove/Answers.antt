@@ -1,37 +1,62 @@
-use Rattle.std.proofs.Common.{rules, ◌≡◌, ◌≢◌, ℕ, List, ◌+◌, ◌-◌, find, Some, None, sym, ap, ◌∙◌, subst, arith}
+use Rattle.std.proofs.Common.{◌≡◌, ◌≤◌, ℕ, List, ◌+◌, ◌-◌, cond, length, find, Some, None, sym, ap, ◌∙◌, subst, arith}
+use Rattle.std.specs.Prelude.{filter, not}
+use Rattle.std.specs.Str.{bytes_eq}
 use Rattle.fwd_chunks.specs.Cells.{size_of}
 use Rattle.fwd_chunks.specs.Live.{is_at, live_settles}
 use Rattle.fwd_chunks.specs.Stored.{IsStored}
-use Rattle.fwd_chunks.specs.Newest.{tag_number}
-use Rattle.fwd_chunks.proofs.Places.{found-number, filter-gone}
+use Rattle.fwd_chunks.specs.Soundness.{IsWithin}
+use Rattle.fwd_chunks.specs.Newest.{tag_entry, held_by, bytes_by}
+use Rattle.fwd_chunks.proofs.Places.{filter-gone}
+use Rattle.fwd_chunks.proofs.Sounding.{all-filter}
 use Rattle.fwd_chunks.proofs.Opened.{newest-filter}
-use Rattle.fwd_chunks.proofs.Living.{living-filter}
+use Rattle.fwd_chunks.proofs.Counted.{leaves-with, leaves-count, leaves-size, leaves-all, counted-without, kept-each, Leaves}
 use Rattle.fwd_chunks.proofs.Calls.{size-found, settled-fits, settles-stored, settles-is, settles-none}
 use Rattle.fwd_chunks.proofs.buffer.Buffer.remove.Goals as goal
 use Rattle.fwd_chunks.specs.contracts.buffer.Buffer.{the_view}
 
 pub overflow_sub-self : goal.overflow_sub-self
 overflow_sub-self c =
-    omega (arith, c.size.ensures.value, size-found (the_view c.self.inside) c.args.number c.self.inside.bytes c.in-Some.chunk c.self.invariant.stored (sym c.in-Some.ensures.result))
+    omega (arith, c.size-size.ensures.value, size-found (the_view c.self.inside) c.args.number c.self.inside.bytes c.in-Some.chunk c.self.invariant.stored (sym c.in-Some.ensures.result))
 
 pub overflow_add-self : goal.overflow_add-self
 overflow_add-self c =
-    omega (arith, c.len.ensures, settled-fits (the_view c.self.inside) c.args.number c.self.inside.bytes c.in-Some.chunk c.self.invariant.stored (sym c.in-Some.ensures.result), c.self.invariant.stored.sound.accepted)
+    omega (arith, c.len-count.ensures, settled-fits (the_view c.self.inside) c.args.number c.self.inside.bytes c.in-Some.chunk c.self.invariant.stored (sym c.in-Some.ensures.result), c.self.invariant.stored.sound.accepted)
+
+pub take-requires-clause-held : goal.take-requires-clause-held
+take-requires-clause-held c =
+    let e : find (is_at c.args.number) c.self.inside.slots.chunks ≡ Some c.in-Some.chunk = sym c.in-Some.ensures.result in
+    let le : length c.in-Some.chunk.entries ≤ held_by (tag_entry c.in-Some.chunk.tag c.self.inside.tags) = leaves-count c.self.inside.tags c.args.number c.self.inside.slots.chunks c.in-Some.chunk (leaves-with c.self.inside.tags c.args.number c.self.inside.slots.chunks c.in-Some.chunk c.self.invariant.stored.sound.in_order e c.self.invariant.counted) in
+    rw (c.as_slice.ensures, c.len-count.ensures) le
+
+pub take-requires-clause-bytes : goal.take-requires-clause-bytes
+take-requires-clause-bytes c =
+    let e : find (is_at c.args.number) c.self.inside.slots.chunks ≡ Some c.in-Some.chunk = sym c.in-Some.ensures.result in
+    let le : size_of c.in-Some.chunk.entries ≤ bytes_by (tag_entry c.in-Some.chunk.tag c.self.inside.tags) = leaves-size c.self.inside.tags c.args.number c.self.inside.slots.chunks c.in-Some.chunk (leaves-with c.self.inside.tags c.args.number c.self.inside.slots.chunks c.in-Some.chunk c.self.invariant.stored.sound.in_order e c.self.invariant.counted) in
+    rw (c.as_slice.ensures, c.size-size.ensures.value) le
+
+pub take-requires-clause-all : goal.take-requires-clause-all
+take-requires-clause-all c =
+    let e : find (is_at c.args.number) c.self.inside.slots.chunks ≡ Some c.in-Some.chunk = sym c.in-Some.ensures.result in
+    rw (c.as_slice.ensures, c.len-count.ensures, c.size-size.ensures.value) (leaves-all c.self.inside.tags c.args.number c.self.inside.slots.chunks c.in-Some.chunk (leaves-with c.self.inside.tags c.args.number c.self.inside.slots.chunks c.in-Some.chunk c.self.invariant.stored.sound.in_order e c.self.invariant.counted))
 
 pub invariant_of-self : goal.invariant_of-self
 invariant_of-self c =
     let r = c.in-Some.chunk in
     let n = c.args.number in
     let v = the_view c.self.inside in
+    let chunks = c.self.inside.slots.chunks in
+    let own = c.self.invariant.stored in
     let e : find (is_at c.args.number) c.self.inside.slots.chunks ≡ Some c.in-Some.chunk = sym c.in-Some.ensures.result in
-    let number : c.in-Some.chunk.number ≡ c.args.number = found-number n c.self.inside.slots.chunks r e in
-    let forgot : (t : List ℕ) (m : ℕ) → m ≢ c.in-Some.chunk.number → tag_number t c.self.inside.tags ≡ Some m → tag_number t c.forget.new.self ≡ Some m = search (rules, c.forget.ensures.kept) in
-    let gone : tag_number r.tag c.forget.new.self ≡ Some n → ⊥ = search (rules, number, c.forget.ensures.gone) in
-    rw (c.in-Some.ensures.left, c.len.ensures, c.size.ensures.value)
+    let leaves : Leaves c.self.inside.tags c.args.number c.self.inside.slots.chunks c.in-Some.chunk = leaves-with c.self.inside.tags n chunks r own.sound.in_order e c.self.invariant.counted in
+    let held : (t : List ℕ) → held_by (tag_entry t c.take.new.self) ≡ held_by (tag_entry t c.self.inside.tags) - cond (bytes_eq c.in-Some.chunk.tag t) (length c.in-Some.chunk.entries) 0 = λ t. c.take.ensures.held t ∙ (λ i. held_by (tag_entry t c.self.inside.tags) - cond (bytes_eq (c.as_slice.ensures i) t) (c.len-count.ensures i) 0) in
+    let bytes : (t : List ℕ) → bytes_by (tag_entry t c.take.new.self) ≡ bytes_by (tag_entry t c.self.inside.tags) - cond (bytes_eq c.in-Some.chunk.tag t) (size_of c.in-Some.chunk.entries) 0 = λ t. c.take.ensures.bytes t ∙ (λ i. bytes_by (tag_entry t c.self.inside.tags) - cond (bytes_eq (c.as_slice.ensures i) t) (c.size-size.ensures.value i) 0) in
+    let counted = counted-without c.self.inside.tags n chunks r leaves c.take.new.self held bytes (c.take.ensures.some c.self.invariant.counted.some) in
+    rw (c.in-Some.ensures.left, c.len-count.ensures, c.size-size.ensures.value)
     (record {
-      stored = subst (λ b. IsStored b (c.self.inside.bytes - size_of r.entries)) (sym (settles-is v n c.self.inside.bytes r c.self.invariant.stored e)) (settles-stored v n c.self.inside.bytes r c.self.invariant.stored e);
-      newest = newest-filter c.self.inside.tags c.forget.new.self n c.self.inside.slots.chunks (subst (λ k. (t : List ℕ) (m : ℕ) → m ≢ k → tag_number t c.self.inside.tags ≡ Some m → tag_number t c.forget.new.self ≡ Some m) number forgot) c.self.invariant.newest;
-      living = living-filter c.self.inside.tags c.forget.new.self n r c.self.inside.slots.chunks e c.forget.ensures.only gone c.self.invariant.living;
+      stored = subst (λ b. IsStored b (c.self.inside.bytes - size_of r.entries)) (sym (settles-is v n c.self.inside.bytes r own e)) (settles-stored v n c.self.inside.bytes r own e);
+      newest = newest-filter c.self.inside.tags c.take.new.self n chunks c.take.ensures.number
+          (kept-each c.take.new.self v.setting.limits.chunk (filter (λ d. not (is_at n d)) chunks) (all-filter (IsWithin v.setting.limits.chunk) (λ d. not (is_at n d)) chunks own.sound.within) counted.held) c.self.invariant.newest;
+      counted = counted;
       waits = c.self.invariant.waits;
     })
 
@@ -41,7 +66,7 @@ invariant_of-self-in_default c =
     rw (c.in_default.ensures.left, (filter-gone c.args.number c.self.inside.slots.chunks none).1) (record {
       stored = c.self.invariant.stored;
       newest = c.self.invariant.newest;
-      living = c.self.invariant.living;
+      counted = c.self.invariant.counted;
       waits = c.self.invariant.waits;
     })
 
@@ -49,7 +74,7 @@ pub returns-in-Some : goal.returns-in-Some
 returns-in-Some c =
     let v = the_view c.self.inside in
     let e : find (is_at c.args.number) c.self.inside.slots.chunks ≡ Some c.in-Some.chunk = sym c.in-Some.ensures.result in
-    (λ i. record v { chunks = ap (λ h. h.chunks) c.in-Some.ensures.left i; greatest = ap (λ h. h.last) c.in-Some.ensures.left i; settled = c.self.inside.settled + c.len.ensures i })
+    (λ i. record v { chunks = ap (λ h. h.chunks) c.in-Some.ensures.left i; greatest = ap (λ h. h.last) c.in-Some.ensures.left i; settled = c.self.inside.settled + c.len-count.ensures i })
     ∙ settles-is v c.args.number c.self.inside.bytes c.in-Some.chunk c.self.invariant.stored e
     ∙ ap (λ b. live_settles b c.args.number) c.self.view_is
 

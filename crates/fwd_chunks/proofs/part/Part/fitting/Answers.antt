@@ -1,13 +1,7 @@
-use Rattle.std.proofs.Common.{length, ap, arith}
-use Rattle.fwd_chunks.proofs.Packing.{ends_count}
-use Rattle.fwd_chunks.proofs.Filling.{fitting-over}
+use Rattle.std.proofs.Common.{sym, ◌∙◌, arith}
 use Rattle.fwd_chunks.specs.Parts.{entries_in}
+use Rattle.fwd_chunks.proofs.Filling.{fitting-all}
 use Rattle.fwd_chunks.proofs.part.Part.fitting.Goals as goal
 
-pub returns-in_default : goal.returns-in_default
-returns-in_default c = fitting-over c.args.limit c.args.used (entries_in c.args.self) (omega (arith, c.in_default.ensures))
-
-pub overflow_add-count : goal.overflow_add-count
-overflow_add-count c =
-    let p = c.args.self in
-    omega (arith, c.loop-entry.invariant.left, ap length c.in-Some-entry.ensures.steps, ends_count p.start p.ends.now p.bytes.now p.cut, c.ranges.self.0)
+pub returns-in-Some : goal.returns-in-Some
+returns-in-Some c = c.len.ensures ∙ sym (fitting-all c.args.limit c.args.used (entries_in c.args.self) (omega (arith, c.if-size-room.true, c.size.ensures.value, c.in-Some.ensures.0, c.in-Some.ensures.1)))

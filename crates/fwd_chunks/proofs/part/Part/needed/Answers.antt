@@ -1,7 +1,7 @@
 use Rattle.std.proofs.Common.{rules, ◌≡◌, ◌<◌, length, drop, ap, arith}
 use Rattle.fwd_chunks.specs.Filling.{needed, cut_count}
 use Rattle.fwd_chunks.specs.Parts.{entries_in}
-use Rattle.fwd_chunks.proofs.Packing.{ends_count}
+use Rattle.fwd_chunks.proofs.Packing.{row_length}
 use Rattle.fwd_chunks.proofs.Admission.{count-some, needed-first}
 use Rattle.std.proofs.lemmas.List.{length-drop}
 use Rattle.fwd_chunks.proofs.part.Part.needed.Goals as goal
@@ -10,7 +10,7 @@ pub overflow_add-count : goal.overflow_add-count
 overflow_add-count c =
     let p = c.args.self in
     let some : 0 < length (entries_in c.loop-rest.rest) = search rules in
-    omega (arith, some, c.loop-rest.invariant.within, ends_count p.start p.ends.now p.bytes.now p.cut, c.ranges.self.0)
+    omega (arith, some, c.loop-rest.invariant.within, row_length p.first p.count p.batch.now.entries p.within, p.bound)
 
 pub loop-rest-preserved : goal.loop-rest-preserved
 loop-rest-preserved c =

@@ -25,5 +25,5 @@ pub invariant_of-result : goal.invariant_of-result
 invariant_of-result c =
     let limits = c.args.self.now.limits in
     let first = first_told limits c.args.bytes.now c.args.known c.args.self.now c.feed.new.self c.requires.behind c.in-End.ensures.state (feds.End c.in-End.used) c.requires.known c.in-End.ensures.verdict in
-    let front = Front-from limits.bytes limits.depth most_bytes most_deep (omega (arith, c.limit.ensures.bound)) (omega arith) c.args.bytes.now (c.args.known + c.in-End.used) first in
+    let front = Front-from limits.bytes limits.depth most_bytes most_deep (omega (arith, c.is_bounded.ensures)) (omega arith) c.args.bytes.now (c.args.known + c.in-End.used) first in
     record { whole = ap whole_len front.alone }
