@@ -1,4 +1,5 @@
-//! A server in memory that acts one step for each read of its link.
+//! A server in memory that acts one step for each read of its link, and for each write that it does not
+//! take whole.
 
 use crate::batches::{FRAME, OTHER_OUTPUT, SECOND};
 use fwd_handshake::key_digest;
@@ -58,7 +59,8 @@ pub enum Act {
     FailsRead,
     /// The write before it fails.
     FailsWrite,
-    /// It takes only so many bytes of what is written before, and gives nothing.
+    /// It takes only so many bytes of one write. No read stands behind a write that was not taken
+    /// whole.
     Takes(usize),
 }
 
@@ -66,7 +68,8 @@ impl Act {
     /// What is noted of it.
     pub fn name(self) -> &'static str {
         match self {
-            Act::Silent | Act::Takes(_) => ", silence",
+            Act::Silent => ", silence",
+            Act::Takes(_) => ", the rest not taken",
             Act::Greets(_) => ", HELO",
             Act::LetsIn | Act::OtherKey | Act::Denies => ", PONG",
             Act::Acks => ", ack",

@@ -96,6 +96,9 @@ impl Played {
         };
         let count = bytes.len().min(most);
         self.hear(rt, &bytes[..count]);
+        if count < bytes.len() {
+            self.end_act(rt, act);
+        }
         Ok(count)
     }
 

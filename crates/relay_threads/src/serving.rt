@@ -1,4 +1,4 @@
-//! One turn of a session over a link that holds an acknowledgement before the frame's last byte.
+//! Turns of a session over a link that holds an acknowledgement before the frame's last byte.
 
 ghost use Rattle.std.specs.Prelude.{◌≡◌, ◌≤◌, None, false, length, IfOk};
 
@@ -158,10 +158,29 @@ pub fn turns<R: Wait>(rt: &R, alloc: Global, most: usize) -> Result<(u32, u32, b
     Ok((pieces, gathered, is_frame && is_same))
 }
 
-/// What one turn comes to where the link takes at most so many bytes of the frame's 46.
+/// What gathered turns come to where the link takes at most so many bytes of the frame's 46.
 pub fn served<R: Wait>(rt: &R, alloc: Global, most: usize) -> Result<Served> {
     let mut state = closed_output(alloc)?;
     serve_first(rt, alloc, &mut state, most)
+}
+
+/// The first answer of a session's turns that asks for anything.
+fn first_answer<R: Wait>(
+    rt: &R,
+    alloc: Global,
+    link: &mut Hasty,
+    session: &mut Session,
+) -> Result<Served> {
+    for _ in 0..MOST_TURNS {
+        if session.is_down() {
+            bail!("down");
+        }
+        let served = serve_gathered(rt, alloc, link, session);
+        if !matches!(served, Served::Quiet) {
+            return Ok(served);
+        }
+    }
+    bail!("quiet")
 }
 
 /// The same of a session that is loaded with the output's chunk first.
@@ -177,11 +196,7 @@ fn serve_first<R: Wait>(
         most,
         calls: Calls::none(),
     };
-    if session.is_down() {
-        drop_session(alloc, session);
-        bail!("down");
-    }
-    let served = serve_turn(rt, alloc, &mut link, &mut session);
+    let served = first_answer(rt, alloc, &mut link, &mut session);
     drop_session(alloc, session);
-    Ok(served)
+    served
 }
