@@ -13,9 +13,13 @@ use std::rt::{Clock, Files};
 use std::sync::Wait;
 use std::thread;
 use std::thread::Threads;
+use std::time::Duration;
 
 /// The most turns.
 const TURNS: u64 = 600;
+
+/// How long a worker has to tell that its server is back, in milliseconds.
+const SOON: u64 = 100;
 
 /// A Message under the tag `a`.
 const MESSAGE: &[u8] = b"\x93\xa1a\x01\x80";
@@ -106,6 +110,7 @@ fn play_server<R: Net<Listener = TcpListener, Stream = TcpStream> + Clock + Allo
     drop(server.accept(rt)?);
     let link = server.accept(rt)?;
     serve_text(rt.alloc(), &link)?;
+    let _slept = thread::sleep(rt, Duration::from_millis(SOON));
     // The link stands until the relay has read the acknowledgement, and closes its side.
     hurry(rt, rt.alloc(), site.monitors);
     Ok(())
