@@ -22,7 +22,7 @@
 #
 #     direct          nothing between: what the two can do at most
 #     socat           `socat TCP-LISTEN,fork TCP`, a process a connection, which copies bytes and knows nothing of them
-#     relay F W       forward_relay with flush_interval F ms and W workers
+#     relay F W N     forward_relay with flush_interval F ms, W workers and, where N is not 1, a window of N chunks
 #     rsyslog         rsyslogd with imrelp and omrelp, a message of about 200 bytes for an entry, one in a frame, at
 #                     most 128 unanswered a connection. It answers a message once it is in its own queue, in memory,
 #                     and not once the next hop has it: so it promises less than the relay. Its row is the time from the
@@ -44,6 +44,9 @@
 #
 # Spans: requests of 1,000 entries, 200,000 bytes, one outstanding, where a chunk has at most 50,000 bytes: the row
 # fails where one that goes over several chunks is not acknowledged within 10 s.
+#
+# Far: a sink that is 10 ms away, either way (delay.py), where a chunk has at most 20,000 bytes, so that each request of
+# 100 entries is one: with a window of 1 and of 8.
 #
 # Pieces: one request of 8,000,000 bytes that comes in pieces of 65,536 and of 1,448 bytes, the latter as from a slow
 # network, see pieces.py.
@@ -77,7 +80,7 @@ tick=$(getconf CLK_TCK)
 ulimit -n "$(ulimit -H -n)"
 
 folder=$(mktemp -d)
-sink='' middle='' generator=''
+sink='' middle='' generator='' distance=''
 
 # a process and its children
 family() {
@@ -96,8 +99,9 @@ end() {
 end_all() {
     end "$generator"
     end "$middle"
+    end "$distance"
     end "$sink"
-    sink='' middle='' generator=''
+    sink='' middle='' generator='' distance=''
 }
 
 trap 'end_all; rm -rf "$folder"' EXIT
@@ -143,8 +147,9 @@ match = "**"
 flush_interval = $flush
 chunk_limit = ${chunk_limit:-8000000}
 workers = $workers
+window = ${chunks:-1}
 [[output.server]]
-address = "127.0.0.1:$sink_port"
+address = "127.0.0.1:${far_port:-$sink_port}"
 TOML
 }
 
@@ -157,6 +162,15 @@ module(load="omrelp")
 input(type="imrelp" address="127.0.0.1" port="$port" ruleset="on")
 ruleset(name="on") { action(type="omrelp" target="127.0.0.1" port="$sink_port") }
 CONF
+}
+
+# starts what makes the sink far away
+start_distance() {
+    : >"$folder/distance.out"
+    /usr/bin/python3 bench/relay/delay.py "$far_ms" "$sink_port" >"$folder/distance.out" &
+    distance=$!
+    await port "$folder/distance.out" 100
+    far_port=$(field port "$folder/distance.out")
 }
 
 # starts what is in the middle: sets its process and the port to send to
@@ -172,6 +186,7 @@ start_middle() {
             "TCP:127.0.0.1:$sink_port,nodelay" &
         ;;
     relay)
+        [ -z "${far_ms:-}" ] || start_distance
         write_settings
         "$RELAY" run "$folder/relay.toml" >"$folder/relay.out" &
         ;;
@@ -235,7 +250,7 @@ print_costs() {
 
 # a row's front: its way, its connections, the entries of a request
 print_front() {
-    printf '%-14s %6d %8d' "$way${flush:+ $flush $workers}" "$1" "$2"
+    printf '%-14s %6d %8d' "$way${flush:+ $flush $workers}${chunks:+ $chunks}" "$1" "$2"
 }
 
 # whether the sink got exactly what was sent
@@ -363,6 +378,16 @@ spans() {
     chunk_limit=''
 }
 
+# a sink that is far away, with many small chunks
+far() {
+    far_ms=10 chunk_limit=20000
+    for chunks in 1 8; do
+        printf 'far: '
+        row 10 100 "$entries"
+    done
+    far_ms='' far_port='' chunk_limit='' chunks=''
+}
+
 # a long request in small pieces
 pieces() {
     start_sink "$folder/sink"
@@ -404,10 +429,13 @@ each_way() {
     for way in $ways; do
         flush='' workers=''
         if [ "$way" = relay ]; then
-            for setting in '0 1' '0 4' '10 1' '10 4'; do
-                flush=${setting% *} workers=${setting#* }
+            for setting in '0 1' '0 4' '10 1' '10 4' '0 1 8'; do
+                # shellcheck disable=SC2086
+                set -- "$1" $setting
+                flush=$2 workers=$3 chunks=${4:-}
                 "$1"
             done
+            chunks=''
         else
             "$1"
         fi
@@ -433,6 +461,7 @@ each_way latency
 way=relay flush=0 workers=1
 pieces
 spans
+far
 [ "$minutes" = 0 ] || { way=relay flush=0 workers=1 limit=60 window=${WINDOW:-4}; steady; }
 
 [ "$failures" = 0 ] || { echo "failed: $failures"; exit 1; }

@@ -127,6 +127,7 @@ for frame, key, least, most in [
     ("output", "chunk_limit", 1, 16000000), ("output", "total_limit", 1, 1000000000000),
     ("output", "flush_interval", 0, 86400000), ("output", "retry_wait", 1, 86400000),
     ("output", "retry_max", 1000, 86400000), ("output", "ack_wait", 1, 86400000),
+    ("output", "window", 1, 8),
 ]:
     value(frame, key, least - 1, "out of range")
     value(frame, key, least, "good")
@@ -169,6 +170,7 @@ for frame, key, good, other_kind in [
     ("output", "chunk_limit", "1", '""'), ("output", "total_limit", "1", '""'),
     ("output", "flush_interval", "1", '""'), ("output", "retry_wait", "1", '""'),
     ("output", "ack_wait", "1", '""'), ("output", "retry_max", "1000", '""'),
+    ("output", "window", "1", '""'),
     ("output", "hostname", '"a"', "1"), ("output", "shared_key", '"k"', "1"),
     ("output", "username", '"a"', "1"), ("output", "password", '"a"', "1"),
     ("unserved", "server", '[{ address = "127.0.0.1:1" }]', "1"),
@@ -283,6 +285,8 @@ for whole, told in [
     (ONE + "chunk_limit = 0\nworkers = 0", "out of range output[0].workers"),
     (ONE + "total_limit = 0\nchunk_limit = 0", "out of range output[0].chunk_limit"),
     (ONE + "retry_wait = 0\nretry_max = 0", "out of range output[0].retry_wait"),
+    (ONE + "window = 0\nack_wait = 0", "out of range output[0].ack_wait"),
+    (ONE + "hostname = 1\nwindow = 0", "out of range output[0].window"),
     (ONE + "username = 1\nshared_key = 1\nhostname = 1", "wrong kind output[0].hostname"),
     (ONE + "password = 1\nusername = 1\nshared_key = 1", "wrong kind output[0].shared_key"),
     (ONE + 'username = 1\nshared_key = ""', "out of range output[0].shared_key"),
@@ -305,8 +309,8 @@ RELAY = {
 OUTPUT = {
     "match a.b": "true", "match c": "true", "workers": "1", "chunk_limit": "8000000",
     "total_limit": "512000000", "flush_interval": "5000", "retry_wait": "1000",
-    "retry_max": "60000", "ack_wait": "190000", "hostname": "relay", "shared_key": "none",
-    "username": "", "password": "",
+    "retry_max": "60000", "ack_wait": "190000", "window": "1", "hostname": "relay",
+    "shared_key": "none", "username": "", "password": "",
 }
 FIRST = {"server[0].address": "127.0.0.1:1", "server[0].standby": "false"}
 SET_RELAY = {
@@ -318,7 +322,8 @@ SET_RELAY = {
 SET_OUTPUT = {
     "match a.b": "true", "match c": "false", "workers": "3", "chunk_limit": "4",
     "total_limit": "5", "flush_interval": "6", "retry_wait": "7", "retry_max": "8",
-    "ack_wait": "9", "hostname": "o", "shared_key": "s", "username": "u", "password": "p",
+    "ack_wait": "9", "window": "2", "hostname": "o", "shared_key": "s", "username": "u",
+    "password": "p",
     "server[0].address": "10.0.0.1:2", "server[0].standby": "true",
     "server[1].address": "10.0.0.2:3", "server[1].standby": "false",
 }
@@ -332,7 +337,8 @@ sets('[relay]\nlisten = "0.0.0.0:1"\nmonitor = "[::1]:65535"\nhostname = "h"\n'
      '[[relay.user]]\nname = "n"\npassword = "p"\n'
      '[[relay.user]]\nname = "m"\npassword = "q"\n' + C, SET_RELAY, OUTPUT_C)
 sets('[[output]]\nmatch = "a.b"\nworkers = 3\nchunk_limit = 4\ntotal_limit = 5\n'
-     'flush_interval = 6\nretry_wait = 7\nretry_max = 8\nack_wait = 9\nhostname = "o"\n'
+     'flush_interval = 6\nretry_wait = 7\nretry_max = 8\nack_wait = 9\nwindow = 2\n'
+     'hostname = "o"\n'
      'username = "u"\npassword = "p"\nshared_key = "s"\n'
      '[[output.server]]\naddress = "10.0.0.1:2"\nstandby = true\n'
      '[[output.server]]\naddress = "10.0.0.2:3"\nstandby = false\n' + C,

@@ -5,7 +5,7 @@ use Rattle.std.proofs.lemmas.Bool.{leb-true, le-leb}
 use Rattle.std.proofs.lemmas.Bool.Decides.{nat_tests}
 use Rattle.std.specs.List.{AllByRecursion}
 use Rattle.fwd_chunks.specs.declared.chunk.Chunk.{Chunk}
-use Rattle.fwd_chunks.specs.declared.slot.Slot.{Slot}
+use Rattle.fwd_chunks.specs.Slots.{Slot}
 use Rattle.fwd_chunks.specs.declared.flush.FlushKind.TheVariants.{Due, All}
 use Rattle.fwd_chunks.specs.Live.{is_at, is_open, is_due, changed}
 use Rattle.fwd_chunks.specs.Slots.{present, NumbersRise, IsOwn, IsUnder, ChunksRise, began_by}

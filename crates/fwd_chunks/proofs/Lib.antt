@@ -3,6 +3,7 @@ pub mod Numbers
 pub mod CellLemmas
 pub mod Packing
 pub mod Sending
+pub mod Lending
 pub mod Sane
 pub mod News
 pub mod Follows
@@ -26,6 +27,7 @@ pub mod Towers
 pub mod Descent
 pub mod Within
 pub mod Slotted
+pub mod Shelving
 pub mod Closing
 pub mod Holding
 pub mod Freedom

@@ -114,11 +114,11 @@ get-past [] i le = refl
 get-past (x ∷ xs) zero le = absurd (omega arith)
 get-past (x ∷ xs) (suc i) le = get-past xs i (omega arith)
 
-pub get-read : {X : Type 0} (xs : List X) (i : ℕ) (x : X) → i < length xs
-    → x ≡ get_or xs i x → slice_get xs i ≡ Some x
-get-read [] i x lt e = absurd (omega arith)
-get-read (y ∷ xs) zero x lt e = ap Some (sym e)
-get-read (y ∷ xs) (suc i) x lt e = get-read xs i x (omega arith) e
+pub get-or-at : {X : Type 0} (xs : List X) (i : ℕ) (d : X) → i < length xs
+    → slice_get xs i ≡ Some (get_or xs i d)
+get-or-at [] i d lt = absurd (omega (arith, lt))
+get-or-at (x ∷ xs) zero d lt = refl
+get-or-at (x ∷ xs) (suc i) d lt = get-or-at xs i d (omega (arith, lt))
 
 pub get-within : {X : Type 0} (xs : List X) (i : ℕ) → i < length xs → slice_get xs i ≡ None → ⊥
 get-within [] i lt e = absurd (omega arith)

@@ -3,7 +3,7 @@ use Rattle.std.proofs.Common.{◌≡◌, ℕ, zero, suc, ◌+◌, ◌<◌, ◌�
 use Rattle.std.specs.Prelude.{find, slice_get, position}
 use Rattle.std.specs.List.{AllByRecursion}
 use Rattle.std.proofs.lemmas.Bool.{cases_lt}
-use Rattle.fwd_chunks.specs.declared.slot.Slot.{Slot}
+use Rattle.fwd_chunks.specs.Slots.{Slot}
 use Rattle.fwd_chunks.specs.Slots.{is_slot, IsLower, NumbersRise}
 use Rattle.fwd_chunks.proofs.Numbers.{true_false, eq_same}
 use Rattle.fwd_chunks.proofs.Sounding.{found-passes}

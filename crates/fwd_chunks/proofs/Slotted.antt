@@ -1,35 +1,28 @@
 -- What a write, a slot more and fewer empty slots leave.
-use Rattle.std.proofs.Common.{◌≡◌, ℕ, zero, suc, ◌+◌, ◌-◌, ◌<◌, ◌≤◌, ◌^◌, cond, List, [], ◌∷◌, ◌++◌, length, map, get_or, Option, Some, None, refl, sym, ap, ◌∙◌, subst, arith}
+use Rattle.std.proofs.Common.{◌≡◌, ℕ, zero, suc, ◌+◌, ◌-◌, ◌<◌, ◌≤◌, ◌^◌, cond, List, [], ◌∷◌, ◌++◌, length, map, Option, Some, None, refl, sym, ap, ◌∙◌, subst, arith}
 use Rattle.std.proofs.Math.ListN.{set}
-use Rattle.std.specs.Prelude.{filter, find, not, is_some, slice_get, option_to_list, position, replicate}
-use Rattle.std.proofs.lemmas.List.{length-set, length-append, length-map, length-replicate, set-get_or}
+use Rattle.std.specs.List.{AllByRecursion}
+use Rattle.std.specs.Prelude.{IsSomeAnd, min, option_map, filter, find, not, is_some, slice_get, option_to_list, position, replicate}
+use Rattle.std.proofs.lemmas.List.{length-set, length-append, length-map, length-replicate}
 use Rattle.fwd_chunks.specs.declared.chunk.Chunk.{Chunk}
 use Rattle.fwd_retry.specs.declared.retry.Retry.{Retry}
-use Rattle.fwd_chunks.specs.declared.slot.Slot.{Slot}
+use Rattle.fwd_chunks.specs.Slots.{Slot}
 use Rattle.fwd_chunks.specs.Cells.{number_after}
 use Rattle.fwd_chunks.specs.Live.{is_at, changed}
-use Rattle.fwd_chunks.specs.Slots.{Held, KeyLists, present, is_slot, is_full, ready_key, due_key, key_by, padded, IsOwn, IsTimed, IsSlotted}
+use Rattle.fwd_chunks.specs.Slots.{Held, KeyLists, slot_of, keyed, noted, chunk_in, revised, present, is_slot, is_full, ready_key, due_key, key_by, padded, NumbersRise, IsOwn, IsTimed, IsSlotted}
 use Rattle.fwd_chunks.proofs.Sounding.{all-filter}
-use Rattle.fwd_chunks.proofs.Places.{none_some, get-read, place-within}
+use Rattle.fwd_chunks.proofs.Places.{none_some, place-within}
 use Rattle.fwd_chunks.proofs.Search.{number-read}
-use Rattle.fwd_chunks.proofs.Slotting.{present-append, present-full, find-slot, changed-slot, changed-empty, removed-slot, removed-count, set-rising, set-own, own-at, set-timed, timed-at, set-below, keys-set, keys-same, keys-long, keys-push, keys-padded, rising-more, rising-full, all-more, all-imply}
+use Rattle.fwd_chunks.proofs.Slotting.{present-append, find-slot, changed-slot, changed-empty, removed-slot, set-rising, set-own, own-at, set-timed, timed-at, set-below, keys-set, keys-same, keys-long, keys-push, keys-padded, rising-more, rising-full, all-more, all-imply}
 use Rattle.std.proofs.lemmas.Option.{same_Some}
 
 -- what slots show
-abbrev pub shown : List Slot → KeyLists → Option ℕ → Held
-shown slots keys last = record {
+abbrev pub shown : List Slot → KeyLists → Option ℕ → ℕ → Held
+shown slots keys last spare = record {
   retry = keys.retry;
   chunks = present slots;
   last = last;
-  room = length keys.ready - length slots;
-}
-
--- the keys once a chunk stands at a place
-abbrev pub keyed : KeyLists → ℕ → Chunk → KeyLists
-keyed keys i c = record {
-  retry = keys.retry;
-  ready = set keys.ready i (ready_key keys.retry c);
-  due = set keys.due i (due_key c);
+  room = min (length keys.ready - length slots) spare;
 }
 
 -- the keys once none does
@@ -40,30 +33,51 @@ cleared keys i = record {
   due = set keys.due i None;
 }
 
--- another chunk in a slot that was full
-count-same : (xs : List Slot) (i : ℕ) (s : Slot) (c d : Chunk) → slice_get xs i ≡ Some s
-    → s.chunk ≡ Some c
-    → length (present xs) ≡ length (present (set xs i (record s { chunk = Some d })))
-count-same [] i s c d e at = absurd (none_some e)
-count-same (x ∷ xs) zero s c d e at = ap (λ o. length (option_to_list o ++ present xs)) (ap (λ y. y.chunk) (same_Some _ _ e) ∙ at)
-count-same (x ∷ xs) (suc i) s c d e at = by x.chunk (count-same xs i s c d e at)
-  where
-    by : (o : Option Chunk)
-        → length (present xs) ≡ length (present (set xs i (record s { chunk = Some d })))
-        → length (option_to_list o ++ present xs) ≡ length
-        (option_to_list o ++ present (set xs i (record s { chunk = Some d })))
-    by None rest = rest
-    by (Some b) rest = ap suc rest
+set-at : {X : Type 0} (xs : List X) (i : ℕ) (x : X) → slice_get xs i ≡ Some x → set xs i x ≡ xs
+set-at [] i x e = refl
+set-at (y ∷ xs) zero x e = ap (λ z. z ∷ xs) (sym (same_Some _ _ e))
+set-at (y ∷ xs) (suc i) x e = ap (λ l. y ∷ l) (set-at xs i x e)
+
+-- a slot that changes is written
+revised-set : (xs : List Slot) (i : ℕ) (f : Option Chunk → Option Chunk) (s : Slot)
+    → slice_get xs i ≡ Some s → revised i f xs ≡ set xs i (record s { chunk = f s.chunk })
+revised-set [] i f s e = refl
+revised-set (x ∷ xs) zero f s e = λ j. record { number = (same_Some _ _ e j).number; chunk = f (same_Some _ _ e j).chunk } ∷ xs
+revised-set (x ∷ xs) (suc i) f s e = ap (λ l. x ∷ l) (revised-set xs i f s e)
+
+pub revised-get : (xs : List Slot) (i : ℕ) (f : Option Chunk → Option Chunk) (s : Slot)
+    → slice_get xs i ≡ Some s → chunk_in (slice_get (revised i f xs) i) ≡ f s.chunk
+revised-get [] i f s e = absurd (none_some e)
+revised-get (x ∷ xs) zero f s e = ap (λ y. f y.chunk) (same_Some _ _ e)
+revised-get (x ∷ xs) (suc i) f s e = revised-get xs i f s e
+
+-- a place that a search answers has a slot
+slot-there : (xs : List Slot) (i : ℕ) → i < length xs → (s : Slot) × (slice_get xs i ≡ Some s)
+slot-there [] i lt = absurd (omega (arith, lt))
+slot-there (x ∷ xs) zero lt = (x, refl)
+slot-there (x ∷ xs) (suc i) lt = slot-there xs i (omega (arith, lt))
+
+-- the chunk of a number, by its place
+pub found-at : (xs : List Slot) (n i : ℕ) → NumbersRise xs → AllByRecursion IsOwn xs
+    → position (is_slot n) xs ≡ Some i → find (is_at n) (present xs) ≡ chunk_in (slice_get xs i)
+found-at xs n i rise own place =
+    let there = slot-there xs i (place-within (is_slot n) xs i place) in
+    ap (λ k. find (is_at k) (present xs)) (sym (number-read xs n i there.0 place there.1))
+    ∙ find-slot xs i there.0 rise own there.1
+    ∙ sym (ap chunk_in there.1)
 
 -- the slot of a number, by its place
-module _ (xs : List Slot) (cap : ℕ) (keys : KeyLists) (held : ℕ) (last : Option ℕ) (own : IsSlotted xs cap keys held last) (n i : ℕ) (s : Slot) (place : position (is_slot n) xs ≡ Some i) (read : s ≡ get_or xs i s) where
-  pub slot-within : i < length xs
+module _ (xs : List Slot) (cap : ℕ) (keys : KeyLists) (last : Option ℕ) (own : IsSlotted xs cap keys last) (n i : ℕ) (place : position (is_slot n) xs ≡ Some i) where
+  slot-within : i < length xs
   slot-within = place-within (is_slot n) xs i place
 
-  pub slot-at : slice_get xs i ≡ Some s
-  slot-at = get-read xs i s slot-within read
+  abbrev s : Slot
+  s = (slot-there xs i slot-within).0
 
-  pub slot-number : s.number ≡ n
+  slot-at : slice_get xs i ≡ Some s
+  slot-at = (slot-there xs i slot-within).1
+
+  slot-number : s.number ≡ n
   slot-number = number-read xs n i s place slot-at
 
   pub ready-within : i < length keys.ready
@@ -72,11 +86,14 @@ module _ (xs : List Slot) (cap : ℕ) (keys : KeyLists) (held : ℕ) (last : Opt
   pub due-within : i < length keys.due
   due-within = omega (arith, ready-within, own.places)
 
-  pub found-slot : find (is_at n) (present xs) ≡ s.chunk
-  found-slot = ap (λ k. find (is_at k) (present xs)) (sym slot-number) ∙ find-slot xs i s own.rising own.own slot-at
+  chunk-is : chunk_in (slice_get xs i) ≡ s.chunk
+  chunk-is = ap chunk_in slot-at
 
-  pub changed-slotted : (c d : Chunk) → s.chunk ≡ Some c → d.number ≡ c.number → d.since ≡ c.since
-      → IsSlotted (set xs i (record s { chunk = Some d })) cap (keyed keys i d) held last
+  pub found-slot : find (is_at n) (present xs) ≡ chunk_in (slice_get xs i)
+  found-slot = found-at xs n i own.rising own.own place
+
+  changed-slotted : (c d : Chunk) → s.chunk ≡ Some c → d.number ≡ c.number → d.since ≡ c.since
+      → IsSlotted (set xs i (record s { chunk = Some d })) cap (keyed keys i d) last
   changed-slotted c d full same began = record {
     rising = set-rising xs i s (Some d) own.rising slot-at;
     own = set-own xs i s (Some d) own.own (same ∙ own-at xs i s c own.own slot-at full, tt);
@@ -86,51 +103,91 @@ module _ (xs : List Slot) (cap : ℕ) (keys : KeyLists) (held : ℕ) (last : Opt
     due = keys-set due_key xs keys.due i s (Some d) own.due slot-at;
     places = length-set keys.due i (due_key d) ∙ own.places ∙ sym (length-set keys.ready i (ready_key keys.retry d));
     enough = omega (arith, length-set keys.ready i (ready_key keys.retry d), own.enough);
-    counted = own.counted ∙ count-same xs i s c d slot-at full;
   }
 
-  pub changed-shown : (c d : Chunk) (f : Chunk → Chunk) → s.chunk ≡ Some c → d ≡ f c
-      → shown (set xs i (record s { chunk = Some d })) (keyed keys i d) last ≡ record
-      (shown xs keys last) { chunks = changed (is_at n) f (present xs) }
-  changed-shown c d f full e =
+  changed-shown : (c d : Chunk) (f : Chunk → Chunk) (spare : ℕ) → s.chunk ≡ Some c → d ≡ f c
+      → shown (set xs i (record s { chunk = Some d })) (keyed keys i d) last spare ≡ record
+      (shown xs keys last spare) { chunks = changed (is_at n) f (present xs) }
+  changed-shown c d f spare full e =
       let chunks : present (set xs i (record s { chunk = Some d })) ≡ changed (is_at n) f (present xs) =
       ap (λ b. present (set xs i (record s { chunk = Some b }))) e ∙ changed-slot xs i s c f own.rising own.own slot-at full ∙ ap (λ k. changed (is_at k) f (present xs)) slot-number in
       λ j. record {
         retry = keys.retry;
         chunks = chunks j;
         last = last;
-        room = length-set keys.ready i (ready_key keys.retry d) j - length-set xs i (record s { chunk = Some d }) j;
+        room = min (length-set keys.ready i (ready_key keys.retry d) j - length-set xs i (record s { chunk = Some d }) j) spare;
       }
 
-  -- the keys of a chunk that stays open as long as it was
-  pub kept-keys : (c d : Chunk) → s.chunk ≡ Some c → ready_key keys.retry d ≡ ready_key keys.retry c
-      → due_key d ≡ due_key c → keyed keys i d ≡ keys
-  kept-keys c d full ready due = λ j. record {
-    retry = keys.retry;
-    ready = keys-same (ready_key keys.retry) xs keys.ready i s (ready_key keys.retry d) own.ready slot-at (ready ∙ ap (key_by (ready_key keys.retry)) (sym full)) j;
-    due = keys-same due_key xs keys.due i s (due_key d) own.due slot-at (due ∙ ap (key_by due_key) (sym full)) j;
-  }
+  -- an empty slot is written as it was
+  written : s.chunk ≡ None → set xs i (record s { chunk = None }) ≡ xs
+  written empty = ap (λ o. set xs i (record s { chunk = o })) (sym empty) ∙ set-at xs i s slot-at
 
   changed-none : (f : Chunk → Chunk) → s.chunk ≡ None
       → changed (is_at n) f (present xs) ≡ present xs
   changed-none f empty = ap (λ k. changed (is_at k) f (present xs)) (sym slot-number) ∙ changed-empty xs i s f own.rising own.own slot-at empty
 
-  -- an empty slot is written as it was
-  written : set xs i s ≡ xs
-  written = ap (set xs i) read ∙ set-get_or xs i s
+  -- a change of the chunk, if there is one
+  module _ (f : Chunk → Chunk) (same : (c : Chunk) → (f c).number ≡ c.number) (began : (c : Chunk) → (f c).since ≡ c.since) where
+    slotted-by : (o : Option Chunk) → s.chunk ≡ o
+        → IsSlotted (set xs i (record s { chunk = option_map f o })) cap (noted i (option_map f o) keys) last
+    slotted-by None e = subst (λ l. IsSlotted l cap keys last) (sym (written e)) own
+    slotted-by (Some c) e = changed-slotted c (f c) e (same c) (began c)
 
-  pub unset-shown : (f : Chunk → Chunk) → s.chunk ≡ None
-      → shown (set xs i s) keys last ≡ record (shown xs keys last)
-      { chunks = changed (is_at n) f (present xs) }
-  unset-shown f empty = ap (λ l. shown l keys last) written ∙ (λ j. record (shown xs keys last) { chunks = sym (changed-none f empty) j })
+    pub put-slotted : IsSlotted (revised i (option_map f) xs) cap
+        (noted i (chunk_in (slice_get (revised i (option_map f) xs) i)) keys) last
+    put-slotted =
+        subst (λ o. IsSlotted (revised i (option_map f) xs) cap (noted i o keys) last) (sym (revised-get xs i (option_map f) s slot-at))
+        (subst (λ l. IsSlotted l cap (noted i (option_map f s.chunk) keys) last) (sym (revised-set xs i (option_map f) s slot-at)) (slotted-by s.chunk refl))
 
-  pub removed-held : (c : Chunk) → s.chunk ≡ Some c
-      → held ≡ suc (length (present (set xs i (record s { chunk = None }))))
-  removed-held c full = own.counted ∙ removed-count xs i s c slot-at full
+    shown-by : (spare : ℕ) (o : Option Chunk) → s.chunk ≡ o
+        → shown (set xs i (record s { chunk = option_map f o })) (noted i (option_map f o) keys) last spare
+        ≡ record (shown xs keys last spare) { chunks = changed (is_at n) f (present xs) }
+    shown-by spare None e =
+        ap (λ l. shown l keys last spare) (written e)
+        ∙ (λ j. record (shown xs keys last spare) { chunks = sym (changed-none f e) j })
+    shown-by spare (Some c) e = changed-shown c (f c) f spare e refl
 
-  pub removed-slotted : (c : Chunk) → s.chunk ≡ Some c
-      → IsSlotted (set xs i (record s { chunk = None })) cap (cleared keys i) (held - 1) last
-  removed-slotted c full = record {
+    pub put-shown : (spare : ℕ) → shown (revised i (option_map f) xs)
+        (noted i (chunk_in (slice_get (revised i (option_map f) xs) i)) keys) last spare
+        ≡ record (shown xs keys last spare) { chunks = changed (is_at n) f (present xs) }
+    put-shown spare =
+        (λ j. shown (revised-set xs i (option_map f) s slot-at j) (noted i (revised-get xs i (option_map f) s slot-at j) keys) last spare)
+        ∙ shown-by spare s.chunk refl
+
+    -- the keys of a chunk that stays open as long as it was
+    kept-keys : (c : Chunk) → chunk_in (slice_get xs i) ≡ Some c
+        → ready_key keys.retry (f c) ≡ ready_key keys.retry c → due_key (f c) ≡ due_key c
+        → noted i (chunk_in (slice_get (revised i (option_map f) xs) i)) keys ≡ keys
+    kept-keys c full ready due =
+        let here : s.chunk ≡ Some c = sym chunk-is ∙ full in
+        ap (λ o. noted i o keys) (revised-get xs i (option_map f) s slot-at ∙ ap (option_map f) here)
+        ∙ (λ j. record {
+          retry = keys.retry;
+          ready = keys-same (ready_key keys.retry) xs keys.ready i s (ready_key keys.retry (f c)) own.ready slot-at (ready ∙ ap (key_by (ready_key keys.retry)) (sym here)) j;
+          due = keys-same due_key xs keys.due i s (due_key (f c)) own.due slot-at (due ∙ ap (key_by due_key) (sym here)) j;
+        })
+
+    pub still-keys : IsSomeAnd (chunk_in (slice_get xs i)) (λ c. (ready_key keys.retry (f c) ≡ ready_key keys.retry c)
+        × (due_key (f c) ≡ due_key c))
+        → noted i (chunk_in (slice_get (revised i (option_map f) xs) i)) keys ≡ keys
+    still-keys = by (chunk_in (slice_get xs i)) (λ c e ready due. kept-keys c e ready due) refl
+      where
+        by : (o : Option Chunk)
+            → ((c : Chunk) → chunk_in (slice_get xs i) ≡ Some c
+            → ready_key keys.retry (f c) ≡ ready_key keys.retry c → due_key (f c) ≡ due_key c
+            → noted i (chunk_in (slice_get (revised i (option_map f) xs) i)) keys ≡ keys)
+            → chunk_in (slice_get xs i) ≡ o
+            → IsSomeAnd o (λ c. (ready_key keys.retry (f c) ≡ ready_key keys.retry c)
+            × (due_key (f c) ≡ due_key c))
+            → noted i (chunk_in (slice_get (revised i (option_map f) xs) i)) keys ≡ keys
+        by None kept e h = absurd h
+        by (Some c) kept e h = kept c e h.0 h.1
+
+  emptied : revised i (λ o. None) xs ≡ set xs i (record s { chunk = None })
+  emptied = revised-set xs i (λ o. None) s slot-at
+
+  pub removed-slotted : IsSlotted (revised i (λ o. None) xs) cap (cleared keys i) last
+  removed-slotted = subst (λ l. IsSlotted l cap (cleared keys i) last) (sym emptied) (record {
     rising = set-rising xs i s None own.rising slot-at;
     own = set-own xs i s None own.own tt;
     timed = set-timed xs i s None own.timed tt;
@@ -139,51 +196,19 @@ module _ (xs : List Slot) (cap : ℕ) (keys : KeyLists) (held : ℕ) (last : Opt
     due = keys-set due_key xs keys.due i s None own.due slot-at;
     places = length-set keys.due i None ∙ own.places ∙ sym (length-set keys.ready i None);
     enough = omega (arith, length-set keys.ready i None, own.enough);
-    counted = omega (arith, removed-held c full);
-  }
+  })
 
-  removed-chunks : present (set xs i (record s { chunk = None })) ≡ filter (λ c. not (is_at n c))
-      (present xs)
-  removed-chunks = removed-slot xs i s own.rising own.own slot-at ∙ ap (λ k. filter (λ c. not (is_at k c)) (present xs)) slot-number
-
-  pub removed-shown : shown (set xs i (record s { chunk = None })) (cleared keys i) last ≡ record
-      (shown xs keys last) { chunks = filter (λ c. not (is_at n c)) (present xs) }
-  removed-shown = λ j. record {
-    retry = keys.retry;
-    chunks = removed-chunks j;
-    last = last;
-    room = length-set keys.ready i None j - length-set xs i (record s { chunk = None }) j;
-  }
+  pub removed-chunks : present (revised i (λ o. None) xs) ≡ filter (λ c. not (is_at n c)) (present xs)
+  removed-chunks = ap present emptied ∙ removed-slot xs i s own.rising own.own slot-at ∙ ap (λ k. filter (λ c. not (is_at k c)) (present xs)) slot-number
 
   -- a slot that was empty stays so
-  pub emptied-shown : s.chunk ≡ None
-      → shown (set xs i (record s { chunk = None })) keys last ≡ record (shown xs keys last)
-      { chunks = filter (λ c. not (is_at n c)) (present xs) }
-  emptied-shown empty = λ j. record {
-    retry = keys.retry;
-    chunks = removed-chunks j;
-    last = last;
-    room = length keys.ready - length-set xs i (record s { chunk = None }) j;
-  }
+  pub still-empty : chunk_in (slice_get xs i) ≡ None → revised i (λ o. None) xs ≡ xs
+  still-empty none = emptied ∙ written (sym chunk-is ∙ none)
 
 -- ---- a slot behind all others
 
--- the slot of a new chunk
-abbrev pub slot_of : Chunk → Slot
-slot_of c = record { number = c.number; chunk = Some c }
-
-pub present-short : (xs : List Slot) → length (present xs) ≤ length xs
-present-short [] = omega arith
-present-short (x ∷ xs) = by x.chunk (present-short xs)
-  where
-    by : (o : Option Chunk) → length (present xs) ≤ length xs
-        → length (option_to_list o ++ present xs) ≤ suc (length xs)
-    by None rest = omega (arith, rest)
-    by (Some c) rest = omega (arith, rest)
-
-module _ (xs : List Slot) (cap : ℕ) (keys : KeyLists) (held : ℕ) (last : Option ℕ) (own : IsSlotted xs cap keys held last) (c : Chunk) (room : length xs < length keys.ready) (above : number_after 0 last ≤ c.number) (fits : c.since < 2 ^ 64) where
-  pub pushed-slotted : IsSlotted (xs ++ slot_of c ∷ []) cap (keyed keys (length xs) c) (held + 1)
-      (Some c.number)
+module _ (xs : List Slot) (cap : ℕ) (keys : KeyLists) (last : Option ℕ) (own : IsSlotted xs cap keys last) (c : Chunk) (room : length xs < length keys.ready) (above : number_after 0 last ≤ c.number) (fits : c.since < 2 ^ 64) where
+  pub pushed-slotted : IsSlotted (xs ++ slot_of c ∷ []) cap (keyed keys (length xs) c) (Some c.number)
   pushed-slotted = record {
     rising = rising-more xs (slot_of c) own.rising (all-imply (λ t. t.number < number_after 0 last) (λ t. t.number < c.number) (λ t lt. omega (arith, lt, above)) xs own.below);
     own = all-more IsOwn xs (slot_of c) own.own (refl, tt);
@@ -193,17 +218,17 @@ module _ (xs : List Slot) (cap : ℕ) (keys : KeyLists) (held : ℕ) (last : Opt
     due = keys-push due_key xs keys.due (slot_of c) own.due (omega (arith, room, own.places));
     places = length-set keys.due (length xs) (due_key c) ∙ own.places ∙ sym (length-set keys.ready (length xs) (ready_key keys.retry c));
     enough = omega (arith, length-set keys.ready (length xs) (ready_key keys.retry c), own.enough);
-    counted = omega (arith, own.counted, ap length (present-append xs (slot_of c ∷ [])), length-append (present xs) (c ∷ []));
   }
 
-  pub pushed-shown : shown (xs ++ slot_of c ∷ []) (keyed keys (length xs) c) (Some c.number) ≡ record {
-    retry = keys.retry;
-    chunks = present xs ++ c ∷ [];
-    last = Some c.number;
-    room = length keys.ready - length xs - 1;
-  }
-  pushed-shown =
-      let left : length (set keys.ready (length xs) (ready_key keys.retry c)) - length (xs ++ slot_of c ∷ []) ≡ length keys.ready - length xs - 1 =
+  pub pushed-shown : (spare : ℕ)
+      → shown (xs ++ slot_of c ∷ []) (keyed keys (length xs) c) (Some c.number) (spare - 1) ≡ record {
+        retry = keys.retry;
+        chunks = present xs ++ c ∷ [];
+        last = Some c.number;
+        room = min (length keys.ready - length xs) spare - 1;
+      }
+  pushed-shown spare =
+      let left : min (length (set keys.ready (length xs) (ready_key keys.retry c)) - length (xs ++ slot_of c ∷ [])) (spare - 1) ≡ min (length keys.ready - length xs) spare - 1 =
       omega (arith, length-set keys.ready (length xs) (ready_key keys.retry c), length-append xs (slot_of c ∷ [])) in
       λ j. record {
         retry = keys.retry;
@@ -238,15 +263,14 @@ fresh_keys retry xs places = record {
   due = padded places (map due_key (present xs));
 }
 
-module _ (xs : List Slot) (cap more : ℕ) (keys : KeyLists) (held : ℕ) (last : Option ℕ) (own : IsSlotted xs cap keys held last) (places : ℕ) (few : held ≤ places) (wide : places ≤ more) where
+module _ (xs : List Slot) (cap more : ℕ) (keys : KeyLists) (last : Option ℕ) (own : IsSlotted xs cap keys last) (places : ℕ) (few : length (present xs) ≤ places) (wide : places ≤ more) where
   ready-length : length (padded places (map (ready_key keys.retry) (present xs))) ≡ places
-  ready-length = padded-length places (map (ready_key keys.retry) (present xs)) (omega (arith, length-map (present xs) (ready_key keys.retry), own.counted, few))
+  ready-length = padded-length places (map (ready_key keys.retry) (present xs)) (omega (arith, length-map (present xs) (ready_key keys.retry), few))
 
   due-length : length (padded places (map due_key (present xs))) ≡ places
-  due-length = padded-length places (map due_key (present xs)) (omega (arith, length-map (present xs) due_key, own.counted, few))
+  due-length = padded-length places (map due_key (present xs)) (omega (arith, length-map (present xs) due_key, few))
 
-  pub compact-slotted : IsSlotted (filter is_full xs) more
-      (fresh_keys keys.retry xs places) held last
+  pub compact-slotted : IsSlotted (filter is_full xs) more (fresh_keys keys.retry xs places) last
   compact-slotted = record {
     rising = rising-full is_full xs own.rising;
     own = all-filter IsOwn is_full xs own.own;
@@ -256,9 +280,8 @@ module _ (xs : List Slot) (cap more : ℕ) (keys : KeyLists) (held : ℕ) (last 
     due = keys-padded due_key xs places;
     places = due-length ∙ sym ready-length;
     enough = omega (arith, ready-length, wide);
-    counted = own.counted ∙ ap length (sym (present-full xs));
   }
 
   pub compact-room : length (padded places (map (ready_key keys.retry) (present xs))) - length
-      (filter is_full xs) ≡ places - held
-  compact-room = omega (arith, ready-length, full-count xs, own.counted)
+      (filter is_full xs) ≡ places - length (present xs)
+  compact-room = omega (arith, ready-length, full-count xs)

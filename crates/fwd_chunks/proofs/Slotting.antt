@@ -1,23 +1,23 @@
 -- What slots and their keys say of the chunks that are there.
 use Rattle.std.proofs.Common.{◌≡◌, ℕ, zero, suc, ◌+◌, ◌-◌, ◌<◌, ◌≤◌, ◌^◌, Bool, true, false, cond, eqb, List, [], ◌∷◌, ◌++◌, length, map, take, get_or, Option, Some, None, refl, sym, ap, ◌∙◌, subst, arith}
 use Rattle.std.proofs.Math.ListN.{set}
-use Rattle.std.specs.Prelude.{◌&&◌, nat_le, nat_lt, filter, find, not, is_some, option_map, slice_get, option_to_list, position, replicate}
+use Rattle.std.specs.Prelude.{◌&&◌, nat_le, nat_lt, filter, find, not, is_some, slice_get, option_to_list, position, replicate}
 use Rattle.std.specs.List.{AllByRecursion, position_or_len}
 use Rattle.std.proofs.lemmas.List.{append-nil, take_more, map-append}
 use Rattle.std.proofs.lemmas.Bool.{ltb-false, leb-true, le-leb}
 use Rattle.fwd_chunks.specs.declared.chunk.Chunk.{Chunk}
-use Rattle.fwd_chunks.specs.declared.slot.Slot.{Slot}
+use Rattle.fwd_chunks.specs.Slots.{Slot}
 use Rattle.fwd_retry.specs.declared.losses.Losses.{Losses}
 use Rattle.fwd_retry.specs.declared.retry.Retry.{Retry}
 use Rattle.fwd_retry.specs.Waits.{wait_after}
 use Rattle.fwd_chunks.specs.Live.{is_at, is_open, is_closed, changed}
 use Rattle.fwd_retry.specs.Tallies.{live_is_over}
 use Rattle.fwd_chunks.specs.Earliest.{is_within}
-use Rattle.fwd_chunks.specs.Slots.{present, is_slot, is_full, ready_key, due_key, began_by, key_by, IsNone, AreKeys, padded, IsLower, NumbersRise, IsOwn, IsTimed}
+use Rattle.fwd_chunks.specs.Slots.{chunk_in, present, is_slot, is_full, ready_key, due_key, began_by, key_by, IsNone, AreKeys, padded, IsLower, NumbersRise, IsOwn, IsTimed}
 use Rattle.fwd_retry.specs.Tallies.{end_of_wait}
 use Rattle.fwd_chunks.proofs.Numbers.{not_from, true_false, eq_same}
-use Rattle.fwd_chunks.proofs.Sounding.{all-filter, found-passes}
-use Rattle.fwd_chunks.proofs.Places.{none_some, get-past, get-within, place-none, place-found, place-within, place-is, place-past}
+use Rattle.fwd_chunks.proofs.Sounding.{all-filter}
+use Rattle.fwd_chunks.proofs.Places.{none_some, get-or-at, get-past, place-none, place-is, place-past}
 use Rattle.std.proofs.lemmas.Option.{same_Some}
 use Rattle.std.proofs.lemmas.Bool.{eqb-true}
 
@@ -34,12 +34,14 @@ present-append [] ys = refl
 present-append (x ∷ xs) ys = ap (λ l. option_to_list x.chunk ++ l) (present-append xs ys) ∙ behind-by x.chunk (present xs) (present ys)
 
 -- one slot more
-pub present-take : (xs : List Slot) (i : ℕ) (s : Slot) → i < length xs → s ≡ get_or xs i s
-    → present (take (i + 1) xs) ≡ present (take i xs) ++ option_to_list s.chunk
-present-take xs i s lt read =
-    ap present (take_more xs i s lt ∙ ap (λ y. take i xs ++ y ∷ []) (sym read))
-    ∙ present-append (take i xs) (s ∷ [])
-    ∙ ap (λ l. present (take i xs) ++ l) (append-nil (option_to_list s.chunk))
+pub present-take : (xs : List Slot) (i : ℕ) → i < length xs
+    → present (take (i + 1) xs) ≡ present (take i xs) ++ option_to_list (chunk_in (slice_get xs i))
+present-take xs i lt =
+    let d : Slot = record { number = 0; chunk = None } in
+    ap present (take_more xs i d lt)
+    ∙ present-append (take i xs) (get_or xs i d ∷ [])
+    ∙ ap (λ l. present (take i xs) ++ l) (append-nil (option_to_list (get_or xs i d).chunk))
+    ∙ ap (λ o. present (take i xs) ++ option_to_list (chunk_in o)) (sym (get-or-at xs i d lt))
 
 pub present-full : (xs : List Slot) → present (filter is_full xs) ≡ present xs
 present-full [] = refl
@@ -392,21 +394,15 @@ pub keys-padded : (key : Chunk → Option ℕ) (xs : List Slot) (places : ℕ)
 keys-padded key xs places = keys-of key xs (replicate (places - length (map key (present xs))) None) (none-all (places - length (map key (present xs))))
 
 -- the keys of one slot more
-pub keys-more : (key : Chunk → Option ℕ) (xs : List Slot) (i : ℕ) (s : Slot)
-    (ks : List (Option ℕ)) → i < length xs → s ≡ get_or xs i s
-    → ks ≡ map key (present (take i xs))
-    → ks ++ map key (option_to_list s.chunk) ≡ map key (present (take (i + 1) xs))
-keys-more key xs i s ks lt read e =
-    ap (λ l. l ++ map key (option_to_list s.chunk)) e
-    ∙ sym (map-append key (present (take i xs)) (option_to_list s.chunk))
-    ∙ ap (map key) (sym (present-take xs i s lt read))
+pub keys-more : (key : Chunk → Option ℕ) (xs : List Slot) (i : ℕ) (ks : List (Option ℕ))
+    → i < length xs → ks ≡ map key (present (take i xs))
+    → ks ++ map key (option_to_list (chunk_in (slice_get xs i))) ≡ map key (present (take (i + 1) xs))
+keys-more key xs i ks lt e =
+    ap (λ l. l ++ map key (option_to_list (chunk_in (slice_get xs i)))) e
+    ∙ sym (map-append key (present (take i xs)) (option_to_list (chunk_in (slice_get xs i))))
+    ∙ ap (map key) (sym (present-take xs i lt))
 
 -- ---- the first key within a limit
-
--- what a slot holds, if there is a slot
-abbrev pub chunk_in : Option Slot → Option Chunk
-chunk_in None = None
-chunk_in (Some s) = s.chunk
 
 module _ (key : Chunk → Option ℕ) (limit : ℕ) (test : Chunk → Bool) (agree : (c : Chunk) → is_within limit (key c) ≡ test c) where
   in-by : (o : Option Chunk) (rest : List Chunk) → is_within limit (key_by key o) ≡ true
@@ -437,36 +433,6 @@ module _ (key : Chunk → Option ℕ) (limit : ℕ) (test : Chunk → Bool) (agr
           ∙ ap (λ n. chunk_in (slice_get (x ∷ xs) n)) next
           ∙ ap (λ b. chunk_in (slice_get (x ∷ xs) (cond (not b) (1 + position_or_len (is_within limit) ks) 0))) (sym e)
 
--- a key within a limit is a slot's
-past-none : (limit : ℕ) (ks : List (Option ℕ)) → AllByRecursion IsNone ks
-    → find (is_within limit) ks ≡ None
-past-none limit [] all = refl
-past-none limit (k ∷ ks) all = ap (λ b. cond b (Some k) (find (is_within limit) ks)) (ap (is_within limit) all.0) ∙ past-none limit ks all.1
-
-at-slot : (key : Chunk → Option ℕ) (limit : ℕ) (xs : List Slot) (ks : List (Option ℕ)) (i : ℕ)
-    (k : Option ℕ) → AreKeys key xs ks → slice_get ks i ≡ Some k → is_within limit k ≡ true
-    → i < length xs
-at-slot key limit [] ks i k all e w = absurd (nothing ks i all e)
-  where
-    nothing : (js : List (Option ℕ)) (j : ℕ) → AllByRecursion IsNone js → slice_get js j ≡ Some k
-        → ⊥
-    nothing [] j none f = none_some f
-    nothing (l ∷ js) zero none f =
-        let is : l ≡ k = cc in
-        true_false (is_within limit k) w (ap (is_within limit) (sym is ∙ none.0))
-    nothing (l ∷ js) (suc j) none f = nothing js j none.1 f
-at-slot key limit (x ∷ xs) [] i k all e w = absurd all
-at-slot key limit (x ∷ xs) (l ∷ ks) zero k all e w = omega arith
-at-slot key limit (x ∷ xs) (l ∷ ks) (suc i) k all e w = (let rest = at-slot key limit xs ks i k all.1 e w in omega (arith, rest))
-
-pub first-within : (key : Chunk → Option ℕ) (limit : ℕ) (xs : List Slot) (ks : List (Option ℕ))
-    (i : ℕ) → AreKeys key xs ks → position (is_within limit) ks ≡ Some i → i < length xs
-first-within key limit xs ks i all e = by (slice_get ks i) refl
-  where
-    by : (o : Option (Option ℕ)) → slice_get ks i ≡ o → i < length xs
-    by None f = absurd (get-within ks i (place-within (is_within limit) ks i e) f)
-    by (Some k) f = at-slot key limit xs ks i k all f (found-passes (is_within limit) ks k (place-found (is_within limit) ks i e ∙ f))
-
 -- the chunk of the first key within a limit
 module _ (key : Chunk → Option ℕ) (limit : ℕ) (test : Chunk → Bool) (agree : (c : Chunk) → is_within limit (key c) ≡ test c) (xs : List Slot) (ks : List (Option ℕ)) (all : AreKeys key xs ks) where
   pub key-none : position (is_within limit) ks ≡ None → find test (present xs) ≡ None
@@ -474,36 +440,9 @@ module _ (key : Chunk → Option ℕ) (limit : ℕ) (test : Chunk → Bool) (agr
       let past : length xs ≤ position_or_len (is_within limit) ks = omega (arith, keys-long key xs ks all, place-past (is_within limit) ks e) in
       first-key key limit test agree xs ks all ∙ ap chunk_in (get-past xs (position_or_len (is_within limit) ks) past)
 
-  pub key-some : (i : ℕ) (s : Slot) → position (is_within limit) ks ≡ Some i
-      → slice_get xs i ≡ Some s → find test (present xs) ≡ s.chunk
-  key-some i s e at = first-key key limit test agree xs ks all ∙ ap (λ n. chunk_in (slice_get xs n)) (place-is (is_within limit) ks i e) ∙ ap chunk_in at
-
--- the number of the chunk of the first key within a limit
-key-there : (key : Chunk → Option ℕ) (xs : List Slot) (ks : List (Option ℕ)) (i : ℕ) (k : Option ℕ)
-    (s : Slot) → AreKeys key xs ks → slice_get ks i ≡ Some k → slice_get xs i ≡ Some s
-    → k ≡ key_by key s.chunk
-key-there key [] ks i k s all e at = absurd (none_some at)
-key-there key (x ∷ xs) [] i k s all e at = absurd all
-key-there key (x ∷ xs) (l ∷ ks) zero k s all e at = (let is : l ≡ k = cc in sym is ∙ all.0 ∙ ap (λ y. key_by key y.chunk) (same_Some _ _ at))
-key-there key (x ∷ xs) (l ∷ ks) (suc i) k s all e at = key-there key xs ks i k s all.1 e at
-
-pub key-number : (key : Chunk → Option ℕ) (limit : ℕ) (xs : List Slot) (ks : List (Option ℕ))
-    (i : ℕ) (s : Slot) → AreKeys key xs ks → AllByRecursion IsOwn xs
-    → position (is_within limit) ks ≡ Some i → slice_get xs i ≡ Some s
-    → Some s.number ≡ option_map (λ c. c.number) s.chunk
-key-number key limit xs ks i s all own place at = by (slice_get ks i) refl
-  where
-    chunk : (o : Option Chunk) → s.chunk ≡ o → is_within limit (key_by key o) ≡ true
-        → Some s.number ≡ option_map (λ c. c.number) o
-    chunk None f w = absurd (true_false false w refl)
-    chunk (Some c) f w = ap Some (sym (own-at xs i s c own at f))
-
-    by : (o : Option (Option ℕ)) → slice_get ks i ≡ o
-        → Some s.number ≡ option_map (λ c. c.number) s.chunk
-    by None f = absurd (get-within ks i (place-within (is_within limit) ks i place) f)
-    by (Some k) f =
-        chunk s.chunk refl (ap (is_within limit) (sym (key-there key xs ks i k s all f at))
-        ∙ found-passes (is_within limit) ks k (place-found (is_within limit) ks i place ∙ f))
+  pub key-some : (i : ℕ) → position (is_within limit) ks ≡ Some i
+      → find test (present xs) ≡ chunk_in (slice_get xs i)
+  key-some i e = first-key key limit test agree xs ks all ∙ ap (λ n. chunk_in (slice_get xs n)) (place-is (is_within limit) ks i e)
 
 -- ---- which keys are within a limit
 

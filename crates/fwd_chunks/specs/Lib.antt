@@ -12,12 +12,14 @@ pub mod TagCounts
 pub mod Rows
 pub mod Parts
 pub mod Pieces
+pub mod Lending
 pub mod Endings
--- These eight only describe how the code keeps chunks and fills them. No public clause speaks of
+-- These nine only describe how the code keeps chunks and fills them. No public clause speaks of
 -- them.
 pub mod Earliest
 pub mod Levels
 pub mod Slots
+pub mod Shelved
 pub mod Newest
 pub mod Listing
 pub mod Stored

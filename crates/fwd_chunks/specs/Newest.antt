@@ -1,6 +1,6 @@
 -- What is kept for each tag: the number of its newest chunk, which finds the tag's open chunk, and
 -- what is held of it.
-use Rattle.std.specs.Prelude.{◌≡◌, ◌<◌, ◌+◌, ℕ, true, List, [], ◌∷◌, length, Option, Some, None, option_map, unwrap_or, if◌then◌else◌}
+use Rattle.std.specs.Prelude.{◌≡◌, ◌<◌, ◌+◌, ℕ, true, List, [], ◌∷◌, length, Option, Some, None, is_some, option_map, unwrap_or, if◌then◌else◌}
 use Rattle.std.specs.List.{AllByRecursion}
 use Rattle.std.specs.Str.{bytes_eq}
 use Rattle.fwd_chunks.specs.declared.chunk.Chunk.{Chunk}
@@ -27,10 +27,11 @@ abbrev pub bytes_by : Option TagEntry → ℕ
 bytes_by None = 0
 bytes_by (Some e) = e.bytes
 
--- so many entries and bytes more, and another newest chunk, if there is one
-abbrev pub raised : Option ℕ → (count size : ℕ) → TagEntry → TagEntry
-raised number count size e = record {
+-- so many entries and bytes more, and another newest chunk at a key, if there is one
+abbrev pub raised : Option ℕ → (key count size : ℕ) → TagEntry → TagEntry
+raised number key count size e = record {
   newest = unwrap_or number e.newest;
+  key = if is_some number then key else e.key;
   held = e.held + count;
   bytes = e.bytes + size;
 }

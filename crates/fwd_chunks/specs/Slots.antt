@@ -1,10 +1,9 @@
 -- How the code keeps chunks: each in a slot, which is empty once the chunk left, with keys by which
 -- the first that is free and the first that is due are found.
-use Rattle.std.specs.Prelude.{◌≡◌, ◌<◌, ◌≤◌, ℕ, ◌-◌, ◌^◌, ◌==◌, ◌++◌, ◌&&◌, nat_le, Bool, List, [], ◌∷◌, length, replicate, Option, Some, None, is_some, option_to_list, if◌then◌else◌}
+use Rattle.std.specs.Prelude.{◌≡◌, ◌<◌, ◌≤◌, ℕ, zero, suc, ◌-◌, ◌^◌, ◌==◌, ◌++◌, ◌&&◌, nat_le, Bool, List, [], ◌∷◌, length, replicate, slice_set, Option, Some, None, is_some, option_to_list, if◌then◌else◌}
 use Rattle.std.specs.List.{AllByRecursion}
 use Rattle.fwd_chunks.specs.declared.chunk.Chunk.{Chunk}
 use Rattle.fwd_retry.specs.declared.retry.Retry.{Retry}
-use Rattle.fwd_chunks.specs.declared.slot.Slot.{Slot}
 use Rattle.fwd_retry.specs.Tallies.{end_of_wait}
 use Rattle.fwd_chunks.specs.Cells.{number_after}
 use Rattle.fwd_chunks.specs.Live.{is_open, is_closed}
@@ -21,6 +20,26 @@ pub record KeyLists : Type 0 where
   pub retry : Retry
   pub ready : List (Option ℕ)
   pub due : List (Option ℕ)
+
+-- where a chunk stands, or stood: its number, and the chunk until it leaves
+pub record Slot : Type 0 where
+  pub number : ℕ
+  pub chunk : Option Chunk
+
+-- the slot of a new chunk
+abbrev pub slot_of : Chunk → Slot
+slot_of c = record { number = c.number; chunk = Some c }
+
+-- what a slot holds, if there is a slot
+abbrev pub chunk_in : Option Slot → Option Chunk
+chunk_in None = None
+chunk_in (Some s) = s.chunk
+
+-- what the slot at a place holds is changed
+abbrev pub revised : ℕ → (Option Chunk → Option Chunk) → List Slot → List Slot
+revised i f [] = []
+revised zero f (s ∷ slots) = record s { chunk = f s.chunk } ∷ slots
+revised (suc i) f (s ∷ slots) = s ∷ revised i f slots
 
 -- the chunks that are there
 abbrev pub present : List Slot → List Chunk
@@ -51,6 +70,19 @@ began_by moment c = is_open c.stage && nat_le c.since moment
 abbrev pub key_by : (Chunk → Option ℕ) → Option Chunk → Option ℕ
 key_by key None = None
 key_by key (Some c) = key c
+
+-- the keys once a chunk stands at a place
+abbrev pub keyed : KeyLists → ℕ → Chunk → KeyLists
+keyed keys i c = record {
+  retry = keys.retry;
+  ready = slice_set keys.ready i (ready_key keys.retry c);
+  due = slice_set keys.due i (due_key c);
+}
+
+-- the keys once they are those of what stands at a place, if something does
+abbrev pub noted : ℕ → Option Chunk → KeyLists → KeyLists
+noted i None keys = keys
+noted i (Some c) keys = keyed keys i c
 
 -- there is no key
 abbrev pub IsNone : Option ℕ → Type 0
@@ -112,8 +144,8 @@ AreAbove last [] = Unit {0}
 AreAbove last (c ∷ chunks) = (number_after 0 last ≤ c.number) × AreAbove (Some c.number) chunks
 
 -- what holds of slots with their keys
-pub record IsSlotted (slots : List Slot) (capacity : ℕ) (keys : KeyLists) (held : ℕ)
-    (last : Option ℕ) : Type 0 where
+pub record IsSlotted (slots : List Slot) (capacity : ℕ) (keys : KeyLists) (last : Option ℕ)
+    : Type 0 where
   pub rising : NumbersRise slots
   pub own : AllByRecursion IsOwn slots
   pub timed : AllByRecursion IsTimed slots
@@ -123,4 +155,3 @@ pub record IsSlotted (slots : List Slot) (capacity : ℕ) (keys : KeyLists) (hel
   pub due : AreKeys due_key slots keys.due
   pub places : length keys.due ≡ length keys.ready
   pub enough : length keys.ready ≤ capacity
-  pub counted : held ≡ length (present slots)

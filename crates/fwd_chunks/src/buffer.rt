@@ -176,8 +176,8 @@ impl Buffer {
         }
     }
 
-    /// The same, and what is held of each tag, the tags in no order. It takes time for each tag, and
-    /// none for entries or chunks. The only error is out of memory.
+    /// The same, and what is held of each tag, the tags in no order. It takes time for each tag,
+    /// and none for entries or chunks. The only error is out of memory.
     pub fn snapshot(&self, alloc: Global) -> Result<Snapshot, AllocError>
         ensures { IfOk result (λ snapshot. IsSnapshot self.now snapshot) }
     {
@@ -201,14 +201,14 @@ impl Buffer {
         batch.entries().len() as u64 > self.limits.total - self.bytes
     }
 
-    /// The tag's open chunk.
-    fn open_of(&self, tag: &[u8]) -> Option<&Chunk>
-        ensures { option_copied result ≡ find (is_open_of tag.now) self.now.chunks }
+    /// The tag's open chunk, and where it lies mostly.
+    fn open_of(&self, tag: &[u8]) -> Option<(&Chunk, usize)>
+        ensures { option_map (λ p. p.0.now) result ≡ find (is_open_of tag.now) self.now.chunks }
     {
-        let number = self.tags.number(tag)?;
-        let chunk = self.slots.get(number)?;
+        let (number, key) = self.tags.newest(tag)?;
+        let chunk = self.slots.get(number, key)?;
         if chunk.is_open_of(tag) {
-            Some(chunk)
+            Some((chunk, key))
         } else {
             None
         }
@@ -220,20 +220,30 @@ impl Buffer {
     {
         let limit = u64::from(self.limits.chunk);
         let part = Part::whole(batch);
-        let (joins, count) = match self.open_of(batch.tag()) {
-            None => (None, 0),
-            Some(chunk) => {
+        let (joins, key, count) = match self.open_of(batch.tag()) {
+            None => (None, 0, 0),
+            Some((chunk, key)) => {
                 let count = part.fitting(limit, chunk.entries.size());
-                (Some(chunk.number), count)
+                (Some(chunk.number), key, count)
             }
         };
         let (front, back) = part.split_at(count);
         Plan {
             joins,
+            key,
             front,
             back,
             needed: back.needed(limit),
         }
+    }
+
+    /// The chunk that a request's entries go to, as it was planned.
+    fn joined_by(&self, batch: &Batch, plan: Plan<'_>) -> Option<&Chunk>
+        requires { IsPlan self.now batch.now plan }
+        ensures { option_copied result ≡ find (is_open_of batch.now.tag) self.now.chunks }
+    {
+        let number = plan.joins?;
+        self.slots.get(number, plan.key)
     }
 
     /// The number of the next chunk; none where there is no number left.
@@ -302,13 +312,13 @@ impl Buffer {
         let first = self.next_number().unwrap_or(0);
         let tag = batch.tag();
         let fresh = entering::fresh_chunks(alloc, tag, plan.back, limit, moment, first)?;
-        let joined = entering::joined_span(self.open_of(tag), plan.front);
+        let joined = entering::joined_span(self.joined_by(batch, plan), plan.front);
         let spans = entering::spans_of(alloc, joined, &fresh)?;
         let newest = entering::newest_of(first, plan.needed);
         self.slots.reserve(alloc, fresh.len())?;
         self.tags.prepare(alloc, tag, newest)?;
-        entering::fill(&mut self.slots, plan.joins, plan.front, fresh)?;
-        self.tags.put(tag, newest, count, size);
+        let key = entering::fill(&mut self.slots, plan, fresh)?;
+        self.tags.put(tag, newest, key, count, size);
         self.accepted += count;
         self.bytes += size;
         self.moment = moment;
@@ -368,27 +378,29 @@ impl Buffer {
         self.slots.flush(kind, self.limits.interval, self.moment)
     }
 
-    /// What a worker has of the chunk.
-    fn load_of(&self, alloc: Global, chunk: &Chunk) -> Result<Carried, AllocError>
+    /// What a worker has of the chunk, which lies at the key.
+    fn load_of(&self, alloc: Global, chunk: &Chunk, key: usize) -> Result<Carried, AllocError>
         requires { length chunk.now.tag ≤ TAG_LIMIT }
         ensures { IfOk result (λ load. load ≡ live_load self.now chunk.now) }
     {
         Ok(Carried::new(
             chunk.number,
+            key,
             chunk.tag.to_owned(alloc)?,
             chunk.entries.share()?,
             chunk_name(&self.run, self.output, chunk.number),
         ))
     }
 
-    /// A worker has the chunk of the number, from a moment on.
-    fn give(&mut self, number: u64, worker: u16, moment: u64)
+    /// A worker has the chunk of the number, from a moment on. It is found at once where it lies at
+    /// the key.
+    fn give(&mut self, number: u64, key: usize, worker: u16, moment: u64)
         ensures { self.new ≡ record self.old {
           chunks = changed (is_at number) (staged (Stage.Taken worker)) self.old.chunks;
           moment = moment;
         } }
     {
-        self.slots.stage(number, Stage::Taken(worker));
+        self.slots.stage(number, key, Stage::Taken(worker));
         self.moment = moment;
     }
 
@@ -409,13 +421,13 @@ impl Buffer {
         ensures none { live_given (live_looks self.old now) ≡ None → IsOk result }
     {
         let moment = self.moment.max(now);
-        let Some(chunk) = self.slots.first_free(moment) else {
+        let Some((chunk, key)) = self.slots.first_free(moment) else {
             self.moment = moment;
             return Ok(None);
         };
         let number = chunk.number;
-        let carried = self.load_of(alloc, chunk)?;
-        self.give(number, worker, moment);
+        let carried = self.load_of(alloc, chunk, key)?;
+        self.give(number, key, worker, moment);
         Ok(Some(carried))
     }
 
@@ -423,7 +435,7 @@ impl Buffer {
     pub fn carries(&self, carried: &Carried) -> bool
         ensures { IsTrue result ↔ IsCarried self.now carried.now }
     {
-        match self.slots.get(carried.number()) {
+        match self.slots.get(carried.number(), carried.key()) {
             None => false,
             Some(chunk) => {
                 let name = chunk_name(&self.run, self.output, chunk.number);
@@ -432,11 +444,12 @@ impl Buffer {
         }
     }
 
-    /// The chunk of the number leaves, and its entries are settled.
-    fn remove(&mut self, number: u64)
+    /// The chunk of the number leaves, and its entries are settled. It is found at once where it
+    /// lies at the key.
+    fn remove(&mut self, number: u64, key: usize)
         ensures { self.new ≡ live_settles self.old number }
     {
-        if let Some(chunk) = self.slots.remove(number) {
+        if let Some(chunk) = self.slots.remove(number, key) {
             let count = chunk.entries.len() as u64;
             let size = chunk.entries.size();
             self.tags.take(chunk.tag.as_slice(), count, size);
@@ -455,21 +468,22 @@ impl Buffer {
     {
         let is_here = self.carries(&carried);
         if is_here {
-            self.remove(carried.number());
+            self.remove(carried.number(), carried.key());
         }
         carried.spend();
         is_here
     }
 
-    /// The chunk of the number is closed again, with a loss at a moment where one is handed in.
-    fn put_back(&mut self, number: u64, loss: Option<u64>)
+    /// The chunk of the number is closed again, with a loss at a moment where one is handed in. It
+    /// is found at once where it lies at the key.
+    fn put_back(&mut self, number: u64, key: usize, loss: Option<u64>)
         ensures { self.new ≡ live_frees self.old number loss }
     {
         let moment = match loss {
             None => self.moment,
             Some(now) => self.moment.max(now),
         };
-        self.slots.put_back(number, loss.is_some(), moment);
+        self.slots.put_back(number, key, loss.is_some(), moment);
         self.moment = moment;
     }
 
@@ -481,7 +495,7 @@ impl Buffer {
         ensures elsewhere { ¬ (IsCarried self.old carried) → self.new ≡ self.old }
     {
         if self.carries(&carried) {
-            self.put_back(carried.number(), loss);
+            self.put_back(carried.number(), carried.key(), loss);
         }
         carried.spend();
     }

@@ -15,6 +15,8 @@ use std::marker::Model;
 /// settled, or given back.
 pub struct Carried {
     number: u64,
+    /// Where the chunk lies in its buffer.
+    key: usize,
     tag: Bytes,
     entries: Body,
     name: [u8; 24],
@@ -36,12 +38,13 @@ impl Model for Carried {
 
 impl Carried {
     /// A chunk of a buffer, which alone makes them.
-    pub(crate) fn new(number: u64, tag: Bytes, entries: Body, name: [u8; 24]) -> Self
+    pub(crate) fn new(number: u64, key: usize, tag: Bytes, entries: Body, name: [u8; 24]) -> Self
         requires { length tag ≤ TAG_LIMIT }
         ensures { result ≡ record { number = number; tag = tag; entries = entries; name = name } }
     {
         Carried {
             number,
+            key,
             tag,
             entries,
             name,
@@ -92,6 +95,11 @@ impl Carried {
         self.number
     }
 
+    /// Where the chunk lies in its buffer. Another buffer may hold another chunk there, or none.
+    pub(crate) fn key(&self) -> usize {
+        self.key
+    }
+
     /// The chunk's name: 24 bytes of Base64.
     pub fn name(&self) -> &[u8]
         ensures value { result.now ≡ self.now.name }
@@ -119,6 +127,7 @@ impl Carried {
     pub(crate) fn spend(self) {
         let Carried {
             number: _,
+            key: _,
             tag: _,
             entries: _,
             name: _,

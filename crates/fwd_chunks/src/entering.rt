@@ -39,6 +39,7 @@ ghost use Rattle.fwd_chunks.specs.Parts.{entries_in};
 use crate::body::Body;
 use crate::chunk::Chunk;
 use crate::part::Part;
+use crate::plan::Plan;
 use crate::slots::Slots;
 use crate::span::Span;
 use crate::stage::stage_of;
@@ -152,30 +153,28 @@ pub(crate) fn spans_of(
 }
 
 /// Entries go to the open chunk of a number, if there is one, and new chunks come behind all, into
-/// room that is there. On an error nothing has changed.
+/// room that is there. Answers the key of the last of them. On an error nothing has changed.
 pub(crate) fn fill(
     slots: &mut Slots,
-    joins: Option<u64>,
-    front: Part<'_>,
+    plan: Plan<'_>,
     fresh: Vec<Chunk>,
-) -> Result<(), AllocError>
+) -> Result<usize, AllocError>
     requires room { length fresh.items ≤ slots.old.room }
     requires rising { AreAbove slots.old.last fresh.items }
-    requires fits { (n : ℕ) (c : Chunk) → joins ≡ Some n
+    requires fits { (n : ℕ) (c : Chunk) → plan.joins ≡ Some n
         → find (is_at n) slots.old.chunks ≡ Some c → size_of c.entries < 2 ^ 32
-        → size_of c.entries + size_of (entries_in front) < 2 ^ 32 }
+        → size_of c.entries + size_of (entries_in plan.front) < 2 ^ 32 }
     ensures ok { OnOk result (slots.new ≡ appended (record slots.old {
-      chunks = filled_in joins (entries_in front.entry)
+      chunks = filled_in plan.entry.joins (entries_in plan.entry.front)
           (stage_last (length fresh.items == 0)) slots.old.chunks;
     }) fresh.items) }
     ensures err { OnErr result (slots.new ≡ slots.old) }
 
     // Where no entry goes to a chunk that is there, no memory is taken.
-    ensures sure { joins ≡ None → IsOk result }
+    ensures sure { plan.entry.joins ≡ None → IsOk result }
 {
-    if let Some(number) = joins {
-        slots.join(number, front, fresh.is_empty())?;
+    if let Some(number) = plan.joins {
+        slots.join(number, plan.key, plan.front, fresh.is_empty())?;
     }
-    slots.append(fresh);
-    Ok(())
+    Ok(slots.append(fresh))
 }

@@ -2,11 +2,11 @@
 
 ghost use Rattle.std.specs.Prelude.{◌≡◌, ◌<◌, ◌≤◌, None, Some, [], length, map, slice_set, IfOk};
 ghost use Rattle.fwd_chunks.specs.Earliest.{first_within};
-ghost use Rattle.fwd_chunks.specs.Slots.{present, ready_key, due_key, key_by, padded};
+ghost use Rattle.fwd_chunks.specs.Slots.{present, ready_key, due_key, padded};
 
 use crate::chunk::Chunk;
 use crate::earliest::Earliest;
-use crate::slot::Slot;
+use crate::shelf::Shelf;
 use crate::stage::Stage;
 use fwd_retry::Retry;
 use std::alloc::{AllocError, Global};
@@ -54,16 +54,16 @@ fn due_key(chunk: &Chunk) -> Option<u64>
 fn ready_keys(
     alloc: Global,
     retry: Retry,
-    slots: &[Slot],
+    shelf: &Shelf,
     places: usize,
 ) -> Result<Vec<Option<u64>>, AllocError>
-    requires { length (present slots.now) ≤ places }
+    requires { length (present shelf.now.slots) ≤ places }
     ensures { IfOk result (λ keys.
-        keys.items ≡ padded places (map (ready_key retry) (present slots.now))) }
+        keys.items ≡ padded places (map (ready_key retry) (present shelf.now.slots))) }
 {
     let mut keys = Vec::with_capacity(alloc, places)?;
-    for slot in slots {
-        if let Some(chunk) = &slot.chunk {
+    for place in 0..shelf.len() {
+        if let Some(chunk) = shelf.get(place) {
             keys.push(ready_key(retry, chunk))?;
         }
     }
@@ -72,14 +72,14 @@ fn ready_keys(
 }
 
 /// So many keys: those of the chunks that are there, and none behind them.
-fn due_keys(alloc: Global, slots: &[Slot], places: usize) -> Result<Vec<Option<u64>>, AllocError>
-    requires { length (present slots.now) ≤ places }
+fn due_keys(alloc: Global, shelf: &Shelf, places: usize) -> Result<Vec<Option<u64>>, AllocError>
+    requires { length (present shelf.now.slots) ≤ places }
     ensures { IfOk result (λ keys.
-        keys.items ≡ padded places (map due_key (present slots.now))) }
+        keys.items ≡ padded places (map due_key (present shelf.now.slots))) }
 {
     let mut keys = Vec::with_capacity(alloc, places)?;
-    for slot in slots {
-        if let Some(chunk) = &slot.chunk {
+    for place in 0..shelf.len() {
+        if let Some(chunk) = shelf.get(place) {
             keys.push(due_key(chunk))?;
         }
     }
@@ -103,20 +103,20 @@ impl Keys {
     pub(crate) fn of(
         alloc: Global,
         retry: Retry,
-        slots: &[Slot],
+        shelf: &Shelf,
         places: usize,
     ) -> Result<Self, AllocError>
-        requires { length (present slots.now) ≤ places }
+        requires { length (present shelf.now.slots) ≤ places }
         ensures { IfOk result (λ keys. keys ≡ record {
           retry = retry;
-          ready = padded places (map (ready_key retry) (present slots.now));
-          due = padded places (map due_key (present slots.now));
+          ready = padded places (map (ready_key retry) (present shelf.now.slots));
+          due = padded places (map due_key (present shelf.now.slots));
         }) }
     {
         Ok(Keys {
             retry,
-            ready: Earliest::of(alloc, ready_keys(alloc, retry, slots, places)?)?,
-            due: Earliest::of(alloc, due_keys(alloc, slots, places)?)?,
+            ready: Earliest::of(alloc, ready_keys(alloc, retry, shelf, places)?)?,
+            due: Earliest::of(alloc, due_keys(alloc, shelf, places)?)?,
         })
     }
 

@@ -114,8 +114,8 @@ pub fn live_answers()
 {}
 
 /// What is held of each tag: each tag that an entry has stands once, by rising bytes, and no other,
-/// each with how many of the entries have it, at least one, and their bytes. Over all tags these add
-/// up to what is held. The history's report is that of its live part.
+/// each with how many of the entries have it, at least one, and their bytes. Over all tags these
+/// add up to what is held. The history's report is that of its live part.
 pub fn tags_add_up()
     ensures counts { (held : List Tagged) → AreTagCounts held (tag_counts held) }
     ensures adds_up { (b : LiveBuffer) → IsSound b → AddsUp (live_report b) }

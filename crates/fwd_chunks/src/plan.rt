@@ -6,6 +6,8 @@ use crate::part::Part;
 pub(crate) struct Plan<'a> {
     /// The number of the tag's open chunk.
     pub(crate) joins: Option<u64>,
+    /// Where that chunk lies mostly.
+    pub(crate) key: usize,
     pub(crate) front: Part<'a>,
     pub(crate) back: Part<'a>,
     /// How many new chunks there are.

@@ -9,7 +9,6 @@ ghost use Rattle.std.specs.Prelude.{
   ◌-◌,
   ◌^◌,
   ◌&&◌,
-  ℕ,
   not,
   None,
   Some,
@@ -17,13 +16,14 @@ ghost use Rattle.std.specs.Prelude.{
   ◌∷◌,
   ◌++◌,
   length,
-  map,
   filter,
   find,
-  position,
   option_map,
   option_copied,
-  nat_le,
+  slice_get,
+  true,
+  IsTrue,
+  IsSomeAnd,
   OnOk,
   OnErr,
 };
@@ -42,13 +42,12 @@ ghost use Rattle.fwd_chunks.specs.Live.{
 ghost use Rattle.fwd_retry.specs.Tallies.{live_is_over};
 ghost use Rattle.fwd_chunks.specs.Parts.{entries_in};
 ghost use Rattle.fwd_chunks.specs.Slots.{
-  NumbersRise,
   ChunksRise,
   AreAbove,
-  is_slot,
-  is_full,
+  chunk_in,
   began_by,
   appended,
+  noted,
 };
 ghost use Rattle.fwd_chunks.specs.Stored.{put_back};
 
@@ -56,119 +55,58 @@ use crate::chunk::Chunk;
 use crate::flush::FlushKind;
 use crate::keys::Keys;
 use crate::part::Part;
-use crate::slot::Slot;
-use crate::stage::{Stage, stage_of};
-use fwd_retry::{Losses, Retry};
+use crate::shelf::Shelf;
+use crate::stage::Stage;
+use fwd_retry::Retry;
 use std::alloc::{AllocError, Global};
 use std::marker::Model;
 
 /// Chunks by rising number, with room for more.
 #[derive(Drop)]
 pub(crate) struct Slots {
-    /// By rising number. A slot is empty once its chunk left.
-    slots: Vec<Slot>,
+    shelf: Shelf,
+    /// By the places of the shelf.
     keys: Keys,
-    /// How many slots are not empty.
-    held: usize,
     /// The greatest number that a chunk had.
     last: Option<u64>,
 }
 
 impl Model for Slots {
-    ghost use Rattle.std.specs.Prelude.{◌-◌, length};
+    ghost use Rattle.std.specs.Prelude.{◌-◌, length, min};
     ghost use Rattle.fwd_chunks.specs.Slots.{Held, IsSlotted, present};
 
     ghost Value = { Held };
 
     ghost view = { λ s. record {
       retry = s.keys.retry;
-      chunks = present s.slots.items;
+      chunks = present s.shelf.slots;
       last = s.last;
-      room = length s.keys.ready - length s.slots.items;
+      room = min (length s.keys.ready - length s.shelf.slots) s.shelf.spare;
     } };
 
-    ghost invariant = { λ s. IsSlotted s.slots.items s.slots.cap s.keys s.held s.last };
-}
-
-/// Where the number's slot stands if no number is missing before it.
-fn guess_of(slots: &[Slot], number: u64) -> usize {
-    match slots.first() {
-        None => 0,
-        Some(first) => number.saturating_sub(first.number) as usize,
-    }
-}
-
-/// The place of the number's slot: mostly where it stands if no number is missing.
-fn place_of(slots: &[Slot], number: u64) -> Option<usize>
-    requires { NumbersRise slots.now }
-    ensures { result ≡ position (is_slot number) slots.now }
-{
-    let guess = guess_of(slots, number);
-    if guess < slots.len() && slots[guess].number == number {
-        return Some(guess);
-    }
-    search_place(slots, number)
-}
-
-/// The place of the number's slot, by halves.
-fn search_place(slots: &[Slot], number: u64) -> Option<usize>
-    requires { NumbersRise slots.now }
-    ensures { result ≡ position (is_slot number) slots.now }
-{
-    let mut low = 0;
-    let mut high = slots.len();
-    while low < high {
-        let middle = low + (high - low) / 2;
-        let here = slots[middle].number;
-        if here == number {
-            return Some(middle);
-        }
-        if here < number {
-            low = middle + 1;
-        } else {
-            high = middle;
-        }
-    }
-    None
-}
-
-/// Empty slots leave.
-fn compact(slots: &mut Vec<Slot>)
-    ensures items { slots.new.items ≡ filter is_full slots.old.items }
-    ensures capacity { slots.new.cap ≡ slots.old.cap }
-{
-    slots.retain(|slot| slot.chunk.is_some());
+    ghost invariant = { λ s. IsSlotted s.shelf.slots s.shelf.cap s.keys s.last };
 }
 
 /// Whether a chunk is open, and is not closed as entries go to it.
-fn stays_open(chunk: &Chunk, last: bool) -> bool
-    ensures { result ≡ (is_open chunk.now.stage && last) }
+fn stays_open(chunk: Option<&Chunk>, last: bool) -> bool
+    ensures { IsTrue result
+        → IsSomeAnd (option_copied chunk.entry) (λ c. is_open c.stage ≡ true) × (last ≡ true) }
 {
-    last && matches!(chunk.stage, Stage::Open)
-}
-
-/// Entries go to a chunk, which is closed where others follow. On an error nothing has changed.
-fn join(chunk: &mut Chunk, front: Part<'_>, last: bool) -> Result<(), AllocError>
-    requires { size_of chunk.old.entries < 2 ^ 32
-        → size_of chunk.old.entries + size_of (entries_in front) < 2 ^ 32 }
-    ensures ok { OnOk result (chunk.new
-        ≡ joined_by (entries_in front.entry) (stage_last last) chunk.old) }
-    ensures err { OnErr result (chunk.new ≡ chunk.old) }
-{
-    let _size = chunk.entries.size();
-    chunk.entries.extend(front)?;
-    chunk.stage = stage_of(last);
-    Ok(())
-}
-
-/// A chunk is closed again, with a loss at a moment where it was lost.
-fn put_back(chunk: &mut Chunk, lost: bool, moment: u64)
-    ensures { chunk.new ≡ put_back lost moment chunk.old }
-{
-    if lost {
-        chunk.losses = Some(Losses::more(chunk.losses, moment));
+    match chunk {
+        None => false,
+        Some(chunk) => last && matches!(chunk.stage, Stage::Open),
     }
-    chunk.stage = Stage::Closed;
+}
+
+/// The keys at a place are those of the chunk there, if there is one.
+fn note(keys: &mut Keys, shelf: &Shelf, place: usize)
+    requires ready { place < length keys.old.ready }
+    requires due { place < length keys.old.due }
+    ensures { keys.new ≡ noted place (chunk_in (slice_get shelf.now.slots place)) keys.old }
+{
+    if let Some(chunk) = shelf.get(place) {
+        keys.set(place, chunk);
+    }
 }
 
 impl Slots {
@@ -177,9 +115,8 @@ impl Slots {
         ensures { result ≡ record { retry = retry; chunks = []; last = None; room = 0 } }
     {
         Slots {
-            slots: Vec::new(alloc),
+            shelf: Shelf::new(alloc),
             keys: Keys::new(alloc, retry),
-            held: 0,
             last: None,
         }
     }
@@ -190,14 +127,14 @@ impl Slots {
         ensures timed { AllByRecursion (λ c. c.since < 2 ^ 64) self.now.chunks }
         ensures bound { length self.now.chunks < 2 ^ 64 }
     {
-        let _held = self.held;
+        let _held = self.shelf.held();
     }
 
     /// How many chunks there are.
     pub(crate) fn len(&self) -> usize
         ensures { result ≡ length self.now.chunks }
     {
-        self.held
+        self.shelf.held()
     }
 
     /// The greatest number that a chunk had.
@@ -207,62 +144,59 @@ impl Slots {
         self.last
     }
 
-    /// The chunk of the number.
-    pub(crate) fn get(&self, number: u64) -> Option<&Chunk>
+    /// The chunk of the number, at once where it lies at the key.
+    pub(crate) fn get(&self, number: u64, key: usize) -> Option<&Chunk>
         ensures { option_copied result ≡ find (is_at number) self.now.chunks }
     {
-        let place = place_of(&self.slots, number)?;
-        self.slots[place].chunk.as_ref()
+        self.shelf.find(number, key)
     }
 
-    /// The first chunk that a worker may have at a moment.
-    pub(crate) fn first_free(&self, moment: u64) -> Option<&Chunk>
-        ensures { option_copied result ≡ find (λ c. is_closed c.stage
+    /// The first chunk that a worker may have at a moment, and its key.
+    pub(crate) fn first_free(&self, moment: u64) -> Option<(&Chunk, usize)>
+        ensures { option_map (λ p. p.0.now) result ≡ find (λ c. is_closed c.stage
             && live_is_over self.now.retry.wait self.now.retry.max c.losses moment)
             self.now.chunks }
     {
         let place = self.keys.first_ready(moment)?;
-        self.slots[place].chunk.as_ref()
+        self.shelf.keyed(place)
     }
 
-    /// The number of the first open chunk that began at the moment or before.
-    fn first_due(&self, moment: u64) -> Option<u64>
-        ensures { result ≡ option_map (λ c. c.number)
+    /// The number of the first open chunk that began at the moment or before, and its key.
+    fn first_due(&self, moment: u64) -> Option<(u64, usize)>
+        ensures { option_map (λ p. p.0) result ≡ option_map (λ c. c.number)
             (find (began_by moment) self.now.chunks) }
     {
         let place = self.keys.first_due(moment)?;
-        Some(self.slots[place].number)
+        let (chunk, key) = self.shelf.keyed(place)?;
+        Some((chunk.number, key))
     }
 
-    /// The chunk of the number stands elsewhere, if there is one.
-    pub(crate) fn stage(&mut self, number: u64, stage: Stage)
+    /// The chunk of the number stands elsewhere, if there is one. It is found at once where it lies
+    /// at the key.
+    pub(crate) fn stage(&mut self, number: u64, key: usize, stage: Stage)
         ensures { self.new ≡ record self.old {
           chunks = changed (is_at number) (staged stage) self.old.chunks;
         } }
     {
-        let Some(place) = place_of(&self.slots, number) else {
+        let Some(place) = self.shelf.place_of(number, key) else {
             return;
         };
-        if let Some(chunk) = &mut self.slots[place].chunk {
-            chunk.stage = stage;
-            self.keys.set(place, chunk);
-        }
+        self.shelf.stage(place, stage);
+        note(&mut self.keys, &self.shelf, place);
     }
 
     /// The chunk of the number, if there is one, is closed again, with a loss at a moment where it
     /// was lost.
-    pub(crate) fn put_back(&mut self, number: u64, lost: bool, moment: u64)
+    pub(crate) fn put_back(&mut self, number: u64, key: usize, lost: bool, moment: u64)
         ensures { self.new ≡ record self.old {
           chunks = changed (is_at number) (put_back lost moment) self.old.chunks;
         } }
     {
-        let Some(place) = place_of(&self.slots, number) else {
+        let Some(place) = self.shelf.place_of(number, key) else {
             return;
         };
-        if let Some(chunk) = &mut self.slots[place].chunk {
-            put_back(chunk, lost, moment);
-            self.keys.set(place, chunk);
-        }
+        self.shelf.put_back(place, lost, moment);
+        note(&mut self.keys, &self.shelf, place);
     }
 
     /// Entries go to the open chunk of the number, if there is one, and it is closed where others
@@ -270,6 +204,7 @@ impl Slots {
     pub(crate) fn join(
         &mut self,
         number: u64,
+        key: usize,
         front: Part<'_>,
         last: bool,
     ) -> Result<(), AllocError>
@@ -282,30 +217,28 @@ impl Slots {
         }) }
         ensures err { OnErr result (self.new ≡ self.old) }
     {
-        let Some(place) = place_of(&self.slots, number) else {
+        let Some(place) = self.shelf.place_of(number, key) else {
             return Ok(());
         };
-        if let Some(chunk) = &mut self.slots[place].chunk {
-            let stays = stays_open(chunk, last);
-            join(chunk, front, last)?;
-            if !stays {
-                self.keys.set(place, chunk);
-            }
+        let stays = stays_open(self.shelf.get(place), last);
+        self.shelf.join(place, front, last)?;
+        if !stays {
+            note(&mut self.keys, &self.shelf, place);
         }
         Ok(())
     }
 
     /// The chunk of the number leaves.
-    pub(crate) fn remove(&mut self, number: u64) -> Option<Chunk>
+    pub(crate) fn remove(&mut self, number: u64, key: usize) -> Option<Chunk>
         ensures result { result ≡ find (is_at number) self.old.chunks }
         ensures left { self.new ≡ record self.old {
           chunks = filter (λ c. not (is_at number c)) self.old.chunks;
+          room = self.new.room;
         } }
     {
-        let place = place_of(&self.slots, number)?;
-        let chunk = self.slots[place].chunk.take()?;
+        let place = self.shelf.place_of(number, key)?;
+        let chunk = self.shelf.take(place)?;
         self.keys.clear(place);
-        self.held -= 1;
         Some(chunk)
     }
 
@@ -314,20 +247,20 @@ impl Slots {
         ensures ok { OnOk result (count ≤ self.new.room) }
         ensures kept { record self.new { room = 0 } ≡ record self.old { room = 0 } }
     {
-        if count <= self.keys.places() - self.slots.len() {
+        self.shelf.reserve(count)?;
+        if count <= self.keys.places() - self.shelf.len() {
             return Ok(());
         }
-        let needed = self.held.checked_add(count).ok_or(AllocError)?;
+        let needed = self.shelf.held().checked_add(count).ok_or(AllocError)?;
         let places = needed.checked_mul(2).ok_or(AllocError)?;
-        let keys = Keys::of(alloc, self.keys.retry(), &self.slots, places)?;
-        self.slots.reserve(places.saturating_sub(self.slots.len()))?;
-        compact(&mut self.slots);
+        let keys = Keys::of(alloc, self.keys.retry(), &self.shelf, places)?;
+        self.shelf.compact(places)?;
         self.keys = keys;
         Ok(())
     }
 
-    /// A chunk comes behind all others, into room that is there.
-    pub(crate) fn push(&mut self, chunk: Chunk)
+    /// A chunk comes behind all others, into room that is there. Answers its key.
+    pub(crate) fn push(&mut self, chunk: Chunk) -> usize
         requires room { 0 < self.old.room }
         requires above { number_after 0 self.old.last ≤ chunk.number }
         ensures { self.new ≡ record self.old {
@@ -337,24 +270,22 @@ impl Slots {
         } }
     {
         let number = chunk.number;
-        self.keys.set(self.slots.len(), &chunk);
-        self.slots.push_reserved(Slot {
-            number,
-            chunk: Some(chunk),
-        });
-        self.held += 1;
+        self.keys.set(self.shelf.len(), &chunk);
         self.last = Some(number);
+        self.shelf.push(chunk)
     }
 
-    /// Chunks come behind all others, into room that is there.
-    pub(crate) fn append(&mut self, fresh: Vec<Chunk>)
+    /// Chunks come behind all others, into room that is there. Answers the key of the last.
+    pub(crate) fn append(&mut self, fresh: Vec<Chunk>) -> usize
         requires room { length fresh.items ≤ self.old.room }
         requires above { AreAbove self.old.last fresh.items }
         ensures { self.new ≡ appended self.old fresh.items }
     {
+        let mut key = 0;
         for chunk in fresh {
-            self.push(chunk);
+            key = self.push(chunk);
         }
+        key
     }
 
     /// Closes the open chunks that began at the moment or before, and answers how many.
@@ -368,9 +299,9 @@ impl Slots {
     {
         let mut count = 0;
         self.is_ordered();
-        while let Some(number) = self.first_due(moment) {
+        while let Some((number, key)) = self.first_due(moment) {
             self.is_ordered();
-            self.stage(number, Stage::Closed);
+            self.stage(number, key, Stage::Closed);
             count += 1;
         }
         count

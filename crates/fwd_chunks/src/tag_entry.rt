@@ -6,6 +6,8 @@ ghost use Rattle.fwd_chunks.specs.Newest.{raised};
 pub(crate) struct TagEntry {
     /// The number of the tag's newest chunk.
     pub(crate) newest: u64,
+    /// Where that chunk lies, if it is there.
+    pub(crate) key: usize,
     /// The tag's entries that are not settled.
     pub(crate) held: u64,
     /// The bytes of these entries.
@@ -13,14 +15,16 @@ pub(crate) struct TagEntry {
 }
 
 impl TagEntry {
-    /// The same with so many entries and bytes more, and another newest chunk, if there is one.
-    pub(crate) fn raised(&self, number: Option<u64>, count: u64, size: u64) -> TagEntry
+    /// The same with so many entries and bytes more, and another newest chunk, if there is one,
+    /// which lies at the key.
+    pub(crate) fn raised(&self, number: Option<u64>, key: usize, count: u64, size: u64) -> TagEntry
         requires held { self.now.held + count < 2 ^ 64 }
         requires bytes { self.now.bytes + size < 2 ^ 64 }
-        ensures { result ≡ raised number count size self.now }
+        ensures { result ≡ raised number key count size self.now }
     {
         TagEntry {
             newest: number.unwrap_or(self.newest),
+            key: if number.is_some() { key } else { self.key },
             held: self.held + count,
             bytes: self.bytes + size,
         }

@@ -22,7 +22,6 @@ ghost use Rattle.std.specs.Prelude.{
   OnErr,
   map,
   option_map,
-  option_copied,
   if◌then◌else◌,
 };
 ghost use Rattle.std.specs.Str.{bytes_eq};
@@ -76,12 +75,12 @@ impl Tags {
         self.entries.get(tag).copied()
     }
 
-    /// The number of a tag.
-    pub(crate) fn number(&self, tag: &[u8]) -> Option<u64>
-        ensures { result ≡ tag_number tag.now self.now }
+    /// The number of a tag, and where the chunk of that number lies, if it is there.
+    pub(crate) fn newest(&self, tag: &[u8]) -> Option<(u64, usize)>
+        ensures { option_map (λ p. p.0) result ≡ tag_number tag.now self.now }
     {
         let entry = self.entry(tag)?;
-        Some(entry.newest)
+        Some((entry.newest, entry.key))
     }
 
     /// This is kept for the tag. On an error nothing has changed.
@@ -139,6 +138,7 @@ impl Tags {
         {
             let entry = TagEntry {
                 newest,
+                key: 0,
                 held: 0,
                 bytes: 0,
             };
@@ -147,24 +147,24 @@ impl Tags {
         Ok(())
     }
 
-    /// So many entries more are held of the tag, for which something is kept, and so many bytes; its
-    /// newest chunk has the number, if there is one.
-    fn raise(&mut self, tag: &[u8], number: Option<u64>, count: u64, size: u64)
+    /// So many entries more are held of the tag, for which something is kept, and so many bytes;
+    /// its newest chunk has the number and lies at the key, if there is one.
+    fn raise(&mut self, tag: &[u8], number: Option<u64>, key: usize, count: u64, size: u64)
         requires there { IsSome (tag_entry tag.now self.old) }
         requires held { held_by (tag_entry tag.now self.old) + count < 2 ^ 64 }
         requires bytes { bytes_by (tag_entry tag.now self.old) + size < 2 ^ 64 }
         ensures { (t : List ℕ) → tag_entry t self.new ≡ (if bytes_eq tag.now t
-            then option_map (raised number count size) (tag_entry tag.now self.old)
+            then option_map (raised number key count size) (tag_entry tag.now self.old)
             else tag_entry t self.old) }
     {
         if let Some(place) = self.entries.get_mut(tag) {
-            *place = place.raised(number, count, size);
+            *place = place.raised(number, key, count, size);
         }
     }
 
     /// So many entries more are held of the tag, which was prepared, and so many bytes; its newest
-    /// chunk has the number, if there is one.
-    pub(crate) fn put(&mut self, tag: &[u8], number: Option<u64>, count: u64, size: u64)
+    /// chunk has the number and lies at the key, if there is one.
+    pub(crate) fn put(&mut self, tag: &[u8], number: Option<u64>, key: usize, count: u64, size: u64)
         requires new { IfSome number (λ n. 0 < count) }
         requires some { 0 < count → IsSome (tag_entry tag.now self.old) }
         requires none { count ≤ 0 → size ≤ 0 }
@@ -183,7 +183,7 @@ impl Tags {
             × (bytes_eq tag.now t ≡ true → count ≤ e.held) }
     {
         if count > 0 {
-            self.raise(tag, number, count, size);
+            self.raise(tag, number, key, count, size);
         }
     }
 
@@ -210,6 +210,7 @@ impl Tags {
         }
         let left = TagEntry {
             newest: entry.newest,
+            key: entry.key,
             held: entry.held - count,
             bytes: entry.bytes - size,
         };

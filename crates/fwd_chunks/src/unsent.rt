@@ -16,7 +16,9 @@ ghost use Rattle.std.specs.Prelude.{
 ghost use Rattle.std.specs.List.{concat};
 ghost use Rattle.std.specs.Arc.{arc_value};
 ghost use Rattle.fwd_chunks.specs.Rows.{joined};
+ghost use Rattle.fwd_chunks.specs.Lending.{IsLent};
 
+use crate::pieces::Pieces;
 use crate::slices::Slices;
 use std::marker::Model;
 use std::sync::Arc;
@@ -154,5 +156,24 @@ impl Unsent {
             sent = 0;
         }
         filled
+    }
+
+    /// Puts the pieces that the bytes that are left lie in behind others, as many as there is place
+    /// for.
+    pub fn lend<'a>(&'a self, pieces: Pieces<'a>) -> Pieces<'a>
+        ensures { IsLent pieces.entry self.now result }
+    {
+        let mut rest = self.slices.as_slice().split_at(self.passed).1;
+        let mut sent = self.sent;
+        let mut lent = pieces;
+        while let Some((slice, slices)) = rest.split_first() {
+            if lent.is_full() {
+                break;
+            }
+            lent = lent.with(slice.part().bytes().split_at(sent).1);
+            rest = slices;
+            sent = 0;
+        }
+        lent
     }
 }

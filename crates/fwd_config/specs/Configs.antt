@@ -17,6 +17,7 @@ pub record OutputParts : Type 0 where
   pub retry_wait : ℕ
   pub retry_max : ℕ
   pub first : ℕ
+  pub window : ℕ
   pub ack_wait : ℕ
   pub hostname : List ℕ
   pub shared_key : Option (List ℕ)
@@ -34,7 +35,8 @@ parts_known c = record {
   retry_wait = c.limits.retry_wait;
   retry_max = c.limits.retry_max;
   first = c.limits.first;
-  ack_wait = c.ack_wait;
+  window = c.acks.window;
+  ack_wait = c.acks.ack_wait;
   hostname = c.login.hostname;
   shared_key = c.login.shared_key;
   username = c.login.username;
@@ -52,6 +54,7 @@ parts_set o = record {
   retry_wait = o.retry_wait;
   retry_max = o.retry_max;
   first = 1;
+  window = o.window;
   ack_wait = o.ack_wait;
   hostname = o.hostname;
   shared_key = o.shared_key;

@@ -8,7 +8,7 @@ ghost use Rattle.fwd_config.specs.Configs.{parts_known, parts_set, user_of, IsCo
 use fwd_base::{Bytes, Seq, Text};
 use fwd_handshake::{Login, Security, User};
 use fwd_match::{Pattern, Routes};
-use fwd_model::{BufferLimits, Config, OutputConfig};
+use fwd_model::{AckTerms, BufferLimits, Config, OutputConfig};
 use fwd_msgpack::Limits;
 use fwd_settings::{OutputSettings, RelaySettings, ServerSettings, Settings, UserSettings};
 use std::alloc::{AllocError, Global};
@@ -58,7 +58,10 @@ fn config_for(alloc: Global, output: &OutputSettings) -> Result<OutputConfig, Al
             retry_max: output.retry_max,
             first: 1,
         },
-        ack_wait: output.ack_wait,
+        acks: AckTerms {
+            window: output.window as u8,
+            ack_wait: output.ack_wait,
+        },
         login,
     })
 }

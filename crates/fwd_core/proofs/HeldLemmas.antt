@@ -1,41 +1,37 @@
 -- Workers' chunks stay those of the buffer, at each change of the buffer and of a worker.
-use Rattle.std.proofs.Common.{◌≡◌, ◌≢◌, ℕ, Bool, zero, suc, replicate, Option, Some, None, List, refl, sym, ap, subst, ◌∙◌, inl, inr}
+use Rattle.std.proofs.Common.{◌≡◌, ◌≢◌, ℕ, Bool, true, false, cond, zero, suc, ◌+◌, ◌≤◌, replicate, Option, Some, None, List, [], ◌∷◌, ◌++◌, refl, sym, ap, subst, ◌∙◌, arith}
 use Rattle.std.proofs.Math.ListN.{set}
-use Rattle.std.specs.Prelude.{◌⊎◌, option_map, slice_get, Result, Ok, Err, OnOk, OnErr}
+use Rattle.std.specs.Prelude.{◌==◌, option_map, option_to_list, slice_get, Result, Ok, Err, OnOk, OnErr}
+use Rattle.std.specs.List.{AllByRecursion}
+use Rattle.std.proofs.lemmas.Bool.Decides.{nat_tests}
 use Rattle.fwd_modes.specs.Requests.{Request}
 use Rattle.fwd_chunks.specs.declared.chunk.Chunk.{Chunk}
 use Rattle.fwd_chunks.specs.declared.flush.FlushKind.{FlushKind}
 use Rattle.fwd_chunks.specs.History.{Load}
-use Rattle.fwd_chunks.specs.Live.{LiveBuffer, live_looks, live_enters, live_flushes, live_given, live_takes, live_load, live_carried, live_settles, live_frees}
+use Rattle.fwd_chunks.specs.Live.{LiveBuffer, IsCarried, live_looks, live_enters, live_flushes, live_given, live_takes, live_load, live_carried, live_settles, live_frees}
 use Rattle.fwd_chunks.specs.Soundness.{IsSound}
 use Rattle.fwd_chunks.proofs.Taken.{carried-enters, carried-flushes, given-free, carried-takes, given-carried, carried-settles, carried-frees}
 use Rattle.fwd_model.specs.Layers.{Worker}
-use Rattle.fwd_model.specs.Outputs.{live_gets_back, returned, moment_if}
+use Rattle.fwd_model.specs.Outputs.{Return, return_of, live_gets_back, returned, moment_if}
 use Rattle.fwd_session.specs.Live.{LiveSession}
-use Rattle.fwd_model.proofs.Reached.{slice_get-set}
-use Rattle.fwd_core.specs.Lanes.{no_work, AreHeld}
-use Rattle.std.proofs.lemmas.Option.{same_Some}
+use Rattle.fwd_session.proofs.Lists.{all_same}
+use Rattle.fwd_core.specs.Lanes.{no_work, chunks_in, chunks_at, chunks_of, times, AreHere, AreHeld, IsSameWork}
+use Rattle.fwd_core.proofs.ChunkLemmas.{all_both, all_map, all-at, all-set, times-at, times-each, times-first, times-more, times-none, times-others, times-set}
 
 none_some : {X : Type 0} {x : X} → None ≡ Some x → ⊥
 none_some e = cc
 
 -- ---- no worker has a chunk
 
-idle : (n w : ℕ) (x : Worker LiveSession) → slice_get (replicate n no_work) w ≡ Some x
-    → no_work ≡ x
-idle zero w x e = absurd cc
-idle (suc n) zero x e = same_Some _ _ e
-idle (suc n) (suc w) x e = idle n w x e
+idle-none : (n : ℕ) → chunks_of (replicate n no_work) ≡ []
+idle-none zero = refl
+idle-none (suc n) = idle-none n
+
+nothing-here : (b : LiveBuffer) → AreHere b []
+nothing-here b = record { carried = tt; apart = λ n. omega arith }
 
 pub held-idle : (b : LiveBuffer) (n : ℕ) → AreHeld b (replicate n no_work)
-held-idle b n = record {
-  carried = λ w x c e has. absurd (nothing w x c e has);
-  apart = λ v w x y c d e f has owns same. absurd (nothing v x c e has);
-}
-  where
-    nothing : (w : ℕ) (x : Worker LiveSession) (c : Load)
-        → slice_get (replicate n no_work) w ≡ Some x → x.chunk ≡ Some c → ⊥
-    nothing w x c e has = none_some (ap (λ (k : Worker LiveSession). k.chunk) (idle n w x e) ∙ has)
+held-idle b n = subst (AreHere b) (sym (idle-none n)) (nothing-here b)
 
 -- ---- another buffer
 
@@ -43,7 +39,7 @@ pub held_in : (b d : LiveBuffer) (ws : List (Worker LiveSession)) → AreHeld b 
     → ((n : ℕ) (c : Load) → live_carried b n ≡ Some c → live_carried d n ≡ Some c)
     → AreHeld d ws
 held_in b d ws own stays = record {
-  carried = λ w x c here has. stays c.number c (own.carried w x c here has);
+  carried = all_same (IsCarried b) (IsCarried d) (chunks_of ws) (λ c e. stays c.number c e) own.carried;
   apart = own.apart;
 }
 
@@ -55,136 +51,160 @@ pub held-flushes : (b : LiveBuffer) (now : ℕ) (kind : FlushKind)
     (ws : List (Worker LiveSession)) → AreHeld b ws → AreHeld (live_flushes b now kind) ws
 held-flushes b now kind ws own = held_in b (live_flushes b now kind) ws own (λ n c e. carried-flushes b now kind n ∙ e)
 
--- ---- another worker
-
--- another one stands there, or the one that did
-was : {X : Type 0} (ws : List X) (place v : ℕ) (y z : X) → slice_get (set ws place y) v ≡ Some z
-    → ((place ≡ v) × (y ≡ z)) ⊎ ((place ≢ v) × (slice_get ws v ≡ Some z))
-was ws place v y z e = slice_get-set ws place v y z e
-
--- who has a chunk had it
-record Had (ws : List (Worker LiveSession)) (v : ℕ) (c : Load) : Type 0 where
-  worker : Worker LiveSession
-  here : slice_get ws v ≡ Some worker
-  chunk : worker.chunk ≡ Some c
+-- ---- another worker with the same chunks
 
 pub held-put : (b : LiveBuffer) (ws : List (Worker LiveSession)) (place : ℕ)
     (x y : Worker LiveSession) → AreHeld b ws → slice_get ws place ≡ Some x
-    → y.chunk ≡ x.chunk → AreHeld b (set ws place y)
+    → IsSameWork x y → AreHeld b (set ws place y)
 held-put b ws place x y own here same = record {
-  carried = λ w z c e has. let h = had w z c has (was ws place w y z e) in own.carried w h.worker c h.here h.chunk;
-  apart = λ v w z t c d e f has owns n.
-      let h = had v z c has (was ws place v y z e) in
-      let g = had w t d owns (was ws place w y t f) in own.apart v w h.worker g.worker c d h.here g.here h.chunk g.chunk n;
+  carried = all-set (IsCarried b) place ws y own.carried (same.each b (all-at (IsCarried b) place ws x here own.carried));
+  apart = λ n. omega (arith, own.apart n, times-set n place ws x y here, same.times n);
 }
-  where
-    had : (v : ℕ) (z : Worker LiveSession) (c : Load) → z.chunk ≡ Some c
-        → ((place ≡ v) × (y ≡ z)) ⊎ ((place ≢ v) × (slice_get ws v ≡ Some z)) → Had ws v c
-    had v z c has (inl at) = record {
-      worker = x;
-      here = subst (λ k. slice_get ws k ≡ Some x) at.0 here;
-      chunk = sym same ∙ ap (λ (k : Worker LiveSession). k.chunk) at.1 ∙ has;
-    }
-    had v z c has (inr at) = record { worker = z; here = at.1; chunk = has }
 
 -- ---- a worker takes a chunk
 
--- what is given
-record IsGiven (b : LiveBuffer) (now : ℕ) (c : Load) : Type 0 where
-  chunk : Chunk
-  is : live_given (live_looks b now) ≡ Some chunk
-  load : live_load b chunk ≡ c
+-- no worker has the chunk that is given
+not-yet : (b : LiveBuffer) (now : ℕ) (chunk : Chunk) (ws : List (Worker LiveSession)) → IsSound b
+    → AreHeld b ws → live_given (live_looks b now) ≡ Some chunk
+    → times chunk.number (chunks_of ws) ≡ 0
+not-yet b now chunk ws sound own given =
+    times-none chunk.number (chunks_of ws)
+    (all_same (IsCarried b) (λ c. c.number ≢ chunk.number) (chunks_of ws)
+    (λ c e same. none_some (sym (given-free b now chunk sound given) ∙ ap (live_carried b) (sym same) ∙ e))
+    own.carried)
 
 pub held-takes : (b : LiveBuffer) (ws : List (Worker LiveSession)) (place worker now : ℕ)
     (x y : Worker LiveSession) → IsSound b → AreHeld b ws → slice_get ws place ≡ Some x
-    → y.chunk ≡ option_map (live_load b) (live_given (live_looks b now))
+    → x.taken ≡ None
+    → y ≡ record { taken = option_map (live_load b) (live_given (live_looks b now)); session = x.session }
     → AreHeld (live_takes b worker now) (set ws place y)
-held-takes b ws place worker now x y sound own here given = record {
-  carried = λ w z c e has. one w z c has (was ws place w y z e);
-  apart = λ v w z t c d e f has owns n. two v w z t c d has owns n (was ws place v y z e) (was ws place w y t f);
-}
+held-takes b ws place worker now x y sound own here none takes =
+    subst (λ k. AreHeld d (set ws place k)) (sym takes) (by (live_given (live_looks b now)) refl)
   where
-    given_is : (c : Load) → y.chunk ≡ Some c → IsGiven b now c
-    given_is c has = by (live_given (live_looks b now)) refl (sym given ∙ has)
+    d : LiveBuffer
+    d = live_takes b worker now
+
+    with_taken : Option Load → Worker LiveSession
+    with_taken o = record { taken = o; session = x.session }
+
+    had : chunks_at x ≡ chunks_in x.session
+    had = ap (λ o. option_to_list o ++ chunks_in x.session) none
+
+    stays : AllByRecursion (IsCarried d) (chunks_of ws)
+    stays = all_same (IsCarried b) (IsCarried d) (chunks_of ws) (λ c e. carried-takes b worker now c.number c sound e) own.carried
+
+    his : AllByRecursion (IsCarried d) (chunks_in x.session)
+    his = subst (AllByRecursion (IsCarried d)) had (all-at (IsCarried d) place ws x here stays)
+
+    had-times : (n : ℕ) → times n (chunks_at x) ≡ times n (chunks_in x.session)
+    had-times n = ap (times n) had
+
+    by : (o : Option Chunk) → live_given (live_looks b now) ≡ o
+        → AreHeld d (set ws place (with_taken (option_map (live_load b) o)))
+    by None e = record {
+      carried = all-set (IsCarried d) place ws (with_taken None) stays his;
+      apart = λ n. omega (arith, own.apart n, times-set n place ws x (with_taken None) here, had-times n);
+    }
+    by (Some chunk) e = record {
+      carried = all-set (IsCarried d) place ws (with_taken (Some c)) stays (given-carried b worker now chunk sound e, his);
+      apart = λ n. at n (chunk.number == n) refl;
+    }
       where
-        by : (o : Option Chunk) → live_given (live_looks b now) ≡ o
-            → option_map (live_load b) o ≡ Some c → IsGiven b now c
-        by None e f = absurd (none_some f)
-        by (Some chunk) e f = record { chunk = chunk; is = e; load = same_Some _ _ f }
+        c : Load
+        c = live_load b chunk
 
-    one : (w : ℕ) (z : Worker LiveSession) (c : Load) → z.chunk ≡ Some c
-        → ((place ≡ w) × (y ≡ z)) ⊎ ((place ≢ w) × (slice_get ws w ≡ Some z))
-        → live_carried (live_takes b worker now) c.number ≡ Some c
-    one w z c has (inl at) =
-        let g = given_is c (ap (λ (k : Worker LiveSession). k.chunk) at.1 ∙ has) in
-        ap (λ (k : Load). live_carried (live_takes b worker now) k.number) (sym g.load) ∙ given-carried b worker now g.chunk sound g.is ∙ ap Some g.load
-    one w z c has (inr at) = carried-takes b worker now c.number c sound (own.carried w z c at.1 has)
+        cs : List Load
+        cs = chunks_in x.session
 
-    fresh : (c d : Load) (w : ℕ) (t : Worker LiveSession) → y.chunk ≡ Some c
-        → slice_get ws w ≡ Some t → t.chunk ≡ Some d → c.number ≡ d.number → ⊥
-    fresh c d w t has here owns n =
-        let g = given_is c has in
-        let free : live_carried b c.number ≡ None = ap (λ (k : Load). live_carried b k.number) (sym g.load) ∙ given-free b now g.chunk sound g.is in
-        none_some (sym free ∙ ap (live_carried b) n ∙ own.carried w t d here owns)
+        at : (n : ℕ) (t : Bool) → (chunk.number == n) ≡ t
+            → times n (chunks_of (set ws place (with_taken (Some c)))) ≤ 1
+        at n true f =
+            let same : chunk.number ≡ n = grind (arith, nat_tests, f) in
+            let before : times n (chunks_of ws) ≡ 0 = subst (λ k. times k (chunks_of ws) ≡ 0) same (not-yet b now chunk ws sound own e) in
+            let more : times n (c ∷ cs) ≡ suc (times n cs) = ap (λ t. cond t (suc (times n cs)) (times n cs)) f in
+            omega (arith, before, more, times-set n place ws x (with_taken (Some c)) here, had-times n)
+        at n false f =
+            let more : times n (c ∷ cs) ≡ times n cs = ap (λ t. cond t (suc (times n cs)) (times n cs)) f in
+            omega (arith, own.apart n, more, times-set n place ws x (with_taken (Some c)) here, had-times n)
 
-    two : (v w : ℕ) (z t : Worker LiveSession) (c d : Load) → z.chunk ≡ Some c → t.chunk ≡ Some d
-        → c.number ≡ d.number → ((place ≡ v) × (y ≡ z)) ⊎ ((place ≢ v) × (slice_get ws v ≡ Some z))
-        → ((place ≡ w) × (y ≡ t)) ⊎ ((place ≢ w) × (slice_get ws w ≡ Some t)) → v ≡ w
-    two v w z t c d has owns n (inl at) (inl to) = sym at.0 ∙ to.0
-    two v w z t c d has owns n (inl at) (inr to) = absurd (fresh c d w t (ap (λ (k : Worker LiveSession). k.chunk) at.1 ∙ has) to.1 owns n)
-    two v w z t c d has owns n (inr at) (inl to) = absurd (fresh d c v z (ap (λ (k : Worker LiveSession). k.chunk) to.1 ∙ owns) at.1 has (sym n))
-    two v w z t c d has owns n (inr at) (inr to) = own.apart v w z t c d at.1 to.1 has owns n
+-- ---- a worker's chunk is settled
 
--- ---- a worker's chunk leaves it
+-- a worker has its chunks but this one
+pub record Leaves (x y : Worker LiveSession) (a : Load) : Type 0 where
+  pub each : (b : LiveBuffer) → AllByRecursion (IsCarried b) (chunks_at x)
+      → IsCarried b a × AllByRecursion (IsCarried b) (chunks_at y)
+  pub times : (n : ℕ) → times n (chunks_at x) ≡ times n (a ∷ chunks_at y)
 
-pub held-drops : (b d : LiveBuffer) (ws : List (Worker LiveSession)) (place : ℕ)
+pub held-carries : (b : LiveBuffer) (ws : List (Worker LiveSession)) (place : ℕ)
     (x y : Worker LiveSession) (a : Load) → AreHeld b ws → slice_get ws place ≡ Some x
-    → x.chunk ≡ Some a → y.chunk ≡ None
-    → ((n : ℕ) (c : Load) → a.number ≢ n → live_carried b n ≡ Some c → live_carried d n ≡ Some c)
-    → AreHeld d (set ws place y)
-held-drops b d ws place x y a own here had none stays = record {
-  carried = λ w z c e has. one w z c has (was ws place w y z e);
-  apart = λ v w z t c d e f has owns n. two v w z t c d has owns n (was ws place v y z e) (was ws place w y t f);
-}
-  where
-    nothing : (z : Worker LiveSession) (c : Load) → y ≡ z → z.chunk ≡ Some c → ⊥
-    nothing z c same has = none_some (sym none ∙ ap (λ (k : Worker LiveSession). k.chunk) same ∙ has)
+    → Leaves x y a → IsCarried b a
+held-carries b ws place x y a own here leaves =
+    (leaves.each b (all-at (IsCarried b) place ws x here own.carried)).0
 
-    one : (w : ℕ) (z : Worker LiveSession) (c : Load) → z.chunk ≡ Some c
-        → ((place ≡ w) × (y ≡ z)) ⊎ ((place ≢ w) × (slice_get ws w ≡ Some z))
-        → live_carried d c.number ≡ Some c
-    one w z c has (inl at) = absurd (nothing z c at.1 has)
-    one w z c has (inr at) = stays c.number c (λ n. at.0 (own.apart place w x z a c here at.1 had has n)) (own.carried w z c at.1 has)
-
-    two : (v w : ℕ) (z t : Worker LiveSession) (c d : Load) → z.chunk ≡ Some c → t.chunk ≡ Some d
-        → c.number ≡ d.number → ((place ≡ v) × (y ≡ z)) ⊎ ((place ≢ v) × (slice_get ws v ≡ Some z))
-        → ((place ≡ w) × (y ≡ t)) ⊎ ((place ≢ w) × (slice_get ws w ≡ Some t)) → v ≡ w
-    two v w z t c d has owns n (inl at) to = absurd (nothing z c at.1 has)
-    two v w z t c d has owns n (inr at) (inl to) = absurd (nothing t d to.1 owns)
-    two v w z t c d has owns n (inr at) (inr to) = own.apart v w z t c d at.1 to.1 has owns n
-
--- it is settled
 pub held-settles : (b : LiveBuffer) (ws : List (Worker LiveSession)) (place : ℕ)
     (x y : Worker LiveSession) (a : Load) → AreHeld b ws → slice_get ws place ≡ Some x
-    → x.chunk ≡ Some a → y.chunk ≡ None
+    → Leaves x y a
     → AreHeld (live_settles b a.number) (set ws place y)
-held-settles b ws place x y a own here had none =
-    held-drops b (live_settles b a.number) ws place x y a own here had none (λ n c differ is. carried-settles b a.number n differ ∙ is)
-
--- it goes back, if there is one
-pub held-ends : (b : LiveBuffer) (ws : List (Worker LiveSession)) (place now : ℕ)
-    (x y : Worker LiveSession) (lost : Bool) → AreHeld b ws → slice_get ws place ≡ Some x
-    → y.chunk ≡ None
-    → AreHeld (live_gets_back (live_looks b now) (returned x.chunk lost) now) (set ws place y)
-held-ends b ws place now x y lost own here none = by x.chunk refl
+held-settles b ws place x y a own here leaves = record {
+  carried = all_both (IsCarried b) (λ c. a.number ≢ c.number) (IsCarried (live_settles b a.number)) (chunks_of (set ws place y)) (λ c e differ. carried-settles b a.number c.number differ ∙ e) stays (times-others a.number (chunks_of (set ws place y)) gone);
+  apart = λ n. omega (arith, own.apart n, leaves.times n, times-more n a (chunks_at y), times-set n place ws x y here);
+}
   where
-    looked : AreHeld (live_looks b now) ws
-    looked = held_in b (live_looks b now) ws own (λ n c e. e)
+    stays : AllByRecursion (IsCarried b) (chunks_of (set ws place y))
+    stays = all-set (IsCarried b) place ws y own.carried (leaves.each b (all-at (IsCarried b) place ws x here own.carried)).1
 
-    by : (o : Option Load) → x.chunk ≡ o
-        → AreHeld (live_gets_back (live_looks b now) (returned o lost) now) (set ws place y)
-    by None e = held-put (live_looks b now) ws place x y looked here (none ∙ sym e)
-    by (Some a) e = held-drops (live_looks b now) (live_frees (live_looks b now) a.number (moment_if lost now)) ws place x y a looked here e none (λ n c differ is. carried-frees (live_looks b now) a.number n (moment_if lost now) differ ∙ is)
+    gone : times a.number (chunks_of (set ws place y)) ≡ 0
+    gone = omega (arith, own.apart a.number, leaves.times a.number, times-first a (chunks_at y), times-set a.number place ws x y here)
+
+-- ---- a worker's chunks go back
+
+-- of chunks that are given back, none stands among these
+pub back-stays : (b : LiveBuffer) (back : List Return) (now : ℕ) (ds : List Load)
+    → AllByRecursion (IsCarried b) ds → AllByRecursion (λ r. times r.number ds ≡ 0) back
+    → AllByRecursion (IsCarried (live_gets_back b back now)) ds
+back-stays b [] now ds carried none = carried
+back-stays b (r ∷ back) now ds carried none =
+    let d = live_frees b r.number (moment_if r.lost now) in
+    back-stays d back now ds
+    (all_both (IsCarried b) (λ c. r.number ≢ c.number) (IsCarried d) ds (λ c e differ. carried-frees b r.number c.number (moment_if r.lost now) differ ∙ e) carried (times-others r.number ds none.0))
+    none.1
+
+-- what is given back is of these chunks
+pub returned-all : (P : ℕ → Type 0) (taken : Option Load) (loaded : List Load)
+    → AllByRecursion (λ c. P c.number) (option_to_list taken ++ loaded)
+    → AllByRecursion (λ r. P r.number) (returned taken loaded)
+returned-all P None loaded all = all_map (λ r. P r.number) (return_of true) loaded all
+returned-all P (Some c) loaded all = (all.0, all_map (λ r. P r.number) (return_of true) loaded all.1)
+
+-- a worker's chunks are here
+pub held-here : (b : LiveBuffer) (ws : List (Worker LiveSession)) (place : ℕ)
+    (x : Worker LiveSession) → AreHeld b ws → slice_get ws place ≡ Some x
+    → AreHere b (chunks_at x)
+held-here b ws place x own here = record {
+  carried = all-at (IsCarried b) place ws x here own.carried;
+  apart = λ n. omega (arith, own.apart n, times-at n place ws x here);
+}
+
+pub held-ends : (b : LiveBuffer) (ws : List (Worker LiveSession)) (place now : ℕ)
+    (x : Worker LiveSession) (loaded : List Load) → AreHeld b ws → slice_get ws place ≡ Some x
+    → chunks_at x ≡ option_to_list x.taken ++ loaded
+    → AreHeld (live_gets_back (live_looks b now) (returned x.taken loaded) now) (set ws place no_work)
+held-ends b ws place now x loaded own here has = record {
+  carried = back-stays (live_looks b now) (returned x.taken loaded) now others stays (returned-all (λ n. times n others ≡ 0) x.taken loaded (subst (AllByRecursion (λ c. times c.number others ≡ 0)) has gone));
+  apart = λ n. omega (arith, own.apart n, left n);
+}
+  where
+    others : List Load
+    others = chunks_of (set ws place no_work)
+
+    left : (n : ℕ) → times n others + times n (chunks_at x) ≡ times n (chunks_of ws)
+    left n = omega (arith, times-set n place ws x no_work here)
+
+    stays : AllByRecursion (IsCarried (live_looks b now)) others
+    stays = all-set (IsCarried b) place ws no_work own.carried tt
+
+    gone : AllByRecursion (λ c. times c.number others ≡ 0) (chunks_at x)
+    gone = all_same (λ c. 1 ≤ times c.number (chunks_at x)) (λ c. times c.number others ≡ 0) (chunks_at x) (λ c e. omega (arith, e, own.apart c.number, left c.number)) (times-each (chunks_at x))
 
 -- what is so where a call succeeds, and where it fails
 pub either_way : {T E : Type 0} (P Q R : Type 0) (r : Result T E) → OnOk r P → OnErr r Q

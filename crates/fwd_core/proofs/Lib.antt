@@ -4,7 +4,11 @@ pub mod OpeningLemmas
 pub mod RunLemmas
 pub mod CouplingLemmas
 pub mod CollectLemmas
+pub mod ChunkLemmas
 pub mod HeldLemmas
+pub mod HandingLemmas
+pub mod WorkerLemmas
 pub mod LaneLemmas
+pub mod ReturnLemmas
 pub mod SpanLemmas
 pub mod StandingLemmas

@@ -48,6 +48,7 @@ use crate::due::Due;
 use crate::lane_config::LaneConfig;
 use crate::leaving::Leaving;
 use crate::output::OutputState;
+use crate::returns::numbers_back;
 use crate::worker::Worker;
 use fwd_book::Receipt;
 use fwd_chunks::{AdmitError, Carried, Counts, FlushKind, Report};
@@ -89,16 +90,6 @@ impl Model for Lane {
         record { config = l.config; output = l.output; workers = l.workers.items } };
 
     ghost invariant = { λ l. AreHeld l.output.buffer l.workers.items };
-}
-
-/// The number of a chunk, if there is one.
-fn number_of(chunk: &Option<Carried>) -> Option<u64>
-    ensures { result ≡ option_map (λ c. c.number) chunk.now }
-{
-    match chunk {
-        None => None,
-        Some(chunk) => Some(chunk.number()),
-    }
 }
 
 /// What is told of a chunk that was taken.
@@ -233,12 +224,12 @@ impl Lane {
             return Ok(Answer::Refused(Refusal::NoSuch));
         }
         self.output.is_sound();
-        if self.workers[place].has_chunk() {
+        if self.workers[place].is_full() {
             return Ok(Answer::Refused(Refusal::NotNow));
         }
         let found = self.output.take(alloc, worker, now)?;
         let answer = told_of(&found);
-        self.workers[place].set_chunk(found);
+        self.workers[place].set_taken(found);
         Ok(answer)
     }
 
@@ -311,7 +302,7 @@ impl Lane {
         self.workers[place].heard(alloc, bytes)
     }
 
-    /// A worker's acknowledged chunk leaves the output.
+    /// Of a worker's acknowledged chunks the one that was accepted first leaves the output.
     pub fn settle(&mut self, worker: u16) -> Answer
         ensures answer { result ≡ answer_of (settle lives self.old worker) }
         ensures next { self.new ≡ state_of self.old (settle lives self.old worker) }
@@ -327,9 +318,9 @@ impl Lane {
         Answer::Settled { entries }
     }
 
-    /// A worker's session is no more, and a chunk that it has goes back, at a moment
-    /// (milliseconds).
-    pub fn end(&mut self, worker: u16, kind: EndKind, now: u64) -> Answer
+    /// A worker's session is no more, and the chunks that it has go back, at a moment
+    /// (milliseconds). It takes no memory.
+    pub fn end(&mut self, alloc: Global, worker: u16, kind: EndKind, now: u64) -> Answer
         ensures answer { result ≡ answer_of (end lives self.old worker kind now) }
         ensures next { self.new ≡ state_of self.old (end lives self.old worker kind now) }
     {
@@ -341,13 +332,13 @@ impl Lane {
             return Answer::Refused(Refusal::NotNow);
         }
         let Leaving {
-            chunk,
-            lost,
+            taken,
+            loaded,
             server,
-        } = self.workers[place].end(kind);
-        let number = number_of(&chunk);
-        self.output.end(chunk, lost, server, now);
-        Answer::Ended { number }
+        } = self.workers[place].end(alloc, kind);
+        let numbers = numbers_back(&taken, &loaded);
+        self.output.end(taken, loaded, server, now);
+        Answer::Ended { numbers }
     }
 
     /// What is true of every output's requests. And what it shows as acknowledged is what they need

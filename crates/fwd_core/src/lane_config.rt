@@ -9,7 +9,7 @@ use fwd_base::Seq;
 use fwd_chunks::BufferLimits;
 use fwd_handshake::Login;
 use fwd_model::{OutputConfig, OwnedSalt};
-use fwd_session::Session;
+use fwd_session::{AckTerms, Session};
 use std::alloc::{AllocError, Global};
 use std::marker::Model;
 use std::sync::Arc;
@@ -20,7 +20,7 @@ pub(crate) struct LaneConfig {
     pub workers: u16,
     pub standby: Seq<bool>,
     pub limits: BufferLimits,
-    ack_wait: u64,
+    acks: AckTerms,
     login: Arc<Login>,
     ghost few: { length standby ≤ 16 },
     ghost has_primary: { list_any not standby ≡ true },
@@ -36,7 +36,7 @@ impl Model for LaneConfig {
       workers = c.workers;
       standby = c.standby;
       limits = c.limits;
-      ack_wait = c.ack_wait;
+      acks = c.acks;
       login = arc_value c.login;
       few = c.few;
       has_primary = c.has_primary;
@@ -52,7 +52,7 @@ impl LaneConfig {
             workers,
             standby,
             limits,
-            ack_wait,
+            acks,
             login,
         } = config;
         let login = Arc::new(alloc, login)?;
@@ -60,7 +60,7 @@ impl LaneConfig {
             workers,
             standby,
             limits,
-            ack_wait,
+            acks,
             login,
         })
     }
@@ -86,6 +86,6 @@ impl LaneConfig {
     {
         let login = Arc::try_clone(&self.login)?;
         let salt = salt.try_clone(alloc)?;
-        Ok(Session::up(alloc, server, login, salt, self.ack_wait, now))
+        Session::up(alloc, server, login, salt, self.acks, now)
     }
 }

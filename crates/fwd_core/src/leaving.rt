@@ -1,10 +1,10 @@
 //! What a worker leaves at its end.
 
-ghost use Rattle.std.specs.Prelude.{◌≡◌, None, Some, is_some};
-ghost use Rattle.fwd_chunks.specs.History.{Load};
+ghost use Rattle.std.specs.Prelude.{◌≡◌, ◌≤◌, Some, [], length};
+ghost use Rattle.fwd_session.specs.declared.limits.TheConstants.{WINDOW_LIMIT};
+ghost use Rattle.fwd_session.specs.Live.{live_chunks};
 ghost use Rattle.fwd_model.specs.Step.{lost_server};
 ghost use Rattle.fwd_model.specs.Live.{lives};
-ghost use Rattle.fwd_core.specs.Lanes.{first_there};
 
 use fwd_chunks::Carried;
 use fwd_model::EndKind;
@@ -12,51 +12,38 @@ use fwd_session::Session;
 
 /// What a worker leaves at its end, which goes back to its output.
 pub struct Leaving {
-    /// The chunk that it had.
-    pub chunk: Option<Carried>,
-    /// Whether that was loaded: then it is a loss.
-    pub lost: bool,
+    /// The chunk that it took and did not load: it goes back without a loss.
+    pub taken: Option<Carried>,
+    /// The chunks that it loaded and that are not acknowledged, in the order of their loads: each
+    /// is a loss.
+    pub loaded: Vec<Carried>,
     /// The server that is lost, if one is, by its place in the output's list.
     pub server: Option<u16>,
 }
 
-/// The chunk that a worker took, or the one that its session has: it has not both.
-fn only_one(taken: Option<Carried>, loaded: Option<Carried>) -> Option<Carried>
-    requires { (c : Load) → taken ≡ Some c → loaded ≡ None }
-    ensures { result ≡ first_there taken loaded }
-{
-    let Some(chunk) = taken else {
-        return loaded;
-    };
-    match loaded {
-        None => Some(chunk),
-        Some(_) => unreachable!(),
-    }
-}
-
-/// A session is no more, and what its worker leaves: the chunk that was taken and not loaded, or
-/// the one that the session has, which is a loss; and its server is lost where the link is said to
-/// be lost, the session is down, its handshake is not done, or it has a chunk.
+/// A session is no more, and what its worker leaves: the chunk that was taken and not loaded, and
+/// those of the session, each of which is a loss; and its server is lost where the link is said to
+/// be lost, the session is down, its handshake is not done, or it has a chunk. It takes no memory.
 pub fn leave(session: Session, taken: Option<Carried>, kind: EndKind) -> Leaving
-    requires settled { session.reply ≡ None }
-    requires one { (c : Load) → taken ≡ Some c → session.loaded ≡ None }
-    ensures chunk { result.chunk ≡ first_there taken session.loaded }
-    ensures lost { result.lost ≡ is_some session.loaded }
+    requires settled { session.accepted ≡ [] }
+    ensures taken { result.taken ≡ taken }
+    ensures loaded { result.loaded.items ≡ live_chunks session.carried }
     ensures server { result.server ≡ lost_server lives kind (Some session) }
+    ensures few { length result.loaded.items ≤ session.setup.window }
+    ensures limit { length result.loaded.items ≤ WINDOW_LIMIT }
 {
-    let lost = session.has_chunk();
     let at_fault = matches!(kind, EndKind::Lost)
         || session.is_down()
         || !session.is_greeted()
-        || lost;
+        || session.has_chunk();
     let server = if at_fault {
         Some(session.server())
     } else {
         None
     };
     Leaving {
-        chunk: only_one(taken, session.end()),
-        lost,
+        taken,
+        loaded: session.end(),
         server,
     }
 }

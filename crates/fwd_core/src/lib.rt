@@ -8,13 +8,14 @@ mod lane_config;
 mod leaving;
 mod output;
 mod relay;
+mod returns;
 mod state;
 mod worker;
 
 pub use fwd_chunks::{AdmitError, BufferLimits, Carried, Counts};
 pub use fwd_model::{
-    Answer, Config, EndKind, Event, FlushKind, Origin, OutputConfig, OwnedSalt, Refusal,
-    SessionFault, SourceFault, unrelated_events_commute,
+    AckTerms, Answer, Config, EndKind, Event, FlushKind, Numbers, Origin, OutputConfig, OwnedSalt,
+    Refusal, SessionFault, SourceFault, unrelated_events_commute,
 };
 pub use leaving::{Leaving, leave};
 pub use output::OutputState;

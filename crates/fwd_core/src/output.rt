@@ -5,6 +5,8 @@ ghost use Rattle.std.specs.Prelude.{
   ◌≡◌,
   ◌≤◌,
   ◌⊎◌,
+  ◌++◌,
+  max,
   ℕ,
   Err,
   Some,
@@ -58,6 +60,7 @@ ghost use Rattle.fwd_book.specs.Receipts.{
 };
 ghost use Rattle.fwd_book.specs.Live.{
   IsSound as IsSoundBook,
+  LiveBook,
   evidence_for,
   live_due,
   live_leaves,
@@ -75,8 +78,10 @@ ghost use Rattle.fwd_model.specs.Outputs.{
   output_ends,
   returned,
   live_count_at,
+  live_loses,
 };
-ghost use Rattle.fwd_core.specs.Lanes.{chunk_at, IsHere};
+ghost use Rattle.fwd_core.specs.Coupling.{IsCoupled};
+ghost use Rattle.fwd_core.specs.Lanes.{AreHere, IsHandedBack, chunk_at, kept_back, lost_back};
 
 use fwd_base::Seq;
 use fwd_book::{Book, Receipt};
@@ -134,6 +139,44 @@ fn put_back(buffer: &mut Buffer, carried: Carried, loss: Option<u64>)
 {
     let _is_here = buffer.carries(&carried);
     buffer.free(carried, loss);
+}
+
+/// Chunks are put back, with a loss at a moment (milliseconds) each. One that no worker has from
+/// this buffer is only spent.
+fn put_all_back(buffer: &mut Buffer, chunks: Vec<Carried>, now: u64)
+    ensures back { IsHandedBack buffer.old (map lost_back chunks.items) now buffer.new }
+    ensures coupled { (k : LiveBook) → IsCoupled buffer.old k → IsCoupled buffer.new k }
+{
+    let mut rest = chunks.into_iter();
+    while let Some(chunk) = rest.next() {
+        put_back(buffer, chunk, Some(now));
+    }
+    rest.destroy_empty();
+}
+
+/// The chunk that a worker took is put back without a loss, and then those that it loaded with a
+/// loss each at a moment (milliseconds).
+fn hand_back(buffer: &mut Buffer, taken: Option<Carried>, loaded: Vec<Carried>, now: u64)
+    ensures back { IsHandedBack buffer.old
+        (map kept_back (option_to_list taken) ++ map lost_back loaded.items) now buffer.new }
+    ensures coupled { (k : LiveBook) → IsCoupled buffer.old k → IsCoupled buffer.new k }
+{
+    match taken {
+        None => put_all_back(buffer, loaded, now),
+        Some(chunk) => {
+            put_back(buffer, chunk, None);
+            put_all_back(buffer, loaded, now);
+        }
+    }
+}
+
+/// A server is lost at a moment (milliseconds), if one is.
+fn lose(servers: &mut Servers, server: Option<u16>, moment: u64)
+    ensures { servers.new ≡ live_loses servers.old server moment }
+{
+    if let Some(server) = server {
+        servers.failed(server, moment);
+    }
 }
 
 /// Runs, in room that was made for them. Room that is left over is given back.
@@ -209,8 +252,8 @@ impl OutputState {
         self.buffer.held()
     }
 
-    /// The same, and what is held of each tag, the tags in no order: made quickly, while others wait
-    /// for the output. The only error is out of memory.
+    /// The same, and what is held of each tag, the tags in no order: made quickly, while others
+    /// wait for the output. The only error is out of memory.
     pub fn snapshot(&self, alloc: Global) -> Result<Snapshot, AllocError>
         ensures { IfOk result (λ snapshot. IsSnapshot self.now.buffer snapshot) }
     {
@@ -321,26 +364,34 @@ impl OutputState {
         (self.buffer.held().settled - before) as usize
     }
 
-    /// A worker's end at a moment (milliseconds): a chunk that it had is given back, with a loss
-    /// where it was lost, and a server may be lost. A chunk that no worker has from this output is
-    /// only spent.
-    pub fn end(&mut self, chunk: Option<Carried>, lost: bool, server: Option<u16>, now: u64)
-        ensures here { IsHere self.old.buffer chunk
-            → self.new ≡ output_ends self.old (returned chunk lost) server now }
-        ensures elsewhere { ¬ (IsHere self.old.buffer chunk)
-            → self.new ≡ output_ends self.old None server now }
+    /// A worker's end at a moment (milliseconds): the chunk that it took and did not load is given
+    /// back without a loss, and those that it loaded with a loss each, in their order; and a server
+    /// may be lost. A chunk that no worker has from this output is only spent. It takes no memory.
+    pub fn end(
+        &mut self,
+        taken: Option<Carried>,
+        loaded: Vec<Carried>,
+        server: Option<u16>,
+        now: u64,
+    )
+        ensures here { AreHere self.old.buffer (option_to_list taken ++ loaded.items)
+            → self.new ≡ output_ends self.old (returned taken loaded.items) server now }
+        ensures each { IsHandedBack (live_looks self.old.buffer now)
+            (map kept_back (option_to_list taken) ++ map lost_back loaded.items) now
+            self.new.buffer }
+        ensures rest { self.new ≡ record self.old {
+          buffer = self.new.buffer;
+          servers = live_loses self.old.servers server (max self.old.buffer.moment now);
+        } }
     {
         let moment = self.buffer.look(now);
-        if let Some(carried) = chunk {
-            put_back(
-                &mut self.buffer,
-                carried,
-                if lost { Some(now) } else { None },
-            );
-        }
-        if let Some(server) = server {
-            self.servers.failed(server, moment);
-        }
+        hand_back(&mut self.buffer, taken, loaded, now);
+        lose(&mut self.servers, server, moment);
+    }
+
+    /// A chunk is given back without a loss. One that no worker has from this output is only spent.
+    pub(crate) fn put_back(&mut self, chunk: Carried) {
+        put_back(&mut self.buffer, chunk, None);
     }
 
     /// The run that the names of the chunks tell.

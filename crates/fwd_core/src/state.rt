@@ -184,7 +184,7 @@ impl State {
                 worker,
                 kind,
                 now,
-            } => Ok(self.end(*output, *worker, *kind, *now)),
+            } => Ok(self.end(alloc, *output, *worker, *kind, *now)),
             Event::Collect { conn, output } => self.collect(alloc, *conn, *output),
             Event::Forget { conn, output } => Ok(self.forget(*conn, *output)),
             Event::Drained { conn, count } => Ok(self.drained(*conn, *count)),
@@ -458,8 +458,9 @@ impl State {
         self.lanes[place].late(worker, now)
     }
 
-    /// A worker's session is no more, and a chunk that it has goes back to its output.
-    fn end(&mut self, output: u16, worker: u16, kind: EndKind, now: u64) -> Answer
+    /// A worker's session is no more, and the chunks that it has go back to its output. It takes no
+    /// memory.
+    fn end(&mut self, alloc: Global, output: u16, worker: u16, kind: EndKind, now: u64) -> Answer
         ensures answer { result
             ≡ answer_of (step lives self.old (event.End output worker kind now)) }
         ensures next { self.new
@@ -469,7 +470,7 @@ impl State {
         if place >= self.lanes.len() {
             return Answer::Refused(Refusal::NoSuch);
         }
-        self.lanes[place].end(worker, kind, now)
+        self.lanes[place].end(alloc, worker, kind, now)
     }
 
     /// Nobody is to be told of a connection's requests at an output any more.

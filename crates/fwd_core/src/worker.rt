@@ -1,14 +1,18 @@
-//! A worker of an output: the chunk that it has, and its session.
+//! A worker of an output: the chunk that it took, and its session with those that it loaded.
 
 ghost use Rattle.std.specs.Prelude.{
   ◌≡◌,
+  ◌≤◌,
+  ◌||◌,
+  ◌++◌,
   None,
   Some,
   false,
   true,
   is_some,
-  not,
+  length,
   option_map,
+  option_to_list,
   IfOk,
   IsOk,
   IfSome,
@@ -17,7 +21,7 @@ ghost use Rattle.std.specs.Prelude.{
   OnErr,
 };
 ghost use Rattle.std.specs.Arc.{arc_value};
-ghost use Rattle.fwd_chunks.specs.History.{Load};
+ghost use Rattle.fwd_session.specs.declared.limits.TheConstants.{WINDOW_LIMIT};
 ghost use Rattle.fwd_session.specs.Evidence.{IsEvidence};
 ghost use Rattle.fwd_session.specs.Live.{LiveSession};
 ghost use Rattle.fwd_model.specs.Outcome.{answer_of, state_of, of_heard};
@@ -28,13 +32,20 @@ ghost use Rattle.fwd_model.specs.Step.{
   wrote,
   heard,
   late,
+  is_full,
   is_idle,
   has_acked,
-  has_loaded,
+  unacknowledged_of,
   lost_server,
 };
 ghost use Rattle.fwd_model.specs.Live.{lives};
-ghost use Rattle.fwd_core.specs.Lanes.{no_work, first_there, acked_in, evidence_in, worker_settled};
+ghost use Rattle.fwd_core.specs.Lanes.{
+  no_work,
+  IsSameWork,
+  acked_in,
+  evidence_in,
+  worker_settled,
+};
 ghost use Rattle.fwd_core.specs.Runs.{is_free};
 
 use crate::lane_config::LaneConfig;
@@ -48,27 +59,24 @@ use std::alloc::{AllocError, Global};
 use std::marker::Model;
 use std::sync::Arc;
 
-/// A worker. Its chunk lies in its session once it is loaded.
+/// A worker: the chunk that it took and did not load yet, and its session, which has room for that.
 pub(crate) struct Worker {
-    chunk: Option<Carried>,
+    taken: Option<Carried>,
     session: Option<Session>,
 }
 
 impl Model for Worker {
-    ghost use Rattle.std.specs.Prelude.{◌≡◌, Some, None};
-    ghost use Rattle.fwd_chunks.specs.History.{Load};
+    ghost use Rattle.std.specs.Prelude.{◌≡◌, Some};
     ghost use Rattle.fwd_session.specs.Live.{LiveSession};
     ghost use Rattle.fwd_model.specs.Layers.{Worker};
-    ghost use Rattle.fwd_core.specs.Lanes.{first_there, loaded_in};
+    ghost use Rattle.fwd_core.specs.Lanes.{IsRoomy};
 
     ghost Value = { Worker LiveSession };
 
-    ghost view = { λ w. record {
-      chunk = first_there w.chunk (loaded_in w.session);
-      session = w.session;
-    } };
+    ghost view = { λ w. record { taken = w.taken; session = w.session } };
 
-    ghost invariant = { λ w. (c : Load) → w.chunk ≡ Some c → loaded_in w.session ≡ None };
+    ghost invariant = { λ w.
+        (s : LiveSession) → w.session ≡ Some s → IsRoomy w.taken s };
 }
 
 /// What a piece did, as an answer.
@@ -96,39 +104,49 @@ fn put(place: &mut Option<Carried>, chunk: Carried)
     }
 }
 
+/// A session is no more: its acknowledged chunks are settled, and the others go back to their
+/// output.
+fn close_session(session: Session, output: &mut OutputState) {
+    let mut session = session;
+    while let Some((acked, chunk)) = session.acked() {
+        output.settle(acked, chunk);
+    }
+    output.end(None, session.end(), None, 0);
+}
+
 impl Worker {
     /// A worker that has nothing.
     pub fn new() -> Self
         ensures { result ≡ no_work }
     {
         Worker {
-            chunk: None,
+            taken: None,
             session: None,
         }
     }
 
-    /// The worker is no more, and what it has goes back to its output.
+    /// The worker is no more: its acknowledged chunks are settled, and the others go back to their
+    /// output.
     pub fn close(self, output: &mut OutputState) {
-        let Worker { chunk, session } = self;
-        output.end(chunk, false, None, 0);
-        if let Some(mut session) = session {
-            if let Some((acked, chunk)) = session.acked() {
-                output.settle(acked, chunk);
-            }
-            output.end(session.end(), false, None, 0);
+        let Worker { taken, session } = self;
+        if let Some(chunk) = taken {
+            output.put_back(chunk);
+        }
+        if let Some(session) = session {
+            close_session(session, output);
         }
     }
 
-    /// Whether it has a chunk, loaded or not.
-    pub fn has_chunk(&self) -> bool
-        ensures { result ≡ is_some self.now.chunk }
+    /// Whether it may take no chunk: it has one that it did not load, or its session has no room.
+    pub fn is_full(&self) -> bool
+        ensures { result ≡ (is_some self.now.taken || is_full lives self.now.session) }
     {
-        if self.chunk.is_some() {
+        if self.taken.is_some() {
             return true;
         }
         match &self.session {
             None => false,
-            Some(session) => session.has_chunk(),
+            Some(session) => session.room() == 0,
         }
     }
 
@@ -136,10 +154,10 @@ impl Worker {
     pub fn is_idle(&self) -> bool
         ensures { result ≡ is_idle lives self.now }
     {
-        self.chunk.is_none() && self.session.is_none()
+        self.taken.is_none() && self.session.is_none()
     }
 
-    /// Whether its chunk is acknowledged.
+    /// Whether a chunk of its is acknowledged.
     pub fn is_acked(&self) -> bool
         ensures { result ≡ has_acked lives self.now.session }
     {
@@ -149,13 +167,14 @@ impl Worker {
         }
     }
 
-    /// The worker, which has none, has the chunk, if there is one.
-    pub fn set_chunk(&mut self, chunk: Option<Carried>)
-        requires { self.old.chunk ≡ None }
-        ensures { self.new ≡ record { chunk = chunk; session = self.old.session } }
+    /// The worker, which may take one, has the chunk, if there is one.
+    pub fn set_taken(&mut self, chunk: Option<Carried>)
+        requires none { self.old.taken ≡ None }
+        requires room { is_full lives self.old.session ≡ false }
+        ensures { self.new ≡ record { taken = chunk; session = self.old.session } }
     {
         if let Some(carried) = chunk {
-            put(&mut self.chunk, carried);
+            put(&mut self.taken, carried);
         }
     }
 
@@ -175,7 +194,7 @@ impl Worker {
             → IsOk result }
         ensures next { OnOk result (self.new
             ≡ state_of self.old (up lives config.now server salt.now now self.old)) }
-        ensures chunk { self.new.chunk ≡ self.old.chunk }
+        ensures chunks { IsSameWork self.old self.new }
         ensures err { OnErr result (self.new ≡ self.old) }
     {
         if usize::from(server) >= config.servers() {
@@ -196,21 +215,21 @@ impl Worker {
         ensures answer { IfOk result (λ a. a ≡ answer_of (load lives now self.old)) }
         ensures sure { is_free (answer_of (load lives now self.old)) ≡ true → IsOk result }
         ensures next { OnOk result (self.new ≡ state_of self.old (load lives now self.old)) }
-        ensures chunk { self.new.chunk ≡ self.old.chunk }
+        ensures chunks { IsSameWork self.old self.new }
         ensures err { OnErr result (self.new ≡ self.old) }
     {
         let Some(session) = &mut self.session else {
             return Ok(Answer::Refused(Refusal::NotNow));
         };
-        let Some(chunk) = self.chunk.take() else {
+        let Some(chunk) = self.taken.take() else {
             return Ok(Answer::Refused(Refusal::NotNow));
         };
         if !session.is_ready() {
-            put(&mut self.chunk, chunk);
+            put(&mut self.taken, chunk);
             return Ok(Answer::Refused(Refusal::NotUp));
         }
         let Ok(frame) = frame_of(alloc, &chunk) else {
-            put(&mut self.chunk, chunk);
+            put(&mut self.taken, chunk);
             return Err(AllocError);
         };
         match session.load(alloc, chunk, now) {
@@ -218,7 +237,7 @@ impl Worker {
                 out: Bytes::from_vec(frame),
             }),
             Err(LoadFailed { chunk, error: _ }) => {
-                put(&mut self.chunk, chunk);
+                put(&mut self.taken, chunk);
                 Err(AllocError)
             }
         }
@@ -229,7 +248,7 @@ impl Worker {
         ensures answer { result ≡ answer_of (at_session lives self.old (wrote lives count)) }
         ensures next { self.new
             ≡ state_of self.old (at_session lives self.old (wrote lives count)) }
-        ensures chunk { self.new.chunk ≡ self.old.chunk }
+        ensures chunks { IsSameWork self.old self.new }
     {
         let Some(session) = &mut self.session else {
             return Answer::Refused(Refusal::NotNow);
@@ -249,7 +268,7 @@ impl Worker {
             ≡ true → IsOk result }
         ensures next { OnOk result (self.new
             ≡ state_of self.old (at_session lives self.old (heard lives bytes.now))) }
-        ensures chunk { self.new.chunk ≡ self.old.chunk }
+        ensures chunks { IsSameWork self.old self.new }
         ensures err { OnErr result (self.new ≡ self.old) }
     {
         let Some(session) = &mut self.session else {
@@ -264,7 +283,7 @@ impl Worker {
     pub fn late(&mut self, now: u64) -> Answer
         ensures answer { result ≡ answer_of (at_session lives self.old (late lives now)) }
         ensures next { self.new ≡ state_of self.old (at_session lives self.old (late lives now)) }
-        ensures chunk { self.new.chunk ≡ self.old.chunk }
+        ensures chunks { IsSameWork self.old self.new }
     {
         let Some(session) = &mut self.session else {
             return Answer::Refused(Refusal::NotNow);
@@ -275,14 +294,14 @@ impl Worker {
         }
     }
 
-    /// Takes out the chunk that was acknowledged, with what is kept of it.
+    /// Takes out the chunk that was accepted first of those that are acknowledged, with what is
+    /// kept of it.
     pub fn acked(&mut self) -> Option<(Arc<Acked>, Carried)>
         ensures chunk { option_map (λ pair. pair.1) result ≡ acked_in self.old.session }
-        ensures held { IfSome result (λ pair. self.old.chunk ≡ Some pair.1) }
         ensures evidence { IfSome result (λ pair. IsEvidence (arc_value pair.0) pair.1) }
-        ensures kept { IfSome result (λ pair.
-            evidence_in self.old.session pair.1 ≡ Some (arc_value pair.0)) }
-        ensures settled { IfSome result (λ pair. self.new ≡ worker_settled self.old.session) }
+        ensures kept { option_map (λ pair. arc_value pair.0) result
+            ≡ evidence_in self.old.session }
+        ensures settled { IfSome result (λ pair. self.new ≡ worker_settled self.old) }
         ensures none { IfNone result (self.new ≡ self.old) }
     {
         match &mut self.session {
@@ -291,25 +310,26 @@ impl Worker {
         }
     }
 
-    /// The worker has nothing any more. What it leaves goes back to its output.
-    pub fn end(&mut self, kind: EndKind) -> Leaving
+    /// The worker has nothing any more. What it leaves goes back to its output. It takes no memory.
+    pub fn end(&mut self, alloc: Global, kind: EndKind) -> Leaving
         requires { has_acked lives self.old.session ≡ false }
-        ensures chunk { result.chunk ≡ self.old.chunk }
-        ensures lost { result.lost ≡ has_loaded lives self.old.session }
+        ensures taken { result.taken ≡ self.old.taken }
+        ensures loaded { result.loaded.items ≡ unacknowledged_of lives self.old.session }
         ensures server { result.server ≡ lost_server lives kind self.old.session }
+        ensures few { length (option_to_list result.taken ++ result.loaded.items) ≤ WINDOW_LIMIT }
         ensures idle { self.new ≡ no_work }
     {
-        let chunk = self.chunk.take();
+        let taken = self.taken.take();
         let Some(session) = self.session.take() else {
             return Leaving {
-                chunk,
-                lost: false,
+                taken,
+                loaded: Vec::new(alloc),
                 server: None,
             };
         };
         if session.is_acked() {
             unreachable!();
         }
-        leave(session, chunk, kind)
+        leave(session, taken, kind)
     }
 }

@@ -5,6 +5,7 @@ ghost use Rattle.std.specs.Prelude.{◌≡◌, [], IfOk};
 use crate::mailbox::{Mailbox, Stop};
 use crate::waiting::SharedWait;
 use crate::wire::Wire;
+use fwd_chunks::Pieces;
 use fwd_workers::{Calls, Hub, Link, LinkFault, Read};
 use std::alloc::Global;
 use std::io;
@@ -72,6 +73,19 @@ impl Link for TcpLink {
             }
             Err(_) => {
                 self.calls = self.calls.and_write(&bytes, &Err(LinkFault::Write));
+                Err(LinkFault::Write)
+            }
+        }
+    }
+
+    fn write_pieces<R: Wait>(&mut self, _rt: &R, pieces: &Pieces<'_>) -> Result<usize, LinkFault> {
+        match self.wire.write_pieces(pieces) {
+            Ok(count) => {
+                self.calls = self.calls.and_write_pieces(pieces, &Ok(count));
+                Ok(count)
+            }
+            Err(_) => {
+                self.calls = self.calls.and_write_pieces(pieces, &Err(LinkFault::Write));
                 Err(LinkFault::Write)
             }
         }

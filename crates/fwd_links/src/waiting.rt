@@ -11,7 +11,7 @@ use std::sync::atomic::{AtomicBool, Ordering};
 use std::sync::{Arc, Mutex};
 use std::time::Duration;
 
-/// How long a worker without a chunk waits for one, in milliseconds.
+/// How long a worker that looks for a chunk waits for one, in milliseconds.
 const PAUSE: u64 = 10;
 
 /// How long a worker waits for a server that owes something, in milliseconds.
@@ -59,7 +59,7 @@ pub struct WorkerWait {
     events: Events,
     /// The worker is to be woken.
     is_awaited: Arc<AtomicBool>,
-    /// The worker has no chunk.
+    /// The worker looks for a chunk.
     is_idle: bool,
 }
 
@@ -83,7 +83,7 @@ impl WorkerWait {
         Ok((Arc::new(alloc, Mutex::new(wait))?, waker))
     }
 
-    /// The worker has a chunk and a stream, which ends its waits from now on.
+    /// The worker has a stream, which ends its waits from now on, and looks for no chunk.
     pub fn start(&mut self, stream: &mut TcpStream) -> io::Result<()> {
         self.work();
         let interest = Interest::READABLE | Interest::WRITABLE;
@@ -109,14 +109,14 @@ impl WorkerWait {
         self.look();
     }
 
-    /// The worker has a chunk.
+    /// The worker looks for no chunk.
     pub fn work(&mut self) {
         self.is_idle = false;
         self.is_awaited.store(false, Ordering::SeqCst);
     }
 
-    /// Waits for the server of a worker that has a chunk, and says whether it did: a worker without
-    /// one waits where it looks for it.
+    /// Waits for the server of a worker that looks for no chunk, and says whether it did: one that
+    /// looks for a chunk waits there.
     pub fn await_server(&mut self) -> bool {
         if !self.is_idle {
             self.wait(PATIENCE);

@@ -1,13 +1,17 @@
 //! A stream to a server.
 
-ghost use Rattle.std.specs.Prelude.{◌≤◌, length, IfOk, IfSome};
+ghost use Rattle.std.specs.Prelude.{◌≡◌, ◌≤◌, ℕ, length, map, IfOk, IfSome};
+ghost use Rattle.std.specs.Io.Slices.{io_slice_bytes, io_slices_bytes};
+ghost use Rattle.std.specs.List.{concat};
+ghost use Rattle.fwd_links.specs.Buffers.{piece_at};
 
 use crate::mailbox::Stop;
 use crate::waiting::{SharedWait, await_connection};
+use fwd_chunks::{PIECE_LIMIT, Pieces};
 use mio::net::TcpStream;
 use std::alloc::Global;
 use std::io;
-use std::io::{ErrorKind, Read, Write};
+use std::io::{ErrorKind, IoSlice, Read, Write};
 use std::net::{Net, Shutdown, SocketAddr};
 use std::sync::Wait;
 
@@ -19,6 +23,42 @@ impl From<io::Error> for Broken {
     fn from(_error: io::Error) -> Broken {
         Broken
     }
+}
+
+/// How many bytes a stream took: none where it would have to wait.
+fn taken(written: io::Result<usize>) -> Result<usize, Broken>
+    ensures { (most : ℕ) → IfOk written (λ n. n ≤ most) → IfOk result (λ n. n ≤ most) }
+{
+    match written {
+        Ok(count) => Ok(count),
+        Err(error) => match error.kind() {
+            ErrorKind::WouldBlock | ErrorKind::Interrupted => Ok(0),
+            _ => Err(Broken),
+        },
+    }
+}
+
+/// The piece at a place, as a buffer of a write: an empty one where there is none.
+fn buffer<'a>(pieces: &[&'a [u8]], place: usize) -> IoSlice<'a>
+    ensures { io_slice_bytes result ≡ piece_at pieces.now place }
+{
+    match pieces.get(place) {
+        None => IoSlice::new(&[]),
+        Some(piece) => IoSlice::new(piece),
+    }
+}
+
+/// The first of these pieces, as the buffers of one write.
+fn buffers<'a>(pieces: &[&'a [u8]]) -> [IoSlice<'a>; PIECE_LIMIT]
+    ensures { length (io_slices_bytes result)
+        ≤ length (concat (map (λ piece. piece.now) pieces.now)) }
+{
+    [
+        buffer(pieces, 0),
+        buffer(pieces, 1),
+        buffer(pieces, 2),
+        buffer(pieces, 3),
+    ]
 }
 
 /// A stream to a server, which may not be connected yet.
@@ -102,7 +142,7 @@ impl Wire {
     }
 
     /// The same, and waits where nothing is there yet: a while for a server that owes something.
-    /// While the worker has no chunk it waits for none here, so that it is not held up.
+    /// While the worker looks for a chunk it does not wait here, so that it is not held up.
     ///
     /// Once all workers are to end, the first read reads nothing and says so, for no call failed:
     /// it shuts the stream. A worker that waits for a server does not ask its gate, and would read
@@ -130,12 +170,16 @@ impl Wire {
         if !self.is_up {
             return Ok(0);
         }
-        match self.stream.write(bytes) {
-            Ok(count) => Ok(count),
-            Err(error) => match error.kind() {
-                ErrorKind::WouldBlock | ErrorKind::Interrupted => Ok(0),
-                _ => Err(Broken),
-            },
+        taken(self.stream.write(bytes))
+    }
+
+    /// The same of pieces, as if they were one.
+    pub fn write_pieces(&mut self, pieces: &Pieces<'_>) -> Result<usize, Broken>
+        ensures { IfOk result (λ n. n ≤ length (concat pieces.now)) }
+    {
+        if !self.is_up {
+            return Ok(0);
         }
+        taken(self.stream.write_vectored(&buffers(pieces.as_slice())))
     }
 }

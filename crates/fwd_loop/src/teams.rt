@@ -7,7 +7,7 @@ use crate::member::Member;
 use crate::output::Output;
 use crate::pace::Pace;
 use crate::random_streams::RandomStreams;
-use fwd_core::{OutputConfig, OutputState};
+use fwd_core::{AckTerms, OutputConfig, OutputState};
 use fwd_handshake::Login;
 use fwd_links::WorkerWaker;
 use fwd_workers::{Locked, Plain, SharedOutput, Worker};
@@ -31,7 +31,7 @@ struct Team<'a> {
     number: u16,
     workers: u16,
     login: Arc<Login>,
-    ack_wait: u64,
+    acks: AckTerms,
 }
 
 impl Teams {
@@ -64,7 +64,7 @@ impl Teams {
             workers,
             standby,
             limits,
-            ack_wait,
+            acks,
             login,
         } = config;
         let state = OutputState::new(self.alloc, limits, run, number, standby.as_slice())?;
@@ -75,7 +75,7 @@ impl Teams {
             number,
             workers,
             login,
-            ack_wait,
+            acks,
         };
         let wakers = self.add_members(rt, &team)?;
         self.outputs.push(Output { shared, servers })?;
@@ -95,7 +95,7 @@ impl Teams {
         for number in 0..team.workers {
             let login = Arc::try_clone(&team.login)?;
             let salts = team.random.salts(team.number, number);
-            let worker = Worker::new(self.alloc, number, login, team.ack_wait, salts);
+            let worker = Worker::new(self.alloc, number, login, team.acks, salts);
             let (member, waker) = Member::new(rt, self.alloc, team.number, worker)?;
             self.members.push(member)?;
             wakers.push(waker)?;

@@ -39,9 +39,8 @@ use Rattle.fwd_session.specs.declared.handshake.Handshake.{Handshake}
 use Rattle.fwd_session.specs.declared.handshake.Handshake.TheVariants.{AwaitsHelo, AwaitsPong, Done}
 use Rattle.fwd_session.specs.declared.told.SessionHeard.{SessionHeard}
 use Rattle.fwd_session.specs.declared.told.SessionHeard.TheVariants as told
-use Rattle.fwd_session.specs.declared.word.Word.{Word}
-use Rattle.fwd_session.specs.declared.word.Word.TheVariants.{Skipped, Greets, Fails}
-use Rattle.fwd_session.specs.Said.{Said, helo_word, pong_word, spoken, word_of, word_then, said_of, said_in, silence, failing, sending, reply_stream, rest_of}
+use Rattle.fwd_session.specs.Said.{Word, Said, helo_word, pong_word, spoken, word_of, word_then, said_of, said_in, silence, failing, sending, reply_stream, rest_of}
+use Rattle.fwd_session.specs.Said.Word.{Skipped, Greets, Fails}
 use Rattle.fwd_session.specs.History.{Setup, first_handshake, told_of}
 use Rattle.fwd_session.specs.Live.{LiveSession, live_is_ready, live_piece_told, session_begins, session_sends, session_takes, session_hears, session_hears_all}
 use Rattle.fwd_meeting.specs.Meeting.{Meeting, IsJoined, AreWithin, IsToldOnce, IsReady, IsRefused, said_by_ping, pieces_told, pong_told, heard_helo, heard_ping, uncut, source_after_helo, session_after_helo, session_after_ping, source_after_ping, source_after_pong, session_after_pong, done_session, done_source}
@@ -310,21 +309,21 @@ abbrev going : Setup → Handshake → LiveSession
 going setup at = record (session_begins setup) { handshake = at }
 
 said_one : (login : Login) (salt : List ℕ) (at : Handshake) (v : List ℕ) (w : Word)
-    → is_nil v ≡ false → spoken login salt at None v ≡ w
-    → said_of login salt at None (v ∷ []) silence
-    ≡ word_then at None v w (λ next name. silence next)
+    → is_nil v ≡ false → spoken login salt at [] v ≡ w
+    → said_of login salt at [] (v ∷ []) silence
+    ≡ word_then at [] v w (λ next name. silence next)
 unfolding word_of
 said_one login salt at v w nil says =
-    ap (λ (b : Bool). word_then at None v (cond b Skipped (spoken login salt at None v)) (λ next name. silence next)) nil
-    ∙ ap (λ (x : Word). word_then at None v x (λ next name. silence next)) says
+    ap (λ (b : Bool). word_then at [] v (cond b Skipped (spoken login salt at [] v)) (λ next name. silence next)) nil
+    ∙ ap (λ (x : Word). word_then at [] v x (λ next name. silence next)) says
 
 hears_one : (setup : Setup) (at : Handshake) (v : List ℕ) (w : Word)
     → reply_stream v ≡ Open (v ∷ []) [] → is_nil v ≡ false
-    → spoken setup.login setup.salt at None v ≡ w
+    → spoken setup.login setup.salt at [] v ≡ w
     → session_hears (going setup at) v
-    ≡ session_takes (going setup at) (word_then at None v w (λ next name. silence next)) []
+    ≡ session_takes (going setup at) (word_then at [] v w (λ next name. silence next)) []
 hears_one setup at v w stream nil says =
-    ap (λ (s : Split). session_takes (going setup at) (said_in setup.login setup.salt at None s) (rest_of s)) stream
+    ap (λ (s : Split). session_takes (going setup at) (said_in setup.login setup.salt at [] s) (rest_of s)) stream
     ∙ ap (λ (x : Said). session_takes (going setup at) x []) (said_one setup.login setup.salt at v w nil says)
 
 -- pieces of a text that is not empty
@@ -333,7 +332,7 @@ hears_joined : (setup : Setup) (at : Handshake) (pieces : List (List ℕ)) (whol
     → session_hears_all (going setup at) pieces ≡ session_hears (going setup at) whole
 hears_joined setup at [] whole lt e = absurd (omega (arith, lt, ap length e))
 hears_joined setup at (bytes ∷ pieces) whole lt e =
-    hears_many pieces (going setup at) bytes (λ none. absurd cc) ∙ ap (session_hears (going setup at)) e
+    hears_many pieces (going setup at) bytes ∙ ap (session_hears (going setup at)) e
 
 source_joined : (s : LiveSource) (pieces : List (List ℕ)) (whole : List ℕ)
     → 0 < length whole → concat pieces ≡ whole
@@ -423,16 +422,16 @@ one_front u us v (Broken ws broken) e = absurd cc
 hears_split : (setup : Setup) (at : Handshake) (rest bytes : List ℕ) (s : Split)
     → reply_stream (rest ++ bytes) ≡ s
     → session_hears (resting_at setup at rest) bytes
-    ≡ session_takes (resting_at setup at rest) (said_in setup.login setup.salt at None s)
+    ≡ session_takes (resting_at setup at rest) (said_in setup.login setup.salt at [] s)
     (rest_of s)
 hears_split setup at rest bytes s e =
-    ap (λ (x : Split). session_takes (resting_at setup at rest) (said_in setup.login setup.salt at None x) (rest_of x)) e
+    ap (λ (x : Split). session_takes (resting_at setup at rest) (said_in setup.login setup.salt at [] x) (rest_of x)) e
 
 told_split : (setup : Setup) (at : Handshake) (rest bytes : List ℕ) (s : Split)
     → reply_stream (rest ++ bytes) ≡ s
     → live_piece_told (resting_at setup at rest) bytes ≡ told_of at
-    (said_in setup.login setup.salt at None s)
-told_split setup at rest bytes s e = ap (λ (x : Split). told_of at (said_in setup.login setup.salt at None x)) e
+    (said_in setup.login setup.salt at [] s)
+told_split setup at rest bytes s e = ap (λ (x : Split). told_of at (said_in setup.login setup.salt at [] x)) e
 
 takes_nothing : (setup : Setup) (at : Handshake) (rest left : List ℕ)
     → session_takes (resting_at setup at rest) (silence at) left ≡ resting_at setup at left
@@ -488,7 +487,7 @@ down_pieces s (bytes ∷ pieces) = ap (λ (ts : List SessionHeard). told.NotUp �
 last_piece : (setup : Setup) (at : Handshake) (rest bytes left : List ℕ) (us : List (List ℕ))
     (said : Said)
     (pieces : List (List ℕ)) (behind : SessionHeard) → reply_stream (rest ++ bytes) ≡ Open us left
-    → said_of setup.login setup.salt at None us silence ≡ said
+    → said_of setup.login setup.salt at [] us silence ≡ said
     → pieces_told (session_takes (resting_at setup at rest) said left) pieces ≡ replicate
     (length pieces) behind
     → pieces_told (resting_at setup at rest) (bytes ∷ pieces) ≡ told_of at said ∷ replicate
@@ -514,7 +513,7 @@ told_later all later one behind e more = record {
 
 -- pieces that together are one value
 value_pieces : (setup : Setup) (at : Handshake) (v : List ℕ) (said : Said) (behind : SessionHeard)
-    → said_of setup.login setup.salt at None (v ∷ []) silence ≡ said → Behind setup at said behind
+    → said_of setup.login setup.salt at [] (v ∷ []) silence ≡ said → Behind setup at said behind
     → (rest some : List ℕ) (pieces : List (List ℕ)) → reply_stream rest ≡ Open [] some
     → reply_stream (rest ++ concat pieces) ≡ Open (v ∷ []) []
     → IsToldOnce (pieces_told (resting_at setup at rest) pieces) (told_of at said) behind
@@ -538,7 +537,7 @@ value_pieces setup at v said behind says then rest some (bytes ∷ pieces) none 
         told_later (pieces_told (resting_at setup at rest) (bytes ∷ pieces)) (pieces_told (resting_at setup at r) pieces) (told_of at said) behind (quiet_piece setup at rest bytes r pieces d) more
     by rests (Open (u ∷ us) r) d =
         let one = one_front u us v (reply_stream (r ++ concat pieces)) (behind_piece rest bytes pieces (Open (u ∷ us) r) (Open (v ∷ []) []) d e) in
-        let is : said_of setup.login setup.salt at None (u ∷ us) silence ≡ said = ap (λ (vs : List (List ℕ)). said_of setup.login setup.salt at None vs silence) one.front ∙ says in
+        let is : said_of setup.login setup.salt at [] (u ∷ us) silence ≡ said = ap (λ (vs : List (List ℕ)). said_of setup.login setup.salt at [] vs silence) one.front ∙ says in
         record {
           before = 0;
           after = length pieces;
@@ -612,7 +611,7 @@ module _ (m : Meeting) (key : List ℕ) (client : m.client.login.shared_key ≡ 
   abbrev ping_sent : List ℕ
   ping_sent = answering m.client.login m.client.salt nonce (auth_given users auth)
 
-  answer : spoken m.client.login m.client.salt AwaitsHelo None helo ≡ Greets ping_sent awaiting
+  answer : spoken m.client.login m.client.salt AwaitsHelo [] helo ≡ Greets ping_sent awaiting
   answer = ap helo_word (helo_answered users nonce auth (omega (arith, helo_short)) m.client.login m.client.salt key client)
 
   after_helo : session_after_helo m ≡ record (going m.client awaiting) { waiting = ping_sent }
@@ -668,7 +667,7 @@ module _ (m : Meeting) (key : List ℕ) (client : m.client.login.shared_key ≡ 
   module _ (passed : Bool) (r h d : List ℕ) (w : Word)
       (sent : (source_after_ping m).unsent ≡ pong_text passed r h d ++ [])
       (le : length (pong_text passed r h d) ≤ REPLY_LIMIT)
-      (says : spoken m.client.login m.client.salt awaiting None (pong_text passed r h d) ≡ w) where
+      (says : spoken m.client.login m.client.salt awaiting [] (pong_text passed r h d) ≡ w) where
     abbrev text_of_pong : List ℕ
     text_of_pong = pong_text passed r h d
 
@@ -676,7 +675,7 @@ module _ (m : Meeting) (key : List ℕ) (client : m.client.login.shared_key ≡ 
     pong_is = joined.pong ∙ sent ∙ append-nil text_of_pong
 
     abbrev what : Said
-    what = word_then awaiting None text_of_pong w (λ next name. silence next)
+    what = word_then awaiting [] text_of_pong w (λ next name. silence next)
 
     session_after : session_after_pong m ≡ session_takes (going m.client awaiting) what []
     session_after =
@@ -718,7 +717,7 @@ module _ (m : Meeting) (key : List ℕ) (client : m.client.login.shared_key ≡ 
     good_short : length good ≤ REPLY_LIMIT
     good_short = subst (λ (xs : List ℕ). length xs ≤ REPLY_LIMIT) (joined.pong ∙ good_sent ∙ append-nil good) sized
 
-    good_said : spoken m.client.login m.client.salt awaiting None good ≡ Greets [] (Done true)
+    good_said : spoken m.client.login m.client.salt awaiting [] good ≡ Greets [] (Done true)
     good_said = ap (pong_word true) (pong_passes m.client.login m.server.security nonce m.client.salt key agreed)
 
     session_done : session_after_pong m ≡ done_session (session_begins m.client)
@@ -752,7 +751,7 @@ module _ (m : Meeting) (key : List ℕ) (client : m.client.login.shared_key ≡ 
     bad_sent : (source_after_ping m).unsent ≡ denying denial ++ []
     bad_sent = ap (λ (s : LiveSource). s.unsent) source_denied
 
-    bad_said : spoken m.client.login m.client.salt awaiting None
+    bad_said : spoken m.client.login m.client.salt awaiting []
         (denying denial) ≡ Fails fault.Denied
     bad_said = ap (pong_word true) (pong_denied m.client.login m.client.salt nonce (reason denial) (denying_short denial))
 

@@ -6,7 +6,7 @@ pub mod Admits
 pub mod Steps
 use Rattle.std.proofs.Common.{◌≡◌, ℕ, ◌+◌, ◌≤◌, Bool, true, false, eqb, List, [], ◌∷◌, ◌++◌, Option, Some, refl, sym, ap, subst, ◌∙◌, inl, inr, arith}
 use Rattle.std.specs.Prelude.{◌⊎◌, ◌<◌, is_some, map, ◌&&◌, ◌==◌, slice_get, slice_set}
-use Rattle.std.specs.List.{list_all, list_any}
+use Rattle.std.specs.List.{list_all, list_any, AllByRecursion}
 use Rattle.std.proofs.lemmas.Bool.Decides.{nat_tests}
 use Rattle.std.proofs.lemmas.List.{append_assoc, append-nil}
 use Rattle.fwd_modes.specs.Requests.{Request}
@@ -24,8 +24,9 @@ use Rattle.fwd_match.specs.Patterns.{route}
 use Rattle.fwd_source.specs.History.{SourceHistory, judged}
 use Rattle.fwd_model.specs.declared.answer.Answer.TheVariants as answer
 use Rattle.fwd_model.specs.declared.event.EndKind.{EndKind}
-use Rattle.fwd_session.specs.Evidence.{frame_of}
-use Rattle.fwd_session.specs.History.{SessionHistory, handshake_of, is_done, is_handed_on}
+use Rattle.fwd_session.specs.Evidence.{Accepted, frame_of}
+use Rattle.fwd_session.specs.History.{Loaded, SessionHistory, IsFramed}
+use Rattle.fwd_session.proofs.Lists.{all_same}
 use Rattle.fwd_model.specs.Outcome.{state_of}
 use Rattle.fwd_model.specs.Step.{step, after}
 use Rattle.fwd_model.specs.History.{Connection, ever_at, source_at, with_source, with_gone, Lane, History, histories}
@@ -77,7 +78,7 @@ last_split (d ∷ later) (b ∷ between) x rest e h = by (last_split later betwe
 
 -- the event does not end a session of the worker
 abbrev pub Stands : Config → List Event → Event → ℕ → ℕ → Type 0
-Stands config es e o w = (kind : EndKind) (moment : ℕ) (number : Option ℕ) → e ≡ event.End o w kind moment → answered config es e ≡ answer.Ended number → ⊥
+Stands config es e o w = (kind : EndKind) (moment : ℕ) (numbers : List ℕ) → e ≡ event.End o w kind moment → answered config es e ≡ answer.Ended numbers → ⊥
 
 -- the event ends no session of the output
 abbrev pub Quiet : Config → List Event → Event → ℕ → Type 0
@@ -86,13 +87,13 @@ Quiet config es e o = (w : ℕ) → Stands config es e o w
 module _ (config : Config) (es : List Event) (e : Event) where
   none_ended : (before later : List Event) (o w : ℕ) → es ≡ before ++ later → Stands config es e o w
       → NoneEnded config before later o w → NoneEnded config before (later ++ e ∷ []) o w
-  none_ended before later o w split quiet none between rest kind moment number at done = by (last_split later between (event.End o w kind moment) rest e at)
+  none_ended before later o w split quiet none between rest kind moment numbers at done = by (last_split later between (event.End o w kind moment) rest e at)
     where
       by : LastSplit later between (event.End o w kind moment) rest e → ⊥
       by (AtEnd same is) =
           let here : es ≡ before ++ between = split ∙ ap (λ xs. before ++ xs) same in
-          quiet kind moment number is ((λ i. answered config (here i) (is i)) ∙ done)
-      by (Before front same) = none between front kind moment number same done
+          quiet kind moment numbers is ((λ i. answered config (here i) (is i)) ∙ done)
+      by (Before front same) = none between front kind moment numbers same done
 
   -- behind one event more
   behind : (before : List Event) (x : Event) (later : List Event) → es ≡ before ++ x ∷ later
@@ -171,42 +172,45 @@ pub frame_is : (config : Config) (o k : ℕ) (b : BufferHistory) → IsNamed con
     → frame_of (load_of b k) ≡ frame_at config o b.cells k
 frame_is config o k b named = λ i. chunk_frame (first_tag (cells_at k b.cells)) (contents k b.cells) (chunk_name (named.0 i) (named.1 i) k)
 
--- what was done with the chunk that a session has
-pub record ChunkStory (config : Config) (es : List Event) (o w : ℕ) (s : SessionHistory) (c : Load) : Type 0 where
-  pub was_loaded : WasLoaded config es o w (frame_of c)
-  pub front : List ℕ
-  pub ends : s.appended ≡ front ++ frame_of c
-  pub was_sent : is_handed_on s ≡ true → WasSent config es o w (frame_of c)
-  pub was_acked : is_some s.reply ≡ true → WasAcknowledged config es o w (frame_of c) c.name
+-- what was done with a chunk of a session that is not acknowledged, where so many bytes were sent
+pub record LoadedStory (config : Config) (es : List Event) (o w : ℕ) (sent : ℕ) (l : Loaded) : Type 0 where
+  pub was_loaded : WasLoaded config es o w (frame_of l.chunk)
+  pub was_sent : l.through ≤ sent → WasSent config es o w (frame_of l.chunk)
+
+-- one that is was acknowledged
+abbrev pub AckedStory : Config → List Event → (o w : ℕ) → Accepted → Type 0
+AckedStory config es o w a = WasAcknowledged config es o w (frame_of a.chunk) a.chunk.name
 
 pub record SessionStory (config : Config) (es : List Event) (o w : ℕ) (s : SessionHistory) : Type 0 where
   pub begun : HasBegun config es o w
-  pub has_one : is_some s.reply ≡ true → is_some s.loaded ≡ true
-  pub greeted : is_some s.loaded ≡ true → is_done (handshake_of s) ≡ true
-  pub chunk : (c : Load) → s.loaded ≡ Some c → ChunkStory config es o w s c
+  pub framed : IsFramed s
+  pub loaded : AllByRecursion (LoadedStory config es o w s.sent) s.carried
+  pub acked : AllByRecursion (AckedStory config es o w) s.accepted
 
 -- a worker had the number acknowledged
 abbrev pub NumberStory : Config → List Event → ℕ → List Cell → ℕ → Type 0
 NumberStory config es o cells k = (w : ℕ) × WasAcknowledged config es o w (frame_at config o cells k) (chunk_name config.run o k)
 
 module _ (config : Config) (es : List Event) (e : Event) (o : ℕ) where
-  pub chunk_still : (w : ℕ) (s : SessionHistory) (c : Load) → Stands config es e o w
-      → ChunkStory config es o w s c → ChunkStory config (es ++ e ∷ []) o w s c
-  chunk_still w s c quiet t = record {
-    was_loaded = loaded_still config es e o w (frame_of c) quiet t.was_loaded;
-    front = t.front;
-    ends = t.ends;
-    was_sent = λ b. sent_still config es e o w (frame_of c) quiet (t.was_sent b);
-    was_acked = λ b. acked_still config es e o w (frame_of c) c.name (t.was_acked b);
-  }
+  pub loads_still : (w sent : ℕ) (ls : List Loaded) → Stands config es e o w
+      → AllByRecursion (LoadedStory config es o w sent) ls
+      → AllByRecursion (LoadedStory config (es ++ e ∷ []) o w sent) ls
+  loads_still w sent ls quiet all = all_same (LoadedStory config es o w sent) (LoadedStory config (es ++ e ∷ []) o w sent) ls (λ l t. record {
+    was_loaded = loaded_still config es e o w (frame_of l.chunk) quiet t.was_loaded;
+    was_sent = λ b. sent_still config es e o w (frame_of l.chunk) quiet (t.was_sent b);
+  }) all
+
+  pub acks_still : (w : ℕ) (xs : List Accepted) → AllByRecursion (AckedStory config es o w) xs
+      → AllByRecursion (AckedStory config (es ++ e ∷ []) o w) xs
+  acks_still w xs all = all_same (AckedStory config es o w) (AckedStory config (es ++ e ∷ []) o w) xs (λ a t. acked_still config es e o w (frame_of a.chunk) a.chunk.name t) all
 
   pub session_still : (w : ℕ) (s : SessionHistory) → Stands config es e o w
       → SessionStory config es o w s → SessionStory config (es ++ e ∷ []) o w s
   session_still w s quiet t = record {
     begun = begun_still config es e o w quiet t.begun;
-    has_one = t.has_one;
-    greeted = t.greeted;
-    chunk = λ c h. chunk_still w s c quiet (t.chunk c h);
+    framed = t.framed;
+    loaded = loads_still w s.sent s.carried quiet t.loaded;
+    acked = acks_still w s.accepted t.acked;
   }
 
   pub number_still : (cells : List Cell) (k : ℕ) → NumberStory config es o cells k

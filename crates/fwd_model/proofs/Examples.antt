@@ -21,6 +21,7 @@ use Rattle.fwd_session.specs.declared.fault.SessionFault.TheVariants.{BadReply, 
 use Rattle.fwd_session.specs.Said.{reply_stream, word_of}
 use Rattle.fwd_model.specs.declared.event.EndKind.TheVariants.{Kept, Lost}
 use Rattle.fwd_handshake.specs.declared.credentials.Login.{Login}
+use Rattle.fwd_session.specs.declared.terms.AckTerms.{AckTerms}
 use Rattle.fwd_model.specs.declared.config.OutputConfig.{OutputConfig}
 use Rattle.fwd_model.specs.declared.config.Config.{Config}
 use Rattle.fwd_handshake.specs.declared.credentials.Security.{Security}
@@ -57,28 +58,38 @@ limits chunk total = record {
 abbrev no_login : Login
 no_login = record { hostname = []; shared_key = None; username = []; password = []; hostname_fits = omega arith; username_fits = omega arith }
 
+-- one chunk at once, and two
+abbrev one_at_once : AckTerms
+one_at_once = record { window = 1; ack_wait = 10000; some = omega arith; few = omega arith }
+
+abbrev two_at_once : AckTerms
+two_at_once = record { window = 2; ack_wait = 10000; some = omega arith; few = omega arith }
+
 -- an output with two servers, the second of which is a standby
-abbrev output_with : (workers chunk total : ℕ) → OutputConfig
-output_with workers chunk total = record {
+abbrev output_with : AckTerms → (workers chunk total : ℕ) → OutputConfig
+output_with acks workers chunk total = record {
   workers = workers;
   standby = false ∷ true ∷ [];
   limits = limits chunk total;
-  ack_wait = 10000;
+  acks = acks;
   login = no_login;
   few = omega arith;
   has_primary = refl;
 }
 
 -- one output that every tag matches
-abbrev limited : (chunk total : ℕ) → Config
-limited chunk total = record {
+abbrev waiting_so : AckTerms → (chunk total : ℕ) → Config
+waiting_so acks chunk total = record {
   run = replicate 6 0;
   routes = ((42 ∷ 42 ∷ []) ∷ []) ∷ [];
   security = nobody;
   limits = usual;
-  outputs = output_with 2 chunk total ∷ [];
+  outputs = output_with acks 2 chunk total ∷ [];
   few = omega arith;
 }
+
+abbrev limited : (chunk total : ℕ) → Config
+limited chunk total = waiting_so one_at_once chunk total
 
 abbrev settings : Config
 settings = limited 1000 100000
@@ -229,7 +240,7 @@ two_outputs = record {
   routes = ((98 ∷ []) ∷ []) ∷ ((42 ∷ []) ∷ []) ∷ [];
   security = nobody;
   limits = usual;
-  outputs = output_with 1 1000 100000 ∷ output_with 1 1000 100000 ∷ [];
+  outputs = output_with one_at_once 1 1000 100000 ∷ output_with one_at_once 1 1000 100000 ∷ [];
   few = omega arith;
 }
 
@@ -464,7 +475,7 @@ lying_server : answers histories (after histories (opening settings) until_sent)
     ) ≡
     answer.SessionFaulted WrongAck ∷
     answer.Refused NotUp ∷
-    answer.Ended (Some 1) ∷
+    answer.Ended (1 ∷ []) ∷
     answer.Refused NotNow ∷
     answer.Chose (Some 1) ∷
     answer.Done ∷
@@ -488,12 +499,122 @@ late_server : answers histories (after histories (opening settings) until_sent) 
     answer.Late false ∷
     answer.Late true ∷
     answer.Refused NotUp ∷
-    answer.Ended (Some 1) ∷
+    answer.Ended (1 ∷ []) ∷
     answer.Took 1 1 ∷
-    answer.Ended (Some 1) ∷
+    answer.Ended (1 ∷ []) ∷
     answer.Took 1 1 ∷ []
 unfolding opening route pattern_matches matches adds wait_after leaves chunk_frame chunk_name encode_symbols ack_text ack_name head_bytes reply_stream word_of judged_of request_of parts_of row_of_values split_of first_of fault_at item_begun payload_ended reading_of row_of named_rows
 late_server = refl
+
+-- ---- more chunks at once
+
+-- a session with two chunks, of an entry each
+abbrev until_both_sent : List Event
+until_both_sent =
+    event.Accept 1 (replicate 16 0) (replicate 16 0) ∷
+    event.Piece 1 three_entries ∷
+    event.Admit 1 0 0 ∷
+    event.Flush 0 0 All ∷
+    event.Up 0 0 0 [] 0 ∷
+    event.Load 0 0 0 ∷
+    event.Take 0 0 0 ∷
+    event.Take 0 0 0 ∷
+    event.Load 0 0 0 ∷
+    event.Take 0 0 0 ∷
+    event.Load 0 0 0 ∷
+    event.Take 0 0 0 ∷
+    event.Load 0 0 0 ∷
+    event.Wrote 0 0 91 ∷ []
+
+both_sent : answers histories (opening (waiting_so two_at_once 2 100000)) until_both_sent ≡
+    answer.Accepted [] ∷
+    answer.Requests 1 [] ∷
+    answer.Admitted 1 3 ∷
+    answer.Closed 1 ∷
+    answer.Done ∷
+    answer.Refused NotNow ∷
+    answer.Took 1 1 ∷
+    answer.Refused NotNow ∷
+    answer.Frame frame ∷
+    answer.Took 2 1 ∷
+    answer.Frame
+    (0x93 ∷ 0xa1 ∷ 0x61 ∷ 0xc4 ∷ 0x03 ∷ 0x92 ∷ 0x01 ∷ 0x80 ∷ 0x82 ∷ 0xa4 ∷ 0x73 ∷ 0x69 ∷ 0x7a ∷ 0x65
+    ∷ 0x01 ∷ 0xa5 ∷ 0x63 ∷ 0x68 ∷ 0x75 ∷ 0x6e ∷ 0x6b ∷ 0xb8 ∷ codes "AAAAAAAAAAAAAAAAAAAAAg==") ∷
+    answer.Refused NotNow ∷
+    answer.Refused NotNow ∷
+    answer.Done ∷ []
+unfolding opening route pattern_matches matches adds wait_after leaves chunk_frame chunk_name encode_symbols ack_text ack_name head_bytes reply_stream word_of judged_of listed_entries entry_of request_of parts_of row_of_values split_of first_of fault_at item_begun payload_ended reading_of row_of named_rows
+both_sent = refl
+
+-- acknowledgements come in any order, and the chunks are settled in theirs; while one is not, the
+-- session cannot end. A chunk that was only taken goes back without a loss
+in_any_order : answers histories (after histories (opening (waiting_so two_at_once 2 100000)) until_both_sent) (
+    event.Wrote 0 0 1 ∷
+    event.Heard 0 0 (reply_to 103) ∷
+    event.End 0 0 Kept 0 ∷
+    event.Take 0 0 0 ∷
+    event.Settle 0 0 ∷
+    event.Settle 0 0 ∷
+    event.Take 0 0 0 ∷
+    event.Heard 0 0 (reply_to 81) ∷
+    event.Settle 0 0 ∷
+    event.Collect 1 0 ∷
+    event.End 0 0 Kept 0 ∷
+    event.Choose 0 0 0 ∷
+    event.Take 0 1 0 ∷ []
+    ) ≡
+    answer.Done ∷
+    answer.Acked [] ∷
+    answer.Refused NotNow ∷
+    answer.Refused NotNow ∷
+    answer.Settled 1 ∷
+    answer.Refused NotNow ∷
+    answer.Took 3 1 ∷
+    answer.Acked [] ∷
+    answer.Settled 1 ∷
+    answer.Told [] [] ∷
+    answer.Ended (3 ∷ []) ∷
+    answer.Chose (Some 0) ∷
+    answer.Took 3 1 ∷ []
+unfolding opening route pattern_matches matches adds wait_after leaves chunk_frame chunk_name encode_symbols ack_text ack_name head_bytes reply_stream word_of judged_of listed_entries entry_of request_of parts_of row_of_values split_of first_of fault_at item_begun payload_ended reading_of row_of named_rows
+in_any_order = refl
+
+-- one piece may acknowledge both
+both_at_once : answers histories (after histories (opening (waiting_so two_at_once 2 100000)) until_both_sent) (
+    event.Wrote 0 0 1 ∷
+    event.Heard 0 0 (reply_to 103 ++ reply_to 81) ∷
+    event.Settle 0 0 ∷
+    event.Settle 0 0 ∷
+    event.Settle 0 0 ∷ []
+    ) ≡
+    answer.Done ∷
+    answer.Acked [] ∷
+    answer.Settled 1 ∷
+    answer.Settled 1 ∷
+    answer.Refused NotNow ∷ []
+unfolding opening route pattern_matches matches adds wait_after leaves chunk_frame chunk_name encode_symbols ack_text ack_name head_bytes reply_stream word_of judged_of listed_entries entry_of request_of parts_of row_of_values split_of first_of fault_at item_begun payload_ended reading_of row_of named_rows
+both_at_once = refl
+
+-- an acknowledgement before the last byte of its frame is a fault; then both go back, with a loss
+-- each
+too_early : answers histories (after histories (opening (waiting_so two_at_once 2 100000)) until_both_sent) (
+    event.Heard 0 0 (reply_to 103) ∷
+    event.Settle 0 0 ∷
+    event.End 0 0 Kept 0 ∷
+    event.Choose 0 0 0 ∷
+    event.Take 0 1 0 ∷
+    event.End 0 1 Kept 0 ∷
+    event.Take 0 1 500 ∷ []
+    ) ≡
+    answer.SessionFaulted EarlyAck ∷
+    answer.Refused NotNow ∷
+    answer.Ended (1 ∷ 2 ∷ []) ∷
+    answer.Chose (Some 1) ∷
+    answer.Took 3 1 ∷
+    answer.Ended (3 ∷ []) ∷
+    answer.Took 1 1 ∷ []
+unfolding opening route pattern_matches matches adds wait_after leaves chunk_frame chunk_name encode_symbols ack_text ack_name head_bytes reply_stream word_of judged_of listed_entries entry_of request_of parts_of row_of_values split_of first_of fault_at item_begun payload_ended reading_of row_of named_rows
+too_early = refl
 
 -- ---- in either order
 

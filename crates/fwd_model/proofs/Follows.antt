@@ -11,7 +11,8 @@ pub mod Collects
 pub mod Workers
 use Rattle.std.proofs.Common.{◌≡◌, ℕ, zero, suc, ◌+◌, ◌≤◌, Bool, true, false, cond, List, [], ◌∷◌, ◌++◌, length, drop, Option, Some, None, refl, sym, ap, subst, ◌∙◌, arith}
 use Rattle.std.proofs.lemmas.Bool.Decides.{nat_tests}
-use Rattle.std.specs.Prelude.{map, option_map, is_some, not, ◌&&◌, nat_lt, slice_get, replicate}
+use Rattle.std.specs.Prelude.{map, option_map, is_some, not, ◌&&◌, ◌||◌, ◌==◌, nat_lt, slice_get, replicate}
+use Rattle.std.proofs.lemmas.Option.{same_Some}
 use Rattle.fwd_modes.specs.Requests.{Request}
 use Rattle.fwd_match.specs.Patterns.{route}
 use Rattle.fwd_modes.specs.declared.origin.Origin.{Origin}
@@ -39,31 +40,33 @@ use Rattle.fwd_model.specs.declared.event.EndKind.{EndKind}
 use Rattle.fwd_model.specs.declared.fault.Refusal.TheVariants.{NotNow, NotUp}
 use Rattle.fwd_session.specs.declared.told.SessionHeard.{SessionHeard}
 use Rattle.fwd_session.specs.declared.told.SessionHeard.TheVariants as heard_as
-use Rattle.fwd_session.specs.History.{SessionHistory, IsSane as IsSaneHistory, handshake_of, is_free_for, loads, hears as hears_bytes, piece_told, piece_out}
-use Rattle.fwd_session.specs.Live.{LiveSession, live_session, session_hears}
-use Rattle.fwd_session.proofs.Following.{begins-live, begins-sane, loads-live, loads-sane, sends-live, sends-sane, told-live, out-live, hears-live as hears_bytes-live, hears-sane as hears_bytes-sane, late-live, ready-live, acked-live, looks-live, looks-sane}
+use Rattle.fwd_session.specs.Evidence.{Accepted, evidence_of}
+use Rattle.fwd_session.specs.History.{Loaded, SessionHistory, IsSane as IsSaneHistory, begins, chunks_of, first_in, handshake_of, is_free_for, loads, hears as hears_bytes, piece_told, piece_out}
+use Rattle.fwd_session.specs.Live.{LiveSession, live_loaded, live_session, live_chunks, session_hears}
+use Rattle.fwd_session.proofs.Following.{begins-live, begins-sane, loads-live, sends-live, sends-sane, told-live, out-live, hears-live as hears_bytes-live, hears-sane as hears_bytes-sane, late-live, ready-live, room-live, unloads-live, looks-live, looks-sane}
 use Rattle.fwd_model.specs.Outcome.{Outcome, Stays, Goes, answer_of, state_of, of_piece, of_heard, first_of, chunk_answer}
 use Rattle.fwd_model.specs.Layers.{Worker}
 use Rattle.fwd_model.specs.Step as steps
-use Rattle.fwd_model.specs.Step.{step, answers, after, with_session}
+use Rattle.fwd_model.specs.Step.{step, answers, after, with_session, with_loaded}
 use Rattle.fwd_model.specs.Setups.{setup_of, session_setup, setting_of}
-use Rattle.fwd_model.specs.Outputs.{returned, live_output}
-use Rattle.fwd_model.specs.History.{Lane, History, histories, source_at, new_lane, new_lanes, counts, reports, opening, is_fresh, with_connection, IsReached}
+use Rattle.fwd_model.specs.Outputs.{carried_by, returned, numbers_back, live_output}
+use Rattle.fwd_model.specs.History.{Lane, History, histories, history_worker, taken_by, source_at, new_lane, new_lanes, counts, reports, opening, is_fresh, with_connection, IsReached}
 use Rattle.fwd_model.specs.Live.{LiveLane, live, live_lane, lives, last_id, is_above, live_source_at, with_live_lane, with_live_worker, live_relay_counts, live_relay_reports}
 use Rattle.fwd_model.proofs.Agree.{Agrees, Leads, stays, goes, checked, sought, inside}
 use Rattle.fwd_model.proofs.Places.{source_at-live, option_id}
-use Rattle.fwd_model.proofs.Reached.{IsSaneSession, IsSaneLane, AllSane, IsSane, AllSources-at, AllSane-at}
+use Rattle.fwd_model.proofs.Chunks.{IsAmong}
+use Rattle.fwd_model.proofs.Reached.{IsSaneWorker, IsSaneLane, AllSane, IsSane, AllSources-at, AllSane-at}
 use Rattle.fwd_model.proofs.Follows.Sources.{accepts-live, accepts-sane, with_connection-live, with_connection-sane, drained-sane, leaves-live, leaves-sane}
 use Rattle.fwd_model.proofs.Follows.Outputs.{lane_at-live, with_lane-live, with_lane-sane, worker_at-live, flushes-live, flushes-sane, choice-same, watches-live, watches-sane}
-use Rattle.fwd_model.proofs.Follows.Sessions.{with_session-live, with_session-sane, is_some-option_map, hears-loaded}
-use Rattle.fwd_model.proofs.Follows.Ends.{backs, ends-live, ends-sane}
+use Rattle.fwd_model.proofs.Follows.Sessions.{with_place-live, with_place-sane, is_some-option_map, StaysSane, same_chunks, hears-times, hears-all, loads_taken, hears-window, hears-length}
+use Rattle.fwd_model.proofs.Follows.Ends.{gives_all, ends-live, ends-sane}
 use Rattle.fwd_model.proofs.Follows.Takes.{given-same, takes-live, takes-sane}
 use Rattle.fwd_model.proofs.Follows.Admits.{enters-live, enters-sane}
 use Rattle.fwd_model.proofs.Follows.Settles.{acked_is, count-same, settles-live, settles-sane}
 use Rattle.fwd_book.proofs.Following.{follows-due, follows-owed_of}
 use Rattle.fwd_model.specs.Books.{telling}
 use Rattle.fwd_model.proofs.Follows.Collects.{tells-live, tells-sane, forgets-live, forgets-sane}
-use Rattle.fwd_model.proofs.Follows.Workers.{worker_map, worker_seen, worker_is, session_here, none_carried, carried_is}
+use Rattle.fwd_model.proofs.Follows.Workers.{worker_map, worker_seen, worker_is, session_here, taken_is}
 
 -- ---- where it happens
 
@@ -129,55 +132,55 @@ at_both h sane id o p q agrees =
       with_lane-sane o two.1 k (with_connection-sane id two.0 h sane own.0) own.1,
     ))))
 
--- a worker whose chunk is that of the worker at the place, and whose session is sane
-abbrev SaneWorker : Lane → ℕ → Worker SessionHistory → Worker SessionHistory → Type 0
-SaneWorker l w x y = (s : SessionHistory) × (y ≡ with_session x s) × IsSaneSession w l.output.buffer s
+-- a worker that is the one at its place by its session, and sane
+abbrev SaneWorker : Lane → ℕ → Worker SessionHistory → Type 0
+SaneWorker l w y =
+    (history_worker l w y.session ≡ y) × IsSaneWorker l.config.acks.window (carried_by l.output.buffer w) y.session
 
-worker_here : (w : ℕ) (l : Lane)
+pub worker_here : (w : ℕ) (l : Lane)
     → slice_get (live_lane l).workers w
     ≡ option_map (worker_map live_session) (histories.worker_at l w)
 worker_here w l = worker_at-live w l ∙ worker_seen l w (slice_get l.sessions w)
 
-puts_leads : (l : Lane) (w : ℕ) (x : Worker SessionHistory) (s : SessionHistory) → IsSaneLane l
-    → histories.worker_at l w ≡ Some x → IsSaneSession w l.output.buffer s
-    → Leads live_lane IsSaneLane (histories.puts_worker l w (with_session x s))
-    (with_live_worker (live_lane l) w (worker_map live_session (with_session x s)))
-puts_leads l w x s own e fits =
-    let at = worker_is l w x e in (
-      with_session-live w s l x.session ∙ ap (λ (y : Worker SessionHistory). with_live_worker (live_lane l) w (worker_map live_session (with_session y s))) at.is,
-      with_session-sane w s l own fits,
-    )
+puts_leads : (l : Lane) (w : ℕ) (y : Worker SessionHistory) → IsSaneLane l → SaneWorker l w y
+    → Leads live_lane IsSaneLane (histories.puts_worker l w y)
+    (with_live_worker (live_lane l) w (worker_map live_session y))
+puts_leads l w y own fits = (
+  with_place-live w y.session l ∙ ap (λ z. with_live_worker (live_lane l) w (worker_map live_session z)) fits.0,
+  with_place-sane w y.session l own fits.1,
+)
 
 at_worker : (l : Lane) (w : ℕ) (p : Worker SessionHistory
     → Outcome (Worker SessionHistory)) (q : Worker LiveSession → Outcome (Worker LiveSession))
     → IsSaneLane l
     →
     ((x : Worker SessionHistory) → histories.worker_at l w ≡ Some x
-    → Agrees (worker_map live_session) (SaneWorker l w x) (p x) (q (worker_map live_session x)))
+    → Agrees (worker_map live_session) (SaneWorker l w) (p x) (q (worker_map live_session x)))
     → Agrees live_lane IsSaneLane (steps.at_worker histories l w p)
     (steps.at_worker lives (live_lane l) w q)
 at_worker l w p q own agrees =
-    sought _ _ (worker_here w l) (λ x e.
-    inside _ _ (agrees x e) (λ y fits.
-    subst (λ z. Leads live_lane IsSaneLane (histories.puts_worker l w z) (with_live_worker (live_lane l) w (worker_map live_session z))) (sym fits.1) (puts_leads l w x fits.0 own e fits.2)))
+    sought _ _ (worker_here w l) (λ x e. inside _ _ (agrees x e) (λ y fits. puts_leads l w y own fits))
 
-with_session-leads : (l : Lane) (w : ℕ) (x : Worker SessionHistory) (s : SessionHistory)
-    (t : LiveSession) → Leads live_session (IsSaneSession w l.output.buffer) s t
-    → Leads (worker_map live_session) (SaneWorker l w x) (with_session x s)
-    (with_session (worker_map live_session x) t)
-with_session-leads l w x s t leads = (λ i. record { chunk = x.chunk; session = Some (leads.0 i) }, (s, refl, leads.1))
+-- with a session that leaves what the worker took and did not load
+session_leads : (l : Lane) (w : ℕ) (x : Worker SessionHistory) (t : SessionHistory)
+    → histories.worker_at l w ≡ Some x
+    → StaysSane l.config.acks.window (carried_by l.output.buffer w) x.session (Some t)
+    → Leads (worker_map live_session) (SaneWorker l w) (with_session x t)
+    (with_session (worker_map live_session x) (live_session t))
+session_leads l w x t e stays = (refl, ((λ i. record { taken = (stays.taken ∙ taken_is l w x (worker_is l w x e)) i; session = Some t }), stays.sane))
 
 at_session : (l : Lane) (w : ℕ) (x : Worker SessionHistory) (p : SessionHistory
     → Outcome SessionHistory) (q : LiveSession → Outcome LiveSession) → IsSaneLane l
     → histories.worker_at l w ≡ Some x
     →
-    ((s : SessionHistory) → IsSaneSession w l.output.buffer s
-    → Agrees live_session (IsSaneSession w l.output.buffer) (p s) (q (live_session s)))
-    → Agrees (worker_map live_session) (SaneWorker l w x) (steps.at_session histories x p)
+    ((s : SessionHistory) → IsSaneWorker l.config.acks.window (carried_by l.output.buffer w) (Some s)
+    → Agrees live_session (λ t. StaysSane l.config.acks.window (carried_by l.output.buffer w) (Some s) (Some t)) (p s) (q (live_session s)))
+    → Agrees (worker_map live_session) (SaneWorker l w) (steps.at_session histories x p)
     (steps.at_session lives (worker_map live_session x) q)
 at_session l w x p q own e agrees =
     sought {g = live_session} _ _ refl (λ s f.
-    inside _ _ (agrees s (own.sessions w s (session_here l w x s e f))) (λ t fits. with_session-leads l w x t (live_session t) (refl, fits)))
+    inside _ _ (agrees s (own.workers w (Some s) (session_here l w x s e f))) (λ t stays.
+    session_leads l w x t e (subst (λ y. StaysSane l.config.acks.window (carried_by l.output.buffer w) y (Some t)) (sym f) stays)))
 
 -- ---- connections
 
@@ -308,36 +311,63 @@ choose l w now own =
     sought {g = worker_map live_session} _ _ (worker_here w l) (λ x e.
     goes (ap answer.Chose (choice-same l w now own)) (watches-live l now, watches-sane l now own))
 
+no_session : (x : Option SessionHistory) → is_some x ≡ false → x ≡ None
+no_session None e = refl
+no_session (Some s) e = absurd cc
+
 up : (l : Lane) (w : ℕ) (c : OutputConfig) (server : ℕ) (salt : List ℕ) (now : ℕ)
-    (x : Worker SessionHistory)
-    → Agrees (worker_map live_session) (SaneWorker l w x) (steps.up histories c server salt now x)
+    (x : Worker SessionHistory) → IsSaneLane l → c.acks.window ≡ l.config.acks.window
+    → histories.worker_at l w ≡ Some x
+    → Agrees (worker_map live_session) (SaneWorker l w) (steps.up histories c server salt now x)
     (steps.up lives c server salt now (worker_map live_session x))
-up l w c server salt now x =
+up l w c server salt now x own set e =
     let same : not (nat_lt server (length c.standby)) ≡ not (nat_lt server (length c.standby)) = refl in
+    let n = l.config.acks.window in
+    let cs = carried_by l.output.buffer w in
+    let setup = session_setup c server salt now in
     checked _ same (λ known.
     checked _ (is_some-option_map live_session x.session) (λ none.
-    goes refl (with_session-leads l w x _ _ (begins-live (session_setup c server salt now), record { own = begins-sane (session_setup c server salt now); carries = λ d e. absurd cc }))))
+    let is : x.session ≡ None = no_session x.session none in
+    let fits : IsSaneWorker n cs None = subst (IsSaneWorker n cs) is (own.workers w x.session (worker_is l w x e).here) in
+    let stays : StaysSane n cs x.session (Some (begins setup)) = subst (λ y. StaysSane n cs y (Some (begins setup))) (sym is) (same_chunks n cs None (begins setup) fits (begins-sane setup) set tt (λ k. refl) refl) in
+    let leads = session_leads l w x (begins setup) e stays in
+    goes refl (leads.0 ∙ ap (with_session (worker_map live_session x)) (begins-live setup), leads.1)))
 
 config_here : (l : Lane) → (live_lane l).config ≡ l.config
 unfolding live_lane
 config_here l = refl
+
+-- a session has as much room as its live part
+full_same : (s : Option SessionHistory)
+    → steps.is_full lives (option_map live_session s) ≡ steps.is_full histories s
+full_same None = refl
+full_same (Some s) = ap (λ n. n == 0) (sym (room-live s))
+
+or_left : (a b : Bool) → (a || b) ≡ false → a ≡ false
+or_left true b e = e
+or_left false b e = refl
+
+or_right : (a b : Bool) → (a || b) ≡ false → b ≡ false
+or_right true b e = absurd cc
+or_right false b e = e
+
+no_chunk : (c : Option Load) → is_some c ≡ false → c ≡ None
+no_chunk None e = refl
+no_chunk (Some c) e = absurd cc
 
 take : (l : Lane) (w now : ℕ) → IsSaneLane l
     → Agrees live_lane IsSaneLane (steps.take histories l w now)
     (steps.take lives (live_lane l) w now)
 take l w now own =
     sought _ _ (worker_here w l) (λ x e.
-    checked _ refl (λ none.
+    checked _ (ap (λ b. is_some x.taken || b) (full_same x.session)) (λ none.
     let at = worker_is l w x e in
-    let free = none_carried l w x at none in
+    let free = taken_is l w x at ∙ no_chunk x.taken (or_left (is_some x.taken) (steps.is_full histories x.session) none) in
+    let room = or_right (is_some x.taken) (steps.is_full histories x.session) none in
     goes (ap chunk_answer (given-same l now own)) (
-      takes-live l w now x.session at.here free own ∙ ap (λ y. lives.takes (live_lane l) w (worker_map live_session y) now) at.is,
-      takes-sane l w now free own,
+      takes-live l w now x.session at.here free room own ∙ ap (λ y. lives.takes (live_lane l) w (worker_map live_session y) now) at.is,
+      takes-sane l w now x.session at.here free room own,
     )))
-
-loaded_here : (s : SessionHistory) → is_some (live_session s).loaded ≡ is_some s.loaded
-unfolding live_session
-loaded_here s = refl
 
 down_here : (s : SessionHistory) → (live_session s).down ≡ s.down
 unfolding live_session
@@ -349,23 +379,29 @@ and_left false b e = refl
 
 load : (now : ℕ) (l : Lane) (w : ℕ) (x : Worker SessionHistory)
     → IsSaneLane l → histories.worker_at l w ≡ Some x
-    → Agrees (worker_map live_session) (SaneWorker l w x) (steps.load histories now x)
+    → Agrees (worker_map live_session) (SaneWorker l w) (steps.load histories now x)
     (steps.load lives now (worker_map live_session x))
 load now l w x own e =
     sought {g = live_session} _ _ refl (λ s f.
-    sought {g = λ (c : Load). c} _ _ (option_id x.chunk) (λ c g.
-    checked NotNow (loaded_here s) (λ fresh.
+    sought {g = λ (c : Load). c} _ _ (option_id x.taken) (λ c g.
+    checked NotNow (ap (λ n. n == 0) (sym (room-live s))) (λ some.
     checked NotUp (ap not (sym (ready-live s))) (λ up.
-    goes refl (with_session-leads l w x _ _ (leads s c (own.sessions w s (session_here l w x s e f)) g (and_left s.down (is_free_for (handshake_of s) s.has_acked) up)))))))
+    goes refl (leads s c f (session_here l w x s e f) g (and_left s.down (is_free_for (handshake_of s) s.has_loaded) up))))))
   where
-    leads : (s : SessionHistory) (c : Load) → IsSaneSession w l.output.buffer s → x.chunk ≡ Some c
-        → s.down ≡ false
-        → Leads live_session (IsSaneSession w l.output.buffer) (loads s c now)
-        (lives.loads (live_session s) c now)
-    leads s c fits g up = (
-      loads-live s c now fits.own up,
-      record { own = loads-sane s c now fits.own; carries = λ d h. carried_is l w x (worker_is l w x e) ∙ g ∙ h },
-    )
+    cs : List Load
+    cs = carried_by l.output.buffer w
+
+    leads : (s : SessionHistory) (c : Load) → x.session ≡ Some s
+        → slice_get l.sessions w ≡ Some (Some s) → x.taken ≡ Some c → s.down ≡ false
+        → Leads (worker_map live_session) (SaneWorker l w) (with_loaded (loads s c now))
+        (with_loaded (lives.loads (live_session s) c now))
+    leads s c f here g up =
+        let fits = own.workers w (Some s) here in
+        let taken : taken_by l.output.buffer w (Some s) ≡ Some c = ap (λ y. taken_by l.output.buffer w y) (sym f) ∙ taken_is l w x (worker_is l w x e) ∙ g in
+        let one = loads_taken s c now l.config.acks.window cs fits taken in (
+          (λ i. with_loaded (loads-live s c now (fits.own s refl) up i)),
+          ((λ i. record { taken = one.1 i; session = Some (loads s c now) }), one.0),
+        )
 
 le_from : (a b : ℕ) → nat_lt a b ≡ false → b ≤ a
 le_from a b e = grind (arith, nat_tests, e)
@@ -382,37 +418,47 @@ wrote_sane s count own few = by s.down refl
         record { started = own.started; sent = omega (arith, zero, own.sent); opened = own.opened; greets = own.greets }
     by false e = sends-sane s count own e (le_from (length (histories.to_send s)) count few)
 
-wrote : (b : BufferHistory) (w count : ℕ) (s : SessionHistory) → IsSaneSession w b s
-    → Agrees live_session (IsSaneSession w b) (steps.wrote histories count s)
+wrote : (n : ℕ) (cs : List Load) (count : ℕ) (s : SessionHistory) → IsSaneWorker n cs (Some s)
+    → Agrees live_session (λ t. StaysSane n cs (Some s) (Some t)) (steps.wrote histories count s)
     (steps.wrote lives count (live_session s))
 unfolding live_session
-wrote b w count s fits = checked NotNow refl (λ few. goes refl (sends-live s count, record { own = wrote_sane s count fits.own few; carries = fits.carries }))
+wrote n cs count s fits = checked NotNow refl (λ few. goes refl (sends-live s count, same_chunks n cs (Some s) (histories.sends s count) fits (wrote_sane s count (fits.own s refl) few) (fits.window s refl) fits.his (λ k. refl) refl))
 
-heard-agrees : (b : BufferHistory) (w : ℕ) (told : SessionHeard) (out : List ℕ) (s : SessionHistory)
-    (t : LiveSession) → Leads live_session (IsSaneSession w b) s t
-    → Agrees live_session (IsSaneSession w b) (of_heard told out s) (of_heard told out t)
-heard-agrees b w heard_as.NotUp out s t leads = stays
-heard-agrees b w heard_as.Quiet out s t leads = goes refl leads
-heard-agrees b w heard_as.Ready out s t leads = goes refl leads
-heard-agrees b w heard_as.Acked out s t leads = goes refl leads
-heard-agrees b w (heard_as.Fault why) out s t leads = goes refl leads
+heard-agrees : (n : ℕ) (cs : List Load) (s : SessionHistory) (told : SessionHeard) (out : List ℕ)
+    (t : SessionHistory) (u : LiveSession)
+    → Leads live_session (λ t. StaysSane n cs (Some s) (Some t)) t u
+    → Agrees live_session (λ t. StaysSane n cs (Some s) (Some t)) (of_heard told out t) (of_heard told out u)
+heard-agrees n cs s heard_as.NotUp out t u leads = stays
+heard-agrees n cs s heard_as.Quiet out t u leads = goes refl leads
+heard-agrees n cs s heard_as.Ready out t u leads = goes refl leads
+heard-agrees n cs s heard_as.Acked out t u leads = goes refl leads
+heard-agrees n cs s (heard_as.Fault why) out t u leads = goes refl leads
 
-hear : (bytes : List ℕ) (b : BufferHistory) (w : ℕ) (s : SessionHistory) → IsSaneSession w b s
-    → Agrees live_session (IsSaneSession w b) (steps.heard histories bytes s)
+hear : (bytes : List ℕ) (n : ℕ) (cs : List Load) (s : SessionHistory) → IsSaneWorker n cs (Some s)
+    → Agrees live_session (λ t. StaysSane n cs (Some s) (Some t)) (steps.heard histories bytes s)
     (steps.heard lives bytes (live_session s))
-hear bytes b w s fits =
-    let leads : Leads live_session (IsSaneSession w b) (hears_bytes s bytes) (session_hears (live_session s) bytes) =
-    (hears_bytes-live s bytes fits.own, record { own = hears_bytes-sane s bytes fits.own; carries = λ c e. fits.carries c (sym (hears-loaded s bytes) ∙ e) }) in
-    subst (λ y. Agrees live_session (IsSaneSession w b) (steps.heard histories bytes s) y)
-    (λ i. of_heard (told-live s bytes fits.own i) (out-live s bytes fits.own i) (session_hears (live_session s) bytes))
-    (heard-agrees b w (piece_told s bytes) (piece_out s bytes) (hears_bytes s bytes) (session_hears (live_session s) bytes) leads)
+hear bytes n cs s fits =
+    let own = fits.own s refl in
+    let leads : Leads live_session (λ t. StaysSane n cs (Some s) (Some t)) (hears_bytes s bytes) (session_hears (live_session s) bytes) =
+    (hears_bytes-live s bytes own, same_chunks n cs (Some s) (hears_bytes s bytes) fits (hears_bytes-sane s bytes own) (hears-window s bytes ∙ fits.window s refl) (hears-all s bytes (λ c. IsAmong c cs) fits.his) (hears-times s bytes) (hears-length s bytes)) in
+    subst (λ y. Agrees live_session (λ t. StaysSane n cs (Some s) (Some t)) (steps.heard histories bytes s) y)
+    (λ i. of_heard (told-live s bytes own i) (out-live s bytes own i) (session_hears (live_session s) bytes))
+    (heard-agrees n cs s (piece_told s bytes) (piece_out s bytes) (hears_bytes s bytes) (session_hears (live_session s) bytes) leads)
 
-late : (now : ℕ) (b : BufferHistory) (w : ℕ) (s : SessionHistory) → IsSaneSession w b s
-    → Agrees live_session (IsSaneSession w b) (steps.late histories now s)
+late : (now n : ℕ) (cs : List Load) (s : SessionHistory) → IsSaneWorker n cs (Some s)
+    → Agrees live_session (λ t. StaysSane n cs (Some s) (Some t)) (steps.late histories now s)
     (steps.late lives now (live_session s))
-late now b w s fits =
+late now n cs s fits =
     checked NotUp (down_here s) (λ up.
-    goes (ap answer.Late (late-live s now)) (looks-live s now up, record { own = looks-sane s now fits.own up; carries = fits.carries }))
+    goes (ap answer.Late (late-live s now)) (looks-live s now up, same_chunks n cs (Some s) (histories.looks s now) fits (looks-sane s now (fits.own s refl) up) (fits.window s refl) fits.his (λ k. refl) refl))
+
+first_here : (s : SessionHistory) → first_in (live_session s).accepted ≡ first_in s.accepted
+unfolding live_session
+first_here s = refl
+
+server_here : (s : SessionHistory) → (live_session s).setup.server ≡ s.setup.server
+unfolding live_session
+server_here s = refl
 
 settle : (l : Lane) (w : ℕ) → IsSaneLane l
     → Agrees live_lane IsSaneLane (steps.settle histories l w)
@@ -421,44 +467,57 @@ unfolding live_session
 settle l w own =
     sought {g = worker_map live_session} _ _ (worker_here w l) (λ x e.
     sought {g = live_session} _ _ refl (λ s f.
-    sought {g = λ (c : Load). c} _ _ (sym (acked-live s) ∙ option_id (histories.acked s)) (λ c g.
+    sought {g = λ (a : Accepted). a} _ _ (option_id (first_in s.accepted)) (λ a g.
     let here = session_here l w x s e f in
-    let is = acked_is l.output.buffer w s c (own.sessions w s here) g in
-    goes (ap answer.Settled (count-same l w c own is)) (settles-live l w s c s.setup.server s.reply here own is, settles-sane l w s c s.setup.server s.reply here own is))))
+    let is = acked_is l.output.buffer w s a (own.workers w (Some s) here) g in
+    let taken : taken_by l.output.buffer w (Some s) ≡ x.taken = ap (λ y. taken_by l.output.buffer w y) (sym f) ∙ taken_is l w x (worker_is l w x e) in
+    goes (ap answer.Settled (count-same l w a.chunk own is)) (
+      settles-live l w s a s.setup.server here own g
+          ∙ (λ i. lives.settles (live_lane l) w (record { taken = taken i; session = Some (unloads-live s i) }) (evidence_of s.setup.server a)),
+      settles-sane l w s a s.setup.server here own g,
+    ))))
 
 -- what an end asks of a session is asked alike of its live part
 acked_same : (s : Option SessionHistory)
     → steps.has_acked lives (option_map live_session s) ≡ steps.has_acked histories s
 acked_same None = refl
-acked_same (Some s) = ap is_some (sym (acked-live s))
+acked_same (Some s) = ap is_some (first_here s)
 
-loaded_same : (s : Option SessionHistory)
-    → steps.has_loaded histories s ≡ steps.has_loaded lives (option_map live_session s)
+chunks_same : (s : SessionHistory) (ls : List Loaded)
+    → live_chunks (map (live_loaded s) ls) ≡ chunks_of ls
+chunks_same s [] = refl
+chunks_same s (l ∷ ls) = ap (λ cs. l.chunk ∷ cs) (chunks_same s ls)
+
+waiting_same : (s : SessionHistory) → chunks_of s.carried ≡ live_chunks (live_session s).carried
 unfolding live_session
-loaded_same None = refl
-loaded_same (Some s) = refl
+waiting_same s = sym (chunks_same s s.carried)
+
+unacknowledged_same : (s : Option SessionHistory)
+    → steps.unacknowledged_of histories s ≡ steps.unacknowledged_of lives (option_map live_session s)
+unacknowledged_same None = refl
+unacknowledged_same (Some s) = waiting_same s
 
 lost_same : (kind : EndKind) (s : Option SessionHistory)
     → steps.lost_server histories kind s ≡ steps.lost_server lives kind (option_map live_session s)
 unfolding live_session
 lost_same kind None = refl
-lost_same kind (Some s) = refl
+lost_same kind (Some s) = ap (λ (cs : List Load). cond (steps.is_lost kind || (s.down || (not (histories.is_greeted s) || nat_lt 0 (length cs)))) (Some s.setup.server) None) (sym (chunks_same s s.carried))
 
 end : (l : Lane) (w : ℕ) (kind : EndKind) (now : ℕ) → IsSaneLane l
     → Agrees live_lane IsSaneLane (steps.end histories l w kind now)
     (steps.end lives (live_lane l) w kind now)
 end l w kind now own =
     sought {g = worker_map live_session} _ _ (worker_here w l) (λ x e.
-    checked NotNow (ap (λ b. not (is_some x.chunk) && not b) (is_some-option_map live_session x.session)) (λ some.
+    checked NotNow (ap (λ b. not (is_some x.taken) && not b) (is_some-option_map live_session x.session)) (λ some.
     checked NotNow (acked_same x.session) (λ none.
     let at = worker_is l w x e in
-    let back = returned x.chunk (steps.has_loaded histories x.session) in
+    let back = steps.gives_back histories x in
     let server = steps.lost_server histories kind x.session in
-    let is = backs l.output.buffer w x.chunk (steps.has_loaded histories x.session) (carried_is l w x at) in
-    goes refl (
-      ends-live l w x.session back server now at.here own is
-          ∙ (λ i. lives.ends (live_lane l) w (returned x.chunk (loaded_same x.session i)) (lost_same kind x.session i) now),
-      ends-sane l w back server now own is,
+    let is = gives_all l w x own e none in
+    goes (λ i. answer.Ended (numbers_back (returned x.taken (unacknowledged_same x.session i)))) (
+      ends-live l w back now own is x.session server at.here
+          ∙ (λ i. lives.ends (live_lane l) w (returned x.taken (unacknowledged_same x.session i)) (lost_same kind x.session i) now),
+      ends-sane l w back now own is server,
     ))))
 
 -- ---- the step
@@ -490,19 +549,19 @@ event_agrees h (event.Admit id o now) sane = at_both h sane id o _ (steps.admit 
 event_agrees h (event.Flush o now kind) sane = at_lane h sane o _ (λ l. steps.flush lives l now kind) (λ l own. flush l now kind own)
 event_agrees h (event.Up o w server salt now) sane = at_lane h sane o _ (λ l. steps.at_worker lives l w (steps.up lives l.config server salt now))
     (λ l own. subst (λ c. Agrees live_lane IsSaneLane (steps.at_worker histories l w (steps.up histories l.config server salt now)) (steps.at_worker lives (live_lane l) w (steps.up lives c server salt now))) (sym (config_here l))
-    (at_worker l w _ (steps.up lives l.config server salt now) own (λ x e. up l w l.config server salt now x)))
+    (at_worker l w _ (steps.up lives l.config server salt now) own (λ x e. up l w l.config server salt now x own refl e)))
 event_agrees h (event.Choose o w now) sane = at_lane h sane o _ (λ l. steps.choose lives l w now) (λ l own. choose l w now own)
 event_agrees h (event.Take o w now) sane = at_lane h sane o _ (λ l. steps.take lives l w now) (λ l own. take l w now own)
 event_agrees h (event.Load o w now) sane = at_lane h sane o _ (λ l. steps.at_worker lives l w (steps.load lives now)) (λ l own. at_worker l w _ (steps.load lives now) own (λ x e. load now l w x own e))
 event_agrees h (event.Wrote o w count) sane =
     at_lane h sane o _ (λ l. steps.at_worker lives l w (λ x. steps.at_session lives x (steps.wrote lives count)))
-    (λ l own. at_worker l w _ (λ x. steps.at_session lives x (steps.wrote lives count)) own (λ x e. at_session l w x _ (steps.wrote lives count) own e (λ s fits. wrote l.output.buffer w count s fits)))
+    (λ l own. at_worker l w _ (λ x. steps.at_session lives x (steps.wrote lives count)) own (λ x e. at_session l w x _ (steps.wrote lives count) own e (λ s fits. wrote l.config.acks.window (carried_by l.output.buffer w) count s fits)))
 event_agrees h (event.Heard o w bytes) sane =
     at_lane h sane o _ (λ l. steps.at_worker lives l w (λ x. steps.at_session lives x (steps.heard lives bytes)))
-    (λ l own. at_worker l w _ (λ x. steps.at_session lives x (steps.heard lives bytes)) own (λ x e. at_session l w x _ (steps.heard lives bytes) own e (λ s fits. hear bytes l.output.buffer w s fits)))
+    (λ l own. at_worker l w _ (λ x. steps.at_session lives x (steps.heard lives bytes)) own (λ x e. at_session l w x _ (steps.heard lives bytes) own e (λ s fits. hear bytes l.config.acks.window (carried_by l.output.buffer w) s fits)))
 event_agrees h (event.Late o w now) sane =
     at_lane h sane o _ (λ l. steps.at_worker lives l w (λ x. steps.at_session lives x (steps.late lives now)))
-    (λ l own. at_worker l w _ (λ x. steps.at_session lives x (steps.late lives now)) own (λ x e. at_session l w x _ (steps.late lives now) own e (λ s fits. late now l.output.buffer w s fits)))
+    (λ l own. at_worker l w _ (λ x. steps.at_session lives x (steps.late lives now)) own (λ x e. at_session l w x _ (steps.late lives now) own e (λ s fits. late now l.config.acks.window (carried_by l.output.buffer w) s fits)))
 event_agrees h (event.End o w kind now) sane = at_lane h sane o _ (λ l. steps.end lives l w kind now) (λ l own. end l w kind now own)
 event_agrees h (event.Settle o w) sane = at_lane h sane o _ (λ l. steps.settle lives l w) (λ l own. settle l w own)
 event_agrees h (event.Collect id o) sane = at_both h sane id o _ (steps.collect lives id) (λ s l own its. collect id s l own its)
@@ -544,11 +603,14 @@ reports_follow h sane = all_reports h.lanes sane.lanes
 
 -- ---- runs
 
-no_sessions : (n w : ℕ) (t : SessionHistory) → slice_get (replicate n None) w ≡ Some (Some t)
-    → ⊥
-no_sessions zero w t e = cc
-no_sessions (suc n) zero t e = cc
-no_sessions (suc n) (suc w) t e = no_sessions n w t e
+no_sessions : (n w : ℕ) (x : Option SessionHistory) → slice_get (replicate n None) w ≡ Some x
+    → None ≡ x
+no_sessions zero w x e = absurd cc
+no_sessions (suc n) zero x e = same_Some _ _ e
+no_sessions (suc n) (suc w) x e = no_sessions n w x e
+
+nothing_sane : (n : ℕ) → IsSaneWorker n [] None
+nothing_sane n = record { own = λ s e. absurd cc; window = λ s e. absurd cc; his = tt; once = λ k. omega arith; rest = omega arith; whole = refl; few = omega arith }
 
 new_lane_sane : (run : List ℕ) (o : ℕ) (c : OutputConfig) → IsSaneLane (new_lane run o c)
 new_lane_sane run o c = record {
@@ -556,7 +618,7 @@ new_lane_sane run o c = record {
   apart = tt;
   marks = refl;
   waits = c.limits.bounded;
-  sessions = λ w t e. absurd (no_sessions c.workers w t e);
+  workers = λ w x e. subst (IsSaneWorker c.acks.window []) (no_sessions c.workers w x e) (nothing_sane c.acks.window);
 }
 
 opening_lanes : (run : List ℕ) (o : ℕ) (cs : List OutputConfig) → AllSane (new_lanes run o cs)

@@ -26,7 +26,7 @@ use Rattle.fwd_model.specs.Step as steps
 use Rattle.fwd_model.specs.Step.{step}
 use Rattle.fwd_model.specs.Setups.{setup_of}
 use Rattle.fwd_book.specs.History.{Untold, Told, Forgotten, Admission, entered_as, is_untold, is_of, is_owed_to, is_settled, is_due, becomes, leaves as moves, tells_due, forgets_of}
-use Rattle.fwd_model.specs.Outputs.{output_history_enters}
+use Rattle.fwd_model.specs.Outputs.{numbers_back, output_history_enters}
 use Rattle.fwd_session.specs.History.{SessionHistory}
 use Rattle.fwd_model.specs.declared.event.EndKind.{EndKind}
 use Rattle.fwd_model.specs.History.{source_at, Lane, History, opening, new_lane, new_lanes, with_connection, with_lane, with_output, with_book, histories}
@@ -168,12 +168,12 @@ module _ (config : Config) (es : List Event) (e : Event) (m : Marked config es (
   taken_same : (l : Lane) (w now : ℕ)
       → Onward (λ a x. x.output.book.admissions ≡ l.output.book.admissions)
       (steps.take histories l w now)
-  taken_same l w now = past_found NoSuch {x = histories.worker_at l w} (λ x at. past NotNow {b = is_some x.chunk} (λ none. to {a = chunk_answer (histories.given l now)} refl))
+  taken_same l w now = past_found NoSuch {x = histories.worker_at l w} (λ x at. past NotNow {b = is_some x.taken || steps.is_full histories x.session} (λ none. to {a = chunk_answer (histories.given l now)} refl))
 
   settled_same : (l : Lane) (w : ℕ)
       → Onward (λ a x. x.output.book.admissions ≡ l.output.book.admissions)
       (steps.settle histories l w)
-  settled_same l w = past_found NoSuch {x = histories.worker_at l w} (λ x at. past_found NotNow {x = x.session} (λ s f. past_found NotNow {x = histories.acked s} (λ c acked. to {a = answer.Settled (histories.entries_at l c.number)} refl)))
+  settled_same l w = past_found NoSuch {x = histories.worker_at l w} (λ x at. past_found NotNow {x = x.session} (λ s f. past_found NotNow {x = histories.acked s} (λ a acked. to {a = answer.Settled (histories.entries_at l a.chunk.number)} refl)))
 
   chosen_same : (l : Lane) (w now : ℕ)
       → Onward (λ a x. x.output.book.admissions ≡ l.output.book.admissions)
@@ -183,7 +183,7 @@ module _ (config : Config) (es : List Event) (e : Event) (m : Marked config es (
   ended_same : (l : Lane) (w : ℕ) (kind : EndKind) (now : ℕ)
       → Onward (λ a x. x.output.book.admissions ≡ l.output.book.admissions)
       (steps.end histories l w kind now)
-  ended_same l w kind now = past_found NoSuch {x = histories.worker_at l w} (λ x at. past NotNow {b = steps.is_idle histories x} (λ some. past NotNow {b = steps.has_acked histories x.session} (λ none. to {a = answer.Ended (option_map (λ c. c.number) x.chunk)} refl)))
+  ended_same l w kind now = past_found NoSuch {x = histories.worker_at l w} (λ x at. past NotNow {b = steps.is_idle histories x} (λ some. past NotNow {b = steps.has_acked histories x.session} (λ none. to {a = answer.Ended (numbers_back (steps.gives_back histories x))} refl)))
 
   -- ---- a connection and an output
 

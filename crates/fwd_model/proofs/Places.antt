@@ -1,5 +1,5 @@
 -- Places in the lists of a history and of its live part.
-use Rattle.std.proofs.Common.{◌≡◌, ℕ, zero, suc, ◌+◌, ◌<◌, Bool, true, false, cond, eqb, List, [], ◌∷◌, ◌++◌, length, Option, Some, None, refl, sym, ap, subst, ◌∙◌, add-zero, arith}
+use Rattle.std.proofs.Common.{◌≡◌, ◌≢◌, ℕ, zero, suc, ◌+◌, ◌<◌, Bool, true, false, cond, eqb, List, [], ◌∷◌, ◌++◌, length, Option, Some, None, refl, sym, ap, subst, ◌∙◌, add-zero, arith}
 use Rattle.std.proofs.Math.ListN.{set}
 use Rattle.std.specs.Prelude.{map, option_map, slice_get, ◌&&◌, not, nat_lt, ◌==◌}
 use Rattle.std.specs.List.{list_all}
@@ -8,8 +8,9 @@ use Rattle.fwd_source.specs.History.{SourceHistory}
 use Rattle.fwd_source.specs.Live.{live_source}
 use Rattle.fwd_session.specs.History.{SessionHistory}
 use Rattle.fwd_session.specs.Live.{live_session}
-use Rattle.fwd_model.specs.Outputs.{OutputHistory, carried_by}
-use Rattle.fwd_model.specs.History.{History, histories, Connection, source_at, with_source, with_gone, is_fresh}
+use Rattle.fwd_chunks.specs.History.{Load}
+use Rattle.fwd_model.specs.Outputs.{OutputHistory, carried_by, not_loaded}
+use Rattle.fwd_model.specs.History.{History, histories, Connection, source_at, with_source, with_gone, is_fresh, loaded_in, taken_by}
 use Rattle.fwd_model.specs.Live.{live_connection, known, last_id, live_worker, live_workers, live_source_at, with_live_source, without}
 use Rattle.fwd_model.specs.declared.answer.Answer.{Answer}
 use Rattle.fwd_model.specs.Outcome.{Goes}
@@ -160,7 +161,7 @@ slice_get-set_same [] i x y h = absurd cc
 slice_get-set_same (a ∷ xs) zero x y h = refl
 slice_get-set_same (a ∷ xs) (suc i) x y h = slice_get-set_same xs i x y h
 
-set-same : {X : Type 0} (xs : List X) (i : ℕ) (x : X) → slice_get xs i ≡ Some x → set xs i x ≡ xs
+pub set-same : {X : Type 0} (xs : List X) (i : ℕ) (x : X) → slice_get xs i ≡ Some x → set xs i x ≡ xs
 set-same [] i x h = refl
 set-same (a ∷ xs) zero x h = let e : a ≡ x = cc in ap (λ y. y ∷ xs) (sym e)
 set-same (a ∷ xs) (suc i) x h = ap (λ ys. a ∷ ys) (set-same xs i x h)
@@ -175,7 +176,7 @@ pub live_workers-same : (o p : OutputHistory) (w : ℕ) (ss : List (Option Sessi
     → ((k : ℕ) → carried_by o.buffer k ≡ carried_by p.buffer k)
     → live_workers o w ss ≡ live_workers p w ss
 live_workers-same o p w [] h = refl
-live_workers-same o p w (s ∷ ss) h = λ i. record { chunk = h w i; session = option_map live_session s } ∷ live_workers-same o p (suc w) ss h i
+live_workers-same o p w (s ∷ ss) h = λ i. record { taken = not_loaded (loaded_in s) (h w i); session = option_map live_session s } ∷ live_workers-same o p (suc w) ss h i
 
 -- at one place
 pub live_workers-at : (o : OutputHistory) (b w : ℕ) (ss : List (Option SessionHistory))
@@ -197,3 +198,27 @@ pub length-live_workers : (o : OutputHistory) (b : ℕ) (ss : List (Option Sessi
     → length (live_workers o b ss) ≡ length ss
 length-live_workers o b [] = refl
 length-live_workers o b (s ∷ ss) = ap suc (length-live_workers o (suc b) ss)
+
+-- where one worker has other chunks and another session
+others_same : (o p : OutputHistory) (w b : ℕ) (ss : List (Option SessionHistory))
+    → ((v : ℕ) → w ≢ v → carried_by p.buffer v ≡ carried_by o.buffer v) → w < b
+    → live_workers p b ss ≡ live_workers o b ss
+others_same o p w b [] others lt = refl
+others_same o p w b (s ∷ ss) others lt = λ i.
+    record { taken = not_loaded (loaded_in s) (others b (λ e. omega (arith, lt, e)) i); session = option_map live_session s }
+    ∷ others_same o p w (suc b) ss others (omega (arith, lt)) i
+
+pub one_changes : (o p : OutputHistory) (w b j : ℕ) (ss : List (Option SessionHistory))
+    (t x : Option SessionHistory) (taken : Option Load)
+    → ((v : ℕ) → w ≢ v → carried_by p.buffer v ≡ carried_by o.buffer v)
+    → taken_by p.buffer w t ≡ taken → w ≡ b + j → slice_get ss j ≡ Some x
+    → live_workers p b (set ss j t) ≡ set (live_workers o b ss) j
+    (record { taken = taken; session = option_map live_session t })
+one_changes o p w b j [] t x taken others own at here = absurd cc
+one_changes o p w b zero (s ∷ ss) t x taken others own at here =
+    let same : w ≡ b = omega (arith, at) in λ i.
+    record { taken = (ap (λ y. taken_by p.buffer y t) (sym same) ∙ own) i; session = option_map live_session t }
+    ∷ others_same o p w (suc b) ss others (omega (arith, at)) i
+one_changes o p w b (suc j) (s ∷ ss) t x taken others own at here = λ i.
+    record { taken = not_loaded (loaded_in s) (others b (λ e. omega (arith, at, e)) i); session = option_map live_session s }
+    ∷ one_changes o p w (suc b) j ss t x taken others own (omega (arith, at)) here i

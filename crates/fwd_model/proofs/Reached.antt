@@ -1,15 +1,17 @@
 -- What holds of each history that a run reaches.
-use Rattle.std.proofs.Common.{◌≡◌, ◌≢◌, ℕ, zero, suc, ◌<◌, ◌^◌, Bool, true, false, cond, eqb, List, [], ◌∷◌, ◌++◌, Option, Some, None, refl, ap, subst, inl, inr, arith}
+use Rattle.std.proofs.Common.{◌≡◌, ◌≢◌, ℕ, zero, suc, ◌+◌, ◌<◌, ◌≤◌, ◌^◌, length, Bool, true, false, cond, eqb, List, [], ◌∷◌, ◌++◌, Option, Some, None, refl, ap, subst, inl, inr, arith}
 use Rattle.std.proofs.Math.ListN.{set}
 use Rattle.std.specs.Prelude.{◌⊎◌, slice_get}
-use Rattle.fwd_chunks.specs.History.{BufferHistory, Load}
+use Rattle.std.specs.List.{AllByRecursion}
+use Rattle.fwd_chunks.specs.History.{Load}
 use Rattle.fwd_chunks.proofs.Sane.{IsSane as IsSaneBuffer}
 use Rattle.fwd_source.specs.History.{SourceHistory, IsSane as IsSaneSource}
 use Rattle.fwd_session.specs.History.{SessionHistory, IsSane as IsSaneHistory}
-use Rattle.fwd_model.specs.History.{Connection, source_at, with_source, with_gone, Lane, History, is_fresh}
+use Rattle.fwd_model.specs.History.{Connection, source_at, with_source, with_gone, Lane, History, is_fresh, loaded_in}
 use Rattle.fwd_model.specs.Live.{last_id, is_above}
 use Rattle.fwd_model.proofs.Places.{Once}
 use Rattle.fwd_model.specs.Outputs.{carried_by}
+use Rattle.fwd_model.proofs.Chunks.{IsAmong, times, missing}
 use Rattle.fwd_model.proofs.Settling.{AreApart}
 use Rattle.fwd_model.proofs.Settled.{numbers_in}
 
@@ -17,19 +19,30 @@ abbrev pub AllSources : List Connection → Type 0
 AllSources [] = Unit {0}
 AllSources (c ∷ cs) = IsSaneSource c.source × AllSources cs
 
--- what holds of a session: its history is sane, and its chunk is the one that its worker has
-pub record IsSaneSession (w : ℕ) (b : BufferHistory) (s : SessionHistory) : Type 0 where
-  pub own : IsSaneHistory s
-  pub carries : (c : Load) → s.loaded ≡ Some c → carried_by b w ≡ Some c
+-- what holds of a worker that has these chunks, and of its session: its history is sane, it has
+-- this window, each of its chunks is one of them, no two of its chunks have one number, and at most
+-- one is left. The chunks are no more than the window
+pub record IsSaneWorker (n : ℕ) (cs : List Load) (x : Option SessionHistory) : Type 0 where
+  pub own : (s : SessionHistory) → x ≡ Some s → IsSaneHistory s
+  pub window : (s : SessionHistory) → x ≡ Some s → s.setup.window ≡ n
+  pub his : AllByRecursion (λ c. IsAmong c cs) (loaded_in x)
+  pub once : (k : ℕ) → times k (loaded_in x) ≤ 1
+  pub rest : length (missing (loaded_in x) cs) ≤ 1
+  pub whole : length cs ≡ length (loaded_in x) + length (missing (loaded_in x) cs)
+  pub few : length cs ≤ n
 
--- what holds of an output and its sessions: its buffer is sane, its workers carry apart, and its
+-- what holds of an output and its workers: its buffer is sane, its workers carry apart, and its
 -- book knows of the numbers that were acknowledged. The waits of its servers fit 64 bits
 pub record IsSaneLane (l : Lane) : Type 0 where
   pub buffer : IsSaneBuffer l.output.buffer
   pub apart : AreApart l.output.buffer.carried
   pub marks : numbers_in l.output.book.settled ≡ l.output.buffer.acknowledged
   pub waits : l.output.setting.retry_max < 2 ^ 64
-  pub sessions : (w : ℕ) (s : SessionHistory) → slice_get l.sessions w ≡ Some (Some s) → IsSaneSession w l.output.buffer s
+  pub workers : (w : ℕ) (x : Option SessionHistory) → slice_get l.sessions w ≡ Some x → IsSaneWorker l.config.acks.window (carried_by l.output.buffer w) x
+
+pub own_session : (l : Lane) (w : ℕ) (s : SessionHistory) → IsSaneLane l
+    → slice_get l.sessions w ≡ Some (Some s) → IsSaneHistory s
+own_session l w s own here = (own.workers w (Some s) here).own s refl
 
 abbrev pub AllSane : List Lane → Type 0
 AllSane [] = Unit {0}

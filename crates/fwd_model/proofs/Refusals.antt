@@ -1,7 +1,7 @@
 -- An event that is refused leaves the state as it was: what it goes on to is answered otherwise,
 -- whatever the layers are.
 use Rattle.std.proofs.Common.{◌≡◌, ℕ, ◌+◌, true, false, List, length, Option, Some, None, refl}
-use Rattle.std.specs.Prelude.{not, is_some, option_map, nat_lt, ◌==◌}
+use Rattle.std.specs.Prelude.{not, is_some, ◌||◌, nat_lt, ◌==◌}
 use Rattle.fwd_modes.specs.Requests.{Request}
 use Rattle.fwd_match.specs.Patterns.{route}
 use Rattle.fwd_source.specs.declared.piece.Piece.{Piece}
@@ -26,6 +26,7 @@ use Rattle.fwd_model.specs.Layers.{Worker, Layers}
 use Rattle.fwd_model.specs.Step as steps
 use Rattle.fwd_model.specs.Step.{step}
 use Rattle.fwd_model.specs.Setups.{setup_of}
+use Rattle.fwd_model.specs.Outputs.{numbers_back}
 use Rattle.fwd_model.proofs.Onward.{Onward, to, past, past_found, source_on, lane_on, both_on, worker_on, session_on}
 
 -- what is gone on to is no refusal
@@ -83,11 +84,11 @@ module _ (L : Layers) where
   up_counts c server salt now x = past NoSuch {b = not (nat_lt server (length c.standby))} (λ known. past NotNow {b = is_some x.session} (λ none. to {a = answer.Done} refl))
 
   take_counts : (l : L.Lane) (w now : ℕ) → Onward Answered (steps.take L l w now)
-  take_counts l w now = past_found NoSuch {x = L.worker_at l w} (λ x at. past NotNow {b = is_some x.chunk} (λ none. to {a = chunk_answer (L.given l now)} (chunk_counts (L.given l now))))
+  take_counts l w now = past_found NoSuch {x = L.worker_at l w} (λ x at. past NotNow {b = is_some x.taken || steps.is_full L x.session} (λ none. to {a = chunk_answer (L.given l now)} (chunk_counts (L.given l now))))
 
   load_counts : (now : ℕ) (x : Worker L.Session) → Onward Answered (steps.load L now x)
   load_counts now x =
-      past_found NotNow {x = x.session} (λ s f. past_found NotNow {x = x.chunk} (λ c g. past NotNow {b = is_some (L.loaded s)} (λ fresh. past NotUp {b = not (L.is_ready s)} (λ up. to {a = answer.Frame (frame_of c)} refl))))
+      past_found NotNow {x = x.session} (λ s f. past_found NotNow {x = x.taken} (λ c g. past NotNow {b = L.room s == 0} (λ some. past NotUp {b = not (L.is_ready s)} (λ up. to {a = answer.Frame (frame_of c)} refl))))
 
   wrote_counts : (count : ℕ) (s : L.Session) → Onward Answered (steps.wrote L count s)
   wrote_counts count s = past NotNow {b = nat_lt (length (L.to_send s)) count} (λ few. to {a = answer.Done} refl)
@@ -97,10 +98,10 @@ module _ (L : Layers) where
 
   end_counts : (l : L.Lane) (w : ℕ) (kind : EndKind) (now : ℕ)
       → Onward Answered (steps.end L l w kind now)
-  end_counts l w kind now = past_found NoSuch {x = L.worker_at l w} (λ x at. past NotNow {b = steps.is_idle L x} (λ some. past NotNow {b = steps.has_acked L x.session} (λ none. to {a = answer.Ended (option_map (λ c. c.number) x.chunk)} refl)))
+  end_counts l w kind now = past_found NoSuch {x = L.worker_at l w} (λ x at. past NotNow {b = steps.is_idle L x} (λ some. past NotNow {b = steps.has_acked L x.session} (λ none. to {a = answer.Ended (numbers_back (steps.gives_back L x))} refl)))
 
   settle_counts : (l : L.Lane) (w : ℕ) → Onward Answered (steps.settle L l w)
-  settle_counts l w = past_found NoSuch {x = L.worker_at l w} (λ x at. past_found NotNow {x = x.session} (λ s f. past_found NotNow {x = L.acked s} (λ c acked. to {a = answer.Settled (L.entries_at l c.number)} refl)))
+  settle_counts l w = past_found NoSuch {x = L.worker_at l w} (λ x at. past_found NotNow {x = x.session} (λ s f. past_found NotNow {x = L.acked s} (λ a acked. to {a = answer.Settled (L.entries_at l a.chunk.number)} refl)))
 
   accept_counts : (r : L.Relay) (setup : Setup) → Onward Answered (steps.accept L r setup)
   accept_counts r setup = past NotNow {b = not (L.is_fresh r setup.conn)} (λ fresh. to {a = answer.Accepted (opening_text setup)} refl)

@@ -1,68 +1,78 @@
--- What is carried, where a worker takes a number, and where a number is settled.
-use Rattle.std.proofs.Common.{◌≡◌, ◌≢◌, ℕ, Bool, true, false, cond, eqb, List, [], ◌∷◌, ◌++◌, Option, Some, None, refl, sym, ap, ◌∙◌, arith}
-use Rattle.std.specs.Prelude.{not, ◌||◌, ◌==◌, option_map}
+-- What is carried, where a worker takes a number, and where numbers leave what is carried.
+use Rattle.std.proofs.Common.{◌≡◌, ◌≢◌, ℕ, zero, suc, ◌≤◌, Bool, true, false, cond, eqb, List, [], ◌∷◌, ◌++◌, Some, refl, sym, ap, ◌∙◌, arith}
+use Rattle.std.specs.Prelude.{map, not, ◌||◌, ◌==◌, slice_get}
 use Rattle.std.proofs.lemmas.Bool.Decides.{nat_tests}
 use Rattle.fwd_chunks.specs.Cells.{Carry, is_carried, without}
 use Rattle.fwd_chunks.specs.History.{BufferHistory, Load, load_of}
-use Rattle.fwd_model.specs.Outputs.{carry_of, carried_by}
+use Rattle.fwd_model.specs.Outputs.{carries_of, carried_by, has_chunk}
+use Rattle.fwd_model.proofs.Chunks.{IsAmong, among-has, times, others, others-none}
 
--- each worker carries one number, and each number is carried by one worker
+-- each number is carried once
 abbrev pub AreApart : List Carry → Type 0
 AreApart [] = Unit {0}
-AreApart (c ∷ cs) = (is_carried c.number cs ≡ false) × (carry_of c.worker cs ≡ None) × AreApart cs
+AreApart (c ∷ cs) = (is_carried c.number cs ≡ false) × AreApart cs
 
-pub carry_of-carried : (w : ℕ) (cs : List Carry) (c : Carry) → carry_of w cs ≡ Some c
-    → is_carried c.number cs ≡ true
-carry_of-carried w [] c h = absurd cc
-carry_of-carried w (d ∷ cs) c h = grind (arith, nat_tests, carry_of-carried w cs c)
+-- ---- the chunks that a worker has
 
-carry_of-worker : (w : ℕ) (cs : List Carry) (c : Carry) → carry_of w cs ≡ Some c
-    → c ≡ record { worker = w; number = c.number }
-carry_of-worker w [] c h = absurd cc
-carry_of-worker w (d ∷ cs) c h = grind (arith, nat_tests, carry_of-worker w cs c)
+-- the chunks of what is carried
+abbrev pub loads_of : BufferHistory → List Carry → List Load
+loads_of b cs = map (λ c. load_of b c.number) cs
+
+pub has-loads : (b : BufferHistory) (k : ℕ) (cs : List Carry)
+    → has_chunk k (loads_of b cs) ≡ is_carried k cs
+has-loads b k [] = refl
+has-loads b k (c ∷ cs) = ap (λ t. (c.number == k) || t) (has-loads b k cs)
+
+carries-carried : (w k : ℕ) (cs : List Carry) → is_carried k (carries_of w cs) ≡ true
+    → is_carried k cs ≡ true
+carries-carried w k [] h = absurd cc
+carries-carried w k (c ∷ cs) h = grind (arith, nat_tests, carries-carried w k cs)
+
+-- what a worker has is carried
+pub mine-carried : (b : BufferHistory) (w k : ℕ) → has_chunk k (carried_by b w) ≡ true
+    → is_carried k b.carried ≡ true
+mine-carried b w k h = carries-carried w k b.carried (sym (has-loads b k (carries_of w b.carried)) ∙ h)
 
 -- what a chunk that a worker has says of the buffer
 pub record IsHis (b : BufferHistory) (w : ℕ) (c : Load) : Type 0 where
-  pub has : carry_of w b.carried ≡ Some (record { worker = w; number = c.number })
+  pub mine : has_chunk c.number (carried_by b w) ≡ true
   pub carried : is_carried c.number b.carried ≡ true
   pub same : load_of b c.number ≡ c
 
-pub his : (b : BufferHistory) (w : ℕ) (c : Load) → carried_by b w ≡ Some c → IsHis b w c
-his b w c e = by (carry_of w b.carried) refl e
-  where
-    by : (d : Option Carry) → carry_of w b.carried ≡ d
-        → option_map (λ d. load_of b d.number) d ≡ Some c → IsHis b w c
-    by None f g = absurd cc
-    by (Some d) f g =
-        let same : load_of b d.number ≡ c = cc in
-        let number : d.number ≡ c.number = ap (λ (y : Load). y.number) same in
-        record {
-          has = f ∙ ap Some (carry_of-worker w b.carried d f ∙ ap (λ n. record { worker = w; number = n }) number);
-          carried = ap (λ n. is_carried n b.carried) (sym number) ∙ carry_of-carried w b.carried d f;
-          same = ap (load_of b) (sym number) ∙ same;
-        }
+load_at : (b : BufferHistory) (c : Load) (cs : List Carry) (i : ℕ)
+    → slice_get (loads_of b cs) i ≡ Some c → load_of b c.number ≡ c
+load_at b c [] i h = absurd cc
+load_at b c (d ∷ cs) zero h =
+    let same : load_of b d.number ≡ c = cc in
+    ap (load_of b) (ap (λ (y : Load). y.number) (sym same)) ∙ same
+load_at b c (d ∷ cs) (suc i) h = load_at b c cs i h
+
+pub his : (b : BufferHistory) (w : ℕ) (c : Load) → IsAmong c (carried_by b w) → IsHis b w c
+his b w c one =
+    let mine = among-has c (carried_by b w) one in
+    record { mine = mine; carried = mine-carried b w c.number mine; same = load_at b c (carries_of w b.carried) one.place one.here }
 
 -- ---- one more carry
 
-pub carry_of-push_other : (w j k : ℕ) (cs : List Carry) → w ≢ j
-    → carry_of j (cs ++ record { worker = w; number = k } ∷ []) ≡ carry_of j cs
-carry_of-push_other w j k [] differ = grind (arith, nat_tests)
-carry_of-push_other w j k (c ∷ cs) differ = ap (cond (eqb c.worker j) (Some c)) (carry_of-push_other w j k cs differ)
+pub carries-push_other : (w j k : ℕ) (cs : List Carry) → w ≢ j
+    → carries_of j (cs ++ record { worker = w; number = k } ∷ []) ≡ carries_of j cs
+carries-push_other w j k [] differ = grind (arith, nat_tests)
+carries-push_other w j k (c ∷ cs) differ = ap (λ ds. cond (eqb c.worker j) (c ∷ ds) ds) (carries-push_other w j k cs differ)
 
-pub carry_of-push_same : (w k : ℕ) (cs : List Carry) → carry_of w cs ≡ None
-    → carry_of w (cs ++ record { worker = w; number = k } ∷ [])
-    ≡ Some (record { worker = w; number = k })
-carry_of-push_same w k [] none = grind (arith, nat_tests)
-carry_of-push_same w k (c ∷ cs) none = at (eqb c.worker w) none (λ h. carry_of-push_same w k cs h)
+pub carries-push_same : (w k : ℕ) (cs : List Carry)
+    → carries_of w (cs ++ record { worker = w; number = k } ∷ [])
+    ≡ carries_of w cs ++ record { worker = w; number = k } ∷ []
+carries-push_same w k [] = grind (arith, nat_tests)
+carries-push_same w k (c ∷ cs) = by (eqb c.worker w) (carries-push_same w k cs)
   where
-    at : (b : Bool) → cond b (Some c) (carry_of w cs) ≡ None
-        →
-        (carry_of w cs ≡ None → carry_of w (cs ++ record { worker = w; number = k } ∷ [])
-        ≡ Some (record { worker = w; number = k }))
-        → cond b (Some c) (carry_of w (cs ++ record { worker = w; number = k } ∷ [])) ≡ Some
-        (record { worker = w; number = k })
-    at true e rec = absurd cc
-    at false e rec = rec e
+    by : (b : Bool)
+        → carries_of w (cs ++ record { worker = w; number = k } ∷ [])
+        ≡ carries_of w cs ++ record { worker = w; number = k } ∷ []
+        → cond b (c ∷ carries_of w (cs ++ record { worker = w; number = k } ∷ []))
+        (carries_of w (cs ++ record { worker = w; number = k } ∷ []))
+        ≡ cond b (c ∷ carries_of w cs) (carries_of w cs) ++ record { worker = w; number = k } ∷ []
+    by true rest = ap (λ ds. c ∷ ds) rest
+    by false rest = rest
 
 is_carried-push : (j w k : ℕ) (cs : List Carry)
     → is_carried j (cs ++ record { worker = w; number = k } ∷ [])
@@ -70,17 +80,14 @@ is_carried-push : (j w k : ℕ) (cs : List Carry)
 is_carried-push j w k [] = grind (arith, nat_tests)
 is_carried-push j w k (c ∷ cs) = grind (arith, nat_tests, is_carried-push j w k cs)
 
-pub apart-push : (w k : ℕ) (cs : List Carry) → AreApart cs → carry_of w cs ≡ None
-    → is_carried k cs ≡ false → AreApart (cs ++ record { worker = w; number = k } ∷ [])
-apart-push w k [] apart none free = (refl, refl, tt)
-apart-push w k (c ∷ cs) apart none free =
-    let worker : eqb c.worker w ≡ false = grind (arith, nat_tests, none) in
+pub apart-push : (w k : ℕ) (cs : List Carry) → AreApart cs → is_carried k cs ≡ false
+    → AreApart (cs ++ record { worker = w; number = k } ∷ [])
+apart-push w k [] apart free = (refl, tt)
+apart-push w k (c ∷ cs) apart free =
     let number : eqb c.number k ≡ false = grind (arith, nat_tests, free) in
-    let rest_none : carry_of w cs ≡ None = grind (arith, nat_tests, none) in
     let rest_free : is_carried k cs ≡ false = grind (arith, nat_tests, free) in (
       grind (arith, nat_tests, is_carried-push c.number w k cs, apart.0, number),
-      carry_of-push_other w c.worker k cs (λ e. grind (arith, nat_tests, e, worker)) ∙ apart.1,
-      apart-push w k cs apart.2 rest_none rest_free,
+      apart-push w k cs apart.1 rest_free,
     )
 
 -- ---- one carry less
@@ -90,77 +97,96 @@ is_carried-without : (j k : ℕ) (cs : List Carry) → is_carried j cs ≡ false
 is_carried-without j k [] h = refl
 is_carried-without j k (c ∷ cs) h = grind (arith, nat_tests, is_carried-without j k cs)
 
-none-without : (w k : ℕ) (cs : List Carry) → carry_of w cs ≡ None
-    → carry_of w (without k cs) ≡ None
-none-without w k [] h = refl
-none-without w k (c ∷ cs) h = grind (arith, nat_tests, none-without w k cs)
+-- another number stays
+pub stays-without : (j k : ℕ) (cs : List Carry) → (k == j) ≡ false
+    → is_carried j (without k cs) ≡ is_carried j cs
+stays-without j k [] other = refl
+stays-without j k (c ∷ cs) other = grind (arith, nat_tests, other, stays-without j k cs other)
 
 pub apart-without : (k : ℕ) (cs : List Carry) → AreApart cs → AreApart (without k cs)
 apart-without k [] apart = tt
-apart-without k (c ∷ cs) apart = by (not (c.number == k)) (apart-without k cs apart.2)
+apart-without k (c ∷ cs) apart = by (not (c.number == k)) (apart-without k cs apart.1)
   where
     by : (b : Bool) → AreApart (without k cs) → AreApart (cond b (c ∷ without k cs) (without k cs))
-    by true rest = (is_carried-without c.number k cs apart.0, none-without c.worker k cs apart.1, rest)
+    by true rest = (is_carried-without c.number k cs apart.0, rest)
     by false rest = rest
 
--- where no worker has the number, nothing goes
-without-none : (k : ℕ) (cs : List Carry) → is_carried k cs ≡ false → without k cs ≡ cs
-without-none k [] h = refl
-without-none k (c ∷ cs) h = grind (arith, nat_tests, without-none k cs)
-
--- the worker that had the number has nothing any more
-pub carry_of-without_same : (w : ℕ) (c : Carry) (cs : List Carry) → AreApart cs
-    → carry_of w cs ≡ Some c → carry_of w (without c.number cs) ≡ None
-carry_of-without_same w c [] apart h = absurd cc
-carry_of-without_same w c (d ∷ cs) apart h = by (carry_of-without_same w c cs apart.2) (eqb d.worker w) refl h
+-- a worker's chunks without a number
+pub mine-without : (b : BufferHistory) (w k : ℕ) (cs : List Carry)
+    → loads_of b (carries_of w (without k cs)) ≡ others k (loads_of b (carries_of w cs))
+mine-without b w k [] = refl
+mine-without b w k (c ∷ cs) = by (eqb c.worker w) (eqb c.number k) refl refl (mine-without b w k cs)
   where
-    by : (carry_of w cs ≡ Some c → carry_of w (without c.number cs) ≡ None) → (b : Bool)
-        → eqb d.worker w ≡ b → cond b (Some d) (carry_of w cs) ≡ Some c
-        → carry_of w (without c.number (d ∷ cs)) ≡ None
-    by rest true e h =
-        let same : d ≡ c = cc in
-        let numbers : d.number ≡ c.number = ap (λ x. x.number) same in
-        let number : eqb d.number c.number ≡ true = grind (arith, nat_tests, numbers) in
-        let worker : d.worker ≡ w = grind (arith, nat_tests, e) in
-        let none : carry_of w cs ≡ None = ap (λ x. carry_of x cs) (sym worker) ∙ apart.1 in
-        ap (λ b. carry_of w (cond (not b) (d ∷ without c.number cs) (without c.number cs))) number ∙ none-without w c.number cs none
-    by rest false e h = at (eqb d.number c.number)
+    by : (a t : Bool) → eqb c.worker w ≡ a → eqb c.number k ≡ t
+        → loads_of b (carries_of w (without k cs)) ≡ others k (loads_of b (carries_of w cs))
+        → loads_of b (carries_of w (cond (not t) (c ∷ without k cs) (without k cs)))
+        ≡ others k (loads_of b (cond a (c ∷ carries_of w cs) (carries_of w cs)))
+    by true true e f rest = rest ∙ sym (ap (λ x. cond (not x) (load_of b c.number ∷ others k (loads_of b (carries_of w cs))) (others k (loads_of b (carries_of w cs)))) f)
+    by true false e f rest =
+        ap (λ x. loads_of b (cond x (c ∷ carries_of w (without k cs)) (carries_of w (without k cs)))) e
+        ∙ ap (λ xs. load_of b c.number ∷ xs) rest
+        ∙ sym (ap (λ x. cond (not x) (load_of b c.number ∷ others k (loads_of b (carries_of w cs))) (others k (loads_of b (carries_of w cs)))) f)
+    by false true e f rest = rest
+    by false false e f rest = ap (λ x. loads_of b (cond x (c ∷ carries_of w (without k cs)) (carries_of w (without k cs)))) e ∙ rest
+
+-- a number that one worker has is no other's
+pub not_others : (w v k : ℕ) (cs : List Carry) → AreApart cs
+    → is_carried k (carries_of w cs) ≡ true → w ≢ v → is_carried k (carries_of v cs) ≡ false
+not_others w v k [] apart h differ = refl
+not_others w v k (c ∷ cs) apart h differ = by (eqb c.number k) (eqb c.worker w) (eqb c.worker v) refl refl refl h (λ g. not_others w v k cs apart.1 g differ)
+  where
+    no : true ≡ false → ⊥
+    no e = cc
+
+    part : (u : ℕ) (ds : List Carry) → is_carried k ds ≡ false → is_carried k (carries_of u ds) ≡ false
+    part u [] e = refl
+    part u (d ∷ ds) e = grind (arith, nat_tests, part u ds)
+
+    none : (n : Bool) → eqb c.number k ≡ n → n ≡ true → is_carried k cs ≡ false
+    none n e f = let same : c.number ≡ k = grind (arith, nat_tests, e ∙ f) in ap (λ j. is_carried j cs) (sym same) ∙ apart.0
+
+    by : (n a t : Bool) → eqb c.number k ≡ n → eqb c.worker w ≡ a → eqb c.worker v ≡ t
+        → is_carried k (cond a (c ∷ carries_of w cs) (carries_of w cs)) ≡ true
+        → (is_carried k (carries_of w cs) ≡ true → is_carried k (carries_of v cs) ≡ false)
+        → is_carried k (cond t (c ∷ carries_of v cs) (carries_of v cs)) ≡ false
+    by true true true e f g h rest = absurd (differ (grind (arith, nat_tests, f, g)))
+    by true a false e f g h rest = part v cs (none true e refl)
+    by true false true e f g h rest = absurd (no (sym h ∙ part w cs (none true e refl)))
+    by false true true e f g h rest = ap (λ x. x || is_carried k (carries_of v cs)) e ∙ rest (sym (ap (λ x. x || is_carried k (carries_of w cs)) e) ∙ h)
+    by false true false e f g h rest = rest (sym (ap (λ x. x || is_carried k (carries_of w cs)) e) ∙ h)
+    by false false true e f g h rest = ap (λ x. x || is_carried k (carries_of v cs)) e ∙ rest h
+    by false false false e f g h rest = rest h
+
+-- so the others have what they had
+pub others-keep : (b : BufferHistory) (w v k : ℕ) → AreApart b.carried
+    → has_chunk k (carried_by b w) ≡ true → w ≢ v → others k (carried_by b v) ≡ carried_by b v
+others-keep b w v k apart mine differ =
+    others-none k (carried_by b v) (has-loads b k (carries_of v b.carried) ∙ not_others w v k b.carried apart (sym (has-loads b k (carries_of w b.carried)) ∙ mine) differ)
+
+-- no worker has two chunks of one number
+pub once-carried : (b : BufferHistory) (w k : ℕ) (cs : List Carry) → AreApart cs
+    → times k (loads_of b (carries_of w cs)) ≤ 1
+once-carried b w k [] apart = omega arith
+once-carried b w k (c ∷ cs) apart = by (eqb c.worker w) (once-carried b w k cs apart.1)
+  where
+    part : (ds : List Carry) → is_carried k ds ≡ false → times k (loads_of b (carries_of w ds)) ≡ 0
+    part [] e = refl
+    part (d ∷ ds) e = at (eqb d.worker w) (eqb d.number k) refl (part ds (grind (arith, nat_tests, e)))
       where
-        at : (b : Bool)
-            → carry_of w (cond (not b) (d ∷ without c.number cs) (without c.number cs)) ≡ None
-        at true = rest h
-        at false = ap (λ b. cond b (Some d) (carry_of w (without c.number cs))) e ∙ rest h
+        at : (a t : Bool) → eqb d.number k ≡ t → times k (loads_of b (carries_of w ds)) ≡ 0
+            → times k (loads_of b (cond a (d ∷ carries_of w ds) (carries_of w ds))) ≡ 0
+        at true true f rest = absurd (grind (arith, nat_tests, e, f))
+        at true false f rest = ap (λ x. cond x (suc (times k (loads_of b (carries_of w ds)))) (times k (loads_of b (carries_of w ds)))) f ∙ rest
+        at false t f rest = rest
 
--- another number than one that is not carried
-other_number : (j k : ℕ) (cs : List Carry) → is_carried j cs ≡ false → is_carried k cs ≡ true
-    → eqb j k ≡ false
-other_number j k cs free held = by (eqb j k) refl
-  where
-    by : (b : Bool) → eqb j k ≡ b → b ≡ false
-    by true e =
-        let same : j ≡ k = grind (arith, nat_tests, e) in
-        let no : false ≡ true = sym free ∙ ap (λ x. is_carried x cs) same ∙ held in absurd cc
-    by false e = refl
+    here : (t : Bool) → eqb c.number k ≡ t → times k (loads_of b (carries_of w cs)) ≤ 1
+        → cond t (suc (times k (loads_of b (carries_of w cs)))) (times k (loads_of b (carries_of w cs))) ≤ 1
+    here true e rest =
+        let same : c.number ≡ k = grind (arith, nat_tests, e) in
+        let none = part cs (ap (λ j. is_carried j cs) (sym same) ∙ apart.0) in omega (arith, none)
+    here false e rest = rest
 
--- and the others have what they had
-pub carry_of-without_other : (w v : ℕ) (c : Carry) (cs : List Carry) → AreApart cs
-    → carry_of w cs ≡ Some c → w ≢ v → carry_of v (without c.number cs) ≡ carry_of v cs
-carry_of-without_other w v c [] apart h differ = refl
-carry_of-without_other w v c (d ∷ cs) apart h differ = by (λ g. carry_of-without_other w v c cs apart.2 g differ) (eqb d.worker w) refl h
-  where
-    by : (carry_of w cs ≡ Some c → carry_of v (without c.number cs) ≡ carry_of v cs) → (b : Bool)
-        → eqb d.worker w ≡ b → cond b (Some d) (carry_of w cs) ≡ Some c
-        → carry_of v (without c.number (d ∷ cs)) ≡ carry_of v (d ∷ cs)
-    by rest true e h =
-        let same : d ≡ c = cc in
-        let numbers : d.number ≡ c.number = ap (λ x. x.number) same in
-        let number : eqb d.number c.number ≡ true = grind (arith, nat_tests, numbers) in
-        let worker : d.worker ≡ w = grind (arith, nat_tests, e) in
-        let another : eqb d.worker v ≡ false = grind (arith, nat_tests, worker, differ) in
-        let free : is_carried c.number cs ≡ false = ap (λ x. is_carried x cs) (sym numbers) ∙ apart.0 in
-        ap (λ b. carry_of v (cond (not b) (d ∷ without c.number cs) (without c.number cs))) number
-        ∙ ap (carry_of v) (without-none c.number cs free) ∙ sym (ap (λ b. cond b (Some d) (carry_of v cs)) another)
-    by rest false e h =
-        let number = other_number d.number c.number cs apart.0 (carry_of-carried w cs c h) in
-        ap (λ b. carry_of v (cond (not b) (d ∷ without c.number cs) (without c.number cs))) number
-        ∙ ap (cond (eqb d.worker v) (Some d)) (rest h)
+    by : (a : Bool) → times k (loads_of b (carries_of w cs)) ≤ 1
+        → times k (loads_of b (cond a (c ∷ carries_of w cs) (carries_of w cs))) ≤ 1
+    by true rest = here (eqb c.number k) refl rest
+    by false rest = rest

@@ -1,6 +1,6 @@
 -- A worker's session stands from its beginning to its end, and no other of its begins meanwhile.
 use Rattle.std.proofs.Common.{◌≡◌, ℕ, zero, suc, ◌+◌, Bool, true, false, List, [], ◌∷◌, ◌++◌, Option, Some, None, refl, sym, ap, subst, ◌∙◌}
-use Rattle.std.specs.Prelude.{is_some, option_map, not, nat_lt, length, slice_get, slice_set}
+use Rattle.std.specs.Prelude.{is_some, option_map, not, ◌||◌, ◌==◌, nat_lt, length, slice_get, slice_set}
 use Rattle.std.proofs.lemmas.List.{append_assoc, append-nil}
 use Rattle.fwd_modes.specs.Requests.{Request}
 use Rattle.fwd_match.specs.Patterns.{route}
@@ -9,7 +9,7 @@ use Rattle.fwd_chunks.specs.declared.fault.AdmitError.{AdmitError}
 use Rattle.fwd_chunks.specs.declared.fault.AdmitError.TheVariants.{Full, NumbersSpent, Memory}
 use Rattle.fwd_session.specs.History as session
 use Rattle.fwd_session.specs.History.{SessionHistory}
-use Rattle.fwd_session.specs.Evidence.{frame_of}
+use Rattle.fwd_session.specs.Evidence.{evidence_of, frame_of}
 use Rattle.fwd_model.specs.declared.config.Config.{Config}
 use Rattle.fwd_model.specs.declared.event.EndKind.{EndKind}
 use Rattle.fwd_model.specs.declared.event.Event.{Event}
@@ -22,6 +22,7 @@ use Rattle.fwd_model.specs.Outcome.{Outcome, Stays, Goes, answer_of, state_of, i
 use Rattle.fwd_model.specs.Step as steps
 use Rattle.fwd_model.specs.Step.{step}
 use Rattle.fwd_model.specs.Setups.{session_setup}
+use Rattle.fwd_model.specs.Outputs.{numbers_back}
 use Rattle.fwd_model.specs.History.{Lane, History, opening, history_worker, histories}
 use Rattle.fwd_model.specs.Delivered.{reached, answered, session_at, standing, NoneEnded, NoneBegan, HasBegun}
 use Rattle.fwd_model.proofs.Onward.{Onward, to, past, past_found, at_next, Resting, rests, rest_past, rest_found, rest_within, source_on, lane_on, both_on, worker_on, session_on}
@@ -112,23 +113,23 @@ module _ (h : History) (o w : ℕ) (up : is_up o w h.lanes ≡ true) where
       lane_on histories h p Up (λ l. steps.at_worker histories l v (steps.load histories now)) (λ l lane.
       worker_on histories l v _ (steps.load histories now) (λ x at.
       past_found NotNow {x = x.session} (λ s f.
-      past_found NotNow {x = x.chunk} (λ c g.
-      past NotNow {b = is_some s.loaded} (λ fresh.
-      past NotUp {b = not (session.is_ready s)} (λ ready. to {a = answer.Frame (frame_of c)} {s = steps.with_session x (session.loads s c now)} (worker_up p v l (session.loads s c now) lane)))))))
+      past_found NotNow {x = x.taken} (λ c g.
+      past NotNow {b = session.room s == 0} (λ some.
+      past NotUp {b = not (session.is_ready s)} (λ ready. to {a = answer.Frame (frame_of c)} {s = steps.with_loaded (session.loads s c now)} (worker_up p v l (session.loads s c now) lane)))))))
 
   settle_up : (p v : ℕ) → Onward Up (step histories h (event.Settle p v))
   settle_up p v =
       lane_on histories h p Up (λ l. steps.settle histories l v) (λ l lane.
       past_found NoSuch {x = histories.worker_at l v} (λ x at.
       past_found NotNow {x = x.session} (λ s f.
-      past_found NotNow {x = histories.acked s} (λ c acked. to {a = answer.Settled (histories.entries_at l c.number)} {s = histories.settles l v s (histories.evidence s c)}
-      (lane_up p l (histories.settles l v s (histories.evidence s c)) lane (λ e b. set_stood v w l.sessions (Some (session.unloads s)) (λ d. refl) b))))))
+      past_found NotNow {x = histories.acked s} (λ a acked. to {a = answer.Settled (histories.entries_at l a.chunk.number)} {s = histories.settles l v (steps.with_session x (session.unloads s)) (evidence_of s.setup.server a)}
+      (lane_up p l (histories.settles l v (steps.with_session x (session.unloads s)) (evidence_of s.setup.server a)) lane (λ e b. set_stood v w l.sessions (Some (session.unloads s)) (λ d. refl) b))))))
 
   take_up : (p v now : ℕ) → Onward Up (step histories h (event.Take p v now))
   take_up p v now =
       lane_on histories h p Up (λ l. steps.take histories l v now) (λ l lane.
       past_found NoSuch {x = histories.worker_at l v} (λ x at.
-      past NotNow {b = is_some x.chunk} (λ none. to {a = chunk_answer (histories.given l now)} (same_up p l (histories.takes l v x now) lane refl))))
+      past NotNow {b = is_some x.taken || steps.is_full histories x.session} (λ none. to {a = chunk_answer (histories.given l now)} (same_up p l (histories.takes l v x now) lane refl))))
 
   choose_up : (p v now : ℕ) → Onward Up (step histories h (event.Choose p v now))
   choose_up p v now =
@@ -165,14 +166,14 @@ module _ (h : History) (o w : ℕ) (up : is_up o w h.lanes ≡ true) where
 
   -- an end that is not of this session
   end_up : (p v : ℕ) (kind : EndKind) (now : ℕ)
-      → Onward (λ a k. ((number : Option ℕ) → a ≡ answer.Ended number → p ≡ o → v ≡ w → ⊥) → Up a k)
+      → Onward (λ a k. ((numbers : List ℕ) → a ≡ answer.Ended numbers → p ≡ o → v ≡ w → ⊥) → Up a k)
       (step histories h (event.End p v kind now))
   end_up p v kind now =
       lane_on histories h p _ (λ l. steps.end histories l v kind now) (λ l lane.
       past_found NoSuch {x = histories.worker_at l v} (λ x at.
       past NotNow {b = steps.is_idle histories x} (λ some.
-      past NotNow {b = steps.has_acked histories x.session} (λ none. to {a = answer.Ended (option_map (λ c. c.number) x.chunk)} (λ other.
-      lane_up p l _ lane (λ e b. set_stood v w l.sessions None (λ d. absurd (other (option_map (λ c. c.number) x.chunk) refl e d)) b))))))
+      past NotNow {b = steps.has_acked histories x.session} (λ none. to {a = answer.Ended (numbers_back (steps.gives_back histories x))} (λ other.
+      lane_up p l _ lane (λ e b. set_stood v w l.sessions None (λ d. absurd (other (numbers_back (steps.gives_back histories x)) refl e d)) b))))))
 
   stays_up : (e : Event) → Onward Up (step histories h e)
       → is_up o w (state_of h (step histories h e)).lanes ≡ true

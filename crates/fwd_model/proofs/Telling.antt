@@ -1,11 +1,10 @@
 -- What a collect tells: just the requests that are untold and settled, by rising number.
 use Rattle.std.proofs.Common.{◌≡◌, ℕ, zero, suc, Bool, true, false, cond, eqb, List, [], ◌∷◌, Option, Some, None, refl, sym, ap, subst, ◌∙◌, arith}
-use Rattle.std.specs.Prelude.{◌<◌, map, filter, is_some, ◌&&◌, ◌==◌, slice_get}
+use Rattle.std.specs.Prelude.{◌<◌, map, filter, is_some, ◌&&◌, slice_get}
 use Rattle.std.proofs.lemmas.Bool.{and_parts}
 use Rattle.std.proofs.lemmas.Bool.Decides.{nat_tests}
 use Rattle.fwd_modes.specs.declared.origin.Origin.{Origin}
 use Rattle.fwd_chunks.specs.Cells.{Cell, has_number}
-use Rattle.fwd_chunks.specs.Cells as cells
 use Rattle.fwd_chunks.specs.Spans.{AreRising}
 use Rattle.fwd_chunks.proofs.CellLemmas.{has_cell, numbers-has}
 use Rattle.fwd_session.specs.Evidence.{Evidence}
@@ -84,7 +83,7 @@ untold_is Forgotten h = absurd cc
 -- ---- by rising number
 
 -- each number is greater
-abbrev AllAbove : ℕ → List ℕ → Type 0
+abbrev pub AllAbove : ℕ → List ℕ → Type 0
 AllAbove n [] = Unit {0}
 AllAbove n (m ∷ ns) = (n < m) × AllAbove n ns
 
@@ -93,10 +92,10 @@ above_at n [] i m all h = absurd cc
 above_at n (k ∷ ns) zero m all h = subst (λ x. n < x) (same_Some _ _ h) all.0
 above_at n (k ∷ ns) (suc i) m all h = above_at n ns i m all.1 h
 
-rising-none : AreRising []
+pub rising-none : AreRising []
 rising-none i j m n before at_i at_j = absurd cc
 
-rising-cons : (n : ℕ) (ns : List ℕ) → AllAbove n ns → AreRising ns → AreRising (n ∷ ns)
+pub rising-cons : (n : ℕ) (ns : List ℕ) → AllAbove n ns → AreRising ns → AreRising (n ∷ ns)
 rising-cons n ns above rising zero zero m k before at_i at_j = absurd (omega (arith, before))
 rising-cons n ns above rising zero (suc j) m k before at_i at_j = subst (λ x. x < k) (same_Some _ _ at_i) (above_at n ns j k above at_j)
 rising-cons n ns above rising (suc i) zero m k before at_i at_j = absurd (omega (arith, before))

@@ -1,6 +1,6 @@
 -- The request that waits first at a connection was never entered before.
 use Rattle.std.proofs.Common.{◌≡◌, ℕ, ◌+◌, ◌≤◌, Bool, true, false, cond, eqb, List, [], ◌∷◌, Option, Some, None, refl, sym, ap, subst, ◌∙◌, arith}
-use Rattle.std.specs.Prelude.{map, filter, find, ◌&&◌, ◌==◌, option_map, slice_get}
+use Rattle.std.specs.Prelude.{map, filter, ◌&&◌, option_map, slice_get}
 use Rattle.std.proofs.lemmas.Bool.Decides.{nat_tests}
 use Rattle.std.proofs.lemmas.Option.{slice_get-map}
 use Rattle.fwd_modes.specs.declared.origin.Origin.{Origin}

@@ -1,16 +1,15 @@
 -- What comes back from a server, and who is told at once.
-use Rattle.std.proofs.Common.{◌≡◌, ℕ, zero, suc, Bool, true, false, cond, List, [], ◌∷◌, Option, Some, None, refl, ap, subst, ◌∙◌, arith}
-use Rattle.std.specs.Prelude.{map, filter, is_some, not, ◌&&◌, ◌||◌, option_map, slice_get}
-use Rattle.std.specs.List.{list_all}
+use Rattle.std.proofs.Common.{◌≡◌, ℕ, zero, suc, Bool, true, false, cond, List, [], ◌∷◌, ◌++◌, Option, Some, None, refl, ap, subst, ◌∙◌, arith}
+use Rattle.std.specs.Prelude.{map, filter, is_some, ◌&&◌, option_map, slice_get}
+use Rattle.std.specs.List.{list_all, list_any, AllByRecursion}
 use Rattle.std.proofs.lemmas.Bool.Decides.{nat_tests}
-use Rattle.fwd_chunks.specs.History.{Load}
 use Rattle.fwd_session.specs.declared.fault.SessionFault.{SessionFault}
 use Rattle.fwd_session.specs.declared.told.SessionHeard.{SessionHeard}
 use Rattle.fwd_session.specs.declared.told.SessionHeard.TheVariants as heard_as
-use Rattle.fwd_session.specs.Said.{Said, said_in, out_of}
-use Rattle.fwd_session.specs.Evidence.{Evidence}
-use Rattle.fwd_session.specs.History.{SessionHistory, handshake_of, is_handed_on, is_done, awaited, says, newly_heard, listens, acked, told_by, told_of}
-use Rattle.fwd_session.proofs.Saying.{silent}
+use Rattle.fwd_session.specs.Said.{Said, out_of}
+use Rattle.fwd_session.specs.Evidence.{Accepted, Evidence, evidence_of}
+use Rattle.fwd_session.specs.History.{SessionHistory, IsAcknowledged, handshake_of, is_handed_on, is_done, first_in, says, newly_accepted, listens, unloads, told_by, told_of}
+use Rattle.fwd_session.proofs.Accepting.{acknowledged}
 use Rattle.fwd_chunks.specs.declared.span.Span.{Span}
 use Rattle.fwd_chunks.specs.Cells.{has_number}
 use Rattle.fwd_model.specs.Outputs.{count_at}
@@ -21,9 +20,10 @@ use Rattle.fwd_model.specs.declared.fault.Refusal.TheVariants.{Closed, NoSuch, N
 use Rattle.fwd_model.specs.Outcome.{answer_of, state_of, within, found as sought, refuse_if, Outcome, Goes, of_heard, ◌>>=◌, ◌>>◌}
 use Rattle.fwd_model.specs.Step as steps
 use Rattle.fwd_model.specs.Step.{step}
-use Rattle.fwd_book.specs.History.{Untold, Admission, evidence_of, is_untold, is_of, is_settled, is_due}
+use Rattle.fwd_book.specs.History.{Untold, Admission, evidence_of as acknowledged_at, is_untold, is_of, is_settled, is_due}
 use Rattle.fwd_model.specs.Books.{numbers_of}
-use Rattle.fwd_model.specs.History.{Lane, History, source_at, with_lane, with_session, with_connection, history_worker, histories}
+use Rattle.fwd_model.specs.History.{Lane, History, source_at, with_lane, with_place, with_connection, history_worker, histories}
+use Rattle.fwd_model.proofs.Lists.{none_at}
 use Rattle.fwd_model.proofs.Places.{slice_get-set_same}
 
 -- ---- a session that heard
@@ -32,20 +32,19 @@ use Rattle.fwd_model.proofs.Places.{slice_get-set_same}
 settled_as : (h : History) (o w : ℕ) (l : Lane) (s : SessionHistory)
     → slice_get h.lanes o ≡ Some l → slice_get l.sessions w ≡ Some (Some s)
     → answer_of (step histories h (event.Settle o w))
-    ≡ answer_of (sought (acked s) NotNow >>= (λ c. Goes (answer.Settled
-    (count_at c.number l.output)) (histories.settles l w s (histories.evidence s c))))
+    ≡ answer_of (sought (first_in s.accepted) NotNow >>= (λ a. Goes (answer.Settled
+    (count_at a.chunk.number l.output)) l))
 settled_as h o w l s here at =
     ap (λ x. answer_of (sought x NoSuch >>= (λ m. within (λ n. with_lane o n h) (steps.settle histories m w)))) here
-    ∙ ap (λ x. answer_of (within (λ n. with_lane o n h) (sought (option_map (history_worker l w) x) NoSuch >>= (λ y. sought y.session NotNow >>= (λ u. sought (acked u) NotNow >>= (λ c. Goes (answer.Settled (count_at c.number l.output)) (histories.settles l w u (histories.evidence u c)))))))) at
-    ∙ outside (acked s)
+    ∙ ap (λ x. answer_of (within (λ n. with_lane o n h) (sought (option_map (history_worker l w) x) NoSuch >>= (λ y. sought y.session NotNow >>= (λ u. sought (first_in u.accepted) NotNow >>= (λ a. Goes (answer.Settled (count_at a.chunk.number l.output)) (histories.settles l w (steps.with_session y (unloads u)) (evidence_of u.setup.server a)))))))) at
+    ∙ outside (first_in s.accepted)
   where
-    outside : (k : Option Load)
+    outside : (k : Option Accepted)
         → answer_of (within (λ n. with_lane o n h) (sought k NotNow >>=
-        (λ c. Goes (answer.Settled (count_at c.number l.output))
-        (histories.settles l w s (histories.evidence s c)))))
+        (λ a. Goes (answer.Settled (count_at a.chunk.number l.output))
+        (histories.settles l w (steps.with_session (history_worker l w (Some s)) (unloads s)) (evidence_of s.setup.server a)))))
         ≡ answer_of
-        (sought k NotNow >>= (λ c. Goes (answer.Settled (count_at c.number l.output))
-        (histories.settles l w s (histories.evidence s c))))
+        (sought k NotNow >>= (λ a. Goes (answer.Settled (count_at a.chunk.number l.output)) l))
     outside None = refl
     outside (Some k) = refl
 
@@ -67,23 +66,32 @@ placed h o w l s x = within (λ n. with_lane o n h) (within (histories.puts_work
 -- what settling comes to after that
 settled_after : (h : History) (o w : ℕ) (l : Lane) (s u : SessionHistory)
     → slice_get h.lanes o ≡ Some l → slice_get l.sessions w ≡ Some (Some s)
-    → answer_of (step histories (with_lane o (with_session w u l) h) (event.Settle o w))
-    ≡ answer_of (sought (acked u) NotNow >>= (λ c. Goes (answer.Settled
-    (count_at c.number l.output)) (histories.settles (with_session w u l) w u
-    (histories.evidence u c))))
+    → answer_of (step histories (with_lane o (with_place w (Some u) l) h) (event.Settle o w))
+    ≡ answer_of (sought (first_in u.accepted) NotNow >>= (λ a. Goes (answer.Settled
+    (count_at a.chunk.number l.output)) (with_place w (Some u) l)))
 settled_after h o w l s u here at =
-    settled_as (with_lane o (with_session w u l) h) o w (with_session w u l) u (slice_get-set_same h.lanes o (with_session w u l) l here) (slice_get-set_same l.sessions w (Some u) (Some s) at)
+    settled_as (with_lane o (with_place w (Some u) l) h) o w (with_place w (Some u) l) u (slice_get-set_same h.lanes o (with_place w (Some u) l) l here) (slice_get-set_same l.sessions w (Some u) (Some s) at)
 
--- a session without a reply settles nothing
-none_settled : (s : SessionHistory) (l m : Lane) (w : ℕ) → is_some s.reply ≡ false
-    → answer_of (sought (acked s) NotNow >>= (λ c. Goes (answer.Settled
-    (count_at c.number l.output)) (histories.settles m w s
-    (histories.evidence s c)))) ≡ answer.Refused NotNow
-none_settled s l m w none = ap (λ b. answer_of (sought (cond b s.loaded None) NotNow >>= (λ c. Goes (answer.Settled (count_at c.number l.output)) (histories.settles m w s (histories.evidence s c))))) none
+-- a session without an accepted acknowledgement settles nothing
+none_settled : (s : SessionHistory) (l m : Lane) → s.accepted ≡ []
+    → answer_of (sought (first_in s.accepted) NotNow >>= (λ a. Goes (answer.Settled
+    (count_at a.chunk.number l.output)) m)) ≡ answer.Refused NotNow
+none_settled s l m none = ap (λ (list : List Accepted). answer_of (sought (first_in list) NotNow >>= (λ a. Goes (answer.Settled (count_at a.chunk.number l.output)) m))) none
+
+-- where no frame is handed on, no acknowledgement is accepted
+none_accepted : (s : SessionHistory) (bytes : List ℕ) → list_any (is_handed_on s) s.carried ≡ false
+    → newly_accepted s bytes ≡ []
+none_accepted s bytes early = by (newly_accepted s bytes) (acknowledged s bytes)
+  where
+    by : (list : List Accepted) → AllByRecursion (IsAcknowledged s bytes) list → list ≡ []
+    by [] all = refl
+    by (a ∷ list) all =
+        let no : is_handed_on s all.0.loaded ≡ false = none_at (is_handed_on s) s.carried all.0.place all.0.loaded early all.0.carried in
+        absurd (grind (arith, nat_tests, no, all.0.handed_on))
 
 pub early-nothing : (h : History) (o w : ℕ) (bytes : List ℕ) (l : Lane) (s : SessionHistory)
     → slice_get h.lanes o ≡ Some l → slice_get l.sessions w ≡ Some (Some s)
-    → is_some s.reply ≡ false → is_handed_on s ≡ false
+    → s.accepted ≡ [] → list_any (is_handed_on s) s.carried ≡ false
     → answer_of
     (step histories (state_of h (step histories h (event.Heard o w bytes))) (event.Settle o w))
     ≡ answer.Refused NotNow
@@ -93,22 +101,16 @@ early-nothing h o w bytes l s here at none early =
     said : Said
     said = says s bytes
 
-    nobody : awaited s ≡ None
-    nobody = λ i. cond (none i || not (early i)) None (option_map (λ (c : Load). c.name) s.loaded)
-
-    refused : said.reply ≡ None
-    refused = ap (λ a. (said_in s.setup.login s.setup.salt (handshake_of s) a (newly_heard s bytes)).reply) nobody ∙ silent s.setup.login s.setup.salt (handshake_of s) (newly_heard s bytes)
-
-    still : is_some (listens s bytes said).reply ≡ false
-    still = ap (λ r. is_some (cond (is_some r) r s.reply)) refused ∙ none
+    still : (listens s bytes said).accepted ≡ []
+    still = λ i. none i ++ none_accepted s bytes early i
 
     unheard : answer_of (step histories h (event.Settle o w)) ≡ answer.Refused NotNow
-    unheard = settled_as h o w l s here at ∙ none_settled s l l w none
+    unheard = settled_as h o w l s here at ∙ none_settled s l l none
 
     after : answer_of
-        (step histories (with_lane o (with_session w (listens s bytes said) l) h)
+        (step histories (with_lane o (with_place w (Some (listens s bytes said)) l) h)
         (event.Settle o w)) ≡ answer.Refused NotNow
-    after = settled_after h o w l s (listens s bytes said) here at ∙ none_settled (listens s bytes said) l (with_session w (listens s bytes said) l) w still
+    after = settled_after h o w l s (listens s bytes said) here at ∙ none_settled (listens s bytes said) l (with_place w (Some (listens s bytes said)) l) still
 
     told : (t : SessionHeard) (out : List ℕ)
         → answer_of
@@ -128,32 +130,26 @@ early-nothing h o w bytes l s here at none early =
     by true e = unheard
     by false e = told (told_of (handshake_of s) said) (out_of said)
 
-pub before_fault-stands : (h : History) (o w : ℕ) (c : Load) (bytes : List ℕ) (l : Lane)
+pub before_fault-stands : (h : History) (o w : ℕ) (a : Accepted) (bytes : List ℕ) (l : Lane)
     (s : SessionHistory) (f : SessionFault) → slice_get h.lanes o ≡ Some l
-    → slice_get l.sessions w ≡ Some (Some s) → s.down ≡ false → s.loaded ≡ Some c
-    → is_some (says s bytes).reply ≡ true → (says s bytes).fault ≡ Some f
+    → slice_get l.sessions w ≡ Some (Some s) → s.down ≡ false
+    → first_in (s.accepted ++ newly_accepted s bytes) ≡ Some a → (says s bytes).fault ≡ Some f
     → (answer_of (step histories h (event.Heard o w bytes)) ≡ answer.SessionFaulted f) ×
     (answer_of
     (step histories (state_of h (step histories h (event.Heard o w bytes))) (event.Settle o w))
-    ≡ answer.Settled (count_at c.number l.output))
-before_fault-stands h o w c bytes l s f here at up loaded accepted fault =
+    ≡ answer.Settled (count_at a.chunk.number l.output))
+before_fault-stands h o w a bytes l s f here at up first fault =
     let said = says s bytes in
     let u = listens s bytes said in
-    let told : told_of (handshake_of s) said ≡ heard_as.Fault f = ap (λ x. told_by x said.reply (is_done (handshake_of s)) (is_done said.handshake)) fault in
+    let told : told_of (handshake_of s) said ≡ heard_as.Fault f = ap (λ x. told_by x said.replies (is_done (handshake_of s)) (is_done said.handshake)) fault in
     let heard = heard_at h o w bytes l s here at
     ∙ ap (λ b. placed h o w l s (of_heard (cond b heard_as.NotUp (told_of (handshake_of s) said)) (cond b [] (out_of said)) (cond b s u))) up
-    ∙ ap (λ t. placed h o w l s (of_heard t (out_of said) u)) told in
-    let has : is_some u.reply ≡ true = replied said.reply s.reply accepted in (
+    ∙ ap (λ t. placed h o w l s (of_heard t (out_of said) u)) told in (
       ap answer_of heard,
       ap (λ x. answer_of (step histories (state_of h x) (event.Settle o w))) heard
           ∙ settled_after h o w l s u here at
-          ∙ (λ i. answer_of (sought (cond (has i) (loaded i) None) NotNow >>= (λ d. Goes (answer.Settled (count_at d.number l.output)) (histories.settles (with_session w u l) w u (histories.evidence u d))))),
+          ∙ ap (λ x. answer_of (sought x NotNow >>= (λ d. Goes (answer.Settled (count_at d.chunk.number l.output)) (with_place w (Some u) l)))) first,
     )
-  where
-    replied : (r before : Option (List ℕ)) → is_some r ≡ true
-        → is_some (cond (is_some r) r before) ≡ true
-    replied None before e = absurd cc
-    replied (Some value) before e = refl
 
 -- ---- a request without entries
 
@@ -205,7 +201,7 @@ without_entries-told h o i s l a stands still here at untold none =
     let id = a.request.origin.conn in
     let is_its : is_of id a.request ≡ true = grind (arith, nat_tests) in
     let settled = l.output.book.settled in
-    let all : is_settled settled a.request ≡ true = ap (list_all (λ (x : Span). is_some (evidence_of settled x.number))) none in
+    let all : is_settled settled a.request ≡ true = ap (list_all (λ (x : Span). is_some (acknowledged_at settled x.number))) none in
     let d : is_due id settled a ≡ true = λ j. (is_untold (untold j) && is_its j) && all j in (
       (histories.due l id).numbers,
       (histories.due l id).acks,

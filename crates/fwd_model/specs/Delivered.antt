@@ -66,9 +66,9 @@ session_of h o w = standing (session_at w (slice_get h.lanes o))
 -- after these events, none of the later ones ended the worker's session
 abbrev pub NoneEnded : Config → List Event → List Event → ℕ → ℕ → Type 0
 NoneEnded config before later o w =
-    (between rest : List Event) (kind : EndKind) (moment : ℕ) (number : Option ℕ) →
+    (between rest : List Event) (kind : EndKind) (moment : ℕ) (numbers : List ℕ) →
     later ≡ between ++ event.End o w kind moment ∷ rest →
-    answered config (before ++ between) (event.End o w kind moment) ≡ answer.Ended number → ⊥
+    answered config (before ++ between) (event.End o w kind moment) ≡ answer.Ended numbers → ⊥
 
 -- after these events, none of the later ones began a session of the worker
 abbrev pub NoneBegan : Config → List Event → List Event → ℕ → ℕ → Type 0
@@ -99,11 +99,12 @@ pub record WasLoaded (config : Config) (es : List Event) (o w : ℕ)
   pub kept : NoneEnded config (before ++ event.Load o w moment ∷ []) later o w
   pub begun : HasBegun config before o w
 
--- the link took all bytes of the session, of which the last are the frame
+-- the frame stands whole among the bytes of the session, and the link took them through its last
 pub record IsTaken (s : SessionHistory) (frame : List ℕ) : Type 0 where
   pub front : List ℕ
-  pub ends : s.appended ≡ front ++ frame
-  pub through : length s.appended ≤ s.sent
+  pub back : List ℕ
+  pub framed : s.appended ≡ front ++ frame ++ back
+  pub through : length (front ++ frame) ≤ s.sent
 
 -- among the events, after that, the link took the frame's last byte, and the session did not end
 -- since

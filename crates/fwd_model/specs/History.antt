@@ -36,8 +36,8 @@ use Rattle.fwd_chunks.specs.Counts.{Counts}
 use Rattle.fwd_chunks.specs.Report.{Report}
 use Rattle.fwd_chunks.specs.TagCounts.{report}
 use Rattle.fwd_chunks.specs.History as buffer
-use Rattle.fwd_chunks.specs.History.{BufferHistory, load_of, looks}
-use Rattle.fwd_session.specs.History.{SessionHistory, unloads}
+use Rattle.fwd_chunks.specs.History.{BufferHistory, Load, load_of, looks}
+use Rattle.fwd_session.specs.History.{SessionHistory, chunks_of}
 use Rattle.fwd_book.specs.History as book
 use Rattle.fwd_book.specs.History.{BookHistory}
 use Rattle.fwd_model.specs.Books.{telling}
@@ -45,6 +45,7 @@ use Rattle.fwd_model.specs.Setups.{setting_of, servers_of}
 use Rattle.fwd_model.specs.Outputs.{
   OutputHistory,
   carried_by,
+  not_loaded,
   no_history,
   output_history_enters,
   output_history_settles,
@@ -166,13 +167,9 @@ with_buffer l b = with_output l (record (l.output) { buffer = b })
 abbrev pub with_book : Lane → BookHistory → Lane
 with_book l b = with_output l (record (l.output) { book = b })
 
--- the worker has this session
-abbrev pub with_session : ℕ → SessionHistory → Lane → Lane
-with_session w s l = record l { sessions = slice_set l.sessions w (Some s) }
-
--- the worker has no session
-abbrev pub without_session : ℕ → Lane → Lane
-without_session w l = record l { sessions = slice_set l.sessions w None }
+-- the worker has this session, or none
+abbrev pub with_place : ℕ → Option SessionHistory → Lane → Lane
+with_place w s l = record l { sessions = slice_set l.sessions w s }
 
 -- the output of this number is another
 abbrev pub with_lane : ℕ → Lane → History → History
@@ -180,9 +177,19 @@ with_lane o l h = record h { lanes = slice_set h.lanes o l }
 
 -- ---- the history as layers
 
--- a worker, with the chunk that it carries
+-- the chunks that a session has: those that are not acknowledged, and those that are and are not
+-- taken out
+abbrev pub loaded_in : Option SessionHistory → List Load
+loaded_in None = []
+loaded_in (Some s) = chunks_of s.carried ++ map (λ a. a.chunk) s.accepted
+
+-- the chunk that a worker took and did not load yet
+abbrev pub taken_by : BufferHistory → ℕ → Option SessionHistory → Option Load
+taken_by b w s = not_loaded (loaded_in s) (carried_by b w)
+
+-- a worker
 abbrev pub history_worker : Lane → ℕ → Option SessionHistory → Worker SessionHistory
-history_worker l w s = record { chunk = carried_by l.output.buffer w; session = s }
+history_worker l w s = record { taken = taken_by l.output.buffer w s; session = s }
 
 -- outputs as all that ever came to them
 abbrev pub lane_histories : Lanes SessionHistory
@@ -198,17 +205,17 @@ lane_histories = record {
   owed = λ l conn. book.owed_of l.output.book conn;
   forgets = λ l conn. with_book l (book.forgets_of l.output.book conn);
   worker_at = λ l w. option_map (history_worker l w) (slice_get l.sessions w);
-  puts_worker = λ l w x. record l { sessions = slice_set l.sessions w x.session };
+  puts_worker = λ l w x. with_place w x.session l;
   chosen = λ l w now. output_history_choice l.output w now;
   watches = λ l now. with_output l (output_history_looks l.output now);
   given = λ l now.
       option_map (load_of l.output.buffer) (buffer.given (looks l.output.buffer now));
   takes = λ l w x now. with_buffer l (buffer.takes l.output.buffer w now);
   entries_at = λ l number. count_at number l.output;
-  settles = λ l w s e.
-      with_session w (unloads s) (with_output l (output_history_settles l.output e));
+  settles = λ l w x e.
+      with_place w x.session (with_output l (output_history_settles l.output e));
   ends = λ l w back server now.
-      without_session w (with_output l (output_history_ends l.output back server now));
+      with_place w None (with_output l (output_history_ends l.output back server now));
 }
 
 -- the relay as all that ever came to it

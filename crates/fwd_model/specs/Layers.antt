@@ -11,15 +11,15 @@ use Rattle.fwd_chunks.specs.declared.fault.AdmitError.{AdmitError}
 use Rattle.fwd_chunks.specs.declared.flush.FlushKind.{FlushKind}
 use Rattle.fwd_chunks.specs.History.{Load}
 use Rattle.fwd_session.specs.declared.told.SessionHeard.{SessionHeard}
-use Rattle.fwd_session.specs.Evidence.{Evidence}
+use Rattle.fwd_session.specs.Evidence.{Accepted, Evidence}
 use Rattle.fwd_session.specs.History as session
 use Rattle.fwd_model.specs.declared.config.OutputConfig.{OutputConfig}
 use Rattle.fwd_model.specs.Books.{Telling}
 use Rattle.fwd_model.specs.Outputs.{Return}
 
--- a worker: the chunk that it has, with its entries, and its session
+-- a worker: the chunk that it took and did not load yet, with its entries, and its session
 pub record Worker (Session : Type 0) : Type 0 where
-  pub chunk : Option Load
+  pub taken : Option Load
   pub session : Option Session
 
 -- a session of a worker with a server
@@ -27,11 +27,11 @@ pub record Sessions : Type 1 where
   pub Session : Type 0
   -- its server, by its place in the output's list
   pub server : Session → ℕ
-  -- the chunk that it is loaded with, and that chunk once its acknowledgement was accepted
-  pub loaded : Session → Option Load
-  pub acked : Session → Option Load
-  -- what is kept of that chunk: its entries, the server and the reply
-  pub evidence : Session → Load → Evidence
+  -- the chunks that were loaded and are not acknowledged, in the order of their loads; the one
+  -- whose acknowledgement was accepted first, with that; and how many more it may have
+  pub unacknowledged : Session → List Load
+  pub acked : Session → Option Accepted
+  pub room : Session → ℕ
   -- whether its handshake is done, whether a chunk may be loaded, whether a fault or lateness put
   -- it down, whether it is late at a moment
   pub is_greeted : Session → Bool
@@ -44,7 +44,7 @@ pub record Sessions : Type 1 where
   pub told : Session → List ℕ → SessionHeard
   pub ping : Session → List ℕ → List ℕ
   -- it begins; is loaded with a chunk; its link takes bytes; a piece is heard; it is asked whether
-  -- it is late; its chunk is taken out
+  -- it is late; the chunk that was accepted first is taken out
   pub begins : session.Setup → Session
   pub loads : Session → Load → ℕ → Session
   pub sends : Session → ℕ → Session
@@ -75,15 +75,15 @@ pub record Lanes (Session : Type 0) : Type 1 where
   -- the server that a worker tries at a moment, and that the moment was handed in
   pub chosen : Lane → ℕ → ℕ → Option ℕ
   pub watches : Lane → ℕ → Lane
-  -- the chunk that has the least free number at a moment, and that the worker has it
+  -- the chunk that has the least free number at a moment, and that the worker takes it
   pub given : Lane → ℕ → Option Load
   pub takes : Lane → ℕ → Worker Session → ℕ → Lane
-  -- how many entries a number has, and that they are settled, which leaves the worker's session so
+  -- how many entries a number has, and that they are settled, which leaves the worker so
   pub entries_at : Lane → ℕ → ℕ
-  pub settles : Lane → ℕ → Session → Evidence → Lane
+  pub settles : Lane → ℕ → Worker Session → Evidence → Lane
   -- a worker has no session and no chunk any more: what it gives back, the server that is lost,
   -- and the moment
-  pub ends : Lane → ℕ → Option Return → (server : Option ℕ) → (now : ℕ) → Lane
+  pub ends : Lane → ℕ → List Return → (server : Option ℕ) → (now : ℕ) → Lane
 
 -- the relay over its layers
 pub record Layers : Type 1 where

@@ -48,10 +48,9 @@ use Rattle.fwd_session.specs.Evidence.{Evidence}
 use Rattle.fwd_book.specs.Live.{LiveBook, live_due, live_tells_due, live_owed_of, live_forgets_of}
 use Rattle.fwd_model.specs.Books.{telling}
 use Rattle.fwd_session.specs.History.{SessionHistory}
-use Rattle.fwd_session.specs.Live.{LiveSession, live_session, session_unloads}
+use Rattle.fwd_session.specs.Live.{LiveSession, live_session}
 use Rattle.fwd_model.specs.Outputs.{
   OutputHistory,
-  carried_by,
   Return,
   LiveOutput,
   live_output,
@@ -64,7 +63,7 @@ use Rattle.fwd_model.specs.Outputs.{
 }
 use Rattle.fwd_model.specs.Sessions.{live_sessions}
 use Rattle.fwd_model.specs.Layers.{Worker, Lanes, Layers}
-use Rattle.fwd_model.specs.History.{Connection, Lane, History}
+use Rattle.fwd_model.specs.History.{Connection, Lane, History, taken_by}
 
 -- ---- what is kept
 
@@ -103,10 +102,11 @@ last_id [] = None
 last_id (c ∷ []) = Some c.id
 last_id (c ∷ d ∷ cs) = last_id (d ∷ cs)
 
--- the live part of a worker: the chunk that it carries, with its entries, and its session
+-- the live part of a worker: the chunk that it took and did not load yet, with its entries, and
+-- its session
 abbrev pub live_worker : OutputHistory → ℕ → Option SessionHistory → Worker LiveSession
 live_worker o w s = record {
-  chunk = carried_by o.buffer w;
+  taken = taken_by o.buffer w s;
   session = option_map live_session s;
 }
 
@@ -196,26 +196,26 @@ abbrev pub lane_gives : LiveLane → ℕ → Option Load
 lane_gives l now =
     option_map (live_load l.output.buffer) (live_given (live_looks l.output.buffer now))
 
--- the worker has that chunk, if there is one
+-- the worker takes that chunk, if there is one
 abbrev pub lane_takes : LiveLane → ℕ → Worker LiveSession → ℕ → LiveLane
 lane_takes l w x now = record l {
   output = record (l.output) { buffer = buffer.live_takes l.output.buffer w now };
-  workers = slice_set l.workers w (record { chunk = lane_gives l now; session = x.session });
+  workers = slice_set l.workers w (record { taken = lane_gives l now; session = x.session });
 }
 
--- the worker's chunk is settled
-abbrev pub lane_settles : LiveLane → ℕ → LiveSession → Evidence → LiveLane
-lane_settles l w s e = record l {
+-- a chunk of the worker is settled, which leaves it so
+abbrev pub lane_settles : LiveLane → ℕ → Worker LiveSession → Evidence → LiveLane
+lane_settles l w x e = record l {
   output = output_settles l.output e;
-  workers = slice_set l.workers w (record { chunk = None; session = Some (session_unloads s) });
+  workers = slice_set l.workers w x;
 }
 
 -- the worker has neither a session nor a chunk any more
-abbrev pub lane_ends : LiveLane → ℕ → Option Return → (server : Option ℕ) → (now : ℕ)
+abbrev pub lane_ends : LiveLane → ℕ → List Return → (server : Option ℕ) → (now : ℕ)
     → LiveLane
 lane_ends l w back server now = record l {
   output = output_ends l.output back server now;
-  workers = slice_set l.workers w (record { chunk = None; session = None });
+  workers = slice_set l.workers w (record { taken = None; session = None });
 }
 
 -- the output of this number is another

@@ -2,21 +2,8 @@
 -- that they came with, and its servers, with what was lost at each. Each part has its own history
 -- and its own live part, and none looks into another: what ties them is that they are told of the
 -- same events.
-use Rattle.std.specs.Prelude.{
-  ℕ,
-  ◌==◌,
-  Bool,
-  List,
-  length,
-  max,
-  filter,
-  find,
-  Option,
-  Some,
-  None,
-  option_map,
-  if◌then◌else◌,
-}
+use Rattle.std.specs.Prelude.{ℕ, ◌==◌, Bool, true, false, not, nat_le, List, [], ◌∷◌, ◌++◌, length, map, max, filter, find, Option, Some, None, option_to_list, if◌then◌else◌}
+use Rattle.std.specs.List.{list_any}
 use Rattle.fwd_modes.specs.Requests.{Request}
 use Rattle.fwd_modes.specs.declared.origin.Origin.{Origin}
 use Rattle.fwd_chunks.specs.Cells.{Carry, contents}
@@ -51,22 +38,55 @@ use Rattle.fwd_book.specs.History.{BookSetting, BookHistory, entered_as}
 use Rattle.fwd_book.specs.Live as kept
 use Rattle.fwd_book.specs.Live.{LiveBook, live_book}
 
--- what the worker has, if it has a chunk
-abbrev pub carry_of : ℕ → List Carry → Option Carry
-carry_of worker carried = find (λ c. c.worker == worker) carried
+-- ---- the chunks of a worker
 
--- the chunk that the worker has, with its entries
-abbrev pub carried_by : BufferHistory → ℕ → Option Load
-carried_by b worker = option_map (λ c. load_of b c.number) (carry_of worker b.carried)
+-- what the worker has, in the order in which it took it
+abbrev pub carries_of : ℕ → List Carry → List Carry
+carries_of worker carried = filter (λ c. c.worker == worker) carried
 
--- what a worker gives back: the number of its chunk, and whether that counts as a loss
+-- the chunks that the worker has, with their entries
+abbrev pub carried_by : BufferHistory → ℕ → List Load
+carried_by b worker = map (λ c. load_of b c.number) (carries_of worker b.carried)
+
+-- one of the chunks has the number
+abbrev pub has_chunk : ℕ → List Load → Bool
+has_chunk number chunks = list_any (λ c. c.number == number) chunks
+
+-- the chunk that a worker took and did not load yet: of those that it has, the one that its session
+-- does not have
+abbrev pub not_loaded : (loaded : List Load) → List Load → Option Load
+not_loaded loaded chunks = find (λ c. not (has_chunk c.number loaded)) chunks
+
+-- ---- what a worker gives back
+
+-- a chunk that is given back: its number, and whether that counts as a loss
 pub record Return : Type 0 where
   pub number : ℕ
   pub lost : Bool
 
--- the chunk that a worker has is given back
-abbrev pub returned : Option Load → (lost : Bool) → Option Return
-returned chunk lost = option_map (λ c. record { number = c.number; lost = lost }) chunk
+-- a chunk is given back
+abbrev pub return_of : (lost : Bool) → Load → Return
+return_of lost c = record { number = c.number; lost = lost }
+
+-- a worker gives back the chunk that it took and did not load, without a loss, and those that were
+-- loaded and not acknowledged, with a loss each
+abbrev pub returned : Option Load → (unacknowledged : List Load) → List Return
+returned taken unacknowledged =
+    map (return_of false) (option_to_list taken) ++ map (return_of true) unacknowledged
+
+-- a number among rising ones
+abbrev pub in_order : ℕ → List ℕ → List ℕ
+in_order n [] = n ∷ []
+in_order n (k ∷ numbers) = if nat_le n k then n ∷ k ∷ numbers else k ∷ in_order n numbers
+
+-- numbers, the least first
+abbrev pub rising : List ℕ → List ℕ
+rising [] = []
+rising (n ∷ numbers) = in_order n (rising numbers)
+
+-- the numbers of what is given back, the least first
+abbrev pub numbers_back : List Return → List ℕ
+numbers_back back = rising (map (λ r. r.number) back)
 
 -- the moment of a loss, if it is one
 abbrev pub moment_if : Bool → ℕ → Option ℕ
@@ -126,18 +146,19 @@ output_history_looks o now = record o {
   servers = servers.looked o.servers (max o.buffer.moment now);
 }
 
--- a chunk is given back to a buffer, if one is
-abbrev pub gets_back : BufferHistory → Option Return → ℕ → BufferHistory
-gets_back b None now = b
-gets_back b (Some back) now = buffer.frees b back.number (moment_if back.lost now)
+-- chunks are given back to a buffer, one after the other
+abbrev pub gets_back : BufferHistory → List Return → ℕ → BufferHistory
+gets_back b [] now = b
+gets_back b (r ∷ back) now =
+    gets_back (buffer.frees b r.number (moment_if r.lost now)) back now
 
 -- a server is lost at a moment, if one is
 abbrev pub loses : ServersSetting → ServersHistory → Option ℕ → ℕ → ServersHistory
 loses setting s None moment = s
 loses setting s (Some server) moment = servers.lost setting s server moment
 
--- a worker's end at a moment: its chunk is given back, and its server may be lost
-abbrev pub output_history_ends : OutputHistory → Option Return → (server : Option ℕ) → (now : ℕ)
+-- a worker's end at a moment: its chunks are given back, and its server may be lost
+abbrev pub output_history_ends : OutputHistory → List Return → (server : Option ℕ) → (now : ℕ)
     → OutputHistory
 output_history_ends o back server now = record o {
   buffer = gets_back (buffer.looks o.buffer now) back now;
@@ -200,10 +221,11 @@ output_looks o now = record o {
   servers = live_looked o.servers (max o.buffer.moment now);
 }
 
--- a chunk is given back to a buffer, if one is
-abbrev pub live_gets_back : LiveBuffer → Option Return → ℕ → LiveBuffer
-live_gets_back b None now = b
-live_gets_back b (Some back) now = live_frees b back.number (moment_if back.lost now)
+-- chunks are given back to a buffer, one after the other
+abbrev pub live_gets_back : LiveBuffer → List Return → ℕ → LiveBuffer
+live_gets_back b [] now = b
+live_gets_back b (r ∷ back) now =
+    live_gets_back (live_frees b r.number (moment_if r.lost now)) back now
 
 -- a server is lost at a moment, if one is
 abbrev pub live_loses : LiveServers → Option ℕ → ℕ → LiveServers
@@ -211,7 +233,7 @@ live_loses s None moment = s
 live_loses s (Some server) moment = live_lost s server moment
 
 -- a worker's end at a moment
-abbrev pub output_ends : LiveOutput → Option Return → (server : Option ℕ) → (now : ℕ)
+abbrev pub output_ends : LiveOutput → List Return → (server : Option ℕ) → (now : ℕ)
     → LiveOutput
 output_ends o back server now = record o {
   buffer = live_gets_back (live_looks o.buffer now) back now;

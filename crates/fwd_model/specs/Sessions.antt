@@ -1,7 +1,6 @@
 -- Sessions as layers of a relay: all that they ever heard and sent, and what of it still matters.
-use Rattle.fwd_session.specs.Evidence.{evidence_of}
 use Rattle.fwd_session.specs.History as history
-use Rattle.fwd_session.specs.History.{SessionHistory, handshake_of, is_done}
+use Rattle.fwd_session.specs.History.{SessionHistory, handshake_of, is_done, first_in}
 use Rattle.fwd_session.specs.Live as live
 use Rattle.fwd_session.specs.Live.{LiveSession}
 use Rattle.fwd_model.specs.Layers.{Sessions}
@@ -11,9 +10,9 @@ abbrev pub session_histories : Sessions
 session_histories = record {
   Session = SessionHistory;
   server = λ s. s.setup.server;
-  loaded = λ s. s.loaded;
-  acked = history.acked;
-  evidence = λ s c. evidence_of c s.setup.server s.reply;
+  unacknowledged = λ s. history.chunks_of s.carried;
+  acked = λ s. history.first_in s.accepted;
+  room = history.room;
   is_greeted = λ s. is_done (handshake_of s);
   is_ready = history.is_ready;
   is_down = λ s. s.down;
@@ -34,9 +33,9 @@ abbrev pub live_sessions : Sessions
 live_sessions = record {
   Session = LiveSession;
   server = λ s. s.setup.server;
-  loaded = λ s. s.loaded;
-  acked = live.live_acked;
-  evidence = λ s c. evidence_of c s.setup.server s.reply;
+  unacknowledged = λ s. live.live_chunks s.carried;
+  acked = λ s. first_in s.accepted;
+  room = live.live_room;
   is_greeted = λ s. is_done s.handshake;
   is_ready = live.live_is_ready;
   is_down = λ s. s.down;

@@ -22,7 +22,14 @@ setup_of security limits id nonce auth =
 abbrev pub session_setup : OutputConfig → (server : ℕ) → (salt : List ℕ) → (now : ℕ)
     → session.Setup
 session_setup c server salt now =
-    record { server = server; login = c.login; salt = salt; ack_wait = c.ack_wait; start = now }
+    record {
+      server = server;
+      login = c.login;
+      salt = salt;
+      ack_wait = c.acks.ack_wait;
+      window = c.acks.window;
+      start = now;
+    }
 
 -- what an output's buffer is set to: its limits, and the run and the output's number, which its
 -- chunks' names tell

@@ -18,7 +18,6 @@ use Rattle.std.specs.Prelude.{
   Some,
   None,
   is_some,
-  option_map,
   nat_lt,
   ◌==◌,
   if◌then◌else◌,
@@ -31,7 +30,8 @@ use Rattle.fwd_model.specs.declared.event.Event.{Event}
 use Rattle.fwd_model.specs.declared.event.Event.TheVariants as event
 use Rattle.fwd_chunks.specs.declared.fault.AdmitError.{AdmitError}
 use Rattle.fwd_chunks.specs.declared.flush.FlushKind.{FlushKind}
-use Rattle.fwd_session.specs.Evidence.{frame_of}
+use Rattle.fwd_chunks.specs.History.{Load}
+use Rattle.fwd_session.specs.Evidence.{evidence_of, frame_of}
 use Rattle.fwd_model.specs.declared.config.OutputConfig.{OutputConfig}
 use Rattle.fwd_model.specs.declared.event.EndKind.{EndKind}
 use Rattle.fwd_model.specs.declared.event.EndKind.TheVariants.{Kept, Lost}
@@ -56,11 +56,15 @@ use Rattle.fwd_model.specs.Outcome.{
 }
 use Rattle.fwd_model.specs.Layers.{Worker, Layers}
 use Rattle.fwd_model.specs.Setups.{setup_of, session_setup}
-use Rattle.fwd_model.specs.Outputs.{returned}
+use Rattle.fwd_model.specs.Outputs.{Return, returned, numbers_back}
 
 -- the worker with this session
 abbrev pub with_session : {S : Type 0} → Worker S → S → Worker S
-with_session x s = record { chunk = x.chunk; session = Some s }
+with_session x s = record { taken = x.taken; session = Some s }
+
+-- the worker whose chunk went into this session
+abbrev pub with_loaded : {S : Type 0} → S → Worker S
+with_loaded s = record { taken = None; session = Some s }
 
 -- the session was lost with its link
 abbrev pub is_lost : EndKind → Bool
@@ -115,9 +119,9 @@ module _ (L : Layers) where
     puts_worker,
     begins,
     server,
-    loaded,
+    unacknowledged,
     acked,
-    evidence,
+    room,
     is_greeted,
     is_ready,
     is_down,
@@ -129,6 +133,7 @@ module _ (L : Layers) where
     sends,
     listens,
     looks,
+    unloads,
   }
 
   -- at the connection of this id
@@ -254,21 +259,26 @@ module _ (L : Layers) where
     refuse_if (is_some x.session) NotNow
     Goes answer.Done (with_session x (begins (session_setup c server salt now)))
 
-  -- a worker carries the least free number, if there is one; the moment has grown either way
+  -- its session has as many chunks as it may have
+  abbrev pub is_full : Option Session → Bool
+  is_full None = false
+  is_full (Some s) = room s == 0
+
+  -- a worker takes the least free number, if there is one; the moment has grown either way
   abbrev pub take : Lane → ℕ → ℕ → Outcome Lane
   take l w now = do
     x ← found (worker_at l w) NoSuch
-    refuse_if (is_some x.chunk) NotNow
+    refuse_if (is_some x.taken || is_full x.session) NotNow
     Goes (chunk_answer (given l now)) (takes l w x now)
 
-  -- a worker's chunk is put into its session
+  -- the chunk that a worker took is put into its session
   abbrev pub load : ℕ → Worker Session → Outcome (Worker Session)
   load now x = do
     s ← found x.session NotNow
-    c ← found x.chunk NotNow
-    refuse_if (is_some (loaded s)) NotNow
+    c ← found x.taken NotNow
+    refuse_if (room s == 0) NotNow
     refuse_if (not (is_ready s)) NotUp
-    Goes (answer.Frame (frame_of c)) (with_session x (loads s c now))
+    Goes (answer.Frame (frame_of c)) (with_loaded (loads s c now))
 
   -- a session's link took some of the bytes that wait to be sent
   abbrev pub wrote : ℕ → Session → Outcome Session
@@ -286,48 +296,55 @@ module _ (L : Layers) where
     refuse_if (is_down s) NotUp
     Goes (answer.Late (is_late s now)) (looks s now)
 
-  -- a worker's acknowledged chunk leaves the output, and its server's losses count no more
+  -- of a worker's acknowledged chunks the one that was accepted first leaves the output, and its
+  -- server's losses count no more
   abbrev pub settle : Lane → ℕ → Outcome Lane
   settle l w = do
     x ← found (worker_at l w) NoSuch
     s ← found x.session NotNow
-    c ← found (acked s) NotNow
-    Goes (answer.Settled (entries_at l c.number)) (settles l w s (evidence s c))
+    a ← found (acked s) NotNow
+    Goes (answer.Settled (entries_at l a.chunk.number))
+        (settles l w (with_session x (unloads s)) (evidence_of (server s) a))
 
-  -- the worker has neither a chunk nor a session
+  -- the worker took no chunk that it did not load, and has no session
   abbrev pub is_idle : Worker Session → Bool
-  is_idle x = not (is_some x.chunk) && not (is_some x.session)
+  is_idle x = not (is_some x.taken) && not (is_some x.session)
 
-  -- its chunk is acknowledged, and not settled
+  -- a chunk of its is acknowledged, and not settled
   abbrev pub has_acked : Option Session → Bool
   has_acked None = false
   has_acked (Some s) = is_some (acked s)
 
-  -- its chunk was loaded
-  abbrev pub has_loaded : Option Session → Bool
-  has_loaded None = false
-  has_loaded (Some s) = is_some (loaded s)
+  -- the chunks that were loaded and are not acknowledged
+  abbrev pub unacknowledged_of : Option Session → List Load
+  unacknowledged_of None = []
+  unacknowledged_of (Some s) = unacknowledged s
+
+  -- what a worker gives back at its session's end
+  abbrev pub gives_back : Worker Session → List Return
+  gives_back x = returned x.taken (unacknowledged_of x.session)
 
   -- the server did not do what it owed: it is said to be lost, or its session is down, or the
-  -- handshake is not done, or the chunk was loaded
+  -- handshake is not done, or a chunk was loaded and is not acknowledged
   abbrev pub is_fault_of : EndKind → Session → Bool
   is_fault_of kind s =
-      is_lost kind || (is_down s || (not (is_greeted s) || is_some (loaded s)))
+      is_lost kind
+      || (is_down s || (not (is_greeted s) || nat_lt 0 (length (unacknowledged s))))
 
   -- the server that is lost, if one is
   abbrev pub lost_server : EndKind → Option Session → Option ℕ
   lost_server kind None = None
   lost_server kind (Some s) = if is_fault_of kind s then Some (server s) else None
 
-  -- a worker's session is no more. A chunk that it has is given back, with a loss where it was
-  -- loaded
+  -- a worker's session is no more. The chunks that the worker has are given back, with a loss each
+  -- where they were loaded
   abbrev pub end : Lane → ℕ → EndKind → ℕ → Outcome Lane
   end l w kind now = do
     x ← found (worker_at l w) NoSuch
     refuse_if (is_idle x) NotNow
     refuse_if (has_acked x.session) NotNow
-    Goes (answer.Ended (option_map (λ c. c.number) x.chunk))
-        (ends l w (returned x.chunk (has_loaded x.session)) (lost_server kind x.session) now)
+    Goes (answer.Ended (numbers_back (gives_back x)))
+        (ends l w (gives_back x) (lost_server kind x.session) now)
 
   -- what one event comes to
   abbrev pub step : Relay → Event → Outcome Relay

@@ -1,4 +1,5 @@
 use crate::fault::Refusal;
+use crate::numbers::Numbers;
 use fwd_base::{Bytes, Seq};
 use fwd_session::SessionFault;
 use fwd_source::SourceFault;
@@ -45,7 +46,7 @@ pub enum Answer {
     },
     /// Nothing else is to be told.
     Done,
-    /// The worker has the chunk of this number, with so many entries.
+    /// The worker took the chunk of this number, with so many entries.
     Took {
         number: u64,
         entries: usize,
@@ -64,7 +65,7 @@ pub enum Answer {
     Ready {
         out: Bytes,
     },
-    /// The server acknowledged the session's chunk.
+    /// The server acknowledged chunks of the session, one or more.
     Acked {
         out: Bytes,
     },
@@ -78,10 +79,10 @@ pub enum Answer {
     Late {
         late: bool,
     },
-    /// The worker has neither a session nor a chunk any more. The chunk of this number is put back,
-    /// if it had one.
+    /// The worker has neither a session nor a chunk any more. The chunks of these numbers are put
+    /// back, by rising number: those that it had.
     Ended {
-        number: Option<u64>,
+        numbers: Numbers,
     },
     /// The connection's requests of these numbers are told that all their entries were
     /// acknowledged.

@@ -6,6 +6,7 @@ use fwd_chunks::BufferLimits;
 use fwd_handshake::{Login, Security};
 use fwd_match::Routes;
 use fwd_msgpack::Limits;
+use fwd_session::AckTerms;
 
 /// What one output is set to.
 #[derive(Drop)]
@@ -16,8 +17,8 @@ pub struct OutputConfig {
     pub standby: Seq<bool>,
     /// What its buffer is limited to. Its waits after losses are its servers' too.
     pub limits: BufferLimits,
-    /// How long a session waits for what its server owes it, in milliseconds.
-    pub ack_wait: u64,
+    /// How its sessions wait for acknowledgements: of how many chunks at once, and for how long.
+    pub acks: AckTerms,
     /// What its sessions prove to their servers.
     pub login: Login,
     ghost few: { length standby ≤ 16 },

@@ -6,7 +6,7 @@ use fwd_session::OwnedSalt;
 #[derive(Clone, Copy)]
 pub enum EndKind {
     /// The server is at fault only for what it owed: the session is down, its handshake is not
-    /// done, or its chunk was loaded and not acknowledged.
+    /// done, or a chunk was loaded and not acknowledged.
     Kept,
     /// The server is at fault whatever it owed.
     Lost,
@@ -58,7 +58,7 @@ pub enum Event {
         worker: u16,
         now: u64,
     },
-    /// A worker's chunk is put into its session's waiting bytes.
+    /// The chunk that a worker took is put into its session's waiting bytes.
     Load {
         output: u16,
         worker: u16,
@@ -76,7 +76,7 @@ pub enum Event {
         worker: u16,
         bytes: Bytes,
     },
-    /// A worker's acknowledged chunk leaves its output.
+    /// The first of a worker's acknowledged chunks leaves its output.
     Settle {
         output: u16,
         worker: u16,
@@ -87,7 +87,7 @@ pub enum Event {
         worker: u16,
         now: u64,
     },
-    /// A worker's session is no more, and a chunk that it has goes back to its output.
+    /// A worker's session is no more, and the chunks that it has go back to its output.
     End {
         output: u16,
         worker: u16,

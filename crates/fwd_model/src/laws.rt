@@ -6,6 +6,8 @@ ghost use Rattle.std.specs.Prelude.{
   ◌∷◌,
   ◌&&◌,
   ◌+◌,
+  ◌<◌,
+  ◌≤◌,
   ℕ,
   List,
   [],
@@ -13,13 +15,15 @@ ghost use Rattle.std.specs.Prelude.{
   None,
   true,
   false,
-  is_some,
+  length,
   slice_get,
 };
+ghost use Rattle.std.specs.List.{list_any};
 ghost use Rattle.fwd_source.specs.History.{SourceHistory};
 ghost use Rattle.fwd_source.specs.Live.{LiveSource};
 ghost use Rattle.fwd_model.specs.declared.answer.Answer.TheVariants as answer;
 ghost use Rattle.fwd_model.specs.declared.config.Config.{Config};
+ghost use Rattle.fwd_model.specs.declared.event.EndKind.{EndKind};
 ghost use Rattle.fwd_model.specs.declared.event.Event.{Event};
 ghost use Rattle.fwd_model.specs.declared.event.Event.TheVariants as event;
 ghost use Rattle.fwd_model.specs.declared.fault.Refusal.TheVariants.{NotNow};
@@ -27,11 +31,21 @@ ghost use Rattle.fwd_model.specs.Outcome.{answer_of, state_of, within, is_refusa
 ghost use Rattle.fwd_model.specs.Step.{step, answers, after};
 ghost use Rattle.fwd_chunks.specs.Cells.{has_number};
 ghost use Rattle.fwd_chunks.specs.Spans.{AreRising};
-ghost use Rattle.fwd_model.specs.Outputs.{count_at};
-ghost use Rattle.fwd_book.specs.History.{Untold, Told, Admission, request_at, untold};
 ghost use Rattle.fwd_chunks.specs.History.{Load};
+ghost use Rattle.fwd_model.specs.Layers.{Worker};
+ghost use Rattle.fwd_model.specs.Outputs.{carried_by, count_at, has_chunk};
+ghost use Rattle.fwd_book.specs.History.{Untold, Told, Admission, request_at, untold};
 ghost use Rattle.fwd_session.specs.declared.fault.SessionFault.{SessionFault};
-ghost use Rattle.fwd_session.specs.History.{SessionHistory, is_handed_on, says};
+ghost use Rattle.fwd_session.specs.Evidence.{Accepted};
+ghost use Rattle.fwd_session.specs.History.{
+  SessionHistory,
+  first_in,
+  is_handed_on,
+  newly_accepted,
+  room,
+  says,
+};
+ghost use Rattle.fwd_session.specs.Live.{LiveSession, live_room};
 ghost use Rattle.fwd_model.specs.History.{History, Lane, histories, source_at, counts, reports, IsReached};
 ghost use Rattle.fwd_model.specs.Names.{Commute, are_unrelated, is_accept};
 ghost use Rattle.fwd_model.specs.Delivered.{
@@ -148,32 +162,36 @@ pub fn told_without_entries()
         × (has_number a.request.origin.request numbers ≡ true) }
 {}
 
-/// What is heard before the link took the frame's last byte settles nothing.
+/// What is heard before the link took the last byte of any frame settles nothing, where no chunk
+/// was acknowledged before.
 pub fn early_reply_settles_nothing()
     ensures { (h : History) (o w : ℕ) (bytes : List ℕ) (l : Lane) (s : SessionHistory) →
         slice_get h.lanes o ≡ Some l → slice_get l.sessions w ≡ Some (Some s)
-        → is_some s.reply ≡ false →
-        is_handed_on s ≡ false →
+        → s.accepted ≡ [] →
+        list_any (is_handed_on s) s.carried ≡ false →
         answer_of
         (step histories (state_of h (step histories h (event.Heard o w bytes)))
         (event.Settle o w))
         ≡ answer.Refused NotNow }
 {}
 
-/// An acknowledgement that was accepted before a fault in the same piece stands: the fault is
-/// answered, and the chunk can be settled.
+/// The acknowledgements that were accepted before a fault in the same piece stand, each that comes
+/// before it: the fault is answered, and the chunk that was accepted first of all that are not
+/// settled can be settled.
 pub fn acknowledgement_before_fault_stands()
-    ensures { (h : History) (o w : ℕ) (c : Load) (bytes : List ℕ) (l : Lane) (s : SessionHistory)
-        (f : SessionFault) →
+    ensures each { (s : SessionHistory) (bytes : List ℕ) →
+        length (newly_accepted s bytes) ≡ length (says s bytes).replies }
+    ensures stands { (h : History) (o w : ℕ) (a : Accepted) (bytes : List ℕ) (l : Lane)
+        (s : SessionHistory) (f : SessionFault) →
         slice_get h.lanes o ≡ Some l → slice_get l.sessions w ≡ Some (Some s)
         → s.down ≡ false →
-        s.loaded ≡ Some c → is_some (says s bytes).reply ≡ true →
+        first_in (s.accepted ++ newly_accepted s bytes) ≡ Some a →
         (says s bytes).fault ≡ Some f →
         (answer_of (step histories h (event.Heard o w bytes)) ≡ answer.SessionFaulted f)
         × (answer_of
         (step histories (state_of h (step histories h (event.Heard o w bytes)))
         (event.Settle o w))
-        ≡ answer.Settled (count_at c.number l.output)) }
+        ≡ answer.Settled (count_at a.chunk.number l.output)) }
 {}
 
 /// A session begins once: behind its beginning, and before it has ended, no other session of its
@@ -181,6 +199,36 @@ pub fn acknowledgement_before_fault_stands()
 pub fn session_begins_once()
     ensures { (config : Config) (es : List Event) (o w : ℕ) (b : HasBegun config es o w) →
         NoneBegan config (b.before ++ event.Up o w b.server b.salt b.moment ∷ []) b.later o w }
+{}
+
+/// A worker has no more chunks than its output's window, loaded or not, and where it took one and
+/// did not load it, its session has room for it.
+pub fn window_is_kept()
+    ensures few { (config : Config) (h : History) (o w : ℕ) (l : Lane) (x : Worker SessionHistory)
+        → IsReached config h → slice_get h.lanes o ≡ Some l
+        → histories.worker_at l w ≡ Some x →
+        length (carried_by l.output.buffer w) ≤ l.config.acks.window }
+    ensures room { (config : Config) (h : History) (o w : ℕ) (l : Lane) (x : Worker SessionHistory)
+        (s : SessionHistory) (c : Load) → IsReached config h → slice_get h.lanes o ≡ Some l
+        → histories.worker_at l w ≡ Some x → x.session ≡ Some s → x.taken ≡ Some c →
+        0 < room s }
+    ensures live { (config : Config) (h : History) (o w : ℕ) (l : LiveLane) (x : Worker LiveSession)
+        (s : LiveSession) (c : Load) → IsReached config h → slice_get (live h).lanes o ≡ Some l
+        → lives.worker_at l w ≡ Some x → x.session ≡ Some s → x.taken ≡ Some c →
+        0 < live_room s }
+{}
+
+/// At its session's end a worker gives back all that it has: the numbers that are answered rise,
+/// and they are those of its chunks.
+pub fn end_gives_back_all()
+    ensures rising { (config : Config) (h : History) (o w now : ℕ) (kind : EndKind)
+        (numbers : List ℕ) (l : Lane) → IsReached config h → slice_get h.lanes o ≡ Some l →
+        answer_of (step histories h (event.End o w kind now)) ≡ answer.Ended numbers →
+        AreRising numbers }
+    ensures all { (config : Config) (h : History) (o w now : ℕ) (kind : EndKind)
+        (numbers : List ℕ) (l : Lane) → IsReached config h → slice_get h.lanes o ≡ Some l →
+        answer_of (step histories h (event.End o w kind now)) ≡ answer.Ended numbers →
+        (k : ℕ) → has_number k numbers ≡ has_chunk k (carried_by l.output.buffer w) }
 {}
 
 /// Events that name nothing in common, and do not both accept a connection, come to the same in

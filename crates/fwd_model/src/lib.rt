@@ -7,17 +7,19 @@ mod config;
 mod event;
 mod fault;
 mod laws;
+mod numbers;
 
 pub use answer::Answer;
 pub use config::{Config, OutputConfig};
 pub use event::{EndKind, Event};
 pub use fault::Refusal;
 pub use fwd_chunks::{BufferLimits, Counts, FlushKind, Span};
-pub use fwd_session::{OwnedSalt, SessionFault};
+pub use fwd_session::{AckTerms, OwnedSalt, SessionFault};
 pub use fwd_source::{Origin, SourceFault};
 pub use laws::{
     acknowledgement_before_fault_stands, collect_tells_what_is_due, early_reply_settles_nothing,
-    live_follows, live_run_follows, marked_is_told, refusal_changes_nothing, session_begins_once,
-    told_among_is_delivered, told_is_delivered, told_without_entries, unrelated_events_commute,
-    waiting_is_new,
+    end_gives_back_all, live_follows, live_run_follows, marked_is_told, refusal_changes_nothing,
+    session_begins_once, told_among_is_delivered, told_is_delivered, told_without_entries,
+    unrelated_events_commute, waiting_is_new, window_is_kept,
 };
+pub use numbers::Numbers;

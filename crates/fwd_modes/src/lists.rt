@@ -51,8 +51,8 @@ fn list_each(alloc: Global, list: Value<'_>) -> Result<Option<KeptEntries>, Allo
     Ok(Some(kept))
 }
 
-/// The members of an array, if each is an entry. Where all are spelled as they are kept, their bytes
-/// are copied in one.
+/// The members of an array, if each is an entry. Where all are spelled as they are kept, their
+/// bytes are copied in one.
 #[tactic(auto, unfolding(crate::specs::Entries::listed_entries))]
 pub(crate) fn read_list(alloc: Global, list: Value<'_>) -> Result<Option<KeptEntries>, AllocError>
     ensures { IfOk result (λ kept. kept ≡ listed_entries (bytes_of list.entry)) }

@@ -107,8 +107,8 @@ impl Scanner {
         self.answer(before)
     }
 
-    /// What bytes begin with of which the first `known` were fed: they are not scanned again. Behind
-    /// a value the scanner begins anew.
+    /// What bytes begin with of which the first `known` were fed: they are not scanned again.
+    /// Behind a value the scanner begins anew.
     fn cut<'a>(&mut self, bytes: &'a [u8], known: usize) -> Cut<'a>
         requires known { known ≤ length bytes.now }
         requires behind { IsBehind self.old.limits (take known bytes.now) self.old }
@@ -137,8 +137,8 @@ impl Scanner {
     }
 
     /// What comes next in a stream's bytes of which the first `known` were fed, and no others: as
-    /// `next_value`, but those are not scanned again. Behind a value the scanner begins anew; behind
-    /// less than one it stands behind all the bytes. It takes no memory.
+    /// `next_value`, but those are not scanned again. Behind a value the scanner begins anew;
+    /// behind less than one it stands behind all the bytes. It takes no memory.
     pub fn next_value<'a>(&mut self, bytes: &'a [u8], known: usize) -> Next<'a>
         requires known { known ≤ length bytes.now }
         requires behind { IsBehind self.old.limits (take known bytes.now) self.old }

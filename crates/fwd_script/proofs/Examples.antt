@@ -137,11 +137,11 @@ late = refl
 not_late : text_of (LateOrNot false) ≡ codes "late no"
 not_late = refl
 
-ended : text_of (Ended (Some 1)) ≡ codes "ended 1"
+ended : text_of (Ended (1 ∷ 2 ∷ [])) ≡ codes "ended 1,2"
 unfolding digits
 ended = refl
 
-ended_none : text_of (Ended None) ≡ codes "ended -"
+ended_none : text_of (Ended []) ≡ codes "ended -"
 ended_none = refl
 
 told : text_of (Told (1 ∷ []) (0x81 ∷ 0xa3 ∷ 0x61 ∷ 0x63 ∷ 0x6b ∷ 0xa1 ∷ 0x78 ∷ []))

@@ -43,7 +43,10 @@ pub fn print_answer(alloc: Global, answer: &Answer) -> Result<String, AllocError
         Answer::SessionFaulted(fault) => with_name(alloc, "fault", session_fault_name(*fault)),
         Answer::Settled { entries } => format!(in alloc; "settled {entries}"),
         Answer::Late { late } => with_name(alloc, "late", yes_or_no(*late)),
-        Answer::Ended { number } => with_maybe(alloc, "ended", *number),
+        Answer::Ended { numbers } => {
+            let list = number_list(alloc, numbers.as_slice())?;
+            with_name(alloc, "ended", &list)
+        }
         Answer::Told { requests, out } => told(alloc, requests.as_slice(), out.as_slice()),
         Answer::Forgot { requests } => format!(in alloc; "forgot {requests}"),
         Answer::Refused(refusal) => with_name(alloc, "refused", refusal_name(*refusal)),

@@ -1,13 +1,12 @@
 -- The live part of a session follows its history.
-use Rattle.std.proofs.Common.{◌≡◌, ℕ, zero, suc, ◌+◌, ◌≤◌, Bool, true, false, cond, ltb, leb, List, [], ◌∷◌, ◌++◌, length, drop, max, Option, Some, None, refl, sym, ap, ◌∙◌, arith}
-use Rattle.std.specs.Prelude.{option_map, is_some, not, ◌||◌}
+use Rattle.std.proofs.Common.{◌≡◌, ℕ, zero, suc, ◌+◌, ◌-◌, ◌≤◌, Bool, true, false, cond, leb, eqb, List, [], ◌∷◌, ◌++◌, length, drop, max, Option, Some, None, refl, sym, ap, ◌∙◌, arith}
+use Rattle.std.specs.Prelude.{map, is_some, not, ◌&&◌, ◌||◌, nat_le}
 use Rattle.std.proofs.lemmas.Bool.Decides.{nat_tests}
-use Rattle.std.proofs.lemmas.List.{length-append, length-drop, drop-append-le, drop-drop, append_assoc}
+use Rattle.std.proofs.lemmas.List.{length-append, length-drop, map-append, drop-append-le, drop-drop, append_assoc}
 use Rattle.fwd_msgpack.specs.Scans.{Split, split_of, continued, with_front, values_of, is_nil}
 use Rattle.fwd_msgpack.specs.Scans.Split.{Open, Broken}
 use Rattle.fwd_msgpack.proofs.Rows.{split_append}
 use Rattle.fwd_modes.specs.Acks.{ack_name}
-use Rattle.std.specs.Str.{bytes_eq}
 use Rattle.fwd_handshake.specs.declared.credentials.Login.{Login}
 use Rattle.fwd_chunks.specs.History.{Load}
 use Rattle.fwd_session.specs.declared.limits.TheConstants.{REPLY_LIMIT, REPLY_NESTING}
@@ -16,12 +15,13 @@ use Rattle.fwd_session.specs.declared.fault.SessionFault.TheVariants as fault
 use Rattle.fwd_session.specs.declared.handshake.Handshake.{Handshake}
 use Rattle.fwd_session.specs.declared.handshake.Handshake.TheVariants.{AwaitsHelo, AwaitsPong, Done}
 use Rattle.fwd_session.specs.declared.told.SessionHeard.TheVariants as told
-use Rattle.fwd_session.specs.declared.word.Word.{Word}
-use Rattle.fwd_session.specs.declared.word.Word.TheVariants.{Skipped, Greets, Acks, Fails}
 use Rattle.fwd_session.specs.Evidence.{frame_of}
-use Rattle.fwd_session.specs.Said.{Said, out_of, ack_word, word_of, word_then, said_of, said_in, silence, failing, reply_stream, ended_by, behind, rest_of}
-use Rattle.fwd_session.specs.History.{Setup, SessionHistory, IsSane, is_open, greeted, handshake_of, is_ready, is_late, to_send, awaited, newly_heard, says, is_done, told_by, told_of, piece_told, piece_out, waits_from, acked, begins, loads, sends, listens, hears, unloads, looks}
-use Rattle.fwd_session.specs.Live.{LiveSession, live_session, live_is_ready, live_awaited, live_says, live_piece_told, live_piece_out, live_is_late, live_acked, session_begins, session_loads, session_sends, session_takes, session_listens, session_hears, session_unloads, session_looks}
+use Rattle.fwd_session.specs.Said.{Word, Awaited, Said, awaited_behind, left_by, accepted_by, out_of, ack_word, word_of, word_then, said_of, said_in, silence, failing, reply_stream, ended_by, behind, rest_of}
+use Rattle.fwd_session.specs.Said.Word.{Skipped, Greets, Acks, Fails}
+use Rattle.fwd_session.specs.History.{Setup, Loaded, SessionHistory, IsSane, is_open, greeted, handshake_of, is_handed_on, is_ready, is_first_over, is_late, room, to_send, awaited, newly_heard, says, is_done, told_by, told_of, piece_told, piece_out, waits_from, acked, chunks_of, begins, loads, sends, listens, hears, unloads, looks}
+use Rattle.fwd_session.specs.Live.{LiveLoaded, LiveSession, live_loaded, live_session, live_is_ready, live_room, live_chunks, live_awaited, live_says, live_piece_told, live_piece_out, live_is_late, live_acked, session_begins, session_loads, sends_through, session_sends, falls_with, session_takes, session_listens, session_hears, session_unloads, session_looks}
+use Rattle.fwd_session.proofs.Lists.{map_map, map_same, length_map, left_map}
+use Rattle.fwd_session.proofs.Saying.{ack_either}
 
 -- ---- the stream in pieces
 
@@ -75,24 +75,16 @@ module _ (login : Login) (salt : List ℕ) where
 
   -- once it is done, it stays so
   abbrev StaysThen : Bool → Word → Type 0
-  StaysThen keepalive w = (at : Handshake) (awaited : Option (List ℕ)) (v : List ℕ) (others : Handshake → Option (List ℕ) → Said)
-      → at ≡ Done keepalive → ((name : Option (List ℕ)) → (others (Done keepalive) name).handshake ≡ Done keepalive)
+  StaysThen keepalive w = (at : Handshake) (awaited : List Awaited) (v : List ℕ) (others : Handshake → List Awaited → Said)
+      → at ≡ Done keepalive → ((left : List Awaited) → (others (Done keepalive) left).handshake ≡ Done keepalive)
       → (word_then at awaited v w others).handshake ≡ Done keepalive
 
-  ack_word-done : (keepalive : Bool) (awaited name : Option (List ℕ))
+  ack_word-done : (keepalive : Bool) (awaited : List Awaited) (name : Option (List ℕ))
       → StaysThen keepalive (ack_word awaited name)
-  ack_word-done keepalive a None at awaited v others e f = e
-  ack_word-done keepalive None (Some name) at awaited v others e f = e
-  ack_word-done keepalive (Some a) (Some name) at awaited v others e f = by (bytes_eq name a)
-    where
-      by : (b : Bool)
-          →
-          (word_then at awaited v (cond b Acks (Fails fault.WrongAck)) others).handshake
-          ≡ Done keepalive
-      by true = ap (λ g. (others g None).handshake) e ∙ f None
-      by false = e
+  ack_word-done keepalive a name =
+      ack_either (StaysThen keepalive) (λ at awaited v others e f. ap (λ g. (others g (awaited_behind (v ∷ []) awaited)).handshake) e ∙ f (awaited_behind (v ∷ []) awaited)) (λ fault at awaited v others e f. e) a name
 
-  word-done : (keepalive : Bool) (awaited : Option (List ℕ)) (v : List ℕ)
+  word-done : (keepalive : Bool) (awaited : List Awaited) (v : List ℕ)
       → StaysThen keepalive (word_of login salt (Done keepalive) awaited v)
   unfolding word_of
   word-done keepalive a v at awaited u others e f = by (is_nil v)
@@ -104,94 +96,94 @@ module _ (login : Login) (salt : List ℕ) where
       by true = ap (λ g. (others g awaited).handshake) e ∙ f awaited
       by false = ack_word-done keepalive a (ack_name v) at awaited u others e f
 
-  pub done_stays : (keepalive : Bool) (awaited : Option (List ℕ)) (vs : List (List ℕ))
+  pub done_stays : (keepalive : Bool) (awaited : List Awaited) (vs : List (List ℕ))
       (end : Handshake → Said)
       → Keeps end → (said_of login salt (Done keepalive) awaited vs end).handshake ≡ Done keepalive
   done_stays keepalive awaited [] end keeps = keeps (Done keepalive)
   done_stays keepalive awaited (v ∷ vs) end keeps =
-      word-done keepalive awaited v (Done keepalive) awaited v (λ next name. said_of login salt next name vs end) refl (λ name. done_stays keepalive name vs end keeps)
+      word-done keepalive awaited v (Done keepalive) awaited v (λ next left. said_of login salt next left vs end) refl (λ left. done_stays keepalive left vs end keeps)
 
-  same_then : (at : Handshake) (a b : Option (List ℕ)) (v : List ℕ) (w : Word)
-      (x y : Handshake → Option (List ℕ) → Said)
-      → ((g : Handshake) (m n : Option (List ℕ)) → (x g m).handshake ≡ (y g n).handshake)
+  same_then : (at : Handshake) (a b : List Awaited) (v : List ℕ) (w : Word)
+      (x y : Handshake → List Awaited → Said)
+      → ((g : Handshake) (m n : List Awaited) → (x g m).handshake ≡ (y g n).handshake)
       → (word_then at a v w x).handshake ≡ (word_then at b v w y).handshake
   same_then at a b v Skipped x y same = same at a b
   same_then at a b v (Greets out next) x y same = same next a b
-  same_then at a b v Acks x y same = same at None None
+  same_then at a b v Acks x y same = same at (awaited_behind (v ∷ []) a) (awaited_behind (v ∷ []) b)
   same_then at a b v (Fails f) x y same = refl
 
   -- what is awaited makes no difference to it
-  pub same_handshake : (at : Handshake) (a b : Option (List ℕ)) (vs : List (List ℕ))
+  pub same_handshake : (at : Handshake) (a b : List Awaited) (vs : List (List ℕ))
       (e f : Handshake → Said)
       → Keeps e → Keeps f
       → (said_of login salt at a vs e).handshake ≡ (said_of login salt at b vs f).handshake
   unfolding word_of
   same_handshake at a b [] e f ke kf = ke at ∙ sym (kf at)
   same_handshake AwaitsHelo a b (v ∷ vs) e f ke kf =
-      same_then AwaitsHelo a b v (word_of login salt AwaitsHelo None v) (λ next name. said_of login salt next name vs e) (λ next name. said_of login salt next name vs f) (λ g m n. same_handshake g m n vs e f ke kf)
+      same_then AwaitsHelo a b v (word_of login salt AwaitsHelo [] v) (λ next left. said_of login salt next left vs e) (λ next left. said_of login salt next left vs f) (λ g m n. same_handshake g m n vs e f ke kf)
   same_handshake (AwaitsPong nonce keepalive) a b (v ∷ vs) e f ke kf =
-      same_then (AwaitsPong nonce keepalive) a b v (word_of login salt (AwaitsPong nonce keepalive) None v) (λ next name. said_of login salt next name vs e) (λ next name. said_of login salt next name vs f) (λ g m n. same_handshake g m n vs e f ke kf)
+      same_then (AwaitsPong nonce keepalive) a b v (word_of login salt (AwaitsPong nonce keepalive) [] v) (λ next left. said_of login salt next left vs e) (λ next left. said_of login salt next left vs f) (λ g m n. same_handshake g m n vs e f ke kf)
   same_handshake (Done keepalive) a b (v ∷ vs) e f ke kf = done_stays keepalive a (v ∷ vs) e ke ∙ sym (done_stays keepalive b (v ∷ vs) f kf)
 
-  goes_then : (at : Handshake) (a : Option (List ℕ)) (v : List ℕ) (w : Word)
-      (x y z : Handshake → Option (List ℕ) → Said)
+  goes_then : (at : Handshake) (a : List Awaited) (v : List ℕ) (w : Word)
+      (x y z : Handshake → List Awaited → Said)
       (then : Handshake → Handshake)
       →
-      ((g : Handshake) (n : Option (List ℕ)) → (x g n).fault ≡ None → (y g None).handshake
-      ≡ then (z g None).handshake)
+      ((g : Handshake) (n : List Awaited) → (x g n).fault ≡ None → (y g []).handshake
+      ≡ then (z g []).handshake)
       → (word_then at a v w x).fault ≡ None
-      → (word_then at None v w y).handshake ≡ then (word_then at None v w z).handshake
+      → (word_then at [] v w y).handshake ≡ then (word_then at [] v w z).handshake
   goes_then at a v Skipped x y z then same e = same at a e
   goes_then at a v (Greets out next) x y z then same e = same next a e
-  goes_then at a v Acks x y z then same e = same at None e
+  goes_then at a v Acks x y z then same e = same at (awaited_behind (v ∷ []) a) e
   goes_then at a v (Fails f) x y z then same e = absurd cc
 
   -- where there was no fault, it goes on from where it came
-  pub handshake_goes_on : (at : Handshake) (a : Option (List ℕ)) (vs more : List (List ℕ))
+  pub handshake_goes_on : (at : Handshake) (a : List Awaited) (vs more : List (List ℕ))
       → (said_of login salt at a vs silence).fault ≡ None
-      → (said_of login salt at None (vs ++ more) silence).handshake
+      → (said_of login salt at [] (vs ++ more) silence).handshake
       ≡
       (said_of login salt
-      (said_of login salt at None vs silence).handshake None more silence).handshake
+      (said_of login salt at [] vs silence).handshake [] more silence).handshake
   unfolding word_of
   handshake_goes_on at a [] more e = refl
   handshake_goes_on AwaitsHelo a (v ∷ vs) more e =
-      goes_then AwaitsHelo a v (word_of login salt AwaitsHelo None v) (λ g n. said_of login salt g n vs silence) (λ g n. said_of login salt g n (vs ++ more) silence) (λ g n. said_of login salt g n vs silence) (λ g. (said_of login salt g None more silence).handshake) (λ g n f. handshake_goes_on g n vs more f) e
+      goes_then AwaitsHelo a v (word_of login salt AwaitsHelo [] v) (λ g n. said_of login salt g n vs silence) (λ g n. said_of login salt g n (vs ++ more) silence) (λ g n. said_of login salt g n vs silence) (λ g. (said_of login salt g [] more silence).handshake) (λ g n f. handshake_goes_on g n vs more f) e
   handshake_goes_on (AwaitsPong nonce keepalive) a (v ∷ vs) more e =
-      goes_then (AwaitsPong nonce keepalive) a v (word_of login salt (AwaitsPong nonce keepalive) None v) (λ g n. said_of login salt g n vs silence) (λ g n. said_of login salt g n (vs ++ more) silence) (λ g n. said_of login salt g n vs silence) (λ g. (said_of login salt g None more silence).handshake) (λ g n f. handshake_goes_on g n vs more f) e
+      goes_then (AwaitsPong nonce keepalive) a v (word_of login salt (AwaitsPong nonce keepalive) [] v) (λ g n. said_of login salt g n vs silence) (λ g n. said_of login salt g n (vs ++ more) silence) (λ g n. said_of login salt g n vs silence) (λ g. (said_of login salt g [] more silence).handshake) (λ g n f. handshake_goes_on g n vs more f) e
   handshake_goes_on (Done keepalive) a (v ∷ vs) more e =
-      done_stays keepalive None (v ∷ vs ++ more) silence (λ g. refl)
-      ∙ sym (ap (λ g. (said_of login salt g None more silence).handshake) (done_stays keepalive None (v ∷ vs) silence (λ g. refl)) ∙ done_stays keepalive None more silence (λ g. refl))
+      done_stays keepalive [] (v ∷ vs ++ more) silence (λ g. refl)
+      ∙ sym (ap (λ g. (said_of login salt g [] more silence).handshake) (done_stays keepalive [] (v ∷ vs) silence (λ g. refl)) ∙ done_stays keepalive [] more silence (λ g. refl))
 
   -- what a stream says of it is what its values say
-  pub by_values : (at : Handshake) (a : Option (List ℕ)) (s : Split)
+  pub by_values : (at : Handshake) (a : List Awaited) (s : Split)
       → (said_in login salt at a s).handshake ≡
-      (said_of login salt at None (values_of s) silence).handshake
-  by_values at a (Open vs rest) = same_handshake at a None vs silence silence (λ g. refl) (λ g. refl)
-  by_values at a (Broken vs broken) = same_handshake at a None vs (failing fault.BadReply) silence (λ g. refl) (λ g. refl)
+      (said_of login salt at [] (values_of s) silence).handshake
+  by_values at a (Open vs rest) = same_handshake at a [] vs silence silence (λ g. refl) (λ g. refl)
+  by_values at a (Broken vs broken) = same_handshake at a [] vs (failing fault.BadReply) silence (λ g. refl) (λ g. refl)
 
-  fails_then : (at : Handshake) (a : Option (List ℕ)) (v : List ℕ) (w : Word)
-      (x : Handshake → Option (List ℕ) → Said)
-      → ((g : Handshake) (n : Option (List ℕ)) → (x g n).fault ≡ None → ⊥)
+  fails_then : (at : Handshake) (a : List Awaited) (v : List ℕ) (w : Word)
+      (x : Handshake → List Awaited → Said)
+      → ((g : Handshake) (n : List Awaited) → (x g n).fault ≡ None → ⊥)
       → (word_then at a v w x).fault ≡ None → ⊥
   fails_then at a v Skipped x never e = never at a e
   fails_then at a v (Greets out next) x never e = never next a e
-  fails_then at a v Acks x never e = never at None e
+  fails_then at a v Acks x never e = never at (awaited_behind (v ∷ []) a) e
   fails_then at a v (Fails f) x never e = cc
 
-  fails : (at : Handshake) (a : Option (List ℕ)) (vs : List (List ℕ)) (f : SessionFault)
+  fails : (at : Handshake) (a : List Awaited) (vs : List (List ℕ)) (f : SessionFault)
       → (said_of login salt at a vs (failing f)).fault ≡ None → ⊥
   fails at a [] f e = cc
   fails at a (v ∷ vs) f e = fails_then at a v (word_of login salt at a v) (λ g n. said_of login salt g n vs (failing f)) (λ g n. fails g n vs f) e
 
   -- where there was no fault, the stream is not broken
-  pub said-open : (at : Handshake) (a : Option (List ℕ)) (s : Split)
+  pub said-open : (at : Handshake) (a : List Awaited) (s : Split)
       → (said_in login salt at a s).fault ≡ None
       → is_open s ≡ true
   said-open at a (Open vs rest) e = refl
   said-open at a (Broken vs broken) e = absurd (fails at a vs fault.BadReply e)
 
-  pub said-whole_of : (at : Handshake) (a : Option (List ℕ)) (s : Split)
+  pub said-whole_of : (at : Handshake) (a : List Awaited) (s : Split)
       → (said_in login salt at a s).fault ≡ None
       → (said_of login salt at a (values_of s) silence).fault ≡ None
   said-whole_of at a (Open vs rest) e = e
@@ -203,14 +195,23 @@ none_of : {X : Type 0} (o : Option X) → is_some o ≡ false → o ≡ None
 none_of None e = refl
 none_of (Some x) e = absurd cc
 
+handed_on-live : (d : Bool) (through sent : ℕ) → d ≡ false
+    → leb through sent ≡ eqb (cond d 0 (through - sent)) 0
+handed_on-live true through sent e = absurd cc
+handed_on-live false through sent e = grind (arith, nat_tests)
+
+-- what is awaited of a chunk
+abbrev awaits : SessionHistory → Loaded → Awaited
+awaits s l = record { name = l.chunk.name; is_handed_on = is_handed_on s l }
+
+abbrev live_awaits : LiveLoaded → Awaited
+live_awaits l = record { name = l.chunk.name; is_handed_on = eqb l.left 0 }
+
 awaited-live : (s : SessionHistory) → s.down ≡ false → awaited s ≡ live_awaited (live_session s)
 unfolding live_session
-awaited-live s up = ap (λ b. cond (is_some s.reply || b) None (option_map (λ (c : Load). c.name) s.loaded)) (at s.down up)
-  where
-    at : (b : Bool) → b ≡ false
-        → not (leb (length s.appended) s.sent) ≡ ltb 0 (length (cond b [] (drop s.sent s.appended)))
-    at true e = absurd cc
-    at false e = grind (arith, nat_tests, length-drop s.sent s.appended)
+awaited-live s up =
+    map_same (awaits s) (λ l. live_awaits (live_loaded s l)) s.carried (λ l i. record { name = l.chunk.name; is_handed_on = handed_on-live s.down l.through s.sent up i })
+    ∙ sym (map_map live_awaits (live_loaded s) s.carried)
 
 rest-live : (s : SessionHistory) → s.down ≡ false
     → (live_session s).rest ≡ rest_of (reply_stream s.heard)
@@ -240,7 +241,7 @@ handshake-hears s bytes sane up =
     let all : values_of (reply_stream (s.heard ++ bytes)) ≡ values_of (reply_stream s.heard) ++ values_of stream =
     ap values_of (reply_stream-goes_on s.heard bytes (sane.opened up)) ∙ values-front (values_of (reply_stream s.heard)) stream in
     ap (greeted s) all ∙ sane.greets up (values_of stream)
-    ∙ ap (λ x. (said_of s.setup.login s.setup.salt (handshake_of s) None (values_of x) silence).handshake) (sym (ended_by-rest s.heard bytes (sane.opened up)))
+    ∙ ap (λ x. (said_of s.setup.login s.setup.salt (handshake_of s) [] (values_of x) silence).handshake) (sym (ended_by-rest s.heard bytes (sane.opened up)))
     ∙ sym (by_values s.setup.login s.setup.salt (handshake_of s) (awaited s) (newly_heard s bytes))
 
 waits : (f : Option SessionFault) (n : ℕ) (xs out : List ℕ) → n ≤ length xs
@@ -248,6 +249,28 @@ waits : (f : Option SessionFault) (n : ℕ) (xs out : List ℕ) → n ≤ length
     (drop n xs ++ out)
 waits (Some f) n xs out le = refl
 waits None n xs out le = drop-append-le n xs out le
+
+-- the live parts of chunks, once it is down or not
+falls-live : (d e : Bool) (through sent : ℕ) → d ≡ false
+    → cond e 0 (through - sent) ≡ cond e 0 (cond d 0 (through - sent))
+falls-live true e through sent up = absurd cc
+falls-live false e through sent up = refl
+
+module _ (s : SessionHistory) (e : Bool) (up : s.down ≡ false) where
+  abbrev after : Loaded → LiveLoaded
+  after l = record { chunk = l.chunk; left = cond e 0 (l.through - s.sent); since = waits_from s l }
+
+  carried-live : (vs : List (List ℕ))
+      → map after (left_by (λ l. l.chunk.name) vs s.carried)
+      ≡ map (falls_with e) (left_by (λ l. l.chunk.name) vs (map (live_loaded s) s.carried))
+  carried-live vs =
+      let left = left_by (λ (l : Loaded). l.chunk.name) vs s.carried in
+      map_same after (λ l. falls_with e (live_loaded s l)) left (λ l i. record { chunk = l.chunk; left = falls-live s.down e l.through s.sent up i; since = waits_from s l })
+      ∙ sym (map_map (falls_with e) (live_loaded s) left)
+      ∙ sym (ap (map (falls_with e)) (left_map (λ (l : LiveLoaded). l.chunk.name) (live_loaded s) vs s.carried))
+
+chunks-live : (s : SessionHistory) → chunks_of s.carried ≡ live_chunks (map (live_loaded s) s.carried)
+chunks-live s = sym (map_map (λ (l : LiveLoaded). l.chunk) (live_loaded s) s.carried)
 
 pub listens-live : (s : SessionHistory) (bytes : List ℕ) → IsSane s → s.down ≡ false
     → live_session (listens s bytes (says s bytes)) ≡ session_listens (live_session s) bytes
@@ -264,10 +287,9 @@ listens-live s bytes sane up =
       handshake = handshake-hears s bytes sane up i;
       waiting = sends i;
       rest = cond (is_some (says s bytes).fault) [] (rests i);
-      loaded = s.loaded;
-      reply = cond (is_some (says s bytes).reply) (says s bytes).reply s.reply;
-      has_acked = s.has_acked || is_some (says s bytes).reply;
-      since = waits_from s;
+      carried = carried-live s (is_some (says s bytes).fault) up (says s bytes).replies i;
+      accepted = s.accepted ++ accepted_by (says s bytes).replies (chunks-live s i);
+      has_loaded = s.has_loaded;
       down = is_some (says s bytes).fault;
       moment = s.moment;
     })
@@ -284,7 +306,7 @@ listens-sane s bytes sane up =
     ap (λ x. (said_in s.setup.login s.setup.salt (handshake_of s) (awaited s) x).fault) (sym ends) ∙ none_of said.fault f in
     let all : values_of (reply_stream (s.heard ++ bytes)) ≡ values_of (reply_stream s.heard) ++ values_of stream =
     ap values_of (reply_stream-goes_on s.heard bytes whole) ∙ values-front (values_of (reply_stream s.heard)) stream in
-    let here : handshake_of (listens s bytes said) ≡ (said_of s.setup.login s.setup.salt (handshake_of s) None (values_of stream) silence).handshake =
+    let here : handshake_of (listens s bytes said) ≡ (said_of s.setup.login s.setup.salt (handshake_of s) [] (values_of stream) silence).handshake =
     ap (greeted s) all ∙ sane.greets up (values_of stream) in
     record {
       started = sane.started;
@@ -295,7 +317,7 @@ listens-sane s bytes sane up =
           ap (λ vs. greeted s (vs ++ more)) all ∙ ap (greeted s) (append_assoc (values_of (reply_stream s.heard)) (values_of stream) more)
           ∙ sane.greets up (values_of stream ++ more)
           ∙ handshake_goes_on s.setup.login s.setup.salt (handshake_of s) (awaited s) (values_of stream) more (said-whole_of s.setup.login s.setup.salt (handshake_of s) (awaited s) stream (good f))
-          ∙ ap (λ g. (said_of s.setup.login s.setup.salt g None more silence).handshake) (sym here);
+          ∙ ap (λ g. (said_of s.setup.login s.setup.salt g [] more silence).handshake) (sym here);
     }
 
 -- ---- the events
@@ -350,20 +372,29 @@ pub begins-sane : (setup : Setup) → IsSane (begins setup)
 unfolding reply_stream split_of
 begins-sane setup = record { started = omega arith; sent = omega arith; opened = λ e. refl; greets = λ e more. refl }
 
+-- one chunk more
+loads-left : (d : Bool) (sent : ℕ) (appended frame : List ℕ) → d ≡ false → sent ≤ length appended
+    → cond d 0 (length (appended ++ frame) - sent)
+    ≡ length (cond d [] (drop sent appended) ++ frame)
+loads-left true sent appended frame e le = absurd cc
+loads-left false sent appended frame e le =
+    omega (arith, le, length-append appended frame, length-append (drop sent appended) frame, length-drop sent appended)
+
 pub loads-live : (s : SessionHistory) (c : Load) (now : ℕ) → IsSane s → s.down ≡ false
     → live_session (loads s c now) ≡ session_loads (live_session s) c now
 unfolding live_session
 loads-live s c now sane up =
     let later : max s.setup.start (max s.moment now) ≡ max s.moment now = grind (arith, sane.started) in
+    let frame = frame_of c in
     λ i. record {
       setup = s.setup;
       handshake = handshake_of s;
-      waiting = (ap (λ b. cond b [] (drop s.sent (s.appended ++ frame_of c))) up ∙ drop-append-le s.sent s.appended (frame_of c) sane.sent ∙ ap (λ b. cond b [] (drop s.sent s.appended) ++ frame_of c) (sym up)) i;
+      waiting = (ap (λ b. cond b [] (drop s.sent (s.appended ++ frame))) up ∙ drop-append-le s.sent s.appended frame sane.sent ∙ ap (λ b. cond b [] (drop s.sent s.appended) ++ frame) (sym up)) i;
       rest = cond s.down [] (rest_of (reply_stream s.heard));
-      loaded = Some c;
-      reply = s.reply;
-      has_acked = s.has_acked;
-      since = later i;
+      carried = (map-append (live_loaded s) s.carried (record { chunk = c; through = length (s.appended ++ frame); moment = max s.moment now } ∷ [])
+          ∙ (λ j. map (live_loaded s) s.carried ++ record { chunk = c; left = loads-left s.down s.sent s.appended frame up sane.sent j; since = later j } ∷ [])) i;
+      accepted = s.accepted;
+      has_loaded = true;
       down = s.down;
       moment = max s.moment now;
     }
@@ -382,6 +413,11 @@ drop_unless true n zero xs = refl
 drop_unless true n (suc m) xs = refl
 drop_unless false n m xs = sym (drop-drop m n xs)
 
+sends-left : (d : Bool) (through sent count : ℕ)
+    → cond d 0 (through - (sent + count)) ≡ cond d 0 (through - sent) - count
+sends-left true through sent count = omega arith
+sends-left false through sent count = omega arith
+
 pub sends-live : (s : SessionHistory) (count : ℕ)
     → live_session (sends s count) ≡ session_sends (live_session s) count
 unfolding live_session
@@ -390,10 +426,10 @@ sends-live s count = λ i. record {
   handshake = handshake_of s;
   waiting = drop_unless s.down s.sent count s.appended i;
   rest = cond s.down [] (rest_of (reply_stream s.heard));
-  loaded = s.loaded;
-  reply = s.reply;
-  has_acked = s.has_acked;
-  since = waits_from s;
+  carried = (map_same (live_loaded (sends s count)) (λ l. sends_through count (live_loaded s l)) s.carried (λ l j. record { chunk = l.chunk; left = sends-left s.down l.through s.sent count j; since = waits_from s l })
+      ∙ sym (map_map (sends_through count) (live_loaded s) s.carried)) i;
+  accepted = s.accepted;
+  has_loaded = s.has_loaded;
   down = s.down;
   moment = s.moment;
 }
@@ -420,33 +456,51 @@ unloads-live s = refl
 pub unloads-sane : (s : SessionHistory) → IsSane s → IsSane (unloads s)
 unloads-sane s sane = record { started = sane.started; sent = sane.sent; opened = sane.opened; greets = sane.greets }
 
+over-live : (s : SessionHistory) (xs : List Loaded) (now : ℕ)
+    → is_first_over s.setup.ack_wait now (map (waits_from s) xs)
+    ≡ is_first_over s.setup.ack_wait now (map (λ l. l.since) (map (live_loaded s) xs))
+over-live s [] now = refl
+over-live s (l ∷ xs) now = refl
+
 pub late-live : (s : SessionHistory) (now : ℕ) → is_late s now ≡ live_is_late (live_session s) now
 unfolding live_session
-late-live s now = refl
+late-live s now = ap (λ b. not (is_done (handshake_of s)) && nat_le (s.setup.start + s.setup.ack_wait) (max s.moment now) || b) (over-live s s.carried (max s.moment now))
 
 pub ready-live : (s : SessionHistory) → is_ready s ≡ live_is_ready (live_session s)
 unfolding live_session
 ready-live s = refl
 
+pub room-live : (s : SessionHistory) → room s ≡ live_room (live_session s)
+unfolding live_session
+room-live s = ap (λ n. s.setup.window - (n + length s.accepted)) (sym (length_map (live_loaded s) s.carried))
+
 pub acked-live : (s : SessionHistory) → acked s ≡ live_acked (live_session s)
 unfolding live_session
 acked-live s = refl
 
+looks-left : (d e f : Bool) (through sent : ℕ) → d ≡ false → e ≡ f
+    → cond e 0 (through - sent) ≡ cond f 0 (cond d 0 (through - sent))
+looks-left true e f through sent up same = absurd cc
+looks-left false e f through sent up same = ap (λ b. cond b 0 (through - sent)) same
+
 pub looks-live : (s : SessionHistory) (now : ℕ) → s.down ≡ false
     → live_session (looks s now) ≡ session_looks (live_session s) now
 unfolding live_session session_looks
-looks-live s now up = λ i. record {
-  setup = s.setup;
-  handshake = handshake_of s;
-  waiting = cond (is_late s now) [] (cond (sym up i) [] (drop s.sent s.appended));
-  rest = cond (is_late s now) [] (cond (sym up i) [] (rest_of (reply_stream s.heard)));
-  loaded = s.loaded;
-  reply = s.reply;
-  has_acked = s.has_acked;
-  since = waits_from s;
-  down = is_late s now;
-  moment = max s.moment now;
-}
+looks-live s now up =
+    let late = late-live s now in
+    let is : Bool = live_is_late (live_session s) now in
+    λ i. record {
+      setup = s.setup;
+      handshake = handshake_of s;
+      waiting = cond (late i) [] (cond (sym up i) [] (drop s.sent s.appended));
+      rest = cond (late i) [] (cond (sym up i) [] (rest_of (reply_stream s.heard)));
+      carried = (map_same (live_loaded (looks s now)) (λ l. falls_with is (live_loaded s l)) s.carried (λ l j. record { chunk = l.chunk; left = looks-left s.down (is_late s now) is l.through s.sent up late j; since = waits_from s l })
+          ∙ sym (map_map (falls_with is) (live_loaded s) s.carried)) i;
+      accepted = s.accepted;
+      has_loaded = s.has_loaded;
+      down = late i;
+      moment = max s.moment now;
+    }
 
 pub looks-sane : (s : SessionHistory) (now : ℕ) → IsSane s → s.down ≡ false → IsSane (looks s now)
 looks-sane s now sane up = record {
@@ -458,14 +512,14 @@ looks-sane s now sane up = record {
 
 -- ---- once it is down
 
-told_fault : (f : Option SessionFault) (reply : Option (List ℕ)) (before after : Bool)
+told_fault : (f : Option SessionFault) (replies : List (List ℕ)) (before after : Bool)
     (w : SessionFault)
-    → told_by f reply before after ≡ told.Fault w → is_some f ≡ true
-told_fault (Some f) reply before after w e = refl
-told_fault None (Some reply) before after w e = absurd cc
-told_fault None None true after w e = absurd cc
-told_fault None None false true w e = absurd cc
-told_fault None None false false w e = absurd cc
+    → told_by f replies before after ≡ told.Fault w → is_some f ≡ true
+told_fault (Some f) replies before after w e = refl
+told_fault None (reply ∷ replies) before after w e = absurd cc
+told_fault None [] true after w e = absurd cc
+told_fault None [] false true w e = absurd cc
+told_fault None [] false false w e = absurd cc
 
 pub fault-down : (s : LiveSession) (bytes : List ℕ) (w : SessionFault)
     → live_piece_told s bytes ≡ told.Fault w → (session_hears s bytes).down ≡ true
@@ -476,7 +530,7 @@ fault-down s bytes w e = by s.down refl
     by true d = ap (λ b. (cond b s (session_listens s bytes)).down) d ∙ d
     by false d =
         ap (λ b. (cond b s (session_listens s bytes)).down) d
-        ∙ told_fault (live_says s bytes).fault (live_says s bytes).reply (is_done s.handshake) (is_done (live_says s bytes).handshake) w (sym (ap (λ b. cond b told.NotUp (told_of s.handshake (live_says s bytes))) d) ∙ e)
+        ∙ told_fault (live_says s bytes).fault (live_says s bytes).replies (is_done s.handshake) (is_done (live_says s bytes).handshake) w (sym (ap (λ b. cond b told.NotUp (told_of s.handshake (live_says s bytes))) d) ∙ e)
 
 pub late-down : (s : LiveSession) (now : ℕ) → live_is_late s now ≡ true
     → (session_looks s now).down ≡ true

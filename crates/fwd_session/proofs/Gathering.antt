@@ -3,6 +3,7 @@ use Rattle.std.proofs.Common.{◌≡◌, ℕ, zero, suc, ◌+◌, ◌-◌, ◌<�
 use Rattle.std.specs.List.{concat, AllByRecursion}
 use Rattle.std.proofs.lemmas.List.{take_at, drop_at, append-nil, take-append-drop}
 use Rattle.std.proofs.lemmas.List.Folds.{concat-append}
+use Rattle.fwd_msgpack.specs.Heads.{head_bytes}
 use Rattle.fwd_modes.specs.Frames.{frame_head, frame_option, chunk_frame}
 use Rattle.fwd_chunks.specs.History.{Load}
 use Rattle.fwd_session.specs.Evidence.{frame_of}
@@ -13,6 +14,11 @@ pub frame_parts : (c : Load) (size : ℕ) → size ≡ length (concat c.entries)
     ≡ frame_of c
 unfolding chunk_frame
 frame_parts c size e = ap (λ n. frame_head c.tag n ++ concat c.entries ++ frame_option (length c.entries) c.name) e
+
+-- a frame has a byte
+pub frame_some : (c : Load) → 0 < length (frame_of c)
+unfolding chunk_frame head_bytes
+frame_some c = omega arith
 
 -- one frame more, which has a byte
 pub full_push : (frames : List (List ℕ)) (frame : List ℕ)

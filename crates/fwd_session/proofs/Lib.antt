@@ -1,6 +1,13 @@
+mod Examples
+pub mod Lists
 pub mod Saying
 pub mod Following
 pub mod Taking
 pub mod Pieces
 pub mod Framing
+pub mod Accepting
 pub mod Gathering
+pub mod Unsent
+pub mod Carrying
+pub mod Firsts
+pub mod Judging

@@ -1,8 +1,7 @@
 -- However a session's bytes are cut, it hears the same.
-use Rattle.std.proofs.Common.{◌≡◌, ℕ, Bool, true, false, cond, ltb, List, [], ◌∷◌, ◌++◌, length, Option, Some, None, refl, sym, ap, ◌∙◌}
-use Rattle.std.specs.Prelude.{option_map, is_some, ◌||◌}
+use Rattle.std.proofs.Common.{◌≡◌, ℕ, Bool, true, false, cond, eqb, List, [], ◌∷◌, ◌++◌, Option, Some, None, refl, sym, ap, ◌∙◌}
+use Rattle.std.specs.Prelude.{map, is_some}
 use Rattle.std.specs.List.{concat}
-use Rattle.std.specs.Str.{bytes_eq}
 use Rattle.std.proofs.lemmas.List.{append_assoc, append-nil}
 use Rattle.fwd_msgpack.specs.Scans.{Split, split_of, continued, with_front, values_of, is_nil}
 use Rattle.fwd_msgpack.specs.Scans.Split.{Open, Broken}
@@ -15,106 +14,85 @@ use Rattle.fwd_session.specs.declared.fault.SessionFault.{SessionFault}
 use Rattle.fwd_session.specs.declared.fault.SessionFault.TheVariants as fault
 use Rattle.fwd_session.specs.declared.handshake.Handshake.{Handshake}
 use Rattle.fwd_session.specs.declared.handshake.Handshake.TheVariants.{AwaitsHelo, AwaitsPong, Done}
-use Rattle.fwd_session.specs.declared.word.Word.{Word}
-use Rattle.fwd_session.specs.declared.word.Word.TheVariants.{Skipped, Greets, Acks, Fails}
-use Rattle.fwd_session.specs.Said.{Said, sending, acking, ack_word, word_of, word_then, said_of, said_in, silence, failing, reply_stream, rest_of}
+use Rattle.fwd_session.specs.Evidence.{Accepted}
+use Rattle.fwd_session.specs.Said.{Word, Awaited, Said, awaited_behind, left_by, accepted_by, sending, acking, ack_word, word_of, word_then, said_of, said_in, silence, failing, reply_stream, rest_of}
+use Rattle.fwd_session.specs.Said.Word.{Skipped, Greets, Acks, Fails}
 use Rattle.fwd_session.specs.History.{is_open, is_done}
-use Rattle.fwd_session.specs.Live.{LiveSession, live_awaited, live_says, session_takes, session_listens, session_hears, session_hears_all}
-use Rattle.fwd_session.proofs.Saying.{silent, silent_of}
+use Rattle.fwd_session.specs.Live.{LiveLoaded, LiveSession, live_awaited, live_chunks, live_says, falls_with, session_takes, session_listens, session_hears, session_hears_all}
+use Rattle.fwd_session.proofs.Lists.{map_none, left_map, left_append, accepted_append}
+use Rattle.fwd_session.proofs.Saying.{ack_either}
 use Rattle.fwd_session.proofs.Following.{done_stays, said-open, reply_stream-goes_on, rest_of-front}
 use Rattle.fwd_session.proofs.Taking.{takes-rest}
 
 -- ---- a front without a fault, and what is behind it
-
--- the name that is awaited behind what was said
-abbrev awaited_behind : Option (List ℕ) → (reply : Option (List ℕ)) → Option (List ℕ)
-awaited_behind awaited None = awaited
-awaited_behind awaited (Some v) = None
 
 -- what was said, and then what is said behind it
 abbrev then_said : Said → Said → Said
 then_said s t = record {
   handshake = t.handshake;
   out = s.out ++ t.out;
-  reply = cond (is_some t.reply) t.reply s.reply;
+  replies = s.replies ++ t.replies;
   fault = t.fault;
 }
 
-behind_silence : (at : Handshake) (t : Said) → t ≡ then_said (silence at) t
-behind_silence at t = λ i. record { handshake = t.handshake; out = t.out; reply = kept t.reply i; fault = t.fault }
-  where
-    kept : (r : Option (List ℕ)) → r ≡ cond (is_some r) r None
-    kept None = refl
-    kept (Some x) = refl
-
 module _ (login : Login) (salt : List ℕ) where
   -- what is behind a front, by what the front said
-  abbrev after_front : Option (List ℕ) → Split → Said → Said
-  after_front awaited s front = then_said front (said_in login salt front.handshake (awaited_behind awaited front.reply) s)
+  abbrev after_front : List Awaited → Split → Said → Said
+  after_front awaited s front = then_said front (said_in login salt front.handshake (awaited_behind front.replies awaited) s)
 
-  abbrev IsCut : (Handshake → Option (List ℕ) → Said) → (Handshake → Option (List ℕ) → Said) → Split
+  abbrev IsCut : (Handshake → List Awaited → Said) → (Handshake → List Awaited → Said) → Split
       → Type 0
-  IsCut all front s = (g : Handshake) (n : Option (List ℕ)) → (front g n).fault ≡ None → all g n ≡ after_front n s (front g n)
+  IsCut all front s = (g : Handshake) (n : List Awaited) → (front g n).fault ≡ None → all g n ≡ after_front n s (front g n)
 
-  acked_then : (v : List ℕ) (front : Said) (s : Split) → front.reply ≡ None
-      → acking v (after_front None s front) ≡ after_front None s (acking v front)
-  acked_then v front s none =
-      let behind = said_in login salt front.handshake None s in
-      let quiet : behind.reply ≡ None = silent login salt front.handshake s in
-      let same : awaited_behind None front.reply ≡ None = ap (awaited_behind None) none in
-      (λ i. acking v (then_said front (said_in login salt front.handshake (same i) s)))
-      ∙ (λ i. record { handshake = behind.handshake; out = front.out ++ behind.out; reply = sym (ap (λ r. cond (is_some r) r (Some v)) quiet) i; fault = behind.fault })
-
-  cut_then : (at : Handshake) (a : Option (List ℕ)) (v : List ℕ) (w : Word)
-      (all front : Handshake → Option (List ℕ) → Said) (s : Split)
-      → ((g : Handshake) → (front g None).reply ≡ None) → IsCut all front s
+  cut_then : (at : Handshake) (a : List Awaited) (v : List ℕ) (w : Word)
+      (all front : Handshake → List Awaited → Said) (s : Split) → IsCut all front s
       → (word_then at a v w front).fault ≡ None
       → word_then at a v w all ≡ after_front a s (word_then at a v w front)
-  cut_then at a v Skipped all front s none cut e = cut at a e
-  cut_then at a v (Greets out next) all front s none cut e =
+  cut_then at a v Skipped all front s cut e = cut at a e
+  cut_then at a v (Greets out next) all front s cut e =
       ap (sending out) (cut next a e) ∙ (λ i. record {
         handshake = (after_front a s (front next a)).handshake;
-        out = sym (append_assoc out (front next a).out (said_in login salt (front next a).handshake (awaited_behind a (front next a).reply) s).out) i;
-        reply = (after_front a s (front next a)).reply;
+        out = sym (append_assoc out (front next a).out (said_in login salt (front next a).handshake (awaited_behind (front next a).replies a) s).out) i;
+        replies = (after_front a s (front next a)).replies;
         fault = (after_front a s (front next a)).fault;
       })
-  cut_then at a v Acks all front s none cut e = ap (acking v) (cut at None e) ∙ acked_then v (front at None) s (none at)
-  cut_then at a v (Fails f) all front s none cut e = absurd cc
+  cut_then at a v Acks all front s cut e = ap (acking v) (cut at (awaited_behind (v ∷ []) a) e)
+  cut_then at a v (Fails f) all front s cut e = absurd cc
 
-  empty_front : (at : Handshake) (a : Option (List ℕ)) (s : Split)
+  empty_front : (at : Handshake) (a : List Awaited) (s : Split)
       → said_in login salt at a (with_front [] s) ≡ after_front a s (silence at)
-  empty_front at a (Open ws rest) = behind_silence at (said_of login salt at a ws silence)
-  empty_front at a (Broken ws broken) = behind_silence at (said_of login salt at a ws (failing fault.BadReply))
+  empty_front at a (Open ws rest) = refl
+  empty_front at a (Broken ws broken) = refl
 
-  front_step : (at : Handshake) (a : Option (List ℕ)) (v : List ℕ) (vs : List (List ℕ)) (s : Split)
+  front_step : (at : Handshake) (a : List Awaited) (v : List ℕ) (vs : List (List ℕ)) (s : Split)
       → said_in login salt at a (with_front (v ∷ vs) s)
       ≡ word_then at a v (word_of login salt at a v)
       (λ g n. said_in login salt g n (with_front vs s))
   front_step at a v vs (Open ws rest) = refl
   front_step at a v vs (Broken ws broken) = refl
 
-  pub said_cut : (at : Handshake) (a : Option (List ℕ)) (vs : List (List ℕ)) (s : Split)
+  pub said_cut : (at : Handshake) (a : List Awaited) (vs : List (List ℕ)) (s : Split)
       → (said_of login salt at a vs silence).fault ≡ None
       → said_in login salt at a (with_front vs s) ≡ after_front a s
       (said_of login salt at a vs silence)
   said_cut at a [] s e = empty_front at a s
   said_cut at a (v ∷ vs) s e =
       front_step at a v vs s
-      ∙ cut_then at a v (word_of login salt at a v) (λ g n. said_in login salt g n (with_front vs s)) (λ g n. said_of login salt g n vs silence) s (λ g. silent_of login salt g vs) (λ g n f. said_cut g n vs s f) e
+      ∙ cut_then at a v (word_of login salt at a v) (λ g n. said_in login salt g n (with_front vs s)) (λ g n. said_of login salt g n vs silence) s (λ g n f. said_cut g n vs s f) e
 
   -- ---- a front with a fault
 
-  fault_then : (at : Handshake) (a : Option (List ℕ)) (v : List ℕ) (w : Word) (f : SessionFault)
-      (x y : Handshake → Option (List ℕ) → Said)
-      → ((g : Handshake) (n : Option (List ℕ)) → (x g n).fault ≡ Some f → x g n ≡ y g n)
+  fault_then : (at : Handshake) (a : List Awaited) (v : List ℕ) (w : Word) (f : SessionFault)
+      (x y : Handshake → List Awaited → Said)
+      → ((g : Handshake) (n : List Awaited) → (x g n).fault ≡ Some f → x g n ≡ y g n)
       → (word_then at a v w x).fault ≡ Some f → word_then at a v w x ≡ word_then at a v w y
   fault_then at a v Skipped f x y same e = same at a e
   fault_then at a v (Greets out next) f x y same e = ap (sending out) (same next a e)
-  fault_then at a v Acks f x y same e = ap (acking v) (same at None e)
+  fault_then at a v Acks f x y same e = ap (acking v) (same at (awaited_behind (v ∷ []) a) e)
   fault_then at a v (Fails w) f x y same e = refl
 
   -- what is behind it counts for nothing
-  fault_cut : (at : Handshake) (a : Option (List ℕ)) (f : SessionFault) (vs : List (List ℕ))
+  fault_cut : (at : Handshake) (a : List Awaited) (f : SessionFault) (vs : List (List ℕ))
       (s : Split)
       → (said_of login salt at a vs silence).fault ≡ Some f
       → said_of login salt at a vs silence ≡ said_in login salt at a (with_front vs s)
@@ -123,7 +101,7 @@ module _ (login : Login) (salt : List ℕ) where
       fault_then at a v (word_of login salt at a v) f (λ g n. said_of login salt g n vs silence) (λ g n. said_in login salt g n (with_front vs s)) (λ g n d. fault_cut g n f vs s d) e
       ∙ sym (front_step at a v vs s)
 
-  pub fault_goes_on : (at : Handshake) (a : Option (List ℕ)) (f : SessionFault) (x more : List ℕ)
+  pub fault_goes_on : (at : Handshake) (a : List Awaited) (f : SessionFault) (x more : List ℕ)
       → (said_in login salt at a (reply_stream x)).fault ≡ Some f
       → said_in login salt at a (reply_stream x) ≡ said_in login salt at a
       (reply_stream (x ++ more))
@@ -139,19 +117,14 @@ module _ (login : Login) (salt : List ℕ) where
   -- ---- once the handshake is done, nothing is sent for it
 
   abbrev IsMute : Word → Type 0
-  IsMute w = (at : Handshake) (a : Option (List ℕ)) (v : List ℕ) (others : Handshake → Option (List ℕ) → Said)
-      → ((n : Option (List ℕ)) → (others at n).out ≡ []) → (word_then at a v w others).out ≡ []
+  IsMute w = (at : Handshake) (a : List Awaited) (v : List ℕ) (others : Handshake → List Awaited → Said)
+      → ((n : List Awaited) → (others at n).out ≡ []) → (word_then at a v w others).out ≡ []
 
-  mute-ack : (awaited name : Option (List ℕ)) → IsMute (ack_word awaited name)
-  mute-ack awaited None at a v others same = refl
-  mute-ack None (Some name) at a v others same = refl
-  mute-ack (Some awaited) (Some name) at a v others same = by (bytes_eq name awaited)
-    where
-      by : (b : Bool) → (word_then at a v (cond b Acks (Fails fault.WrongAck)) others).out ≡ []
-      by true = same None
-      by false = refl
+  mute-ack : (awaited : List Awaited) (name : Option (List ℕ)) → IsMute (ack_word awaited name)
+  mute-ack awaited name =
+      ack_either IsMute (λ at a v others same. same (awaited_behind (v ∷ []) a)) (λ fault at a v others same. refl) awaited name
 
-  mute : (keepalive : Bool) (awaited : Option (List ℕ)) (v : List ℕ)
+  mute : (keepalive : Bool) (awaited : List Awaited) (v : List ℕ)
       → IsMute (word_of login salt (Done keepalive) awaited v)
   unfolding word_of
   mute keepalive awaited v at a u others same = by (is_nil v)
@@ -161,20 +134,20 @@ module _ (login : Login) (salt : List ℕ) where
       by true = same a
       by false = mute-ack awaited (ack_name v) at a u others same
 
-  done_mute : (keepalive : Bool) (a : Option (List ℕ)) (vs : List (List ℕ)) (end : Handshake → Said)
+  done_mute : (keepalive : Bool) (a : List Awaited) (vs : List (List ℕ)) (end : Handshake → Said)
       → ((end (Done keepalive)).out ≡ []) → (said_of login salt (Done keepalive) a vs end).out ≡ []
   done_mute keepalive a [] end none = none
   done_mute keepalive a (v ∷ vs) end none =
       mute keepalive a v (Done keepalive) a v (λ g n. said_of login salt g n vs end) (λ n. done_mute keepalive n vs end none)
 
-  pub said_mute : (at : Handshake) (a : Option (List ℕ)) (s : Split) → is_done at ≡ true
+  pub said_mute : (at : Handshake) (a : List Awaited) (s : Split) → is_done at ≡ true
       → (said_in login salt at a s).out ≡ []
   said_mute AwaitsHelo a s e = absurd cc
   said_mute (AwaitsPong nonce keepalive) a s e = absurd cc
   said_mute (Done keepalive) a (Open vs rest) e = done_mute keepalive a vs silence refl
   said_mute (Done keepalive) a (Broken vs broken) e = done_mute keepalive a vs (failing fault.BadReply) refl
 
-  pub stays_done : (at : Handshake) (a : Option (List ℕ)) (s : Split) → is_done at ≡ true
+  pub stays_done : (at : Handshake) (a : List Awaited) (s : Split) → is_done at ≡ true
       → is_done (said_in login salt at a s).handshake ≡ true
   stays_done AwaitsHelo a s e = absurd cc
   stays_done (AwaitsPong nonce keepalive) a s e = absurd cc
@@ -183,23 +156,30 @@ module _ (login : Login) (salt : List ℕ) where
 
 -- ---- a session hears
 
--- a chunk is loaded only once the handshake is done
-abbrev pub IsOrdered : LiveSession → Type 0
-IsOrdered s = is_some s.loaded ≡ true → is_done s.handshake ≡ true
+-- nothing waits less of chunks where there is no fault
+falls-none : (f : Option SessionFault) (xs : List LiveLoaded) → f ≡ None
+    → map (falls_with (is_some f)) xs ≡ xs
+falls-none f xs none = ap (λ (o : Option SessionFault). map (falls_with (is_some o)) xs) none ∙ map_none (falls_with false) xs (λ l. refl)
 
-reply_two : (old a b : Option (List ℕ))
-    → cond (is_some b) b (cond (is_some a) a old) ≡ cond (is_some (cond (is_some b) b a))
-    (cond (is_some b) b a) old
-reply_two old a (Some v) = refl
-reply_two old a None = refl
+abbrev name_of : LiveLoaded → List ℕ
+name_of l = l.chunk.name
 
-acked_two : (old : Bool) (a b : Option (List ℕ))
-    → ((old || is_some a) || is_some b) ≡ (old || is_some (cond (is_some b) b a))
-acked_two true a b = refl
-acked_two false None None = refl
-acked_two false (Some v) None = refl
-acked_two false None (Some v) = refl
-acked_two false (Some u) (Some v) = refl
+carried_two : (f : Option SessionFault) (us vs : List (List ℕ)) (xs : List LiveLoaded) → f ≡ None
+    → left_by name_of vs (map (falls_with (is_some f)) (left_by name_of us xs))
+    ≡ left_by name_of (us ++ vs) xs
+carried_two f us vs xs none = ap (left_by name_of vs) (falls-none f (left_by name_of us xs) none) ∙ left_append name_of us vs xs
+
+accepted_two : (f : Option SessionFault) (us vs : List (List ℕ)) (old : List Accepted)
+    (xs : List LiveLoaded) → f ≡ None
+    → (old ++ accepted_by us (live_chunks xs))
+    ++ accepted_by vs (live_chunks (map (falls_with (is_some f)) (left_by name_of us xs)))
+    ≡ old ++ accepted_by (us ++ vs) (live_chunks xs)
+accepted_two f us vs old xs none =
+    let left : live_chunks (map (falls_with (is_some f)) (left_by name_of us xs)) ≡ left_by (λ (c : Load). c.name) us (live_chunks xs) =
+    ap live_chunks (falls-none f (left_by name_of us xs) none) ∙ sym (left_map (λ (c : Load). c.name) (λ (l : LiveLoaded). l.chunk) us xs) in
+    ap (λ cs. (old ++ accepted_by us (live_chunks xs)) ++ accepted_by vs cs) left
+    ∙ append_assoc old (accepted_by us (live_chunks xs)) (accepted_by vs (left_by (λ (c : Load). c.name) us (live_chunks xs)))
+    ∙ ap (λ more. old ++ more) (accepted_append us vs (live_chunks xs))
 
 takes_two : (s : LiveSession) (a b : Said) (x y : List ℕ) → a.fault ≡ None
     → session_takes (session_takes s a x) b y ≡ session_takes s (then_said a b) y
@@ -208,28 +188,21 @@ takes_two s a b x y none = λ i. record s {
   handshake = b.handshake;
   waiting = cond (is_some b.fault) [] ((ap (λ (f : Option SessionFault). cond (is_some f) [] (s.waiting ++ a.out) ++ b.out) none ∙ append_assoc s.waiting a.out b.out) i);
   rest = cond (is_some b.fault) [] y;
-  reply = reply_two s.reply a.reply b.reply i;
-  has_acked = acked_two s.has_acked a.reply b.reply i;
+  carried = map (falls_with (is_some b.fault)) (carried_two a.fault a.replies b.replies s.carried none i);
+  accepted = accepted_two a.fault a.replies b.replies s.accepted s.carried none i;
   down = is_some b.fault;
 }
 
-none_either : (b : Bool) → (let none : Option (List ℕ) = None in cond b none none) ≡ None
-none_either true = refl
-none_either false = refl
+-- what is awaited of a chunk
+abbrev awaits : LiveLoaded → Awaited
+awaits l = record { name = l.chunk.name; is_handed_on = eqb l.left 0 }
 
-awaited_two : (loaded : Option Load) (reply r : Option (List ℕ)) (waiting out : List ℕ)
-    → (is_some loaded ≡ true → out ≡ [])
-    → cond (is_some (cond (is_some r) r reply) || ltb 0 (length (waiting ++ out))) None
-    (option_map (λ (c : Load). c.name) loaded)
-    ≡ awaited_behind
-    (cond (is_some reply || ltb 0 (length waiting)) None
-    (option_map (λ (c : Load). c.name) loaded)) r
-awaited_two None reply None waiting out quiet = none_either (is_some reply || ltb 0 (length (waiting ++ out))) ∙ sym (none_either (is_some reply || ltb 0 (length waiting)))
-awaited_two None reply (Some v) waiting out quiet = refl
-awaited_two (Some c) reply None waiting out quiet = ap (λ (xs : List ℕ). cond (is_some reply || ltb 0 (length xs)) None (Some c.name)) (ap (λ (o : List ℕ). waiting ++ o) (quiet refl) ∙ append-nil waiting)
-awaited_two (Some c) reply (Some v) waiting out quiet = refl
+awaited_two : (f : Option SessionFault) (us : List (List ℕ)) (xs : List LiveLoaded) → f ≡ None
+    → map awaits (map (falls_with (is_some f)) (left_by name_of us xs))
+    ≡ awaited_behind us (map awaits xs)
+awaited_two f us xs none = ap (map awaits) (falls-none f (left_by name_of us xs) none) ∙ sym (left_map (λ (a : Awaited). a.name) awaits us xs)
 
-module _ (s : LiveSession) (a b : List ℕ) (up : s.down ≡ false) (ordered : IsOrdered s) where
+module _ (s : LiveSession) (a b : List ℕ) where
   abbrev login : Login
   login = s.setup.login
 
@@ -279,7 +252,7 @@ module _ (s : LiveSession) (a b : List ℕ) (up : s.down ≡ false) (ordered : I
     front_is = by_values_here stream open_here
 
     abbrev next : Said
-    next = said_in login salt said.handshake (awaited_behind (live_awaited s) said.reply) (reply_stream (rest ++ b))
+    next = said_in login salt said.handshake (awaited_behind said.replies (live_awaited s)) (reply_stream (rest ++ b))
 
     all_is : live_says s (a ++ b) ≡ then_said said next
     all_is =
@@ -298,11 +271,9 @@ module _ (s : LiveSession) (a b : List ℕ) (up : s.down ≡ false) (ordered : I
     unfolding session_takes
     left-rest = ap (λ (f : Option SessionFault). cond (is_some f) [] rest) good
 
-    left-awaited : live_awaited left ≡ awaited_behind (live_awaited s) said.reply
+    left-awaited : live_awaited left ≡ awaited_behind said.replies (live_awaited s)
     unfolding session_takes
-    left-awaited =
-        ap (λ (f : Option SessionFault). cond (is_some (cond (is_some said.reply) said.reply s.reply) || ltb 0 (length (cond (is_some f) [] (s.waiting ++ said.out)))) None (option_map (λ (c : Load). c.name) s.loaded)) good
-        ∙ awaited_two s.loaded s.reply said.reply s.waiting said.out (λ e. said_mute login salt s.handshake (live_awaited s) stream (ordered e))
+    left-awaited = awaited_two said.fault said.replies s.carried good
 
     left-says : live_says left b ≡ next
     unfolding session_takes
@@ -319,9 +290,9 @@ listens-down : (s : LiveSession) (a : List ℕ)
 unfolding session_takes
 listens-down s a = refl
 
-pub hears_two : (s : LiveSession) (a b : List ℕ) → IsOrdered s
+pub hears_two : (s : LiveSession) (a b : List ℕ)
     → session_hears (session_hears s a) b ≡ session_hears s (a ++ b)
-hears_two s a b ordered = by s.down refl
+hears_two s a b = by s.down refl
   where
     hears_up : (x : LiveSession) (bytes : List ℕ) → x.down ≡ false
         → session_hears x bytes ≡ session_listens x bytes
@@ -330,25 +301,16 @@ hears_two s a b ordered = by s.down refl
     hears_down : (x : LiveSession) (bytes : List ℕ) → x.down ≡ true → session_hears x bytes ≡ x
     hears_down x bytes e = ap (λ d. cond d x (session_listens x bytes)) e
 
-    by_fault : s.down ≡ false → (f : Option SessionFault) → (live_says s a).fault ≡ f
+    by_fault : (f : Option SessionFault) → (live_says s a).fault ≡ f
         → session_hears (session_listens s a) b ≡ session_listens s (a ++ b)
-    by_fault up (Some f) e = hears_down (session_listens s a) b (listens-down s a ∙ ap (λ (x : Option SessionFault). is_some x) e) ∙ listens_two-fault s a b up ordered f e
-    by_fault up None e = hears_up (session_listens s a) b (listens-down s a ∙ ap (λ (x : Option SessionFault). is_some x) e) ∙ listens_two-good s a b up ordered e
+    by_fault (Some f) e = hears_down (session_listens s a) b (listens-down s a ∙ ap (λ (x : Option SessionFault). is_some x) e) ∙ listens_two-fault s a b f e
+    by_fault None e = hears_up (session_listens s a) b (listens-down s a ∙ ap (λ (x : Option SessionFault). is_some x) e) ∙ listens_two-good s a b e
 
     by : (d : Bool) → s.down ≡ d → session_hears (session_hears s a) b ≡ session_hears s (a ++ b)
     by true e = ap (λ (x : LiveSession). session_hears x b) (hears_down s a e) ∙ hears_down s b e ∙ sym (hears_down s (a ++ b) e)
-    by false e = ap (λ (x : LiveSession). session_hears x b) (hears_up s a e) ∙ by_fault e (live_says s a).fault refl ∙ sym (hears_up s (a ++ b) e)
+    by false e = ap (λ (x : LiveSession). session_hears x b) (hears_up s a e) ∙ by_fault (live_says s a).fault refl ∙ sym (hears_up s (a ++ b) e)
 
-ordered-hears : (s : LiveSession) (a : List ℕ) → IsOrdered s → IsOrdered (session_hears s a)
-unfolding session_takes
-ordered-hears s a ordered = by s.down
-  where
-    by : (d : Bool) → IsOrdered (cond d s (session_listens s a))
-    by true = ordered
-    by false = λ e. stays_done s.setup.login s.setup.salt s.handshake (live_awaited s) (reply_stream (s.rest ++ a)) (ordered e)
-
-pub hears_many : (pieces : List (List ℕ)) (s : LiveSession) (bytes : List ℕ) → IsOrdered s
+pub hears_many : (pieces : List (List ℕ)) (s : LiveSession) (bytes : List ℕ)
     → session_hears_all s (bytes ∷ pieces) ≡ session_hears s (concat (bytes ∷ pieces))
-hears_many [] s bytes ordered = ap (session_hears s) (sym (append-nil bytes))
-hears_many (more ∷ pieces) s bytes ordered =
-    hears_many pieces (session_hears s bytes) more (ordered-hears s bytes ordered) ∙ hears_two s bytes (concat (more ∷ pieces)) ordered
+hears_many [] s bytes = ap (session_hears s) (sym (append-nil bytes))
+hears_many (more ∷ pieces) s bytes = hears_many pieces (session_hears s bytes) more ∙ hears_two s bytes (concat (more ∷ pieces))

@@ -4,10 +4,10 @@ pub enum SessionFault {
     /// What the server sent is no acknowledgement, no PONG where one is awaited, or begins no value
     /// within `REPLY_LIMITS`.
     BadReply = 1,
-    /// The server acknowledged another chunk than the one that it was sent.
+    /// The server named no chunk that is loaded and not acknowledged.
     WrongAck = 2,
-    /// The server named a chunk while none was awaited: none is loaded, its frame was not taken
-    /// whole, or it is acknowledged already.
+    /// The server named a chunk while it could have none to acknowledge, since no frame of such a
+    /// chunk was taken whole; or one whose frame was not.
     EarlyAck = 3,
     /// The first that the server sent is no HELO.
     NotHelo = 4,

@@ -14,10 +14,11 @@ ghost use Rattle.std.specs.Prelude.{
   IfOk,
   IfSome,
 };
+ghost use Rattle.fwd_chunks.specs.Lending.{IsLent};
 ghost use Rattle.fwd_session.specs.Evidence.{frame_of};
 
 use crate::written::Written;
-use fwd_chunks::{Carried, Unsent};
+use fwd_chunks::{Carried, Pieces, Unsent};
 use fwd_modes::{write_chunk_head, write_chunk_tail};
 use std::alloc::{AllocError, Global};
 use std::marker::Model;
@@ -117,5 +118,15 @@ impl Frame {
         let head = self.head.gather(room);
         let entries = head + self.entries.gather(room.split_at_mut(head).1);
         entries + self.tail.gather(room.split_at_mut(entries).1)
+    }
+
+    /// Puts the pieces that the bytes that are left lie in behind others, as many as there is place
+    /// for.
+    pub(crate) fn lend<'a>(&'a self, pieces: Pieces<'a>) -> Pieces<'a>
+        ensures { IsLent pieces.entry self.now result }
+    {
+        let head = pieces.with(self.head.as_slice());
+        let entries = self.entries.lend(head);
+        entries.with(self.tail.as_slice())
     }
 }

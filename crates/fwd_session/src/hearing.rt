@@ -1,17 +1,19 @@
-//! What a server's bytes say: how far the handshake came, whether the awaited chunk is
-//! acknowledged, the first fault, and the bytes of an unfinished value.
+//! What a server's bytes say: how far the handshake came, which chunks are acknowledged, the first
+//! fault, and the bytes of an unfinished value.
 
 ghost use Rattle.std.specs.Prelude.{
   ◌≡◌,
+  [],
   None,
   Some,
   true,
   false,
-  option_copied,
+  remove,
   unwrap_or,
   IfOk,
   IsOk,
 };
+ghost use Rattle.std.specs.Arc.{arc_value};
 ghost use Rattle.fwd_handshake.specs.Shown.{salt_bytes};
 ghost use Rattle.fwd_msgpack.specs.Values.{bytes_of};
 ghost use Rattle.fwd_session.specs.Said.{
@@ -26,17 +28,47 @@ ghost use Rattle.fwd_session.specs.Said.{
 ghost use Rattle.fwd_handshake.specs.Verdicts.{helo_answer, pong_verdict};
 ghost use Rattle.fwd_modes.specs.Acks.{ack_name};
 ghost use Rattle.fwd_session.specs.History.{is_done};
-ghost use Rattle.fwd_session.specs.Hearing.{shown, is_greeting, IsOver};
+ghost use Rattle.fwd_session.specs.Flights.{awaited_of};
+ghost use Rattle.fwd_session.specs.Hearing.{
+  word_in,
+  shown,
+  is_greeting,
+  IsOver,
+  IsAckedAt,
+  IsAckOf,
+  AreAcksOf,
+  Points,
+};
 
+use crate::acked::Acked;
 use crate::fault::SessionFault;
 use crate::handshake::Handshake;
 use crate::limits::REPLY_LIMITS;
-use crate::word::Word;
+use crate::unacked::Unacked;
+use crate::verdict::Verdict;
 use fwd_base::Bytes;
 use fwd_handshake::{HeloAnswer, Login, PongVerdict, Salt, answer_helo, judge_pong};
 use fwd_modes::read_ack;
 use fwd_msgpack::{Next, Value, next_value};
 use std::alloc::{AllocError, Global};
+use std::sync::Arc;
+
+/// The server that is heard, by its place in the output's list, and what proves the session to it.
+#[derive(Clone, Copy)]
+pub(crate) struct Peer<'a> {
+    pub(crate) server: u16,
+    pub(crate) login: &'a Login,
+    pub(crate) salt: Salt<'a>,
+}
+
+/// A chunk is acknowledged.
+#[derive(Drop)]
+pub(crate) struct Ack {
+    /// The chunk's place among those that the acknowledgements before this one left.
+    pub(crate) place: usize,
+    /// What is kept of it.
+    pub(crate) acked: Arc<Acked>,
+}
 
 /// What was heard from a server.
 #[derive(Drop)]
@@ -45,30 +77,25 @@ pub(crate) struct Hearing<'a> {
     pub(crate) handshake: Option<Handshake>,
     /// What is sent for it.
     pub(crate) out: Vec<u8>,
-    /// The value that acknowledged the awaited chunk.
-    pub(crate) reply: Option<&'a [u8]>,
+    /// The acknowledgements, in their order.
+    pub(crate) acks: Vec<Ack>,
     pub(crate) fault: Option<SessionFault>,
     /// The bytes of an unfinished value.
     pub(crate) rest: &'a [u8],
 }
 
 /// What a value says where HELO is awaited.
-fn helo_word(
-    alloc: Global,
-    login: &Login,
-    salt: Salt<'_>,
-    value: Value<'_>,
-) -> Result<Word, AllocError>
-    ensures { IfOk result (λ word.
-        word ≡ helo_word (helo_answer login.now (salt_bytes salt.entry) (bytes_of value.entry))) }
+fn helo_verdict(alloc: Global, peer: &Peer<'_>, value: Value<'_>) -> Result<Verdict, AllocError>
+    ensures { IfOk result (λ verdict. word_in verdict ≡ helo_word
+        (helo_answer peer.now.login.now (salt_bytes peer.now.salt) (bytes_of value.entry))) }
 {
-    match answer_helo(alloc, value, login, salt)? {
-        HeloAnswer::NotHelo => Ok(Word::Fails(SessionFault::NotHelo)),
+    match answer_helo(alloc, value, peer.login, peer.salt)? {
+        HeloAnswer::NotHelo => Ok(Verdict::Fails(SessionFault::NotHelo)),
         HeloAnswer::Ping {
             bytes,
             nonce,
             keepalive,
-        } => Ok(Word::Greets {
+        } => Ok(Verdict::Greets {
             out: bytes,
             next: Handshake::AwaitsPong { nonce, keepalive },
         }),
@@ -76,59 +103,66 @@ fn helo_word(
 }
 
 /// What a PONG says, by the verdict on it.
-fn pong_word(alloc: Global, keepalive: bool, verdict: PongVerdict) -> Word
-    ensures { result ≡ pong_word keepalive verdict }
+fn pong_verdict(alloc: Global, keepalive: bool, verdict: PongVerdict) -> Verdict
+    ensures { word_in result ≡ pong_word keepalive verdict }
 {
     match verdict {
-        PongVerdict::Pass => Word::Greets {
+        PongVerdict::Pass => Verdict::Greets {
             out: Bytes::new(alloc),
             next: Handshake::Done { keepalive },
         },
-        PongVerdict::NotPong => Word::Fails(SessionFault::BadReply),
-        PongVerdict::Denied => Word::Fails(SessionFault::Denied),
-        PongVerdict::BadDigest => Word::Fails(SessionFault::BadDigest),
+        PongVerdict::NotPong => Verdict::Fails(SessionFault::BadReply),
+        PongVerdict::Denied => Verdict::Fails(SessionFault::Denied),
+        PongVerdict::BadDigest => Verdict::Fails(SessionFault::BadDigest),
     }
 }
 
-/// What a value says where this name is awaited.
-fn ack_word(awaited: Option<&[u8]>, value: Value<'_>) -> Word
-    ensures { result ≡ ack_word (option_copied awaited.entry) (ack_name (bytes_of value.entry)) }
+/// What a value says where these chunks are awaited.
+fn ack_verdict(unacked: &Unacked<'_>, value: Value<'_>) -> Verdict
+    ensures word { word_in result
+        ≡ ack_word (awaited_of unacked.now) (ack_name (bytes_of value.entry)) }
+    ensures points { Points unacked.now (bytes_of value.entry) result }
 {
     let Ok(name) = read_ack(value) else {
-        return Word::Fails(SessionFault::BadReply);
+        return Verdict::Fails(SessionFault::BadReply);
     };
-    match awaited {
-        None => Word::Fails(SessionFault::EarlyAck),
-        Some(awaited) if name == awaited => Word::Acks,
-        Some(_) => Word::Fails(SessionFault::WrongAck),
+    if !unacked.any_handed_on() {
+        return Verdict::Fails(SessionFault::EarlyAck);
+    }
+    match unacked.find(name) {
+        None => Verdict::Fails(SessionFault::WrongAck),
+        Some(place) if unacked.is_handed_on(place) => Verdict::Acks { place },
+        Some(_) => Verdict::Fails(SessionFault::EarlyAck),
     }
 }
 
-/// What a value says, by how far the handshake came and the name that is awaited.
+/// What a value says, by how far the handshake came and the chunks that are awaited.
 #[tactic(auto, unfolding(crate::specs::Said::word_of))]
-fn word_of(
+fn verdict_on(
     alloc: Global,
-    login: &Login,
-    salt: Salt<'_>,
+    peer: &Peer<'_>,
     at: &Handshake,
-    awaited: Option<&[u8]>,
+    unacked: &Unacked<'_>,
     value: Value<'_>,
-) -> Result<Word, AllocError>
-    ensures word { IfOk result (λ word. word ≡ word_of login.now (salt_bytes salt.entry) at.now
-        (option_copied awaited.entry) (bytes_of value.entry)) }
+) -> Result<Verdict, AllocError>
+    ensures word { IfOk result (λ verdict. word_in verdict
+        ≡ word_of peer.now.login.now (salt_bytes peer.now.salt) at.now (awaited_of unacked.now)
+        (bytes_of value.entry)) }
+    ensures points { IfOk result (λ verdict.
+        Points unacked.now (bytes_of value.entry) verdict) }
     ensures sure { is_done at.now ≡ true → IsOk result }
-    ensures done { is_done at.now ≡ true → IfOk result (λ word. is_greeting word ≡ false) }
+    ensures done { is_done at.now ≡ true → IfOk result (λ verdict. is_greeting verdict ≡ false) }
 {
     if value.is_nil() {
-        return Ok(Word::Skipped);
+        return Ok(Verdict::Skipped);
     }
     match at {
-        Handshake::AwaitsHelo => helo_word(alloc, login, salt, value),
+        Handshake::AwaitsHelo => helo_verdict(alloc, peer, value),
         Handshake::AwaitsPong { nonce, keepalive } => {
-            let verdict = judge_pong(value, login, salt.bytes(), nonce.as_slice());
-            Ok(pong_word(alloc, *keepalive, verdict))
+            let verdict = judge_pong(value, peer.login, peer.salt.bytes(), nonce.as_slice());
+            Ok(pong_verdict(alloc, *keepalive, verdict))
         }
-        Handshake::Done { keepalive: _ } => Ok(ack_word(awaited, value)),
+        Handshake::Done { keepalive: _ } => Ok(ack_verdict(unacked, value)),
     }
 }
 
@@ -142,28 +176,54 @@ fn reached<'a>(next: &'a Option<Handshake>, before: &'a Handshake) -> &'a Handsh
     }
 }
 
-/// What the bytes say where the handshake came so far and this name is awaited. The only error is
-/// out of memory, for the answer to a HELO.
+/// The chunk at a place is acknowledged by a value, and leaves those that are awaited. The only
+/// error is out of memory.
+fn accept(
+    alloc: Global,
+    server: u16,
+    unacked: &mut Unacked<'_>,
+    place: usize,
+    value: &[u8],
+) -> Result<Ack, AllocError>
+    requires { IsAckedAt unacked.old value.now place }
+    ensures ack { IfOk result (λ ack. IsAckOf server unacked.old ack) }
+    ensures place { IfOk result (λ ack. ack.place ≡ place) }
+    ensures reply { IfOk result (λ ack. (arc_value ack.acked).reply ≡ value.now) }
+    ensures left { unacked.new ≡ remove unacked.old place }
+{
+    let acked = Acked::new(alloc, unacked.chunk(place), server, value);
+    unacked.remove(place);
+    match Arc::new(alloc, acked?) {
+        Ok(acked) => Ok(Ack { place, acked }),
+        Err(_) => Err(AllocError),
+    }
+}
+
+/// What the bytes say where the handshake came so far and these chunks are awaited. The only error
+/// is out of memory, for the answer to a HELO or for what is kept of a chunk.
 pub(crate) fn hear<'a>(
     alloc: Global,
-    login: &Login,
-    salt: Salt<'_>,
+    peer: &Peer<'_>,
     before: &Handshake,
-    awaited: Option<&[u8]>,
+    unacked: Unacked<'_>,
     bytes: &'a [u8],
 ) -> Result<Hearing<'a>, AllocError>
     ensures value { IfOk result (λ heard. shown before.now heard
-        ≡ said_in login.now (salt_bytes salt.entry) before.now (option_copied awaited.entry)
-        (reply_stream bytes.now)) }
+        ≡ said_in peer.now.login.now (salt_bytes peer.now.salt) before.now
+        (awaited_of unacked.entry) (reply_stream bytes.now)) }
+    ensures acks { IfOk result (λ heard.
+        AreAcksOf peer.now.server unacked.entry heard.acks.items) }
     ensures rest { IfOk result (λ heard. heard.fault ≡ None
         → heard.rest.now ≡ rest_of (reply_stream bytes.now)) }
     ensures over { IfOk result (λ heard. is_done before.now ≡ true → IsOver heard) }
-    ensures sure { is_done before.now ≡ true → IsOk result }
+    ensures sure { is_done before.now ≡ true →
+        (said_in peer.now.login.now (salt_bytes peer.now.salt) before.now
+        (awaited_of unacked.entry) (reply_stream bytes.now)).replies ≡ [] → IsOk result }
 {
-    let mut awaited = awaited;
+    let mut unacked = unacked;
     let mut handshake = None;
     let mut out = Vec::new(alloc);
-    let mut reply = None;
+    let mut acks = Vec::new(alloc);
     let mut rest = bytes;
     let fault = 'values: loop {
         match next_value(rest, REPLY_LIMITS) {
@@ -171,17 +231,17 @@ pub(crate) fn hear<'a>(
             Next::Fault(_) => break Some(SessionFault::BadReply),
             Next::Value(value, behind) => {
                 let at = reached(&handshake, before);
-                match word_of(alloc, login, salt, at, awaited, value)? {
-                    Word::Skipped => {}
-                    Word::Greets { out: ping, next } => {
+                match verdict_on(alloc, peer, at, &unacked, value)? {
+                    Verdict::Skipped => {}
+                    Verdict::Greets { out: ping, next } => {
                         out.extend_from_slice(ping.as_slice())?;
                         handshake = Some(next);
                     }
-                    Word::Acks => {
-                        reply = Some(value.bytes());
-                        awaited = None;
+                    Verdict::Acks { place } => {
+                        let reply = value.bytes();
+                        acks.push(accept(alloc, peer.server, &mut unacked, place, reply)?)?;
                     }
-                    Word::Fails(fault) => break Some(fault),
+                    Verdict::Fails(fault) => break Some(fault),
                 }
                 rest = behind;
             }
@@ -190,7 +250,7 @@ pub(crate) fn hear<'a>(
     Ok(Hearing {
         handshake,
         out,
-        reply,
+        acks,
         fault,
         rest,
     })

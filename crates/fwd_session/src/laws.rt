@@ -6,15 +6,14 @@ ghost use Rattle.std.specs.Prelude.{
   ℕ,
   List,
   ◌∷◌,
-  Option,
-  is_some,
+  ◌++◌,
   true,
   false,
   length,
   take,
   drop,
 };
-ghost use Rattle.std.specs.List.{concat};
+ghost use Rattle.std.specs.List.{concat, AllByRecursion};
 ghost use Rattle.fwd_msgpack.specs.declared.fault.ScanFault.{ScanFault};
 ghost use Rattle.fwd_msgpack.specs.Scans.{Whole, Short, Bad, first_of};
 ghost use Rattle.fwd_handshake.specs.declared.credentials.Login.{Login};
@@ -24,6 +23,7 @@ ghost use Rattle.fwd_session.specs.declared.fault.SessionFault.TheVariants.{BadR
 ghost use Rattle.fwd_session.specs.declared.handshake.Handshake.{Handshake};
 ghost use Rattle.fwd_session.specs.declared.told.SessionHeard.TheVariants.{Fault, NotUp};
 ghost use Rattle.fwd_session.specs.Said.{
+  Awaited,
   said_in,
   word_of,
   word_then,
@@ -37,11 +37,13 @@ ghost use Rattle.fwd_session.specs.History.{
   SessionHistory,
   IsSane,
   IsFramed,
-  is_done,
+  IsAcknowledged,
   is_ready,
+  room,
   is_late,
   to_send,
   acked,
+  newly_accepted,
   piece_told,
   piece_out,
   begins,
@@ -55,6 +57,7 @@ ghost use Rattle.fwd_session.specs.Live.{
   LiveSession,
   live_session,
   live_is_ready,
+  live_room,
   live_is_late,
   live_acked,
   live_piece_told,
@@ -68,34 +71,32 @@ ghost use Rattle.fwd_session.specs.Live.{
   session_looks,
 };
 
-use crate::limits::{REPLY_LIMIT, REPLY_NESTING};
+use crate::limits::{REPLY_LIMIT, REPLY_NESTING, WINDOW_LIMIT};
 
 /// What bytes say, by what stands at their front: a value, less than one, or no value.
 pub fn said_by_front()
-    ensures whole { (login : Login) (salt : List ℕ) (at : Handshake) (awaited : Option (List ℕ))
+    ensures whole { (login : Login) (salt : List ℕ) (at : Handshake) (awaited : List Awaited)
         (bytes : List ℕ) (used : ℕ) → first_of REPLY_LIMIT REPLY_NESTING bytes ≡ Whole used →
         said_in login salt at awaited (reply_stream bytes)
         ≡ word_then at awaited (take used bytes) (word_of login salt at awaited (take used bytes))
-        (λ next name. said_in login salt next name (reply_stream (drop used bytes))) }
+        (λ next left. said_in login salt next left (reply_stream (drop used bytes))) }
     ensures behind { (bytes : List ℕ) (used : ℕ)
         → first_of REPLY_LIMIT REPLY_NESTING bytes ≡ Whole used →
         rest_of (reply_stream bytes) ≡ rest_of (reply_stream (drop used bytes)) }
-    ensures short { (login : Login) (salt : List ℕ) (at : Handshake) (awaited : Option (List ℕ))
+    ensures short { (login : Login) (salt : List ℕ) (at : Handshake) (awaited : List Awaited)
         (bytes : List ℕ) → first_of REPLY_LIMIT REPLY_NESTING bytes ≡ Short →
         said_in login salt at awaited (reply_stream bytes) ≡ silence at }
     ensures rest { (bytes : List ℕ) → first_of REPLY_LIMIT REPLY_NESTING bytes ≡ Short →
         rest_of (reply_stream bytes) ≡ bytes }
-    ensures bad { (login : Login) (salt : List ℕ) (at : Handshake) (awaited : Option (List ℕ))
+    ensures bad { (login : Login) (salt : List ℕ) (at : Handshake) (awaited : List Awaited)
         (bytes : List ℕ) (fault : ScanFault)
         → first_of REPLY_LIMIT REPLY_NESTING bytes ≡ Bad fault →
         said_in login salt at awaited (reply_stream bytes) ≡ failing BadReply at }
 {}
 
-/// However the bytes are cut, the same session is left. A chunk is loaded only once the handshake
-/// is done.
+/// However the bytes are cut, the same session is left.
 pub fn pieces_are_one()
     ensures { (s : LiveSession) (bytes : List ℕ) (pieces : List (List ℕ))
-        → (is_some s.loaded ≡ true → is_done s.handshake ≡ true)
         → session_hears_all s (bytes ∷ pieces) ≡ session_hears s (concat (bytes ∷ pieces)) }
 {}
 
@@ -104,6 +105,7 @@ pub fn pieces_are_one()
 pub fn live_follows()
     ensures begins { (setup : Setup) → live_session (begins setup) ≡ session_begins setup }
     ensures ready { (s : SessionHistory) → is_ready s ≡ live_is_ready (live_session s) }
+    ensures room { (s : SessionHistory) → room s ≡ live_room (live_session s) }
     ensures late { (s : SessionHistory) (now : ℕ)
         → is_late s now ≡ live_is_late (live_session s) now }
     ensures acked { (s : SessionHistory) → acked s ≡ live_acked (live_session s) }
@@ -137,17 +139,27 @@ pub fn stays_sane()
         IsSane (looks s now) }
 {}
 
-/// What a session appended ends with the frame of its chunk, whole, from the load until the chunk
-/// is taken out. It is loaded only where it is ready.
+/// The frame of each chunk that is not acknowledged stands whole among what was appended, from the
+/// load on, through the byte that its chunk tells. The session is loaded only where it is ready.
 pub fn stays_framed()
     ensures begins { (setup : Setup) → IsFramed (begins setup) }
-    ensures loads { (s : SessionHistory) (c : Load) (now : ℕ) → is_ready s ≡ true
+    ensures loads { (s : SessionHistory) (c : Load) (now : ℕ) → IsFramed s → is_ready s ≡ true
         → IsFramed (loads s c now) }
     ensures sends { (s : SessionHistory) (count : ℕ) → IsFramed s → IsFramed (sends s count) }
     ensures hears { (s : SessionHistory) (bytes : List ℕ) → IsSane s → IsFramed s
         → IsFramed (hears s bytes) }
-    ensures unloads { (s : SessionHistory) → IsFramed (unloads s) }
+    ensures unloads { (s : SessionHistory) → IsFramed s → IsFramed (unloads s) }
     ensures looks { (s : SessionHistory) (now : ℕ) → IsFramed s → IsFramed (looks s now) }
+{}
+
+/// Only a chunk whose whole frame is handed on is acknowledged, and only by a value that names it:
+/// each that a piece brings, and so each that joins those that are accepted.
+pub fn accepts_handed_on()
+    ensures acknowledged { (s : SessionHistory) (bytes : List ℕ) →
+        AllByRecursion (IsAcknowledged s bytes) (newly_accepted s bytes) }
+    ensures joins { (s : SessionHistory) (bytes : List ℕ) → s.down ≡ false →
+        (hears s bytes).accepted ≡ s.accepted ++ newly_accepted s bytes }
+    ensures room { (s : SessionHistory) (bytes : List ℕ) → room (hears s bytes) ≡ room s }
 {}
 
 /// A fault puts a session down, and so does lateness; once it is down no piece changes anything.
@@ -163,8 +175,10 @@ pub fn faults_put_down()
     ensures not_ready { (s : LiveSession) → s.down ≡ true → live_is_ready s ≡ false }
 {}
 
-/// The limits of a server's replies, in bytes and in arrays and maps that stand one in another.
+/// The limits of a server's replies, in bytes and in arrays and maps that stand one in another, and
+/// of a session's chunks.
 pub fn reply_limits()
     ensures bytes { REPLY_LIMIT ≡ 65536 }
     ensures nesting { REPLY_NESTING ≡ 64 }
+    ensures window { WINDOW_LIMIT ≡ 8 }
 {}

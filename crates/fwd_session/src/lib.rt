@@ -1,5 +1,5 @@
-//! A worker's session with a server: the client's side of the handshake, one chunk after the other,
-//! and what the server acknowledged.
+//! A worker's session with a server: the client's side of the handshake, some chunks at a time, and
+//! what the server acknowledged.
 #![tactic(auto)]
 
 mod acked;
@@ -7,13 +7,18 @@ mod fault;
 mod frame;
 mod handshake;
 mod hearing;
+mod in_flight;
 mod laws;
 mod limits;
+mod listening;
+mod load;
 mod outbox;
 mod salt;
 mod session;
+mod terms;
 mod told;
-mod word;
+mod unacked;
+mod verdict;
 mod writing;
 mod written;
 
@@ -21,12 +26,13 @@ pub use acked::Acked;
 pub use fault::{NotUp, SessionFault};
 pub use handshake::Handshake;
 pub use laws::{
-    faults_put_down, live_follows, pieces_are_one, reply_limits, said_by_front, stays_framed,
-    stays_sane,
+    accepts_handed_on, faults_put_down, live_follows, pieces_are_one, reply_limits, said_by_front,
+    stays_framed, stays_sane,
 };
-pub use limits::{REPLY_LIMIT, REPLY_LIMITS, REPLY_NESTING};
+pub use limits::{REPLY_LIMIT, REPLY_LIMITS, REPLY_NESTING, WINDOW_LIMIT};
+pub use load::{LoadError, LoadFailed};
 pub use salt::OwnedSalt;
-pub use session::{LoadError, LoadFailed, Session};
+pub use session::Session;
+pub use terms::AckTerms;
 pub use told::{SessionHeard, SessionTold};
-pub use word::Word;
 pub use writing::frame_of;

@@ -1,4 +1,4 @@
-//! How long and how deep a server's reply may be.
+//! How long and how deep a server's reply may be, and how many chunks a session may have.
 
 use fwd_msgpack::Limits;
 
@@ -13,3 +13,6 @@ pub const REPLY_LIMITS: Limits = Limits {
     bytes: REPLY_LIMIT,
     depth: REPLY_NESTING,
 };
+
+/// The most chunks that a session may have at once.
+pub const WINDOW_LIMIT: usize = 8;

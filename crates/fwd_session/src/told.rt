@@ -8,9 +8,9 @@ pub enum SessionHeard {
     Quiet,
     /// The handshake is done: chunks may be loaded.
     Ready,
-    /// The session's chunk is acknowledged, and can be taken out.
+    /// Chunks of the session are acknowledged, one or more, and can be taken out.
     Acked,
-    /// A fault put the session down. An acknowledgement that was accepted before it stands.
+    /// A fault put the session down. The acknowledgements that were accepted before it stand.
     Fault(SessionFault),
     /// The session was down before: nothing has changed.
     NotUp,

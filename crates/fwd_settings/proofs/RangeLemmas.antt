@@ -15,7 +15,7 @@ use Rattle.fwd_settings.specs.Faults.{fault_with, key_under}
 use Rattle.fwd_settings.specs.Kinds.{Key, optional, required, given, unless_out, is_within, number_flaw, number_of, number_key, text_flaw, text_key, optional_text_key, required_text_key, data_in, list_flaw, list_of, required_list_key, allowed_list_flaw, optional_list_key, each, fault_at, setting_at}
 use Rattle.fwd_settings.specs.Keys.{first, table_in, outputs, relay_table, relay_settings, connections, message_limit, depth, relay_hostname, shared_key, users, user_name, user_password, user_table, user_fault, user_settings, output_table, output_fault, output_settings, retry_wait, output_shared_key, username, password, servers, server_settings, is_standby, standby_fault}
 use Rattle.fwd_settings.specs.Whole.{relay_fault, root_table, root_settings, judged, of_document, document_of, settings_of}
-use Rattle.fwd_settings.specs.declared.ranges.TheConstants.{ACK_WAIT_DEFAULT, CHUNK_LIMIT_DEFAULT, CHUNK_LIMIT_MAX, CONNECTIONS_DEFAULT, CONNECTIONS_MAX, DEPTH_DEFAULT, DEPTH_MAX, DEPTH_MIN, FLUSH_INTERVAL_DEFAULT, MESSAGE_LIMIT_DEFAULT, MESSAGE_LIMIT_MAX, MESSAGE_LIMIT_MIN, NAME_MAX, OUTPUTS_MAX, RETRY_MAX_DEFAULT, RETRY_WAIT_DEFAULT, SERVERS_MAX, SHARED_KEY_MAX, TOTAL_LIMIT_DEFAULT, TOTAL_LIMIT_MAX, WAIT_MAX, WORKERS_DEFAULT, WORKERS_MAX}
+use Rattle.fwd_settings.specs.declared.ranges.TheConstants.{ACK_WAIT_DEFAULT, CHUNK_LIMIT_DEFAULT, CHUNK_LIMIT_MAX, CONNECTIONS_DEFAULT, CONNECTIONS_MAX, DEPTH_DEFAULT, DEPTH_MAX, DEPTH_MIN, FLUSH_INTERVAL_DEFAULT, MESSAGE_LIMIT_DEFAULT, MESSAGE_LIMIT_MAX, MESSAGE_LIMIT_MIN, NAME_MAX, OUTPUTS_MAX, RETRY_MAX_DEFAULT, RETRY_WAIT_DEFAULT, SERVERS_MAX, SHARED_KEY_MAX, TOTAL_LIMIT_DEFAULT, TOTAL_LIMIT_MAX, WAIT_MAX, WINDOW_DEFAULT, WINDOW_MAX, WORKERS_DEFAULT, WORKERS_MAX}
 use Rattle.fwd_settings.specs.Ranges.{user_in_range, key_in_range, have_key, relay_in_range, output_in_range, in_range}
 
 -- ---- no fault
@@ -253,12 +253,12 @@ module _ (output : ℕ) (members : Members) (h : first (output_table output memb
   members_within =
       let wait = number_here 5 (codes "retry_wait") 1 WAIT_MAX RETRY_WAIT_DEFAULT refl refl in
       let most = number_here 6 (codes "retry_max") (setting_at members retry_wait) WAIT_MAX (max RETRY_MAX_DEFAULT (setting_at members retry_wait)) (greater_default (setting_at members retry_wait) wait) refl in
-      let key = key_within (Output output) members (none_at (output_table output members) 9 (fault_at (Output output) members output_shared_key) h refl) in
-      let user = at_most 0 NAME_MAX (length (setting_at members username)) (text_here 10 (codes "username") 0 (codes "") refl refl) in
-      let secret = at_most 0 NAME_MAX (length (setting_at members password)) (text_here 11 (codes "password") 0 (codes "") refl refl) in
-      let listed = list_within (Output output) members (codes "server") SERVERS_MAX (none_at (output_table output members) 12 (fault_at (Output output) members servers) h refl) in
+      let key = key_within (Output output) members (none_at (output_table output members) 10 (fault_at (Output output) members output_shared_key) h refl) in
+      let user = at_most 0 NAME_MAX (length (setting_at members username)) (text_here 11 (codes "username") 0 (codes "") refl refl) in
+      let secret = at_most 0 NAME_MAX (length (setting_at members password)) (text_here 12 (codes "password") 0 (codes "") refl refl) in
+      let listed = list_within (Output output) members (codes "server") SERVERS_MAX (none_at (output_table output members) 13 (fault_at (Output output) members servers) h refl) in
       let count = ap (is_within 1 SERVERS_MAX) (length-map (setting_at members servers) server_settings) ∙ listed in
-      let usable = standby_none output (setting_at members servers) (none_at (output_table output members) 13 (standby_fault output (setting_at members servers)) h refl) in
+      let usable = standby_none output (setting_at members servers) (none_at (output_table output members) 14 (standby_fault output (setting_at members servers)) h refl) in
       grind (
         arith,
         nat_tests,
@@ -269,7 +269,8 @@ module _ (output : ℕ) (members : Members) (h : first (output_table output memb
         wait,
         most,
         number_here 7 (codes "ack_wait") 1 WAIT_MAX ACK_WAIT_DEFAULT refl refl,
-        text_here 8 (codes "hostname") 1 (codes "relay") refl refl,
+        number_here 8 (codes "window") 1 WINDOW_MAX WINDOW_DEFAULT refl refl,
+        text_here 9 (codes "hostname") 1 (codes "relay") refl refl,
         key,
         user,
         secret,

@@ -14,7 +14,7 @@ use Rattle.fwd_settings.specs.declared.settings.ServerSettings.{ServerSettings}
 use Rattle.fwd_settings.specs.declared.output.Sizes.{Sizes}
 use Rattle.fwd_settings.specs.declared.output.Waits.{Waits}
 use Rattle.fwd_settings.specs.declared.output.Login.{Login}
-use Rattle.fwd_settings.specs.declared.ranges.TheConstants.{ACK_WAIT_DEFAULT, CHUNK_LIMIT_DEFAULT, CHUNK_LIMIT_MAX, CONNECTIONS_DEFAULT, CONNECTIONS_MAX, DEPTH_DEFAULT, DEPTH_MAX, DEPTH_MIN, FLUSH_INTERVAL_DEFAULT, MESSAGE_LIMIT_DEFAULT, MESSAGE_LIMIT_MAX, MESSAGE_LIMIT_MIN, NAME_MAX, OUTPUTS_MAX, RETRY_MAX_DEFAULT, RETRY_WAIT_DEFAULT, SERVERS_MAX, SHARED_KEY_MAX, TOTAL_LIMIT_DEFAULT, TOTAL_LIMIT_MAX, WAIT_MAX, WORKERS_DEFAULT, WORKERS_MAX}
+use Rattle.fwd_settings.specs.declared.ranges.TheConstants.{ACK_WAIT_DEFAULT, CHUNK_LIMIT_DEFAULT, CHUNK_LIMIT_MAX, CONNECTIONS_DEFAULT, CONNECTIONS_MAX, DEPTH_DEFAULT, DEPTH_MAX, DEPTH_MIN, FLUSH_INTERVAL_DEFAULT, MESSAGE_LIMIT_DEFAULT, MESSAGE_LIMIT_MAX, MESSAGE_LIMIT_MIN, NAME_MAX, OUTPUTS_MAX, RETRY_MAX_DEFAULT, RETRY_WAIT_DEFAULT, SERVERS_MAX, SHARED_KEY_MAX, TOTAL_LIMIT_DEFAULT, TOTAL_LIMIT_MAX, WAIT_MAX, WINDOW_DEFAULT, WINDOW_MAX, WORKERS_DEFAULT, WORKERS_MAX}
 use Rattle.fwd_settings.specs.Addresses.{home}
 use Rattle.fwd_settings.specs.Faults.{own_key, key_under}
 use Rattle.fwd_settings.specs.Kinds.{Key, each, fault_at, setting_at, number_key, flag_key, text_key, optional_text_key, required_text_key, digits_key, address_key, address_key_or, required_address_key, required_pattern_key, required_list_key, optional_list_key}
@@ -227,6 +227,10 @@ retry_max output =
 abbrev pub ack_wait : Key ℕ
 ack_wait = number_key (codes "ack_wait") 1 WAIT_MAX ACK_WAIT_DEFAULT
 
+-- how many chunks may be unacknowledged
+abbrev pub window : Key ℕ
+window = number_key (codes "window") 1 WINDOW_MAX WINDOW_DEFAULT
+
 -- the name that the relay gives servers in the handshake: at least 1 byte
 abbrev pub output_hostname : Key (List ℕ)
 output_hostname = text_key (codes "hostname") 1 NAME_MAX (codes "relay")
@@ -252,8 +256,8 @@ abbrev pub output_names : List (List ℕ)
 output_names =
     codes "match" ∷ codes "workers" ∷ codes "chunk_limit" ∷ codes "total_limit"
     ∷ codes "flush_interval" ∷
-    codes "retry_wait" ∷ codes "retry_max" ∷ codes "ack_wait" ∷ codes "hostname"
-    ∷ codes "shared_key" ∷
+    codes "retry_wait" ∷ codes "retry_max" ∷ codes "ack_wait" ∷ codes "window"
+    ∷ codes "hostname" ∷ codes "shared_key" ∷
     codes "username" ∷ codes "password" ∷ codes "server" ∷ []
 
 -- the servers of an output, by their keys
@@ -277,13 +281,14 @@ size_table output members =
     fault_at (Output output) members chunk_limit ∷
     fault_at (Output output) members total_limit ∷ []
 
--- how long it waits
+-- how long it waits, and for how many chunks
 abbrev pub wait_table : ℕ → Members → List (Option SettingsFault)
 wait_table output members =
     fault_at (Output output) members flush_interval ∷
     fault_at (Output output) members retry_wait ∷
     fault_at (Output output) members (retry_max members) ∷
-    fault_at (Output output) members ack_wait ∷ []
+    fault_at (Output output) members ack_wait ∷
+    fault_at (Output output) members window ∷ []
 
 -- how it logs in
 abbrev pub login_table : ℕ → Members → List (Option SettingsFault)
@@ -315,13 +320,14 @@ output_sizes output = record {
   total_limit = setting_at output total_limit;
 }
 
--- how long an output waits, by its keys
+-- how long an output waits, and for how many chunks, by its keys
 abbrev pub output_waits : Members → Waits
 output_waits output = record {
   flush_interval = setting_at output flush_interval;
   retry_wait = setting_at output retry_wait;
   retry_max = setting_at output (retry_max output);
   ack_wait = setting_at output ack_wait;
+  window = setting_at output window;
 }
 
 -- what an output says of itself to servers, by its keys
@@ -349,6 +355,7 @@ output_settings value = let output = table_of value in record {
   retry_wait = setting_at output retry_wait;
   retry_max = setting_at output (retry_max output);
   ack_wait = setting_at output ack_wait;
+  window = setting_at output window;
   hostname = setting_at output output_hostname;
   shared_key = setting_at output output_shared_key;
   username = setting_at output username;

@@ -5,7 +5,7 @@ use Rattle.fwd_settings.specs.declared.settings.RelaySettings.{RelaySettings}
 use Rattle.fwd_settings.specs.declared.settings.UserSettings.{UserSettings}
 use Rattle.fwd_settings.specs.declared.settings.OutputSettings.{OutputSettings}
 use Rattle.fwd_settings.specs.declared.settings.Settings.{Settings}
-use Rattle.fwd_settings.specs.declared.ranges.TheConstants.{CHUNK_LIMIT_MAX, CONNECTIONS_MAX, DEPTH_MAX, DEPTH_MIN, MESSAGE_LIMIT_MAX, MESSAGE_LIMIT_MIN, NAME_MAX, OUTPUTS_MAX, SERVERS_MAX, SHARED_KEY_MAX, TOTAL_LIMIT_MAX, WAIT_MAX, WORKERS_MAX}
+use Rattle.fwd_settings.specs.declared.ranges.TheConstants.{CHUNK_LIMIT_MAX, CONNECTIONS_MAX, DEPTH_MAX, DEPTH_MIN, MESSAGE_LIMIT_MAX, MESSAGE_LIMIT_MIN, NAME_MAX, OUTPUTS_MAX, SERVERS_MAX, SHARED_KEY_MAX, TOTAL_LIMIT_MAX, WAIT_MAX, WINDOW_MAX, WORKERS_MAX}
 use Rattle.fwd_settings.specs.Kinds.{is_within}
 
 -- a user's name and password have a length that is allowed
@@ -42,12 +42,13 @@ output_in_range o =
     (is_within 1 WAIT_MAX o.retry_wait &&
     (is_within o.retry_wait WAIT_MAX o.retry_max &&
     (is_within 1 WAIT_MAX o.ack_wait &&
+    (is_within 1 WINDOW_MAX o.window &&
     (is_within 1 NAME_MAX (length o.hostname) &&
     (key_in_range o.shared_key &&
     (nat_le (length o.username) NAME_MAX &&
     (nat_le (length o.password) NAME_MAX &&
     (is_within 1 SERVERS_MAX (length o.servers)
-    && not (list_all (λ server. server.standby) o.servers))))))))))))
+    && not (list_all (λ server. server.standby) o.servers)))))))))))))
 
 -- all settings are in their ranges
 abbrev pub in_range : Settings → Bool

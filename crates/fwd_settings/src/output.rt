@@ -11,7 +11,7 @@ use crate::place::{Flaw, Place};
 use crate::ranges::{
     ACK_WAIT_DEFAULT, CHUNK_LIMIT_DEFAULT, CHUNK_LIMIT_MAX, FLUSH_INTERVAL_DEFAULT, NAME_MAX,
     RETRY_WAIT_DEFAULT, SERVERS_MAX, SHARED_KEY_MAX, TOTAL_LIMIT_DEFAULT, TOTAL_LIMIT_MAX,
-    WAIT_MAX, WORKERS_DEFAULT, WORKERS_MAX,
+    WAIT_MAX, WINDOW_DEFAULT, WINDOW_MAX, WORKERS_DEFAULT, WORKERS_MAX,
 };
 use crate::section::Section;
 use crate::server::{check_usable, servers_of};
@@ -21,7 +21,7 @@ use std::alloc::Global;
 use toml::{Table, Value};
 
 /// The keys of an output's table, in the order in which they are judged.
-pub const OUTPUT_KEYS: [&str; 13] = [
+pub const OUTPUT_KEYS: [&str; 14] = [
     "match",
     "workers",
     "chunk_limit",
@@ -30,6 +30,7 @@ pub const OUTPUT_KEYS: [&str; 13] = [
     "retry_wait",
     "retry_max",
     "ack_wait",
+    "window",
     "hostname",
     "shared_key",
     "username",
@@ -45,13 +46,14 @@ struct Sizes {
     total_limit: u64,
 }
 
-/// How long an output waits, in milliseconds.
+/// How long an output waits, in milliseconds, and for how many chunks at a time.
 #[derive(Clone, Copy)]
 struct Waits {
     flush_interval: u64,
     retry_wait: u64,
     retry_max: u64,
     ack_wait: u64,
+    window: u16,
 }
 
 /// How an output logs in.
@@ -92,7 +94,7 @@ fn sizes_in(alloc: Global, output: usize, table: &Table) -> Result<Sizes, Settin
     })
 }
 
-/// The times in an output's table.
+/// The times in an output's table, and the window.
 fn waits_in(alloc: Global, output: usize, table: &Table) -> Result<Waits, SettingsFault>
     ensures { let members = table_view table.now in
         Answers (first (wait_table output members)) (output_waits members) result }
@@ -109,11 +111,13 @@ fn waits_in(alloc: Global, output: usize, table: &Table) -> Result<Waits, Settin
     let retry_wait = section.number(alloc, "retry_wait", 1, WAIT_MAX, RETRY_WAIT_DEFAULT)?;
     let retry_max = section.retry_max(alloc, retry_wait)?;
     let ack_wait = section.number(alloc, "ack_wait", 1, WAIT_MAX, ACK_WAIT_DEFAULT)?;
+    let window = section.count(alloc, "window", 1, WINDOW_MAX, WINDOW_DEFAULT)?;
     Ok(Waits {
         flush_interval,
         retry_wait,
         retry_max,
         ack_wait,
+        window,
     })
 }
 
@@ -174,6 +178,7 @@ fn output_in(alloc: Global, output: usize, table: &Table) -> Result<OutputSettin
         retry_wait: waits.retry_wait,
         retry_max: waits.retry_max,
         ack_wait: waits.ack_wait,
+        window: waits.window,
         hostname: login.hostname,
         shared_key: login.shared_key,
         username: login.username,

@@ -12,6 +12,12 @@ pub const SERVERS_MAX: usize = 16;
 /// The most workers of an output.
 pub const WORKERS_MAX: u16 = 16;
 
+/// The most chunks that a session has unacknowledged.
+pub const WINDOW_MAX: u16 = 8;
+
+/// How many a session may have where the settings do not say.
+pub const WINDOW_DEFAULT: u16 = 1;
+
 /// How many workers an output has where the settings do not say.
 pub const WORKERS_DEFAULT: u16 = 1;
 
@@ -78,6 +84,7 @@ pub fn ranges_are()
     ensures outputs { OUTPUTS_MAX ≡ 64 }
     ensures servers { SERVERS_MAX ≡ 16 }
     ensures workers { (WORKERS_MAX ≡ 16) × (WORKERS_DEFAULT ≡ 1) }
+    ensures window { (WINDOW_MAX ≡ 8) × (WINDOW_DEFAULT ≡ 1) }
     ensures connections { (CONNECTIONS_MAX ≡ 1024) × (CONNECTIONS_DEFAULT ≡ 256) }
     ensures message_limit { (MESSAGE_LIMIT_MIN ≡ 1024) × (MESSAGE_LIMIT_MAX ≡ 67108864)
         × (MESSAGE_LIMIT_DEFAULT ≡ 16777216) }

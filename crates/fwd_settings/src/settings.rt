@@ -70,6 +70,8 @@ pub struct OutputSettings {
     pub retry_max: u64,
     /// How long a handshake or an acknowledgement is waited for, in milliseconds, 1 to 86,400,000.
     pub ack_wait: u64,
+    /// How many chunks a session may have unacknowledged: 1 to `WINDOW_MAX`.
+    pub window: u16,
     /// The name that it gives to its servers, 1 to 255 bytes.
     pub hostname: Text,
     /// The key that its servers have to know, 1 to 1,024 bytes. Without one there is no handshake

@@ -1,8 +1,8 @@
 -- What a session was told of and heard is its link's, turn after turn.
-use Rattle.std.proofs.Common.{arith, ◌≡◌, ◌≢◌, ◌<◌, ◌≤◌, ◌+◌, ◌++◌, ◌⊎◌, inl, inr, ℕ, zero, suc, Bool, true, false, cond, List, [], ◌∷◌, take, drop, length, Option, Some, None, refl, sym, ap, subst, ◌∙◌}
-use Rattle.std.specs.Prelude.{is_some, not, option_map, ◌&&◌, ◌||◌, slice_get}
-use Rattle.std.proofs.lemmas.List.{length-append, take-append-le}
-use Rattle.std.proofs.lemmas.Bool.{leb-true}
+use Rattle.std.proofs.Common.{arith, ◌≡◌, ◌≢◌, ◌<◌, ◌≤◌, ◌+◌, ◌-◌, ◌++◌, ◌⊎◌, inl, inr, ℕ, zero, suc, Bool, true, false, cond, List, [], ◌∷◌, take, drop, length, Option, Some, None, refl, sym, ap, subst, ◌∙◌}
+use Rattle.std.specs.Prelude.{map, not, ◌&&◌, slice_get}
+use Rattle.std.specs.List.{AllByRecursion}
+use Rattle.std.proofs.lemmas.List.{append-nil, length-append, take-append-le}
 use Rattle.fwd_modes.specs.Heads.{head_bytes, reading_of, row_of}
 use Rattle.fwd_modes.specs.Scans.{Split, fault_at, first_of, item_begun, parts_of, payload_ended, row_of_values, split_of, values_of}
 use Rattle.fwd_modes.specs.Scans.Split.{Open, Broken}
@@ -12,22 +12,25 @@ use Rattle.fwd_chunks.specs.History.{Load}
 use Rattle.fwd_session.specs.declared.fault.SessionFault.{SessionFault}
 use Rattle.fwd_session.specs.declared.told.SessionHeard.{SessionHeard}
 use Rattle.fwd_session.specs.declared.told.SessionHeard.TheVariants as told
-use Rattle.fwd_session.specs.Evidence.{frame_of}
+use Rattle.fwd_session.specs.Evidence.{Accepted, frame_of}
 use Rattle.fwd_session.specs.Said.{behind, out_of, reply_stream, word_of}
 use Rattle.fwd_session.specs.History.{
-  Setup,
-  SessionHistory,
+  IsAcknowledged as IsAcked,
+  IsAppended,
   IsFramed,
   IsSane,
-  awaited,
+  Loaded,
+  SessionHistory,
+  Setup,
   begins,
+  chunks_of,
   handshake_of,
   hears,
   is_done,
-  is_handed_on,
   listens,
   loads,
   looks,
+  newly_accepted,
   newly_heard,
   piece_told,
   says,
@@ -38,8 +41,11 @@ use Rattle.fwd_session.specs.History.{
   unloads,
 }
 use Rattle.fwd_session.specs.Live.{
+  LiveLoaded,
   LiveSession,
+  live_chunks,
   live_is_ready,
+  live_loaded,
   live_piece_told,
   live_session,
   session_begins,
@@ -73,10 +79,11 @@ use Rattle.fwd_session.proofs.Framing.{
   sends-framed,
   unloads-framed,
 }
-use Rattle.fwd_session.proofs.Saying.{Names, Placed, named_in, placed_in}
+use Rattle.fwd_session.proofs.Accepting.{acknowledged as acked_each, each_accepts, joins}
+use Rattle.fwd_session.proofs.Lists.{all_same, map_map}
 use Rattle.fwd_workers.specs.declared.serve.Served.{Served}
 use Rattle.fwd_workers.specs.declared.serve.Served.TheVariants as served
-use Rattle.fwd_workers.specs.Served.{Seen, seen_of, Sends, Gives, Hears, Rests, Fails, HasHeard, IsServed, AreTheLinks, IsOver, IsAcknowledged, Deed, Serves, Loads, Looks, Unloads, Does, Lives, IsWrittenFirst}
+use Rattle.fwd_workers.specs.Served.{Seen, seen_of, Sends, Gives, Hears, Rests, Fails, HasHeard, IsServed, AreTheLinks, IsOver, IsAcknowledgedBy, IsAcknowledged, Deed, Serves, Loads, Looks, Unloads, Does, Lives, IsWrittenFirst, AreWrittenFirst}
 use Rattle.std.proofs.lemmas.Option.{same_Some}
 
 -- the first of a list, and then of what is left
@@ -216,90 +223,94 @@ lasts s what t before after sane up bytes is some =
 
 -- ---- an acknowledgement
 
+-- a member of a list of which each has a property
+all-at : {X : Type 0} (P : X → Type 0) (xs : List X) (place : ℕ) (x : X) → AllByRecursion P xs
+    → slice_get xs place ≡ Some x → P x
+all-at P [] zero x all e = absurd cc
+all-at P [] (suc k) x all e = absurd cc
+all-at P (y ∷ ys) zero x all e = subst P (same_Some _ _ e) all.0
+all-at P (y ∷ ys) (suc k) x all e = all-at P ys k x all.1 e
+
+-- a member of a list, under a function
+map-at : {X Y : Type 0} (f : X → Y) (xs : List X) (place : ℕ) (x : X)
+    → slice_get xs place ≡ Some x → slice_get (map f xs) place ≡ Some (f x)
+map-at f [] zero x e = absurd cc
+map-at f [] (suc k) x e = absurd cc
+map-at f (y ∷ ys) zero x e = ap Some (ap f (same_Some _ _ e))
+map-at f (y ∷ ys) (suc k) x e = map-at f ys k x e
+
+-- the first of two lists, and what is taken of the second
+take-past : {X : Type 0} (n : ℕ) (xs ys : List X) → length xs ≤ n
+    → take n (xs ++ ys) ≡ xs ++ take (n - length xs) ys
+take-past n [] ys le = ap (λ k. take k ys) (all n)
+  where
+    all : (n : ℕ) → n ≡ n - 0
+    all n = omega arith
+take-past zero (x ∷ xs) ys le = absurd (omega (arith, le))
+take-past (suc n) (x ∷ xs) ys le =
+    ap (λ zs. x ∷ zs) (take-past n xs ys (omega (arith, le)) ∙ ap (λ k. xs ++ take k ys) (fewer n (length xs)))
+  where
+    fewer : (n m : ℕ) → n - m ≡ suc n - suc m
+    fewer n m = omega arith
+
+-- a frame that was appended stands whole among the bytes that were sent, once it is handed on
+frame-taken : (appended : List ℕ) (l : Loaded) (sent : ℕ) → IsAppended appended l
+    → l.through ≤ sent
+    → (front : List ℕ) × (back : List ℕ) × (take sent appended ≡ front ++ frame_of l.chunk ++ back)
+frame-taken appended l sent is within =
+    let whole : List ℕ = is.front ++ frame_of l.chunk in (
+      is.front,
+      take (sent - length whole) is.back,
+      ap (take sent) is.framed ∙ take-past sent whole is.back (omega (arith, within, is.through)),
+    )
+
+-- so of each acknowledgement that bytes bring the whole frame was written
+each-by : (s : SessionHistory) (written read : List ℕ) → written ≡ take s.sent s.appended
+    → AllByRecursion (IsAcknowledgedBy s written read) (newly_accepted s read)
+each-by s written read is =
+    all_same (IsAcked s read) (IsAcknowledgedBy s written read) (newly_accepted s read)
+    (λ a one. record {
+      place = one.place;
+      chunk = map-at (λ (l : Loaded). l.chunk) s.carried one.place one.loaded one.carried ∙ ap Some one.chunk;
+      frame = λ own.
+          let there = all-at (IsAppended s.appended) s.carried one.place one.loaded own.framed one.carried in
+          let taken = frame-taken s.appended one.loaded s.sent there one.handed_on in
+          (taken.0, taken.1, is ∙ taken.2 ∙ ap (λ c. taken.0 ++ frame_of c ++ taken.1) one.chunk);
+      turn = one.turn;
+      ended = one.ended;
+      named = one.named;
+    }) (acked_each s read)
+
 -- what is told as an acknowledgement has one
-replied : (fault : Option SessionFault) (reply : Option (List ℕ)) (before after : Bool)
-    → told_by fault reply before after ≡ told.Acked → (value : List ℕ) × (reply ≡ Some value)
-replied (Some f) reply before after e = absurd cc
-replied None (Some value) before after e = (value, refl)
-replied None None false true e = absurd cc
-replied None None false false e = absurd cc
-replied None None true true e = absurd cc
-replied None None true false e = absurd cc
+replied : (fault : Option SessionFault) (replies : List (List ℕ)) (before after : Bool)
+    → told_by fault replies before after ≡ told.Acked → 0 < length replies
+replied (Some f) replies before after e = absurd cc
+replied None (value ∷ replies) before after e = omega arith
+replied None [] false true e = absurd cc
+replied None [] false false e = absurd cc
+replied None [] true true e = absurd cc
+replied None [] true false e = absurd cc
 
--- the name that is awaited is that of the chunk, once all was handed on
-awaited-is : (reply loaded-reply : Bool) (loaded : Option Load) (name : List ℕ)
-    → cond (reply || not loaded-reply) None (option_map (λ c. c.name) loaded) ≡ Some name
-    → (loaded-reply ≡ true) × ((c : Load) × (loaded ≡ Some c) × (c.name ≡ name))
-awaited-is true handed loaded name e = absurd cc
-awaited-is false false loaded name e = absurd cc
-awaited-is false true None name e = absurd cc
-awaited-is false true (Some c) name e = (refl, (c, refl, same_Some _ _ e))
+-- a session that was told of an acknowledgement accepted one at least
+some-accepted : (s : SessionHistory) (read : List ℕ) → s.down ≡ false
+    → piece_told s read ≡ told.Acked → 0 < length (newly_accepted s read)
+some-accepted s read up e =
+    omega (
+      arith,
+      each_accepts s read,
+      replied (says s read).fault (says s read).replies (is_done (handshake_of s)) (is_done (says s read).handshake)
+          (sym (ap (λ d. cond d told.NotUp (told_of (handshake_of s) (says s read))) up) ∙ e),
+    )
 
--- a list that was taken whole
-taken-whole : {X : Type 0} (n : ℕ) (xs : List X) → length xs ≤ n → take n xs ≡ xs
-taken-whole zero [] le = refl
-taken-whole (suc n) [] le = refl
-taken-whole zero (x ∷ xs) le = absurd (omega (arith, le))
-taken-whole (suc n) (x ∷ xs) le = ap (λ ys. x ∷ ys) (taken-whole n xs (omega (arith, le)))
-
--- the name that a value acknowledges is the one that is awaited
-names-it : (name : Option (List ℕ)) (value : List ℕ) → Names name (Some value)
-    → (known : List ℕ) × (name ≡ Some known) × (ack_name value ≡ Some known)
-names-it None value e = absurd e
-names-it (Some name) value e = (name, refl, e)
-
--- what acknowledged the chunk, in a session that was told so
-reply-of : (s : SessionHistory) (read : List ℕ) → s.down ≡ false → piece_told s read ≡ told.Acked
-    → (value : List ℕ) × ((says s read).reply ≡ Some value)
-reply-of s read up e =
-    replied (says s read).fault (says s read).reply (is_done (handshake_of s)) (is_done (says s read).handshake)
-    (sym (ap (λ d. cond d told.NotUp (told_of (handshake_of s) (says s read))) up) ∙ e)
-
--- what a session knows that is told of an acknowledgement: its chunk, that all was handed on, and
--- the value that names the chunk
-record Acks (s : SessionHistory) (read : List ℕ) : Type 0 where
-  chunk : Load
-  loaded : s.loaded ≡ Some chunk
-  through : length s.appended ≤ s.sent
-  value : List ℕ
-  said : (says s read).reply ≡ Some value
-  named : ack_name value ≡ Some chunk.name
-
-acks : (s : SessionHistory) (read value : List ℕ) → (says s read).reply ≡ Some value
-    → Acks s read
-acks s read value said =
-    let name = names-it (awaited s) value
-    (subst (Names (awaited s)) said
-    (named_in s.setup.login s.setup.salt (handshake_of s) (awaited s) (newly_heard s read))) in
-    let chunk = awaited-is (is_some s.reply) (is_handed_on s) s.loaded name.0 name.1 in
-    record {
-      chunk = chunk.1.0;
-      loaded = chunk.1.1;
-      through = leb-true (length s.appended) s.sent chunk.0;
-      value = value;
-      said = said;
-      named = name.2 ∙ ap Some (sym chunk.1.2);
-    }
-
--- what acknowledged the chunk in a turn that came to that, in the session that was told of its write
-turn-reply : (s : SessionHistory) (middle t : LiveSession) (before between after : Seen) → IsSane s
-    → s.down ≡ false → (one : Sends (live_session s) middle before between)
+-- in a turn that came to that, of the session that was told of its write
+turn-accepted : (s : SessionHistory) (middle t : LiveSession) (before between after : Seen)
+    → IsSane s → s.down ≡ false → (one : Sends (live_session s) middle before between)
     → (heard : Hears told.Acked middle t between after)
-    → (value : List ℕ) × ((says (sends s one.count) heard.0).reply ≡ Some value)
-turn-reply s middle t before between after sane up one heard =
-    let mid : SessionHistory = sends s one.count in
-    let live = told-live-mid s middle before between one in
-    reply-of mid heard.0 up
-    (told-live mid heard.0 (mid-sane s middle before between sane up one)
-    ∙ ap (λ m. live_piece_told m heard.0) (sym live) ∙ heard.3)
-
--- all that was appended was taken
-turn-written : (s : SessionHistory) (middle : LiveSession) (before between : Seen)
-    → s.down ≡ false → AreTheLinks s before → (one : Sends (live_session s) middle before between)
-    → length s.appended ≤ s.sent + one.count → between.taken ≡ s.appended
-turn-written s middle before between up bytes one through =
-    (mid-bytes s middle before between up bytes one).taken
-    ∙ taken-whole (s.sent + one.count) s.appended through
+    → 0 < length (newly_accepted (sends s one.count) heard.0)
+turn-accepted s middle t before between after sane up one heard =
+    some-accepted (sends s one.count) heard.0 up
+    (told-live (sends s one.count) heard.0 (mid-sane s middle before between sane up one)
+    ∙ ap (λ m. live_piece_told m heard.0) (sym (told-live-mid s middle before between one)) ∙ heard.3)
 
 pub acknowledged : (s : SessionHistory) (t : LiveSession) (before after : Seen) → IsSane s
     → s.down ≡ false → AreTheLinks s before → IsServed served.Acked (live_session s) t before after
@@ -307,25 +318,17 @@ pub acknowledged : (s : SessionHistory) (t : LiveSession) (before after : Seen) 
 acknowledged s t before after sane up bytes is =
     let one = is.2 in
     let heard = is.3 in
-    let reply = turn-reply s is.0 t before is.1 after sane up one heard in
-    let acks = acks (sends s one.count) heard.0 reply.0 reply.1 in
-    let written : before.taken ++ take one.count (to_send s) ≡ s.appended =
+    let written : before.taken ++ take one.count (to_send s) ≡ take (s.sent + one.count) s.appended =
     ap (λ w. before.taken ++ take one.count w) (sym (live-waits s))
     ∙ sym (ap (λ (x : Seen). x.taken) one.seen)
-    ∙ turn-written s is.0 before is.1 up bytes one acks.through in
+    ∙ (mid-bytes s is.0 before is.1 up bytes one).taken in
     record {
       count = one.count;
-      chunk = acks.chunk;
-      loaded = acks.loaded;
-      written = written;
-      frame = λ own.
-          let framed = own.framed acks.chunk acks.loaded in (framed.0, written ∙ framed.1);
       read = heard.0;
       given = ap (λ (x : Seen). x.given) heard.1
           ∙ ap (λ (x : Seen). x.given ++ heard.0) one.seen;
-      value = acks.value;
-      said = acks.said;
-      named = acks.named;
+      some = turn-accepted s is.0 t before is.1 after sane up one heard;
+      each = each-by (sends s one.count) (before.taken ++ take one.count (to_send s)) heard.0 written;
     }
 
 -- ---- where the value stands
@@ -350,20 +353,18 @@ slice_get-drop (suc n) (y ∷ xs) k x e = ap (λ i. slice_get (y ∷ xs) i) (pla
     plain : (n k : ℕ) → suc n + k ≡ suc (n + k)
     plain n k = omega arith
 
--- the value that acknowledged stands behind all values that were whole before it
-value-at : (s : SessionHistory) (read value : List ℕ) → (says s read).reply ≡ Some value
+-- a value that a piece ended stands behind all values that were whole before it
+value-at : (s : SessionHistory) (read value : List ℕ) (turn : ℕ)
+    → slice_get (values_of (newly_heard s read)) turn ≡ Some value
     → (place : ℕ) × (length (values_of (reply_stream s.heard)) ≤ place)
     × (slice_get (values_of (reply_stream (s.heard ++ read))) place ≡ Some value)
-value-at s read value said =
+value-at s read value turn ended =
     let n = length (values_of (reply_stream s.heard)) in
-    let all = reply_stream (s.heard ++ read) in
-    let placed : Placed (values_of (newly_heard s read)) (Some value) =
-    subst (Placed (values_of (newly_heard s read))) said
-    (placed_in s.setup.login s.setup.salt (handshake_of s) (awaited s) (newly_heard s read)) in (
-      n + placed.0,
+    let all = reply_stream (s.heard ++ read) in (
+      n + turn,
       omega arith,
-      slice_get-drop n (values_of all) placed.0 value
-          (ap (λ vs. slice_get vs placed.0) (sym (values-behind n all)) ∙ placed.1),
+      slice_get-drop n (values_of all) turn value
+          (ap (λ vs. slice_get vs turn) (sym (values-behind n all)) ∙ ended),
     )
 
 -- ---- a life
@@ -377,9 +378,13 @@ live-down : (s : SessionHistory) → (live_session s).down ≡ s.down
 unfolding live_session
 live-down s = refl
 
-live-loaded : (s : SessionHistory) → (live_session s).loaded ≡ s.loaded
+live-chunks : (s : SessionHistory) → live_chunks (live_session s).carried ≡ chunks_of s.carried
 unfolding live_session
-live-loaded s = refl
+live-chunks s = map_map (λ (l : LiveLoaded). l.chunk) (live_loaded s) s.carried
+
+live-accepted : (s : SessionHistory) → (live_session s).accepted ≡ s.accepted
+unfolding live_session
+live-accepted s = refl
 
 -- a session that is ready is up
 ready-up : (down free : Bool) → not down && free ≡ true → down ≡ false
@@ -420,7 +425,7 @@ loads-alive s t seen c now alive ready is =
           given = over.bytes.given;
         };
       };
-      framed = loads-framed h c now
+      framed = loads-framed h c now alive.framed
           (ready-live h ∙ ap live_is_ready (sym over.live) ∙ ready);
     }
 
@@ -452,7 +457,7 @@ unloads-alive s t seen alive is =
         sane = unloads-sane h over.sane;
         bytes = record { taken = over.bytes.taken; given = over.bytes.given };
       };
-      framed = unloads-framed h;
+      framed = unloads-framed h alive.framed;
     }
 
 serves-alive : (what : Served) (s t : LiveSession) (before after : Seen) → IsAlive s before
@@ -479,35 +484,34 @@ lives-alive [] s t before after alive rests =
 lives-alive (deed ∷ deeds) s t before after alive lives =
     lives-alive deeds lives.0 t lives.1 after (does-alive deed s lives.0 before lives.1 alive lives.2) lives.3
 
-live-reply : (s : SessionHistory) → (live_session s).reply ≡ s.reply
-unfolding live_session
-live-reply s = refl
-
--- where a value acknowledges the chunk, the whole frame was written before it
+-- of each acknowledgement that a turn brings, the whole frame was written before it was read
 written-first : (h : SessionHistory) (middle : LiveSession) (before between after : Seen)
-    (read value : List ℕ)
+    (read : List ℕ)
     → IsFramed h → h.down ≡ false → AreTheLinks h before
     → (sent : Sends (live_session h) middle before between) → Gives between read after
-    → (says (sends h sent.count) read).reply ≡ Some value
-    → IsWrittenFirst (live_session h) between after
-written-first h middle before between after read value framed up bytes sent gives said =
-    let mid : SessionHistory = sends h sent.count in
-    let acks = acks mid read value said in
-    let given : between.given ≡ mid.heard = (mid-bytes h middle before between up bytes sent).given in
-    let front = framed.framed acks.chunk acks.loaded in
-    let place = value-at mid read acks.value acks.said in
+    → AllByRecursion (IsWrittenFirst (live_session h) between after)
+    (newly_accepted (sends h sent.count) read)
+written-first h middle before between after read framed up bytes sent gives =
+    all_same (IsAcknowledgedBy (sends h sent.count) between.taken read)
+    (IsWrittenFirst (live_session h) between after) (newly_accepted (sends h sent.count) read)
+    (λ a one.
+    let frame = one.frame (sends-framed h sent.count framed) in
+    let place = value-at (sends h sent.count) read a.reply one.turn one.ended in
     record {
-      chunk = acks.chunk;
-      loaded = live-loaded h ∙ acks.loaded;
-      front = front.0;
-      frame = turn-written h middle before between up bytes sent acks.through ∙ front.1;
-      value = acks.value;
-      named = acks.named;
+      chunk = (one.place, ap (λ cs. slice_get cs one.place) (live-chunks h) ∙ one.chunk);
+      front = frame.0;
+      back = frame.1;
+      frame = frame.2;
+      named = one.named;
       place = place.0;
       unread = subst (λ g. length (values_of (reply_stream g)) ≤ place.0) (sym given) place.1;
       read = ap (λ g. slice_get (values_of (reply_stream g)) place.0)
           (ap (λ (x : Seen). x.given) gives ∙ ap (λ g. g ++ read) given) ∙ place.2;
-    }
+    })
+    (each-by (sends h sent.count) between.taken read (mid-bytes h middle before between up bytes sent).taken)
+  where
+    given : between.given ≡ (sends h sent.count).heard
+    given = (mid-bytes h middle before between up bytes sent).given
 
 alive-at : (setup : Setup) (deeds : List Deed) (s : LiveSession) (start before : Seen)
     → start.taken ≡ [] → start.given ≡ [] → Lives deeds (session_begins setup) s start before
@@ -516,59 +520,21 @@ alive-at setup deeds s start before taken given lives =
     lives-alive deeds (session_begins setup) s start before
     (begins-alive setup start taken given) lives
 
--- over a life, a turn that comes to an acknowledgement has the whole frame written before it
-pub whole-first : (setup : Setup) (deeds : List Deed) (s middle t : LiveSession)
-    (start before between after : Seen)
-    → start.taken ≡ [] → start.given ≡ [] → Lives deeds (session_begins setup) s start before
-    → s.down ≡ false → Sends s middle before between
-    → HasHeard served.Acked middle t between after → IsWrittenFirst s between after
-whole-first setup deeds s middle t start before between after taken given lives up one heard =
-    let alive = alive-at setup deeds s start before taken given lives in
-    let over = alive.over in
-    let h = over.history in
-    let up_too = up-alive s before alive up in
-    let sent : Sends (live_session h) middle before between =
-    subst (λ x. Sends x middle before between) over.live one in
-    let reply = turn-reply h middle t before between after over.sane up_too sent heard in
-    subst (λ x. IsWrittenFirst x between after) (sym over.live)
-    (written-first h middle before between after heard.0 reply.0 alive.framed up_too over.bytes sent heard.1 reply.1)
-
 -- ---- whatever a turn comes to
 
--- what a session that had no acknowledgement has is what the values said
-new-reply : (said before : Option (List ℕ)) → before ≡ None
-    → is_some (cond (is_some said) said before) ≡ true
-    → (value : List ℕ) × (said ≡ Some value)
-new-reply (Some value) before e some = (value, refl)
-new-reply None before e some = absurd (nothing (sym (ap (λ o. is_some o) e) ∙ some))
-  where
-    nothing : false ≡ true → ⊥
-    nothing e = cc
-
--- it was heard
-heard-reply : (h : SessionHistory) (middle t : LiveSession) (before between after : Seen)
+-- what a session accepted that heard bytes
+heard-accepted : (h : SessionHistory) (middle t : LiveSession) (before between after : Seen)
     (what : SessionHeard) → IsSane h → h.down ≡ false
     → (sent : Sends (live_session h) middle before between)
-    → (heard : Hears what middle t between after) → h.reply ≡ None → is_some t.reply ≡ true
-    → (value : List ℕ) × ((says (sends h sent.count) heard.0).reply ≡ Some value)
-heard-reply h middle t before between after what sane up sent heard none some =
+    → (heard : Hears what middle t between after)
+    → t.accepted ≡ (live_session h).accepted ++ newly_accepted (sends h sent.count) heard.0
+heard-accepted h middle t before between after what sane up sent heard =
     let mid : SessionHistory = sends h sent.count in
-    let live : t ≡ live_session (listens mid heard.0 (says mid heard.0)) =
-    heard.2 ∙ ap (λ m. session_hears m heard.0) (told-live-mid h middle before between sent)
-    ∙ sym (hears-live mid heard.0 (mid-sane h middle before between sane up sent))
-    ∙ ap live_session (heard-of mid heard.0 up) in
-    new-reply (says mid heard.0).reply h.reply none
-    (sym (ap (λ o. is_some o) (ap (λ (x : LiveSession). x.reply) live ∙ live-reply (listens mid heard.0 (says mid heard.0)))) ∙ some)
-
--- where nothing was heard, there is no new acknowledgement
-no-reply : (s middle t : LiveSession) (before between : Seen) → Sends s middle before between
-    → t ≡ middle → s.reply ≡ None → is_some t.reply ≡ true → ⊥
-no-reply s middle t before between one same none some =
-    nothing (sym (ap (λ o. is_some o)
-    (ap (λ (x : LiveSession). x.reply) same ∙ ap (λ (x : LiveSession). x.reply) one.told ∙ none)) ∙ some)
-  where
-    nothing : false ≡ true → ⊥
-    nothing e = cc
+    ap (λ (x : LiveSession). x.accepted)
+    (heard.2 ∙ ap (λ m. session_hears m heard.0) (told-live-mid h middle before between sent)
+    ∙ sym (hears-live mid heard.0 (mid-sane h middle before between sane up sent)))
+    ∙ live-accepted (hears mid heard.0) ∙ joins mid heard.0 up
+    ∙ ap (λ xs. xs ++ newly_accepted mid heard.0) (sym (live-accepted h))
 
 -- a turn, as what its session heard, if it heard anything
 heard-what : (what : Served) (middle t : LiveSession) (between after : Seen)
@@ -583,32 +549,59 @@ heard-what served.Closed middle t between after rests = inr rests.0
 heard-what (served.Failed fault) middle t between after fails = inr fails.0
 heard-what served.Memory middle t between after lost = inr lost.0
 
--- over a life, an acknowledgement that comes in any turn has the whole frame written before it
+-- over a life, each acknowledgement that comes in a turn has its whole frame written before it
 pub any-first : (setup : Setup) (deeds : List Deed) (what : Served) (s middle t : LiveSession)
     (start before between after : Seen)
     → start.taken ≡ [] → start.given ≡ [] → Lives deeds (session_begins setup) s start before
     → s.down ≡ false → Sends s middle before between → HasHeard what middle t between after
-    → s.reply ≡ None → is_some t.reply ≡ true → IsWrittenFirst s between after
-any-first setup deeds what s middle t start before between after taken given lives up one has none some =
+    → AreWrittenFirst s t between after
+any-first setup deeds what s middle t start before between after taken given lives up one has =
     by (heard-what what middle t between after has)
   where
     alive : IsAlive s before
     alive = alive-at setup deeds s start before taken given lives
 
-    sent : Sends (live_session alive.over.history) middle before between
+    h : SessionHistory
+    h = alive.over.history
+
+    sent : Sends (live_session h) middle before between
     sent = subst (λ x. Sends x middle before between) alive.over.live one
 
-    bare : alive.over.history.reply ≡ None
-    bare = sym (live-reply alive.over.history) ∙ ap (λ (x : LiveSession). x.reply) (sym alive.over.live) ∙ none
-
     by : ((heard : SessionHeard) × Hears heard middle t between after) ⊎ (t ≡ middle)
-        → IsWrittenFirst s between after
+        → AreWrittenFirst s t between after
     by (inl heard) =
         let up_too = up-alive s before alive up in
-        let reply = heard-reply alive.over.history middle t before between after heard.0 alive.over.sane up_too sent heard.1 bare some in
-        subst (λ x. IsWrittenFirst x between after) (sym alive.over.live)
-        (written-first alive.over.history middle before between after heard.1.0 reply.0 alive.framed up_too alive.over.bytes sent heard.1.1 reply.1)
-    by (inr same) = absurd (no-reply s middle t before between one same none some)
+        subst (λ x. AreWrittenFirst x t between after) (sym alive.over.live) (record {
+          accepted = newly_accepted (sends h sent.count) heard.1.0;
+          more = heard-accepted h middle t before between after heard.0 alive.over.sane up_too sent heard.1;
+          each = written-first h middle before between after heard.1.0 alive.framed up_too alive.over.bytes sent heard.1.1;
+        })
+    by (inr same) = record {
+      accepted = [];
+      more = ap (λ (x : LiveSession). x.accepted) (same ∙ one.told) ∙ sym (append-nil s.accepted);
+      each = tt;
+    }
+
+-- over a life, a turn that comes to an acknowledgement brings one at least
+pub whole-first : (setup : Setup) (deeds : List Deed) (s middle t : LiveSession)
+    (start before between after : Seen)
+    → start.taken ≡ [] → start.given ≡ [] → Lives deeds (session_begins setup) s start before
+    → s.down ≡ false → Sends s middle before between
+    → HasHeard served.Acked middle t between after → length s.accepted < length t.accepted
+whole-first setup deeds s middle t start before between after taken given lives up one heard =
+    let alive = alive-at setup deeds s start before taken given lives in
+    let h = alive.over.history in
+    let up_too = up-alive s before alive up in
+    let sent : Sends (live_session h) middle before between =
+    subst (λ x. Sends x middle before between) alive.over.live one in
+    let more = newly_accepted (sends h sent.count) heard.0 in
+    omega (
+      arith,
+      ap length (heard-accepted h middle t before between after told.Acked alive.over.sane up_too sent heard),
+      length-append (live_session h).accepted more,
+      ap (λ (x : LiveSession). length x.accepted) alive.over.live,
+      turn-accepted h middle t before between after alive.over.sane up_too sent heard,
+    )
 
 -- ---- the law at work
 
@@ -626,6 +619,7 @@ plain_setup = record {
   };
   salt = [];
   ack_wait = 1000;
+  window = 2;
   start = 0;
 }
 
@@ -663,20 +657,29 @@ unfolding reply_stream split_of first_of word_of ack_name chunk_frame head_bytes
 small_ack-told = refl
 
 -- there is such a life, and a turn that comes to `Acked`
-pub life-acked : IsWrittenFirst loaded_session link_between link_after
+loaded-life : Lives (Loads small_chunk 0 ∷ []) (session_begins plain_setup) loaded_session
+    link_before link_before
+loaded-life = (loaded_session, link_before, (omega arith, refl, refl, refl), (refl, refl))
+
+loaded-sends : Sends loaded_session sent_session link_before link_between
+loaded-sends =
+    record { count = length loaded_session.waiting; within = omega arith; told = refl; seen = refl }
+
+pub life-acked : AreWrittenFirst loaded_session (session_hears sent_session small_ack) link_between link_after
 life-acked =
-    let loads : Lives (Loads small_chunk 0 ∷ []) (session_begins plain_setup) loaded_session link_before link_before =
-    (loaded_session, link_before, (refl, refl, refl, refl), (refl, refl)) in
-    let sends : Sends loaded_session sent_session link_before link_between =
-    record { count = length loaded_session.waiting; within = omega arith; told = refl; seen = refl } in
-    whole-first plain_setup (Loads small_chunk 0 ∷ []) loaded_session sent_session
+    any-first plain_setup (Loads small_chunk 0 ∷ []) served.Acked loaded_session sent_session
     (session_hears sent_session small_ack) link_before link_before link_between link_after
-    refl refl loads refl sends (small_ack, refl, refl, small_ack-told)
+    refl refl loaded-life refl loaded-sends (small_ack, refl, refl, small_ack-told)
 
 -- less than the frame is not enough
-pub less-refused : (s : LiveSession) (chunk : Load) (written acknowledged : Seen)
-    → s.loaded ≡ Some chunk → length written.taken < length (frame_of chunk)
-    → IsWrittenFirst s written acknowledged → ⊥
-less-refused s chunk written acknowledged loaded less first =
-    let same : frame_of first.chunk ≡ frame_of chunk = ap frame_of (same_Some _ _ (sym first.loaded ∙ loaded)) in
-    omega (arith, less, ap length first.frame, length-append first.front (frame_of first.chunk), ap length same)
+pub less-refused : (s : LiveSession) (a : Accepted) (written acknowledged : Seen)
+    → length written.taken < length (frame_of a.chunk) → IsWrittenFirst s written acknowledged a → ⊥
+less-refused s a written acknowledged less first =
+    let frame : List ℕ = frame_of a.chunk in
+    omega (
+      arith,
+      less,
+      ap length first.frame,
+      length-append (first.front ++ frame) first.back,
+      length-append first.front frame,
+    )

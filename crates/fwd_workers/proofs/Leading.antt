@@ -1,5 +1,5 @@
 -- A worker's session is of its link, from step to step.
-use Rattle.std.proofs.Common.{◌≡◌, ◌≢◌, ◌++◌, ◌⊎◌, inl, inr, Bool, true, false, cond, List, [], ◌∷◌, Option, Some, None, refl, sym, ap, subst, ◌∙◌}
+use Rattle.std.proofs.Common.{◌≡◌, ◌≢◌, ◌<◌, ◌++◌, ◌⊎◌, inl, inr, Bool, true, false, cond, List, [], ◌∷◌, Option, Some, None, refl, sym, ap, subst, ◌∙◌}
 use Rattle.std.specs.Prelude.{ℕ, is_some, option_map, ◌||◌}
 use Rattle.std.proofs.Math.Logic.{∥∥₁_map, ∥∥₁_elim}
 use Rattle.std.proofs.Math.Bool.{Bool-set}
@@ -7,22 +7,9 @@ use Rattle.fwd_chunks.specs.History.{Load}
 use Rattle.fwd_session.specs.declared.fault.SessionFault.{SessionFault}
 use Rattle.fwd_session.specs.declared.told.SessionHeard.{SessionHeard}
 use Rattle.fwd_session.specs.declared.told.SessionHeard.TheVariants as told
-use Rattle.fwd_session.specs.History.{Setup, is_done, told_by, told_of}
-use Rattle.fwd_session.specs.Live.{
-  LiveSession,
-  live_is_late,
-  live_is_ready,
-  live_piece_told,
-  live_says,
-  session_begins,
-  session_hears,
-  session_listens,
-  session_loads,
-  session_looks,
-  session_sends,
-  session_takes,
-  session_unloads,
-}
+use Rattle.fwd_session.specs.Evidence.{Accepted}
+use Rattle.fwd_session.specs.History.{Setup, first_in, is_done, told_by, told_of}
+use Rattle.fwd_session.specs.Live.{LiveSession, live_acked, live_is_late, live_is_ready, live_piece_told, live_room, live_says, session_begins, session_hears, session_listens, session_loads, session_looks, session_takes, session_unloads}
 use Rattle.fwd_workers.specs.declared.ending.Ending.{Ending}
 use Rattle.fwd_workers.specs.declared.ending.Ending.TheVariants as ending
 use Rattle.fwd_workers.specs.declared.link.Loss.{Loss}
@@ -79,11 +66,11 @@ calm told.Acked = true
 calm (told.Fault fault) = false
 calm told.NotUp = false
 
-unfaulted : (fault : Option SessionFault) (reply : Option (List ℕ)) (before after : Bool)
-    (what : SessionHeard) → calm what ≡ true → told_by fault reply before after ≡ what
+unfaulted : (fault : Option SessionFault) (replies : List (List ℕ)) (before after : Bool)
+    (what : SessionHeard) → calm what ≡ true → told_by fault replies before after ≡ what
     → is_some fault ≡ false
-unfaulted None reply before after what quiet e = refl
-unfaulted (Some fault) reply before after what quiet e = absurd (no (ap calm e ∙ quiet))
+unfaulted None replies before after what quiet e = refl
+unfaulted (Some fault) replies before after what quiet e = absurd (no (ap calm e ∙ quiet))
   where
     no : false ≡ true → ⊥
     no e = cc
@@ -93,7 +80,7 @@ hears-up : (s : LiveSession) (bytes : List ℕ) (what : SessionHeard) → s.down
 unfolding session_takes
 hears-up s bytes what up quiet e =
     ap (λ d. (cond d s (session_listens s bytes)).down) up
-    ∙ unfaulted (live_says s bytes).fault (live_says s bytes).reply (is_done s.handshake)
+    ∙ unfaulted (live_says s bytes).fault (live_says s bytes).replies (is_done s.handshake)
     (is_done (live_says s bytes).handshake) what quiet
     (sym (ap (λ d. cond d told.NotUp (told_of s.handshake (live_says s bytes))) up) ∙ e)
 
@@ -212,24 +199,24 @@ ending-line s calls ends own = ∥∥₁_map own (λ own. record { lived = by ow
 
 -- a chunk was loaded
 pub loads-line : (s t : LiveSession) (chunk : Load) (now : ℕ) (calls : List Call) (ends : Bool)
-    → ends ≡ false → ∥ IsOfLink s (seen_in calls) ends ∥₁ → s.loaded ≡ None
+    → ends ≡ false → ∥ IsOfLink s (seen_in calls) ends ∥₁ → 0 < live_room s
     → live_is_ready s ≡ true → t ≡ session_loads s chunk now → ∥ IsOfLink t (seen_in calls) ends ∥₁
-loads-line s t chunk now calls ends on own free ready is =
+loads-line s t chunk now calls ends on own room ready is =
     ∥∥₁_map own (λ own. record {
       lived = inl (lived-then (Loads chunk now) s t (seen_in calls) (seen_in calls)
           (lived-of s (seen_in calls) (subst (λ b. IsOfLink s (seen_in calls) b) on own))
-          (free, ready, is, refl));
+          (room, ready, is, refl));
       up = λ e. ap (λ (x : LiveSession). x.down) is ∙ own.up e;
     })
 
--- its chunk was taken out, also where a last turn ended out of memory
-lost-unloads : (s t : LiveSession) (seen : Seen) → is_some s.reply ≡ true → t ≡ session_unloads s
+-- a chunk was taken out, also where a last turn ended out of memory
+lost-unloads : (s t : LiveSession) (seen : Seen) → is_some (live_acked s) ≡ true → t ≡ session_unloads s
     → HasLost s seen → HasLost t seen
 lost-unloads s t seen some is lost =
     let last = lost.last in
     let heard = last.3 in
-    let prior : is_some lost.prior.reply ≡ true =
-    sym (ap (λ (x : LiveSession). is_some x.reply) (heard.0 ∙ last.2.told)) ∙ some in
+    let prior : is_some (live_acked lost.prior) ≡ true =
+    sym (ap (λ (x : LiveSession). is_some (live_acked x)) (heard.0 ∙ last.2.told)) ∙ some in
     record {
       prior = session_unloads lost.prior;
       before = lost.before;
@@ -249,7 +236,7 @@ lost-unloads s t seen some is lost =
     }
 
 pub unloads-line : (s t : LiveSession) (calls : List Call) (ends : Bool)
-    → ∥ IsOfLink s (seen_in calls) ends ∥₁ → is_some s.reply ≡ true → t ≡ session_unloads s
+    → ∥ IsOfLink s (seen_in calls) ends ∥₁ → is_some (live_acked s) ≡ true → t ≡ session_unloads s
     → ∥ IsOfLink t (seen_in calls) ends ∥₁
 unloads-line s t calls ends own some is =
     ∥∥₁_map own (λ own. record {
@@ -267,15 +254,17 @@ pub up-line : (s : LiveSession) (calls : List Call) → ∥ IsOfLink s (seen_in 
     → s.down ≡ false
 up-line s calls own = ∥∥₁_elim own (Bool-set s.down false) (λ own. own.up refl)
 
--- its chunk was taken out, if it was acknowledged
+-- the chunk that was accepted first was taken out, if there is one
 pub acked-line : (s t : LiveSession) (calls : List Call) (ends : Bool)
-    → ∥ IsOfLink s (seen_in calls) ends ∥₁ → (is_some s.reply ≡ true → t ≡ session_unloads s)
-    → (is_some s.reply ≡ false → t ≡ s) → ∥ IsOfLink t (seen_in calls) ends ∥₁
-acked-line s t calls ends own some none = by (is_some s.reply) refl
+    → ∥ IsOfLink s (seen_in calls) ends ∥₁ → t ≡ session_unloads s
+    → (s.accepted ≡ [] → t ≡ s) → ∥ IsOfLink t (seen_in calls) ends ∥₁
+acked-line s t calls ends own next none = by s.accepted refl
   where
-    by : (b : Bool) → is_some s.reply ≡ b → ∥ IsOfLink t (seen_in calls) ends ∥₁
-    by true e = unloads-line s t calls ends own e (some e)
-    by false e = subst (λ x. ∥ IsOfLink x (seen_in calls) ends ∥₁) (sym (none e)) own
+    by : (accepted : List Accepted) → s.accepted ≡ accepted → ∥ IsOfLink t (seen_in calls) ends ∥₁
+    by [] e = subst (λ x. ∥ IsOfLink x (seen_in calls) ends ∥₁) (sym (none e)) own
+    by (a ∷ later) e =
+        unloads-line s t calls ends own
+        (ap (λ xs. is_some (option_map (λ (a : Accepted). a.chunk) (first_in xs))) e) next
 
 -- ---- what a turn of a line is
 

@@ -4,3 +4,5 @@ pub mod Counting
 pub mod Lasting
 pub mod Leading
 pub mod Taking
+pub mod Keeping
+pub mod Returning

@@ -1,18 +1,24 @@
 -- What one turn of a session comes to.
-use Rattle.std.proofs.Common.{arith, ◌≡◌, ◌≢◌, ◌≤◌, ◌+◌, ◌++◌, inl, inr, ℕ, List, [], ◌∷◌, zero, suc, ◌<◌, take, length, Result, Ok, Err, Some, None, refl, sym, ap, subst, ◌∙◌, append_assoc, take-take, ◌-◌, length-drop}
-use Rattle.std.proofs.lemmas.List.{append-nil}
+use Rattle.std.proofs.Common.{arith, ◌≡◌, ◌≢◌, ◌≤◌, ◌+◌, ◌++◌, inl, inr, ℕ, List, [], ◌∷◌, zero, suc, ◌<◌, take, length, Result, Ok, Err, Some, None, refl, sym, ap, subst, ◌∙◌, append_assoc, take-take, IfOk}
+use Rattle.std.proofs.lemmas.List.{append-nil, length-take, take_all}
 use Rattle.std.proofs.lemmas.List.Sums.{sum_by_push}
 use Rattle.std.proofs.lemmas.Grind.{flat_map-append}
-use Rattle.std.proofs.Math.Seq.{take-nil}
+use Rattle.std.proofs.lemmas.Option.{same_Some}
+use Rattle.std.proofs.Math.Seq.{take-append_seam, take-nil}
+use Rattle.std.specs.Prelude.{map, slice_get}
+use Rattle.std.specs.Borrow.{Bor}
+use Rattle.std.specs.List.{concat}
+use Rattle.fwd_chunks.specs.Lending.{AreSome}
 use Rattle.fwd_session.specs.declared.told.SessionHeard.{SessionHeard}
 use Rattle.fwd_session.specs.Live.{LiveSession, session_sends}
+use Rattle.fwd_workers.proofs.Keeping.{sends-nothing}
 use Rattle.fwd_workers.specs.declared.link.Read.{Read}
 use Rattle.fwd_workers.specs.declared.link.Read.TheVariants as read
 use Rattle.fwd_workers.specs.declared.link.LinkFault.{LinkFault}
 use Rattle.fwd_workers.specs.declared.serve.Served.{Served}
 use Rattle.fwd_workers.specs.declared.serve.Served.TheVariants as served
-use Rattle.fwd_workers.specs.Links.{Call, DidWrite, read_into, taken_by, given_by, failures_by, taken_in, given_in, failures_in}
-use Rattle.fwd_workers.specs.Served.{Seen, seen_in, write_of, Exchange, Breaks, Reads, calls_of, IsHeard, ComesOfRead, ComesOf, IsOffer, HasSent, IsTurn, Sends, HasHeard, IsServed}
+use Rattle.fwd_workers.specs.Links.{Call, DidWrite, HasOffered, IsOffer, read_into, write_of, taken_by, given_by, failures_by, taken_in, given_in, failures_in}
+use Rattle.fwd_workers.specs.Served.{Seen, seen_in, Exchange, Breaks, Reads, calls_of, IsHeard, ComesOfRead, ComesOf, IsTurn, Sends, HasHeard, IsServed}
 
 -- what is seen of one call more
 abbrev seen_more : Seen → Call → Seen
@@ -37,6 +43,55 @@ pub write-some : (waiting : List ℕ) (answer : Result ℕ LinkFault) → waitin
     → write_of waiting answer ≡ DidWrite waiting answer ∷ []
 write-some [] answer some = absurd (some refl)
 write-some (byte ∷ bytes) answer some = refl
+
+-- where none is offered, none is made
+pub no-write : (calls : List Call) → calls ≡ calls ++ write_of [] (Ok 0)
+no-write calls = sym (append-nil calls)
+
+-- a write of bytes was offered all of them
+pub offers-all : (bytes : List ℕ) (before after : List Call) (answer : Result ℕ LinkFault)
+    → 0 < length bytes → after ≡ before ++ DidWrite bytes answer ∷ []
+    → IfOk answer (λ count. count ≤ length bytes) → HasOffered bytes before after answer
+offers-all bytes before after answer some told within = record {
+  size = length bytes;
+  offer = record { within = omega arith; some = λ more. more };
+  within = within;
+  calls = told
+      ∙ ap (λ calls. before ++ calls) (sym (write-some bytes answer (λ e. omega (arith, ap length e, some))))
+      ∙ ap (λ bs. before ++ write_of bs answer) (sym (take_all (length bytes) bytes (omega arith)));
+}
+
+-- so it was offered the first of those that these are the first of
+pub offers-front : (bytes waiting : List ℕ) (before after : List Call) (answer : Result ℕ LinkFault)
+    → bytes ≡ take (length bytes) waiting → (0 < length waiting → 0 < length bytes)
+    → HasOffered bytes before after answer → HasOffered waiting before after answer
+offers-front bytes waiting before after answer is some offered = record {
+  size = offered.size;
+  offer = record {
+    within = omega (arith, offered.offer.within, ap length is, length-take (length bytes) waiting);
+    some = λ more. offered.offer.some (some more);
+  };
+  within = offered.within;
+  calls = offered.calls
+      ∙ ap (λ bs. before ++ write_of bs answer)
+      (ap (take offered.size) is ∙ take-take offered.size (length bytes) waiting offered.offer.within);
+}
+
+-- the bytes of a piece that is lent
+abbrev bytes_of : Bor (List ℕ) → List ℕ
+bytes_of piece = piece.now
+
+-- the first of pieces stands before all others, and is some
+pub first-piece : (pieces : List (Bor (List ℕ))) (piece : Bor (List ℕ))
+    → Some piece ≡ slice_get pieces 0 → AreSome (map bytes_of pieces)
+    → (piece.now ≡ take (length piece.now) (concat (map bytes_of pieces))) × (0 < length piece.now)
+first-piece [] piece e some = absurd cc
+first-piece (first ∷ others) piece e some =
+    let same : piece ≡ first = same_Some _ _ e in (
+      subst (λ p. bytes_of p ≡ take (length (bytes_of p)) (concat (map bytes_of (first ∷ others)))) (sym same)
+          (sym (take-append_seam first.now (concat (map bytes_of others)))),
+      subst (λ p. 0 < length (bytes_of p)) (sym same) some.0,
+    )
 
 -- what is offered of some bytes is some
 offered-some : (size : ℕ) (waiting : List ℕ) → IsOffer size waiting → waiting ≢ []
@@ -133,7 +188,7 @@ sends-none : (s : LiveSession) (seen : Seen) → Sends s s seen seen
 sends-none s seen = record {
   count = 0;
   within = omega arith;
-  told = refl;
+  told = sends-nothing s;
   seen = λ i. record {
     taken = sym (append-nil seen.taken) i;
     given = seen.given;
@@ -231,40 +286,22 @@ breaks-turn s t before after fault failed = record {
 }
 
 -- it only sent
-pub sent-served : (what : Served) (s t : LiveSession) (before after : List Call)
-    → HasSent what s t before after → IsServed what s t (seen_in before) (seen_in after)
-sent-served what s t before after h =
-    subst (λ w. IsServed w s t (seen_in before) (seen_in after)) (sym h.quiet) (
-      t,
-      seen_in after,
-      record {
-        count = h.count;
-        within = omega (arith, h.more);
-        told = h.told;
-        seen = ap seen_in h.calls ∙ write-seen before (take h.size s.waiting) h.count
-            ∙ (λ i. record (seen_in before) { taken = taken_in before ++ take-take h.count h.size s.waiting h.within i });
-      },
-      inr (refl, refl),
-    )
-
-pub has-sent : (s t : LiveSession) (before after : List Call)
+pub sends-served : (s t : LiveSession) (before after : List Call)
     → (size : ℕ) × (count : ℕ) × IsOffer size s.waiting × (count ≤ size)
     × (t ≡ session_sends s count) × (after ≡ before ++ write_of (take size s.waiting) (Ok count))
-    → 0 < length t.waiting → length t.waiting < length s.waiting
-    → HasSent served.Quiet s t before after
-has-sent s t before after sent some less =
-    let long : length t.waiting ≡ length s.waiting - sent.1 = ap (λ (x : LiveSession). length x.waiting) sent.4 ∙ length-drop sent.1 s.waiting in
-    record {
-      size = sent.0;
-      count = sent.1;
-      offer = sent.2;
-      within = sent.3;
-      some = omega (arith, less, long);
-      more = omega (arith, some, long);
-      calls = sent.5;
-      quiet = refl;
-      told = sent.4;
-    }
+    → IsServed served.Quiet s t (seen_in before) (seen_in after)
+sends-served s t before after sent = (
+  t,
+  seen_in after,
+  record {
+    count = sent.1;
+    within = omega (arith, sent.3, sent.2.within);
+    told = sent.4;
+    seen = ap seen_in sent.5 ∙ write-seen before (take sent.0 s.waiting) sent.1
+        ∙ (λ i. record (seen_in before) { taken = taken_in before ++ take-take sent.1 sent.0 s.waiting sent.3 i });
+  },
+  inr (refl, refl),
+)
 
 -- its read was answered
 pub reads-turn : (what : Served) (s middle t : LiveSession) (before between after : List Call)

@@ -1,5 +1,5 @@
 -- What a worker's turn with a session and no chunk comes to.
-use Rattle.std.proofs.Common.{◌≡◌, Bool, true, false, List, Option, Some, None, refl, sym, ap, subst, ◌∙◌}
+use Rattle.std.proofs.Common.{◌≡◌, true, false, List, Option, Some, None, refl, sym, ap, subst, ◌∙◌}
 use Rattle.std.specs.Prelude.{ℕ, is_some, option_map}
 use Rattle.fwd_session.specs.Live.{LiveSession}
 use Rattle.fwd_workers.specs.declared.ending.Ending.{Ending}

@@ -1,5 +1,21 @@
 -- What a link tells of its calls.
-use Rattle.std.specs.Prelude.{ℕ, List, [], length, take, Result, Ok, Err, sum_by}
+use Rattle.std.specs.Prelude.{
+  ◌≡◌,
+  ◌≤◌,
+  ◌<◌,
+  ℕ,
+  List,
+  [],
+  ◌∷◌,
+  ◌++◌,
+  length,
+  take,
+  Result,
+  Ok,
+  Err,
+  IfOk,
+  sum_by,
+}
 use Rattle.std.specs.List.{flat_map}
 use Rattle.fwd_workers.specs.declared.link.Read.{Read}
 use Rattle.fwd_workers.specs.declared.link.Read.TheVariants as read
@@ -26,6 +42,26 @@ count_read (Err fault) = 0
 -- a read into this room, which gave the bytes that then stand at the room's front
 abbrev pub read_into : (room : List ℕ) → Result Read LinkFault → Call
 read_into room answer = DidRead (length room) answer (take (count_read answer) room)
+
+-- ---- what a link is offered
+
+-- the one write of a turn, of these bytes, and what it was answered; none of no bytes
+abbrev pub write_of : (bytes : List ℕ) → Result ℕ LinkFault → List Call
+write_of [] answer = []
+write_of (byte ∷ bytes) answer = DidWrite (byte ∷ bytes) answer ∷ []
+
+-- so many of the bytes that wait are offered to the link: one at least, where some wait
+pub record IsOffer (size : ℕ) (waiting : List ℕ) : Type 0 where
+  pub within : size ≤ length waiting
+  pub some : 0 < length waiting → 0 < size
+
+-- the link was offered the first bytes of those that wait, of which there are some, and answered
+pub record HasOffered (waiting : List ℕ) (before after : List Call)
+    (answer : Result ℕ LinkFault) : Type 0 where
+  pub size : ℕ
+  pub offer : IsOffer size waiting
+  pub within : IfOk answer (λ count. count ≤ size)
+  pub calls : after ≡ before ++ write_of (take size waiting) answer
 
 -- ---- what a link took and gave
 

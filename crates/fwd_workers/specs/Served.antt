@@ -1,44 +1,32 @@
 -- What one turn of a session asks of its link, what it does with the bytes, and what a session's
 -- whole life over a link is.
-use Rattle.std.specs.Prelude.{
-  ◌≡◌,
-  ◌≢◌,
-  ◌≤◌,
-  ◌<◌,
-  ◌⊎◌,
-  ◌+◌,
-  ℕ,
-  true,
-  false,
-  Bool,
-  List,
-  [],
-  ◌∷◌,
-  ◌++◌,
-  length,
-  take,
-  Option,
-  Some,
-  None,
-  Result,
-  Ok,
-  Err,
-  is_some,
-  IfOk,
-  slice_get,
-}
+use Rattle.std.specs.Prelude.{◌≡◌, ◌≢◌, ◌≤◌, ◌<◌, ◌⊎◌, ◌+◌, ℕ, ◌==◌, ◌&&◌, nat_lt, true, false, Bool, List, [], ◌∷◌, ◌++◌, length, take, Option, Some, None, Result, Ok, Err, is_some, slice_get}
+use Rattle.std.specs.List.{AllByRecursion}
 use Rattle.fwd_modes.specs.Scans.{values_of}
 use Rattle.fwd_modes.specs.Acks.{ack_name}
 use Rattle.fwd_chunks.specs.History.{Load}
 use Rattle.fwd_session.specs.declared.told.SessionHeard.{SessionHeard}
 use Rattle.fwd_session.specs.declared.told.SessionHeard.TheVariants as told
-use Rattle.fwd_session.specs.Evidence.{frame_of}
+use Rattle.fwd_session.specs.Evidence.{Accepted, frame_of}
 use Rattle.fwd_session.specs.Said.{reply_stream}
-use Rattle.fwd_session.specs.History.{Setup, SessionHistory, IsFramed, IsSane, says, sends, to_send}
+use Rattle.fwd_session.specs.History.{
+  Setup,
+  SessionHistory,
+  IsFramed,
+  IsSane,
+  chunks_of,
+  newly_accepted,
+  newly_heard,
+  sends,
+  to_send,
+}
 use Rattle.fwd_session.specs.Live.{
   LiveSession,
+  live_acked,
+  live_chunks,
   live_is_ready,
   live_piece_told,
+  live_room,
   live_session,
   session_begins,
   session_hears,
@@ -54,8 +42,9 @@ use Rattle.fwd_workers.specs.declared.serve.Served.{Served}
 use Rattle.fwd_workers.specs.declared.serve.Served.TheVariants as served
 use Rattle.fwd_workers.specs.Links.{
   Call,
-  DidWrite,
+  IsOffer,
   read_into,
+  write_of,
   taken_in,
   given_in,
   failures_in,
@@ -67,6 +56,19 @@ pub record Seen : Type 0 where
   pub given : List ℕ
   pub failures : ℕ
 
+-- a session has no chunk, acknowledged or not
+pub record IsFree (s : LiveSession) : Type 0 where
+  pub carried : s.carried ≡ []
+  pub accepted : s.accepted ≡ []
+
+-- a chunk more may be loaded into a session
+abbrev pub takes_more : LiveSession → Bool
+takes_more s = live_is_ready s && nat_lt 0 (live_room s)
+
+-- a chunk may be added to those that it has: nothing of them waits to be sent, either
+abbrev pub may_add : LiveSession → Bool
+may_add s = length s.waiting == 0 && takes_more s
+
 -- it, from its parts
 abbrev pub seen_of : (taken given : List ℕ) (failures : ℕ) → Seen
 seen_of taken given failures =
@@ -77,24 +79,6 @@ abbrev pub seen_in : List Call → Seen
 seen_in calls = seen_of (taken_in calls) (given_in calls) (failures_in calls)
 
 -- ---- what a turn asks of its link
-
--- the one write of a turn, of these bytes, and what it was answered; none of no bytes
-abbrev pub write_of : (bytes : List ℕ) → Result ℕ LinkFault → List Call
-write_of [] answer = []
-write_of (byte ∷ bytes) answer = DidWrite (byte ∷ bytes) answer ∷ []
-
--- so many of the bytes that wait are offered to the link: one at least, where some wait
-pub record IsOffer (size : ℕ) (waiting : List ℕ) : Type 0 where
-  pub within : size ≤ length waiting
-  pub some : 0 < length waiting → 0 < size
-
--- the link was offered the first bytes of those that wait, of which there are some, and answered
-pub record HasOffered (waiting : List ℕ) (before after : List Call)
-    (answer : Result ℕ LinkFault) : Type 0 where
-  pub size : ℕ
-  pub offer : IsOffer size waiting
-  pub within : IfOk answer (λ count. count ≤ size)
-  pub calls : after ≡ before ++ write_of (take size waiting) answer
 
 -- What a link answers in a turn in which it is offered the first so many bytes of those that wait.
 -- Its write failed. Or it took so many of them, none where none wait, and then one read was
@@ -161,14 +145,15 @@ pub record HasRead (what : Served) (s t : LiveSession) (before after : List Call
   pub within : length room ≤ 65536
   pub comes : ComesOfRead what s t room answer
 
--- a turn that only sent: the link took some of the bytes that it was offered, and more wait
+-- a turn that only sent: the link took some of the bytes that it was offered, and more wait, or a
+-- chunk more may be loaded
 pub record HasSent (what : Served) (s t : LiveSession) (before after : List Call) : Type 0 where
   pub size : ℕ
   pub count : ℕ
   pub offer : IsOffer size s.waiting
   pub within : count ≤ size
   pub some : 0 < count
-  pub more : count < length s.waiting
+  pub more : count < length s.waiting ⊎ takes_more s ≡ true
   pub calls : after ≡ before ++ write_of (take size s.waiting) (Ok count)
   pub quiet : what ≡ served.Quiet
   pub told : t ≡ session_sends s count
@@ -238,25 +223,31 @@ pub record IsOver (t : LiveSession) (seen : Seen) : Type 0 where
   pub sane : IsSane history
   pub bytes : AreTheLinks history seen
 
--- A session's chunk is acknowledged by its link's bytes: all bytes that were appended for sending,
--- and so the whole frame, were written on the link, and the last byte of a value that names the
--- chunk was read afterwards. What was written ends with the frame, where the session was loaded
--- only while it was ready.
+-- One of the chunks that a session carries is acknowledged by bytes that it heard, once these were
+-- written: its whole frame is among what was written, where the session was loaded only while it
+-- was ready; and a value that names it ended among those bytes.
+pub record IsAcknowledgedBy (s : SessionHistory) (written read : List ℕ) (a : Accepted) : Type 0 where
+  pub place : ℕ
+  pub chunk : slice_get (chunks_of s.carried) place ≡ Some a.chunk
+  pub frame : IsFramed s
+      → (front : List ℕ) × (back : List ℕ) × (written ≡ front ++ frame_of a.chunk ++ back)
+  pub turn : ℕ
+  pub ended : slice_get (values_of (newly_heard s read)) turn ≡ Some a.reply
+  pub named : ack_name a.reply ≡ Some a.chunk.name
+
+-- Chunks of a session are acknowledged by its link's bytes, one at least: of each the whole frame
+-- was written on the link, and the last byte of a value that names the chunk was read afterwards.
 pub record IsAcknowledged (s : SessionHistory) (before after : Seen) : Type 0 where
   pub count : ℕ
-  pub chunk : Load
-  pub loaded : s.loaded ≡ Some chunk
-  pub written : before.taken ++ take count (to_send s) ≡ s.appended
-  pub frame : IsFramed s
-      → (front : List ℕ) × (before.taken ++ take count (to_send s) ≡ front ++ frame_of chunk)
   pub read : List ℕ
   pub given : after.given ≡ before.given ++ read
-  pub value : List ℕ
-  pub said : (says (sends s count) read).reply ≡ Some value
-  pub named : ack_name value ≡ Some chunk.name
+  pub some : 0 < length (newly_accepted (sends s count) read)
+  pub each : AllByRecursion
+      (IsAcknowledgedBy (sends s count) (before.taken ++ take count (to_send s)) read)
+      (newly_accepted (sends s count) read)
 
 -- what is done with a session: a turn over its link, which comes to this; a chunk is loaded at a
--- moment; it is asked at a moment whether it is late; its chunk is taken out
+-- moment; it is asked at a moment whether it is late; the chunk that was accepted first is taken out
 pub data Deed : Type 0 where
   Serves : (what : Served) → Deed
   Loads : (chunk : Load) (now : ℕ) → Deed
@@ -264,19 +255,19 @@ pub data Deed : Type 0 where
   Unloads : Deed
 
 -- What it does with the session and its link, and when: a turn and a look come while the session is
--- up, a load while it is ready and has no chunk, and a chunk is taken out once it is acknowledged.
+-- up, a load while it is ready and has room, and a chunk is taken out once it is acknowledged.
 -- Only a turn does anything with the link. Behind a turn that ended out of memory nothing is
 -- done any more.
 abbrev pub Does : Deed → LiveSession → LiveSession → Seen → Seen → Type 0
 Does (Serves what) s t before after =
     (s.down ≡ false) × (what ≢ served.Memory) × IsServed what s t before after
 Does (Loads chunk now) s t before after =
-    (s.loaded ≡ None) × (live_is_ready s ≡ true)
+    (0 < live_room s) × (live_is_ready s ≡ true)
     × (t ≡ session_loads s chunk now) × (after ≡ before)
 Does (Looks now) s t before after =
     (s.down ≡ false) × (t ≡ session_looks s now) × (after ≡ before)
 Does Unloads s t before after =
-    (is_some s.reply ≡ true) × (t ≡ session_unloads s) × (after ≡ before)
+    (is_some (live_acked s) ≡ true) × (t ≡ session_unloads s) × (after ≡ before)
 
 -- a session's life so far: one after the other
 abbrev pub Lives : List Deed → LiveSession → LiveSession → Seen → Seen → Type 0
@@ -304,17 +295,23 @@ pub record IsOfLink (s : LiveSession) (seen : Seen) (ends : Bool) : Type 0 where
   pub lived : HasLived s seen ⊎ ((ends ≡ true) × HasLost s seen)
   pub up : ends ≡ false → s.down ≡ false
 
--- The frame of a session's chunk was written first, and then acknowledged. At the first of two
--- moments the link had taken the frame, whole and last of all, and had not yet given the last byte
--- of a value that names the chunk; at the second it had. The value is the one of this place among
--- all whole values that the link gave.
-pub record IsWrittenFirst (s : LiveSession) (written acknowledged : Seen) : Type 0 where
-  pub chunk : Load
-  pub loaded : s.loaded ≡ Some chunk
+-- The frame of one of a session's chunks was written first, and then acknowledged. At the first of
+-- two moments the link had taken the frame, whole, and had not yet given the last byte of a value
+-- that names the chunk; at the second it had. The value is the one of this place among all whole
+-- values that the link gave.
+pub record IsWrittenFirst (s : LiveSession) (written acknowledged : Seen) (a : Accepted) : Type 0 where
+  pub chunk : (place : ℕ) × (slice_get (live_chunks s.carried) place ≡ Some a.chunk)
   pub front : List ℕ
-  pub frame : written.taken ≡ front ++ frame_of chunk
-  pub value : List ℕ
-  pub named : ack_name value ≡ Some chunk.name
+  pub back : List ℕ
+  pub frame : written.taken ≡ front ++ frame_of a.chunk ++ back
+  pub named : ack_name a.reply ≡ Some a.chunk.name
   pub place : ℕ
   pub unread : length (values_of (reply_stream written.given)) ≤ place
-  pub read : slice_get (values_of (reply_stream acknowledged.given)) place ≡ Some value
+  pub read : slice_get (values_of (reply_stream acknowledged.given)) place ≡ Some a.reply
+
+-- the acknowledgements that a session has behind a turn and lacked before it, in the order of their
+-- acceptance: each frame was written first
+pub record AreWrittenFirst (s t : LiveSession) (written acknowledged : Seen) : Type 0 where
+  pub accepted : List Accepted
+  pub more : t.accepted ≡ s.accepted ++ accepted
+  pub each : AllByRecursion (IsWrittenFirst s written acknowledged) accepted

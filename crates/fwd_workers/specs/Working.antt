@@ -1,12 +1,17 @@
 -- Where a worker stands, and what its turns do.
-use Rattle.std.specs.Prelude.{◌≡◌, ◌⊎◌, ℕ, Bool, true, false, ◌||◌, List, Option, Some, None, option_map, is_some, if◌then◌else◌}
+use Rattle.std.specs.Prelude.{◌≡◌, ◌⊎◌, ℕ, true, false, ◌||◌, List, [], Option, Some, None, option_map, is_some, if◌then◌else◌}
 use Rattle.fwd_handshake.specs.declared.credentials.Login.{Login}
 use Rattle.fwd_chunks.specs.History.{Load}
+use Rattle.fwd_session.specs.declared.terms.AckTerms.{AckTerms}
+use Rattle.fwd_session.specs.Evidence.{Accepted}
 use Rattle.fwd_session.specs.History.{Setup, is_done}
 use Rattle.fwd_session.specs.Live.{
   LiveSession,
   live_is_late,
+  live_acked,
+  live_has_chunk,
   live_is_ready,
+  live_room,
   session_begins,
   session_loads,
   session_looks,
@@ -23,9 +28,9 @@ use Rattle.fwd_workers.specs.declared.link.Place.TheVariants as place
 use Rattle.fwd_workers.specs.declared.serve.Served.{Served}
 use Rattle.fwd_workers.specs.Endings.{idle_ending, loss_in, news_of, went_of}
 use Rattle.fwd_workers.specs.Links.{Call}
-use Rattle.fwd_workers.specs.Served.{HasTurned}
+use Rattle.fwd_workers.specs.Served.{HasTurned, may_add}
 
--- where the gate is asked: nowhere while the server is waited for
+-- where the gate is asked: nowhere while the server is waited for, and no chunk may be added
 abbrev pub place_of : {L : Type 0} {g : _} → Stage L g → Option Place
 place_of stage.Idle = Some place.BeforeTake
 place_of stage.Seeking = Some place.BeforeTake
@@ -33,19 +38,23 @@ place_of (stage.Sought free) = Some place.BeforeTake
 place_of (stage.Standing free) = Some place.BeforeTake
 place_of (stage.Took free chunk) =
     if live_is_ready free.line.session then Some place.BeforeLoad else None
+place_of (stage.Added roomy chunk) = Some place.BeforeLoad
 place_of (stage.Loaded line) =
-    if is_some line.session.reply then Some place.BeforeSettle else None
-place_of (stage.Settled free) = Some place.AfterSettle
+    if is_some (live_acked line.session) then Some place.BeforeSettle
+    else if may_add line.session then Some place.BeforeTake
+    else None
+place_of (stage.Settled line) = Some place.AfterSettle
 
--- the value that acknowledged a chunk that is not settled yet, if there is one
-abbrev pub reply_at : {L : Type 0} {g : _} → Stage L g → Option (List ℕ)
-reply_at stage.Idle = None
-reply_at stage.Seeking = None
-reply_at (stage.Sought free) = None
-reply_at (stage.Standing free) = None
-reply_at (stage.Took free chunk) = None
-reply_at (stage.Loaded line) = line.session.reply
-reply_at (stage.Settled free) = None
+-- the acknowledgements of chunks that are not settled yet
+abbrev pub accepted_at : {L : Type 0} {g : _} → Stage L g → List Accepted
+accepted_at stage.Idle = []
+accepted_at stage.Seeking = []
+accepted_at (stage.Sought free) = []
+accepted_at (stage.Standing free) = []
+accepted_at (stage.Took free chunk) = []
+accepted_at (stage.Added roomy chunk) = []
+accepted_at (stage.Loaded line) = line.session.accepted
+accepted_at (stage.Settled line) = line.session.accepted
 
 -- A turn of a session at a moment, with the calls of its link, and why it is to end then, if it is.
 -- Where it is down, or late at that moment, its link is left alone. Else its link is served, and
@@ -71,12 +80,13 @@ Ends s now before telling told = (t : LiveSession) × (after : List Call) × (wh
     × IsTended s t now before after (Some why) × (told ≡ telling why t)
 
 -- what a worker that logs in so begins a session with, at a server and a moment
-abbrev pub setup_by : Login → (salt : List ℕ) → (ack_wait now server : ℕ) → Setup
-setup_by login salt ack_wait now server = record {
+abbrev pub setup_by : Login → (salt : List ℕ) → AckTerms → (now server : ℕ) → Setup
+setup_by login salt terms now server = record {
   server = server;
   login = login;
   salt = salt;
-  ack_wait = ack_wait;
+  ack_wait = terms.ack_wait;
+  window = terms.window;
   start = now;
 }
 
@@ -92,8 +102,9 @@ HasBegun (stage.Took free chunk) setups =
 HasBegun stage.Seeking setups = ⊥
 HasBegun (stage.Sought free) setups = ⊥
 HasBegun (stage.Standing free) setups = ⊥
+HasBegun (stage.Added roomy chunk) setups = ⊥
 HasBegun (stage.Loaded line) setups = ⊥
-HasBegun (stage.Settled free) setups = ⊥
+HasBegun (stage.Settled line) setups = ⊥
 
 -- a worker that seeks a server: it seeks on, it has a session that begins, and no chunk, or it
 -- seeks none any more
@@ -104,8 +115,9 @@ HasSought (stage.Sought free) setups =
     (free.line.ending ≡ None) × Begins setups free.line.session
 HasSought (stage.Standing free) setups = ⊥
 HasSought (stage.Took free chunk) setups = ⊥
+HasSought (stage.Added roomy chunk) setups = ⊥
 HasSought (stage.Loaded line) setups = ⊥
-HasSought (stage.Settled free) setups = ⊥
+HasSought (stage.Settled line) setups = ⊥
 
 -- A worker with a session that it sought: it takes a chunk for just that session once that is
 -- ready; until then it goes on, and it stands where nothing is sought any more. Where the session
@@ -122,8 +134,9 @@ HasTakenFirst (stage.Took free chunk) told s now before =
     (free.line.ending ≡ None) × (live_is_ready free.line.session ≡ true)
     × Lasts s free.line.session now before
 HasTakenFirst stage.Idle told s now before = ⊥
+HasTakenFirst (stage.Added roomy chunk) told s now before = ⊥
 HasTakenFirst (stage.Loaded line) told s now before = ⊥
-HasTakenFirst (stage.Settled free) told s now before = ⊥
+HasTakenFirst (stage.Settled line) told s now before = ⊥
 
 -- A worker whose session stands: it takes a chunk once that session is ready, for just that
 -- session, or for one that begins in its place; or it has one that begins in its place, and no
@@ -142,11 +155,12 @@ HasTakenNext (stage.Took free chunk) told s now before setups =
 HasTakenNext (stage.Sought free) told s now before setups =
     (free.line.ending ≡ None) × Begins setups free.line.session
 HasTakenNext stage.Seeking told s now before setups = ⊥
+HasTakenNext (stage.Added roomy chunk) told s now before setups = ⊥
 HasTakenNext (stage.Loaded line) told s now before setups = ⊥
-HasTakenNext (stage.Settled free) told s now before setups = ⊥
+HasTakenNext (stage.Settled line) told s now before setups = ⊥
 
--- a worker with a chunk for its session: the chunk is loaded once that is ready, and until then it
--- waits; or the session ended
+-- a worker with a chunk for its session, which has no other: the chunk is loaded once that is
+-- ready, and until then it waits; or the session ended
 abbrev pub HasLoaded : {L : Type 0} {g : _} → Stage L g → LiveSession → Load → (now : ℕ) → Type 0
 HasLoaded stage.Idle s chunk now = Unit {0}
 HasLoaded (stage.Took free waits) s chunk now =
@@ -157,7 +171,23 @@ HasLoaded (stage.Loaded line) s chunk now =
 HasLoaded stage.Seeking s chunk now = ⊥
 HasLoaded (stage.Sought free) s chunk now = ⊥
 HasLoaded (stage.Standing free) s chunk now = ⊥
-HasLoaded (stage.Settled free) s chunk now = ⊥
+HasLoaded (stage.Added roomy waits) s chunk now = ⊥
+HasLoaded (stage.Settled line) s chunk now = ⊥
+
+-- a worker with a chunk for its session, which is ready and may have others: the chunk is loaded;
+-- or memory was refused, and the session ended, which is told
+abbrev pub HasLoadedMore : {L : Type 0} {g : _} → Stage L g → Option News → LiveSession → Load
+    → (now : ℕ) → Type 0
+HasLoadedMore (stage.Loaded line) told s chunk now =
+    (line.session ≡ session_loads s chunk now) × (line.ending ≡ None)
+HasLoadedMore stage.Seeking told s chunk now =
+    told ≡ news_of (ending.Lost loss.Memory) s.setup.server
+HasLoadedMore stage.Idle told s chunk now = ⊥
+HasLoadedMore (stage.Sought free) told s chunk now = ⊥
+HasLoadedMore (stage.Standing free) told s chunk now = ⊥
+HasLoadedMore (stage.Took free waits) told s chunk now = ⊥
+HasLoadedMore (stage.Added roomy waits) told s chunk now = ⊥
+HasLoadedMore (stage.Settled line) told s chunk now = ⊥
 
 -- a worker that just loaded a chunk tells which server it goes to, where its last chunk went to
 -- another, and keeps that server
@@ -171,28 +201,74 @@ HasGone stage.Seeking last kept told = kept ≡ last
 HasGone (stage.Sought free) last kept told = kept ≡ last
 HasGone (stage.Standing free) last kept told = kept ≡ last
 HasGone (stage.Took free chunk) last kept told = kept ≡ last
-HasGone (stage.Settled free) last kept told = kept ≡ last
+HasGone (stage.Added roomy chunk) last kept told = kept ≡ last
+HasGone (stage.Settled line) last kept told = kept ≡ last
 
--- a worker whose session has a chunk: the chunk is settled just where its acknowledgement was
--- accepted before; else the session goes on with it, or ended, and the worker seeks a server
+-- A worker whose session has chunks: where an acknowledgement was accepted before, the chunk that
+-- was accepted first is settled. Else the session goes on with them, and where one more may be
+-- added it may have taken one; or it ended, and the worker seeks a server.
 abbrev pub HasSettled : {L : Type 0} {g : _} → Stage L g → LiveSession → Type 0
-HasSettled stage.Seeking s = s.reply ≡ None
-HasSettled (stage.Loaded line) s = (s.reply ≡ None) × (line.session.loaded ≡ s.loaded)
-HasSettled (stage.Settled free) s =
-    (is_some s.reply ≡ true) × (free.line.session ≡ session_unloads s)
+HasSettled stage.Seeking s = s.accepted ≡ []
+HasSettled (stage.Loaded line) s = (s.accepted ≡ []) × (live_room line.session ≡ live_room s)
+HasSettled (stage.Added roomy chunk) s =
+    (s.accepted ≡ []) × (may_add s ≡ true) × (live_room roomy.line.session ≡ live_room s)
+HasSettled (stage.Settled line) s =
+    (is_some (live_acked s) ≡ true) × (line.session ≡ session_unloads s)
 HasSettled stage.Idle s = ⊥
 HasSettled (stage.Sought free) s = ⊥
 HasSettled (stage.Standing free) s = ⊥
 HasSettled (stage.Took free chunk) s = ⊥
 
--- where a worker's session ended with a chunk, a turn of it ended it, and why is told
+-- Where no chunk of a worker's session was settled, its link was served: the session goes on behind
+-- that turn, or the turn ended it, and why is told.
 abbrev pub HasLost : {L : Type 0} {g : _} → Stage L g → Option News → LiveSession → (now : ℕ)
     → (before : List Call) → Type 0
 HasLost stage.Seeking told s now before =
     Ends s now before (λ why t. news_of why t.setup.server) told
+HasLost (stage.Loaded line) told s now before =
+    (after : List Call) × IsTended s line.session now before after line.ending
+HasLost (stage.Added roomy chunk) told s now before =
+    (roomy.line.ending ≡ None) × Lasts s roomy.line.session now before
 HasLost stage.Idle told s now before = Unit {0}
 HasLost (stage.Sought free) told s now before = Unit {0}
 HasLost (stage.Standing free) told s now before = Unit {0}
 HasLost (stage.Took free chunk) told s now before = Unit {0}
-HasLost (stage.Loaded line) told s now before = Unit {0}
-HasLost (stage.Settled free) told s now before = Unit {0}
+HasLost (stage.Settled line) told s now before = Unit {0}
+
+-- a session without chunks ends: it was to end, which is told, or it takes no chunk more
+abbrev pub GoesOut : Option News → LiveSession → (why : Option Ending) → Type 0
+GoesOut told s None = (live_is_ready s ≡ false) × (told ≡ None)
+GoesOut told s (Some why) = told ≡ news_of why s.setup.server
+
+-- what becomes of a session beside whose chunks one more may be added: it is as it was, also where
+-- a chunk was taken for it
+abbrev pub HasAdded : {L : Type 0} {g : _} → Stage L g → LiveSession → Type 0
+HasAdded (stage.Loaded line) s = (line.session ≡ s) × (line.ending ≡ None)
+HasAdded (stage.Added roomy chunk) s =
+    (roomy.line.session ≡ s) × (roomy.line.ending ≡ None) × (may_add s ≡ true)
+HasAdded stage.Idle s = ⊥
+HasAdded stage.Seeking s = ⊥
+HasAdded (stage.Sought free) s = ⊥
+HasAdded (stage.Standing free) s = ⊥
+HasAdded (stage.Took free chunk) s = ⊥
+HasAdded (stage.Settled line) s = ⊥
+
+-- A worker that settled a chunk. Where more are accepted it goes on with these; and with chunks
+-- that are not acknowledged, unless its session is to end: then they are lost, and it seeks a
+-- server. A session without chunks stands, where it takes another one, and else ends.
+abbrev pub HasGoneOn : {L : Type 0} {g : _} → Stage L g → Option News → LiveSession
+    → (why : Option Ending) → Type 0
+HasGoneOn (stage.Loaded line) told s why =
+    (line.session ≡ s) × (line.ending ≡ why) × (live_has_chunk s ≡ true)
+    × (why ≡ None ⊎ is_some (live_acked s) ≡ true)
+HasGoneOn stage.Seeking told s why =
+    (live_has_chunk s ≡ true) × (s.accepted ≡ [])
+    × ((ended : Ending) × (why ≡ Some ended) × (told ≡ news_of ended s.setup.server))
+HasGoneOn (stage.Standing free) told s why =
+    (free.line.session ≡ s) × (why ≡ None) × (free.line.ending ≡ None)
+    × (live_is_ready s ≡ true)
+HasGoneOn stage.Idle told s why = (live_has_chunk s ≡ false) × GoesOut told s why
+HasGoneOn (stage.Sought free) told s why = ⊥
+HasGoneOn (stage.Took free chunk) told s why = ⊥
+HasGoneOn (stage.Added roomy chunk) told s why = ⊥
+HasGoneOn (stage.Settled line) told s why = ⊥

@@ -1,10 +1,12 @@
 //! What a link tells of its calls, for contracts alone: it takes no memory when it runs.
 
 ghost use Rattle.std.specs.Prelude.{◌≡◌, List, [], ◌∷◌, ◌++◌};
+ghost use Rattle.std.specs.List.{concat};
 ghost use Rattle.fwd_workers.specs.Links.{Call, DidWrite, read_into};
 ghost use base.Fml.{ftrue};
 
 use crate::link::{LinkFault, Read};
+use fwd_chunks::Pieces;
 use std::marker::{Model, PhantomData};
 
 /// Calls that were told one after the other, none of which is kept.
@@ -51,6 +53,19 @@ impl Calls {
     {
         let _ = self;
         let _ = bytes;
+        let _ = answer;
+        Calls {
+            marker: PhantomData,
+        }
+    }
+
+    /// A write of pieces is told behind what was told before: all their bytes, and what was
+    /// answered.
+    pub fn and_write_pieces(&self, pieces: &Pieces<'_>, answer: &Result<usize, LinkFault>) -> Calls
+        ensures { result.list ≡ self.now.list ++ DidWrite (concat pieces.now) answer.now ∷ [] }
+    {
+        let _ = self;
+        let _ = pieces;
         let _ = answer;
         Calls {
             marker: PhantomData,

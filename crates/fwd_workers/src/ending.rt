@@ -1,6 +1,6 @@
 //! Why a worker's session ends, and what that counts as.
 
-ghost use Rattle.std.specs.Prelude.{◌≡◌, false};
+ghost use Rattle.std.specs.Prelude.{◌≡◌, []};
 ghost use Rattle.fwd_workers.specs.Endings.{
   blamed,
   idle_ending,
@@ -15,6 +15,7 @@ use crate::link::{LinkFault, Loss, News};
 use crate::serve::Served;
 use fwd_chunks::Carried;
 use fwd_core::{EndKind, Leaving};
+use std::alloc::Global;
 
 /// Why a session is to end.
 #[derive(Clone, Copy)]
@@ -97,20 +98,18 @@ pub(crate) enum Unmet {
 impl Unmet {
     /// What a worker leaves that may have taken a chunk for that server: the chunk, which is no
     /// loss, and the server, if that is to blame.
-    pub(crate) fn leaving(self, chunk: Option<Carried>, server: u16) -> Leaving
-        ensures { result ≡ record {
-          chunk = chunk;
-          lost = false;
-          server = blamed self server;
-        } }
+    pub(crate) fn leaving(self, alloc: Global, taken: Option<Carried>, server: u16) -> Leaving
+        ensures taken { result.taken ≡ taken }
+        ensures loaded { result.loaded.items ≡ [] }
+        ensures server { result.server ≡ blamed self server }
     {
         let server = match self {
             Unmet::Link(_) => Some(server),
             Unmet::Memory => None,
         };
         Leaving {
-            chunk,
-            lost: false,
+            taken,
+            loaded: Vec::new(alloc),
             server,
         }
     }

@@ -1,6 +1,6 @@
 //! Laws, each the contract of a function that does nothing.
 
-ghost use Rattle.std.specs.Prelude.{◌≡◌, ◌≢◌, true, false, List, [], None, is_some};
+ghost use Rattle.std.specs.Prelude.{◌≡◌, ◌≢◌, ◌<◌, false, List, [], length};
 ghost use Rattle.fwd_session.specs.History.{Setup, SessionHistory, IsSane};
 ghost use Rattle.fwd_session.specs.Live.{LiveSession, live_session, session_begins};
 ghost use Rattle.fwd_workers.specs.declared.serve.Served.{Served as TheServed};
@@ -10,22 +10,23 @@ ghost use Rattle.fwd_workers.specs.Served.{
   Seen,
   Sends,
   AreTheLinks,
+  AreWrittenFirst,
   HasHeard,
   IsAcknowledged,
   IsOver,
   IsServed,
-  IsWrittenFirst,
   Lives,
 };
 
 /// What a session was told of and heard is what its link took and gave, turn after turn, but when
-/// out of memory. So where a turn comes to `Acked`, the whole frame was written on that link, and
-/// the last byte of a value that names its chunk was read afterwards.
+/// out of memory. So where a turn comes to `Acked`, the whole frame of each chunk that it brought
+/// the acknowledgement of was written on that link, and the last byte of a value that names that
+/// chunk was read afterwards.
 ///
-/// `acked` says so of a turn of any session. `whole` says it over a session's life, from its
-/// beginning on a link that took and gave nothing: between the write and the read of such a turn
-/// the link has taken the frame, whole. `any` says the same of each turn after which a session has
-/// an acknowledgement that it lacked, also one that came before a fault.
+/// `acked` says so of a turn of any session. `any` says it of each turn in a session's life, from
+/// its beginning on a link that took and gave nothing, also of one that ends with a fault: between
+/// its write and its read the link has taken each frame, whole. `whole` says that a turn that comes
+/// to `Acked` brings one acknowledgement at least.
 pub fn served_bytes_are_the_links()
     ensures lasts { (s : SessionHistory) (what : TheServed) (t : LiveSession)
         (before after : Seen) → IsSane s → s.down ≡ false → AreTheLinks s before
@@ -35,14 +36,14 @@ pub fn served_bytes_are_the_links()
         → s.down ≡ false → AreTheLinks s before
         → IsServed served.Acked (live_session s) t before after
         → IsAcknowledged s before after }
-    ensures whole { (setup : Setup) (deeds : List Deed) (s middle t : LiveSession)
-        (start before between after : Seen) → start.taken ≡ [] → start.given ≡ []
-        → Lives deeds (session_begins setup) s start before → s.down ≡ false
-        → Sends s middle before between → HasHeard served.Acked middle t between after
-        → IsWrittenFirst s between after }
     ensures any { (setup : Setup) (deeds : List Deed) (what : TheServed)
         (s middle t : LiveSession) (start before between after : Seen) → start.taken ≡ []
         → start.given ≡ [] → Lives deeds (session_begins setup) s start before
         → s.down ≡ false → Sends s middle before between → HasHeard what middle t between after
-        → s.reply ≡ None → is_some t.reply ≡ true → IsWrittenFirst s between after }
+        → AreWrittenFirst s t between after }
+    ensures whole { (setup : Setup) (deeds : List Deed) (s middle t : LiveSession)
+        (start before between after : Seen) → start.taken ≡ [] → start.given ≡ []
+        → Lives deeds (session_begins setup) s start before → s.down ≡ false
+        → Sends s middle before between → HasHeard served.Acked middle t between after
+        → length s.accepted < length t.accepted }
 {}

@@ -14,6 +14,7 @@ mod round;
 mod serve;
 mod shared;
 mod tally;
+mod tending;
 mod ticket;
 mod worker;
 

@@ -1,7 +1,8 @@
 //! A worker's link with the session that it carries, and where a worker stands.
 
-ghost use Rattle.std.specs.Prelude.{◌≡◌, None, is_some};
-ghost use Rattle.fwd_workers.specs.Served.{IsOfLink, seen_in};
+ghost use Rattle.std.specs.Prelude.{◌≡◌, ◌<◌, [], None, true, is_some};
+ghost use Rattle.fwd_session.specs.Live.{live_is_ready, live_room};
+ghost use Rattle.fwd_workers.specs.Served.{IsFree, IsOfLink, may_add, seen_in};
 
 use crate::ending::Ending;
 use crate::link::Link;
@@ -16,12 +17,32 @@ pub(crate) struct Line<L: Link> {
     /// Why the session is to end, once it is to.
     pub(crate) ending: Option<Ending>,
     ghost of_link: { ∥ IsOfLink session (seen_in (L.calls link)) (is_some ending) ∥₁ },
+    ghost window: { 0 < session.setup.window },
+}
+
+impl<L: Link> Line<L> {
+    /// Whether a chunk may be added to those that the session has: nothing of them waits to be
+    /// sent, and it is ready and has room.
+    pub(crate) fn may_add(&self) -> bool
+        ensures { result ≡ may_add self.now.session }
+    {
+        self.session.waiting() == 0 && self.session.is_ready() && self.session.room() > 0
+    }
 }
 
 /// A line whose session has no chunk.
 pub(crate) struct FreeLine<L: Link> {
     pub(crate) line: Line<L>,
-    ghost free: { line.session.loaded ≡ None },
+    ghost free: { IsFree line.session },
+}
+
+/// A line whose session is ready for a chunk more, beside those that it has.
+pub(crate) struct RoomyLine<L: Link> {
+    pub(crate) line: Line<L>,
+    ghost on: { line.ending ≡ None },
+    ghost room: { 0 < live_room line.session },
+    ghost ready: { live_is_ready line.session ≡ true },
+    ghost settled: { line.session.accepted ≡ [] },
 }
 
 /// What a worker has from turn to turn.
@@ -34,10 +55,12 @@ pub(crate) enum Stage<L: Link> {
     Sought(FreeLine<L>),
     /// A session, and no chunk. It goes to another server where it is to try that one.
     Standing(FreeLine<L>),
-    /// A chunk that waits to be loaded into the session.
+    /// A chunk that waits to be loaded into the session, which has no other.
     Took(FreeLine<L>, Carried),
-    /// A chunk in the session.
+    /// A chunk that waits to be loaded into the session, beside others.
+    Added(RoomyLine<L>, Carried),
+    /// Chunks in the session.
     Loaded(Line<L>),
-    /// A session whose chunk was settled.
-    Settled(FreeLine<L>),
+    /// A session of which a chunk was settled, and which may have others.
+    Settled(Line<L>),
 }

@@ -1,8 +1,22 @@
 //! What a worker asks of the world: links to servers, moments, and leave to go on.
 
-ghost use Rattle.std.specs.Prelude.{◌≡◌, ◌≤◌, List, [], ◌∷◌, ◌++◌, length, IfOk, IfErr};
-ghost use Rattle.fwd_workers.specs.Links.{Call, DidWrite, count_read, read_into};
+ghost use Rattle.std.specs.Prelude.{
+  ◌≡◌,
+  ◌≤◌,
+  ◌<◌,
+  List,
+  [],
+  ◌∷◌,
+  ◌++◌,
+  length,
+  IfOk,
+  IfErr,
+};
+ghost use Rattle.std.specs.List.{concat};
+ghost use Rattle.fwd_chunks.specs.Lending.{AreSome};
+ghost use Rattle.fwd_workers.specs.Links.{Call, DidWrite, HasOffered, count_read, read_into};
 
+use fwd_chunks::Pieces;
 use fwd_session::SessionFault;
 use std::sync::Wait;
 
@@ -44,6 +58,20 @@ pub trait Link: Drop {
         ensures told { calls self.new ≡ calls self.old ++ DidWrite bytes.now result ∷ [] }
         ensures within { IfOk result (λ count. count ≤ length bytes.now) }
         ensures fault { IfErr result (λ fault. fault ≡ LinkFault.Write) };
+
+    /// Writes once, from the first of these pieces on, as if they were one: how many bytes it took,
+    /// which may be none. It may wait. A link without a call for several takes of the first alone.
+    fn write_pieces<R: Wait>(&mut self, rt: &R, pieces: &Pieces<'_>) -> Result<usize, LinkFault>
+        requires some { 0 < length (concat pieces.now) }
+        requires each { AreSome pieces.now }
+        ensures told { HasOffered (concat pieces.now) (calls self.old) (calls self.new) result }
+        ensures fault { IfErr result (λ fault. fault ≡ LinkFault.Write) }
+    {
+        match pieces.as_slice().first() {
+            None => unreachable!(),
+            Some(piece) => self.write(rt, piece),
+        }
+    }
 }
 
 /// Makes links.

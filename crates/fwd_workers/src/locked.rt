@@ -12,8 +12,10 @@ ghost use Rattle.std.specs.Prelude.{
   ◌∷◌,
   length,
   map,
+  max,
   All,
   option_map,
+  option_to_list,
   IfOk,
   IfErr,
   IfSome,
@@ -39,13 +41,14 @@ ghost use Rattle.fwd_session.specs.Evidence.{IsEvidence};
 ghost use Rattle.fwd_book.specs.Live.{IsSound as IsSoundBook, live_leaves};
 ghost use Rattle.fwd_core.specs.Outputs.{
   live_count_at,
+  live_loses,
   output_choice,
   output_ends,
   output_looks,
   output_settles,
   returned,
 };
-ghost use Rattle.fwd_core.specs.Lanes.{IsHere};
+ghost use Rattle.fwd_core.specs.Lanes.{AreHere, IsHandedBack, kept_back, lost_back};
 ghost use Rattle.fwd_workers.specs.Seats.{parts_of, counts_of};
 ghost use Rattle.fwd_workers.specs.Tickets.{
   Ticket as AbstractTicket,
@@ -148,8 +151,8 @@ impl<A: Tally, S: Tally> Locked<A, S> {
         self.state.counts()
     }
 
-    /// The same, and what is held of each tag, the tags in no order: made quickly, while others wait
-    /// for the lock. The only error is out of memory.
+    /// The same, and what is held of each tag, the tags in no order: made quickly, while others
+    /// wait for the lock. The only error is out of memory.
     pub fn snapshot(&self, alloc: Global) -> Result<Snapshot, AllocError>
         ensures snapshot { IfOk result (λ snapshot.
             IsSnapshot self.now.output.buffer snapshot) }
@@ -336,25 +339,32 @@ impl<A: Tally, S: Tally> Locked<A, S> {
         count
     }
 
-    /// A worker's end at a moment (milliseconds): a chunk that it had is given back, with a loss
-    /// where it is said to be lost, and a server may be lost. A chunk that no worker has from this
-    /// output is only spent.
+    /// A worker's end at a moment (milliseconds): the chunk that it took and did not load is given
+    /// back without a loss, and those that it loaded with a loss each, in their order; and a server
+    /// may be lost. A chunk that no worker has from this output is only spent.
     pub fn end(
         &mut self,
         seat: &mut S::Seat,
-        chunk: Option<Carried>,
+        taken: Option<Carried>,
+        loaded: Vec<Carried>,
         server: Option<u16>,
-        lost: bool,
         now: u64,
     )
-        ensures here { IsHere self.old.output.buffer chunk → self.new
-            ≡ turn_goes self.old (output_ends self.old.output (returned chunk lost) server now) }
-        ensures elsewhere { ¬ (IsHere self.old.output.buffer chunk) → self.new
-            ≡ turn_goes self.old (output_ends self.old.output None server now) }
+        ensures here { AreHere self.old.output.buffer (option_to_list taken ++ loaded.items)
+            → self.new ≡ turn_goes self.old
+            (output_ends self.old.output (returned taken loaded.items) server now) }
+        ensures each { IsHandedBack (live_looks self.old.output.buffer now)
+            (map kept_back (option_to_list taken) ++ map lost_back loaded.items) now
+            self.new.output.buffer }
+        ensures rest { self.new ≡ turn_goes self.old (record (self.old.output) {
+          buffer = self.new.output.buffer;
+          servers = live_loses self.old.output.servers server
+              (max self.old.output.buffer.moment now);
+        }) }
         ensures same { seat.new ≡ seat.old }
     {
         let _ = seat;
-        self.state.end(chunk, lost, server, now);
+        self.state.end(taken, loaded, server, now);
     }
 }
 

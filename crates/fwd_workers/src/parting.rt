@@ -1,16 +1,14 @@
 //! What a worker settles, and what it gives back, at the end of a chunk, a session or itself.
 
-ghost use Rattle.std.specs.Prelude.{◌≡◌, ◌≤◌, Some, None, true, is_some, IfSome};
-ghost use Rattle.fwd_chunks.specs.History.{Load};
-ghost use Rattle.fwd_session.specs.Live.{live_acked, session_unloads};
+ghost use Rattle.std.specs.Prelude.{◌≡◌, ◌≤◌, Some, None, [], IfSome};
+ghost use Rattle.fwd_session.specs.Live.{live_acked, live_chunks, session_unloads};
 ghost use Rattle.fwd_core.specs.Step.{lost_server};
 ghost use Rattle.fwd_core.specs.Live.{lives};
-ghost use Rattle.fwd_core.specs.Lanes.{first_there};
 ghost use Rattle.fwd_workers.specs.Endings.{kind_in};
-ghost use Rattle.fwd_workers.specs.Working.{reply_at};
+ghost use Rattle.fwd_workers.specs.Working.{accepted_at};
 
 use crate::ending::kind_in;
-use crate::line::{FreeLine, Line, Stage};
+use crate::line::{FreeLine, Line, RoomyLine, Stage};
 use crate::link::{Clock, Link, News};
 use crate::round::Round;
 use crate::tally::Tally;
@@ -25,13 +23,11 @@ pub(crate) fn settle_line<A: Tally, S: Tally, L: Link, R: Wait>(
     seat: &mut S::Seat,
     line: &mut Line<L>,
 ) -> Option<News>
-    ensures none { line.old.session.reply ≡ None → (seat.new ≡ seat.old)
+    ensures none { line.old.session.accepted ≡ [] → (seat.new ≡ seat.old)
         × (line.new.session ≡ line.old.session) × (result ≡ None) }
-    ensures settled { is_some line.old.session.reply ≡ true
-        → line.new.session ≡ session_unloads line.old.session }
+    ensures settled { line.new.session ≡ session_unloads line.old.session }
     ensures news { IfSome (live_acked line.old.session) (λ chunk. result
         ≡ Some (News.Settled chunk.number line.old.session.setup.server)) }
-    ensures spent { line.new.session.reply ≡ None }
     ensures ending { line.new.ending ≡ line.old.ending }
     ensures count { S.count seat.old ≤ S.count seat.new }
     ensures parts { S.parts seat.new ≡ S.parts seat.old }
@@ -45,13 +41,12 @@ pub(crate) fn settle_line<A: Tally, S: Tally, L: Link, R: Wait>(
     Some(news)
 }
 
-/// What a worker leaves at the end of a line: the chunk that it took, or the one of the session,
-/// which is a loss; and the server, if that is lost.
+/// What a worker leaves at the end of a line: the chunk that it took, and those of the session,
+/// each of which is a loss; and the server, if that is lost.
 fn leave_line<L: Link>(line: Line<L>, taken: Option<Carried>) -> Leaving
-    requires settled { line.session.reply ≡ None }
-    requires one { (c : Load) → taken ≡ Some c → line.session.loaded ≡ None }
-    ensures chunk { result.chunk ≡ first_there taken line.session.loaded }
-    ensures lost { result.lost ≡ is_some line.session.loaded }
+    requires settled { line.session.accepted ≡ [] }
+    ensures taken { result.taken ≡ taken }
+    ensures loaded { result.loaded.items ≡ live_chunks line.session.carried }
     ensures server { result.server
         ≡ lost_server lives (kind_in line.ending) (Some line.session) }
 {
@@ -72,13 +67,13 @@ pub(crate) fn give_back<A: Tally, S: Tally, R: Wait>(
     ensures { seat.new ≡ seat.old }
 {
     let Leaving {
-        chunk,
-        lost,
+        taken,
+        loaded,
         server,
     } = leaving;
     round
         .out
-        .end(round.rt, seat, chunk, server, lost, round.now);
+        .end(round.rt, seat, taken, loaded, server, round.now);
 }
 
 /// No session began with a server: what the worker leaves goes back, at the moment that it is now.
@@ -98,19 +93,23 @@ pub(crate) fn miss<A: Tally, S: Tally, C: Clock, R: Wait>(
     give_back(&round, seat, leaving);
 }
 
-/// A session ends: an accepted chunk is settled first, and a loaded one goes back.
+/// A session ends: each accepted chunk is settled first. Those that are not acknowledged go back,
+/// and the one that its worker may have taken and did not load.
 pub(crate) fn end_line<A: Tally, S: Tally, L: Link, R: Wait>(
     round: &Round<'_, A, S, R>,
     seat: &mut S::Seat,
     line: Line<L>,
+    taken: Option<Carried>,
 )
-    ensures same { line.session.reply ≡ None → seat.new ≡ seat.old }
+    ensures same { line.session.accepted ≡ [] → seat.new ≡ seat.old }
     ensures count { S.count seat.old ≤ S.count seat.new }
     ensures parts { S.parts seat.new ≡ S.parts seat.old }
 {
     let mut line = line;
-    let _news = settle_line(round, seat, &mut line);
-    give_back(round, seat, leave_line(line, None));
+    while line.session.is_acked() {
+        let _news = settle_line(round, seat, &mut line);
+    }
+    give_back(round, seat, leave_line(line, taken));
 }
 
 /// The same of a session without a chunk, whose worker may have taken one, which goes back.
@@ -123,28 +122,27 @@ pub(crate) fn end_free<A: Tally, S: Tally, L: Link, R: Wait>(
     ensures { seat.new ≡ seat.old }
 {
     let FreeLine { line } = free;
-    if line.session.is_acked() {
-        unreachable!();
-    }
     give_back(round, seat, leave_line(line, taken));
 }
 
-/// A worker ends: an accepted chunk is settled, and a taken or loaded one goes back.
+/// A worker ends: each accepted chunk is settled, and the others go back.
 pub(crate) fn finish<A: Tally, S: Tally, L: Link, R: Wait>(
     round: &Round<'_, A, S, R>,
     seat: &mut S::Seat,
     stage: Stage<L>,
 )
-    ensures same { reply_at stage ≡ None → seat.new ≡ seat.old }
+    ensures same { accepted_at stage ≡ [] → seat.new ≡ seat.old }
     ensures count { S.count seat.old ≤ S.count seat.new }
     ensures parts { S.parts seat.new ≡ S.parts seat.old }
 {
     match stage {
         Stage::Idle | Stage::Seeking => {}
-        Stage::Sought(free) | Stage::Standing(free) | Stage::Settled(free) => {
-            end_free(round, seat, free, None);
-        }
+        Stage::Sought(free) | Stage::Standing(free) => end_free(round, seat, free, None),
         Stage::Took(free, chunk) => end_free(round, seat, free, Some(chunk)),
-        Stage::Loaded(line) => end_line(round, seat, line),
+        Stage::Added(roomy, chunk) => {
+            let RoomyLine { line } = roomy;
+            end_line(round, seat, line, Some(chunk));
+        }
+        Stage::Loaded(line) | Stage::Settled(line) => end_line(round, seat, line, None),
     }
 }

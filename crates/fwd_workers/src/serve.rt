@@ -16,17 +16,17 @@ ghost use Rattle.std.specs.Prelude.{
   length,
   take,
 };
-ghost use Rattle.fwd_session.specs.Live.{session_sends};
+ghost use Rattle.fwd_session.specs.Live.{live_room, session_sends};
+ghost use Rattle.fwd_workers.specs.Links.{HasOffered, IsOffer, write_of};
 ghost use Rattle.fwd_workers.specs.Served.{
-  HasOffered,
   HasRead,
   HasTurned,
+  IsFree,
   IsHeard,
-  IsOffer,
   IsServed,
   IsTurn,
   seen_in,
-  write_of,
+  takes_more,
 };
 
 use crate::link::{Link, LinkFault, Read};
@@ -56,7 +56,8 @@ pub enum Served {
     Memory,
 }
 
-/// Parts of so many bytes or more are offered as they stand, where smaller ones are gathered.
+/// Pieces of so many bytes or more are offered as they stand, with the ones beside them, where
+/// smaller ones are gathered.
 const LARGE: usize = 16_384;
 
 /// How many bytes are gathered at most where few wait, and where many do.
@@ -69,8 +70,8 @@ const MANY: usize = 65_536;
 enum Offer {
     /// Those that lie in one piece, which may be few.
     Piece,
-    /// Those of many small pieces, gathered in a room.
-    Gathered,
+    /// Those of a few pieces: as they stand where one of them is large, else gathered in a room.
+    Pieces,
 }
 
 /// The link is offered the first of the bytes that wait, gathered in this room: how many it took.
@@ -88,6 +89,26 @@ fn write_gathered<L: Link, R: Wait>(
     link.write(rt, &room[..count])
 }
 
+/// The link is offered the first of the bytes that wait, in pieces of which one is large, or
+/// gathered: how many it took.
+fn write_pieces<L: Link, R: Wait>(
+    rt: &R,
+    link: &mut L,
+    session: &Session,
+) -> Result<usize, LinkFault>
+    requires { 0 < length session.now.waiting }
+    ensures { HasOffered session.now.waiting (L.calls link.old) (L.calls link.new) result }
+{
+    let pieces = session.pieces();
+    if pieces.has_large(LARGE) {
+        link.write_pieces(rt, &pieces)
+    } else if session.waiting() <= FEW as u64 {
+        write_gathered(rt, link, session, &mut [0; FEW])
+    } else {
+        write_gathered(rt, link, session, &mut [0; MANY])
+    }
+}
+
 /// The link is offered the first of the bytes that wait: how many it took.
 fn write<L: Link, R: Wait>(
     rt: &R,
@@ -98,21 +119,14 @@ fn write<L: Link, R: Wait>(
     requires { 0 < length session.now.waiting }
     ensures { HasOffered session.now.waiting (L.calls link.old) (L.calls link.new) result }
 {
-    let piece = session.out();
     match offer {
-        Offer::Gathered if piece.len() < LARGE => {
-            if session.waiting() <= FEW as u64 {
-                write_gathered(rt, link, session, &mut [0; FEW])
-            } else {
-                write_gathered(rt, link, session, &mut [0; MANY])
-            }
-        }
-        _ => link.write(rt, piece),
+        Offer::Piece => link.write(rt, session.out()),
+        Offer::Pieces => write_pieces(rt, link, session),
     }
 }
 
-/// The link is offered the first of the bytes that wait, if any do, and the session is told how many
-/// it took.
+/// The link is offered the first of the bytes that wait, if any do, and the session is told how
+/// many it took.
 fn send<L: Link, R: Wait>(
     rt: &R,
     link: &mut L,
@@ -127,8 +141,11 @@ fn send<L: Link, R: Wait>(
         × (session.old.waiting ≢ []) × (session.new ≡ session.old)
         × (L.calls link.new
         ≡ L.calls link.old ++ write_of (take size session.old.waiting) (Err fault))) }
-    ensures chunk { session.new.loaded ≡ session.old.loaded }
+    ensures chunk { IsFree session.old → IsFree session.new }
+    ensures setup { session.new.setup ≡ session.old.setup }
+    ensures room { live_room session.new ≡ live_room session.old }
     ensures up { session.new.down ≡ session.old.down }
+    ensures more { takes_more session.new ≡ takes_more session.old }
 {
     if session.waiting() > 0 {
         let count = write(rt, link, session, offer)?;
@@ -137,11 +154,21 @@ fn send<L: Link, R: Wait>(
     Ok(())
 }
 
+/// Whether a chunk more may be loaded into a session.
+fn takes_more(session: &Session) -> bool
+    ensures { result ≡ takes_more session.now }
+{
+    session.is_ready() && session.room() > 0
+}
+
 /// The session hears bytes.
+#[tactic(auto, unfolding(fwd_session::specs::Live::session_takes))]
 fn hear(alloc: Global, session: &mut Session, bytes: &[u8]) -> Served
     requires { session.old.down ≡ false }
     ensures heard { IsHeard result session.old session.new bytes.now }
-    ensures chunk { session.new.loaded ≡ session.old.loaded }
+    ensures chunk { IsFree session.old → IsFree session.new }
+    ensures setup { session.new.setup ≡ session.old.setup }
+    ensures room { live_room session.new ≡ live_room session.old }
 {
     match session.heard(alloc, bytes) {
         Err(_) => Served::Memory,
@@ -159,7 +186,9 @@ fn hear(alloc: Global, session: &mut Session, bytes: &[u8]) -> Served
 fn read<L: Link, R: Wait>(rt: &R, alloc: Global, link: &mut L, session: &mut Session) -> Served
     requires { session.old.down ≡ false }
     ensures read { HasRead result session.old session.new (L.calls link.old) (L.calls link.new) }
-    ensures chunk { session.new.loaded ≡ session.old.loaded }
+    ensures chunk { IsFree session.old → IsFree session.new }
+    ensures setup { session.new.setup ≡ session.old.setup }
+    ensures room { live_room session.new ≡ live_room session.old }
 {
     let mut room = [0; ROOM];
     match link.read(rt, &mut room) {
@@ -170,10 +199,10 @@ fn read<L: Link, R: Wait>(rt: &R, alloc: Global, link: &mut L, session: &mut Ses
     }
 }
 
-/// Where bytes wait to be sent, the link is asked once to take the first of them, as far as they lie
-/// in one piece; and then, unless that failed, it is read once. What the link took the session is
-/// told, and what the link gave it hears. After `Memory` what was written is told and nothing that
-/// was read is heard, so the link must be ended.
+/// Where bytes wait to be sent, the link is asked once to take the first of them, as far as they
+/// lie in one piece; and then, unless that failed, it is read once. What the link took the session
+/// is told, and what the link gave it hears. After `Memory` what was written is told and nothing
+/// that was read is heard, so the link must be ended.
 pub fn serve_turn<L: Link, R: Wait>(
     rt: &R,
     alloc: Global,
@@ -184,7 +213,9 @@ pub fn serve_turn<L: Link, R: Wait>(
     ensures turn { IsTurn result session.old session.new (L.calls link.old) (L.calls link.new) }
     ensures served { IsServed result session.old session.new
         (seen_in (L.calls link.old)) (seen_in (L.calls link.new)) }
-    ensures chunk { session.new.loaded ≡ session.old.loaded }
+    ensures chunk { IsFree session.old → IsFree session.new }
+    ensures setup { session.new.setup ≡ session.old.setup }
+    ensures room { live_room session.new ≡ live_room session.old }
 {
     if let Err(fault) = send(rt, link, session, Offer::Piece) {
         return Served::Failed(fault);
@@ -192,9 +223,10 @@ pub fn serve_turn<L: Link, R: Wait>(
     read(rt, alloc, link, session)
 }
 
-/// The same, where the bytes of small pieces are gathered, up to 65,536, so that many small slices
-/// take few writes. Where the link took some and more wait, it is not read: a read may wait, and
-/// the next turn goes on sending.
+/// The same, where several pieces are offered at once: as they stand where one of them is large, so
+/// that its bytes are not copied, and else gathered, up to 65,536 bytes. Where the link took some,
+/// and more wait or a chunk more may be loaded, it is not read: a read may wait, and the next turn
+/// goes on sending, or loads.
 pub fn serve_gathered<L: Link, R: Wait>(
     rt: &R,
     alloc: Global,
@@ -205,14 +237,16 @@ pub fn serve_gathered<L: Link, R: Wait>(
     ensures turn { HasTurned result session.old session.new (L.calls link.old) (L.calls link.new) }
     ensures served { IsServed result session.old session.new
         (seen_in (L.calls link.old)) (seen_in (L.calls link.new)) }
-    ensures chunk { session.new.loaded ≡ session.old.loaded }
+    ensures chunk { IsFree session.old → IsFree session.new }
+    ensures setup { session.new.setup ≡ session.old.setup }
+    ensures room { live_room session.new ≡ live_room session.old }
 {
     let waiting = session.waiting();
-    if let Err(fault) = send(rt, link, session, Offer::Gathered) {
+    if let Err(fault) = send(rt, link, session, Offer::Pieces) {
         return Served::Failed(fault);
     }
     let left = session.waiting();
-    if 0 < left && left < waiting {
+    if left < waiting && (0 < left || takes_more(session)) {
         return Served::Quiet;
     }
     read(rt, alloc, link, session)

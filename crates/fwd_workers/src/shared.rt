@@ -56,8 +56,9 @@ impl<A: Tally, S: Tally> SharedOutput<A, S> {
         self.lock.lock(rt).counts()
     }
 
-    /// The same, and what is held of each tag, by rising bytes. The only error is out of memory. The
-    /// lock is held while the tags are written down, and free again while they are put in order.
+    /// The same, and what is held of each tag, by rising bytes. The only error is out of memory.
+    /// The lock is held while the tags are written down, and free again while they are put in
+    /// order.
     pub fn report<R: Wait>(&self, rt: &R, alloc: Global) -> Result<Report, AllocError>
         ensures { IfOk result (λ report. AddsUp report) }
     {
@@ -174,20 +175,20 @@ impl<A: Tally, S: Tally> SharedOutput<A, S> {
         self.lock.lock(rt).settle(seat, acked, carried)
     }
 
-    /// A worker's end at a moment (milliseconds): a chunk that it had is given back, with a loss
-    /// where it is said to be lost, and a server may be lost.
+    /// A worker's end at a moment (milliseconds): the chunk that it took and did not load is given
+    /// back without a loss, and those that it loaded with a loss each; and a server may be lost.
     pub fn end<R: Wait>(
         &self,
         rt: &R,
         seat: &mut S::Seat,
-        chunk: Option<Carried>,
+        taken: Option<Carried>,
+        loaded: Vec<Carried>,
         server: Option<u16>,
-        lost: bool,
         now: u64,
     )
         ensures { seat.new ≡ seat.old }
     {
-        self.lock.lock(rt).end(seat, chunk, server, lost, now);
+        self.lock.lock(rt).end(seat, taken, loaded, server, now);
     }
 }
 

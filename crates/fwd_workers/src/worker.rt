@@ -1,51 +1,40 @@
 //! A worker: it takes chunks from its output, sends them to a server, and settles what the server
 //! acknowledged.
 
-ghost use Rattle.std.specs.Prelude.{
-  ◌≡◌,
-  ◌≤◌,
-  [],
-  Some,
-  None,
-  true,
-  false,
-  is_some,
-  IfOk,
-  IfSome,
-  option_map,
-};
+ghost use Rattle.std.specs.Prelude.{◌≡◌, ◌≤◌, [], Some, None, false, IfOk, IfSome};
 ghost use Rattle.std.specs.Arc.{arc_value};
 ghost use Rattle.fwd_handshake.specs.Draws.{hex_drawn};
-ghost use Rattle.fwd_session.specs.History.{Setup, is_done};
-ghost use Rattle.fwd_session.specs.Live.{live_is_ready, session_begins};
-ghost use Rattle.fwd_workers.specs.Endings.{idle_ending, news_of, unmet_news, went_of};
+ghost use Rattle.fwd_session.specs.Live.{session_begins};
+ghost use Rattle.fwd_workers.specs.Endings.{news_of, unmet_news, went_of};
 ghost use Rattle.fwd_workers.specs.Working.{
   Begins,
+  HasAdded,
   HasBegun,
   HasGone,
+  HasGoneOn,
   HasLoaded,
+  HasLoadedMore,
   HasLost,
   HasSettled,
   HasSought,
   HasTakenFirst,
   HasTakenNext,
-  IsTended,
   place_of,
-  reply_at,
+  accepted_at,
   setup_by,
 };
 
-use crate::ending::{Ending, Unmet, loss_in};
-use crate::line::{FreeLine, Line, Stage};
+use crate::ending::{Ending, Unmet};
+use crate::line::{FreeLine, Line, RoomyLine, Stage};
 use crate::link::{Clock, Gate, Hub, Link, Loss, News, Pass, Place};
 use crate::parting::{end_free, end_line, finish, miss, settle_line};
 use crate::round::{Round, World};
-use crate::serve::serve_gathered;
 use crate::shared::SharedOutput;
 use crate::tally::Tally;
+use crate::tending::{ended, excuse, free_line, serve, serve_free, to_end};
 use fwd_base::Bytes;
 use fwd_chunks::{Carried, FlushKind};
-use fwd_core::OwnedSalt;
+use fwd_core::{AckTerms, OwnedSalt};
 use fwd_handshake::{Login, draw_salt};
 use fwd_session::{LoadFailed, Session};
 use rand_chacha::ChaCha20Rng;
@@ -61,7 +50,7 @@ pub enum Ended {
     TurnsSpent,
 }
 
-/// Where the gate is asked: nowhere while the server is waited for.
+/// Where the gate is asked: nowhere while the server is waited for, and no chunk may be added.
 fn place<L: Link>(stage: &Stage<L>) -> Option<Place>
     ensures { result ≡ place_of stage.now }
 {
@@ -70,7 +59,9 @@ fn place<L: Link>(stage: &Stage<L>) -> Option<Place>
             Some(Place::BeforeTake)
         }
         Stage::Took(free, _) if free.line.session.is_ready() => Some(Place::BeforeLoad),
+        Stage::Added(..) => Some(Place::BeforeLoad),
         Stage::Loaded(line) if line.session.is_acked() => Some(Place::BeforeSettle),
+        Stage::Loaded(line) if line.may_add() => Some(Place::BeforeTake),
         Stage::Settled(_) => Some(Place::AfterSettle),
         Stage::Took(..) | Stage::Loaded(_) => None,
     }
@@ -82,7 +73,7 @@ pub struct Worker {
     alloc: Global,
     number: u16,
     login: Arc<Login>,
-    ack_wait: u64,
+    acks: AckTerms,
     rng: ChaCha20Rng,
     /// The server that its last chunk was loaded for, or before the first the one that it tried.
     last: Option<u16>,
@@ -90,78 +81,21 @@ pub struct Worker {
     news: Option<News>,
 }
 
-/// The ending of a line whose server is lost, if it is.
-fn lost(why: Option<Loss>) -> Option<Ending>
-    ensures { result ≡ option_map Ending.Lost why }
-{
-    match why {
-        None => None,
-        Some(why) => Some(Ending::Lost(why)),
-    }
-}
-
-/// A turn of a line at a moment (milliseconds): it may be late, and else its session is served. A
-/// line that is to end stays as it is.
-#[tactic(auto, unfolding(fwd_session::specs::Live::session_looks))]
-fn serve<L: Link, R: Wait>(rt: &R, alloc: Global, line: Line<L>, now: u64) -> Line<L>
-    ensures chunk { result.session.loaded ≡ line.session.loaded }
-    ensures turn { line.ending ≡ None → IsTended line.session result.session now
-        (L.calls line.link) (L.calls result.link) result.ending }
-    ensures over { is_some line.ending ≡ true → result.ending ≡ line.ending }
-{
-    let Line {
-        mut link,
-        mut session,
-        ending,
-    } = line;
-    if ending.is_some() {
-        return Line {
-            link,
-            session,
-            ending,
-        };
-    }
-    let Ok(false) = session.late(now) else {
-        return Line {
-            link,
-            session,
-            ending: Some(Ending::Lost(Loss::Late)),
-        };
-    };
-    let served = serve_gathered(rt, alloc, &mut link, &mut session);
-    Line {
-        link,
-        session,
-        ending: lost(loss_in(served)),
-    }
-}
-
-/// The same of a line whose session has no chunk.
-fn serve_free<L: Link, R: Wait>(rt: &R, alloc: Global, free: FreeLine<L>, now: u64) -> FreeLine<L>
-    ensures turn { free.line.ending ≡ None → IsTended free.line.session result.line.session now
-        (L.calls free.line.link) (L.calls result.line.link) result.line.ending }
-    ensures over { is_some free.line.ending ≡ true → result.line.ending ≡ free.line.ending }
-{
-    let FreeLine { line } = free;
-    let line = serve(rt, alloc, line, now);
-    FreeLine { line }
-}
-
 impl Worker {
-    /// The worker of this number. It logs in by `login`, waits `ack_wait` milliseconds for what a
-    /// server owes it, and draws the salts of its logins from the generator.
+    /// The worker of this number. It logs in by `login`, waits by `acks` for what a server owes
+    /// it, and draws the salts of its logins from the generator.
     pub fn new(
         alloc: Global,
         number: u16,
         login: Arc<Login>,
-        ack_wait: u64,
+        acks: AckTerms,
         rng: ChaCha20Rng,
     ) -> Self {
         Worker {
             alloc,
             number,
             login,
-            ack_wait,
+            acks,
             rng,
             last: None,
             news: None,
@@ -169,12 +103,14 @@ impl Worker {
     }
 
     /// Closes chunks that are due and takes them, sends them to servers and settles what they
-    /// acknowledged, in so many turns, or until the gate stops it. A session ends at a fault, where
-    /// its link is closed or fails, where it is late, and when out of memory; a link that cannot be
-    /// had is a loss of its server. A server that closes a session behind an acknowledgement, and
-    /// owes nothing, is not lost. Behind the loss of a chunk the worker seeks a server at once, and
-    /// takes the chunk when it is free; with none loaded it goes to the server that it is to try.
-    /// At the end an accepted chunk is settled, and a taken or loaded one goes back.
+    /// acknowledged, in so many turns, or until the gate stops it. While the window has room it
+    /// loads what is free beside what is not acknowledged yet, unless it is to try another server,
+    /// and waits for no reply before that. A session ends at a fault, where its link is closed or
+    /// fails, where it is late, and when out of memory; a link that cannot be had is a loss of its
+    /// server. A server that closes a session behind an acknowledgement, and owes nothing, is not
+    /// lost. Behind the loss of a chunk the worker seeks a server at once, and takes the chunk when
+    /// it is free; with none loaded it goes to the server that it is to try. At the end each
+    /// accepted chunk is settled, and those that are taken or loaded go back.
     pub fn run<A: Tally, S: Tally, H: Hub, G: Gate, C: Clock, R: Wait>(
         &mut self,
         rt: &R,
@@ -229,7 +165,7 @@ impl Worker {
         world: &mut World<'_, H, C>,
         stage: Stage<H::Line>,
     ) -> Stage<H::Line>
-        ensures same { reply_at stage ≡ None → seat.new ≡ seat.old }
+        ensures same { accepted_at stage ≡ [] → seat.new ≡ seat.old }
         ensures count { S.count seat.old ≤ S.count seat.new }
         ensures parts { S.parts seat.new ≡ S.parts seat.old }
     {
@@ -239,8 +175,9 @@ impl Worker {
             Stage::Sought(free) => self.take_first(round, seat, free),
             Stage::Standing(free) => self.take_next(round, seat, world, free),
             Stage::Took(free, chunk) => self.load(round, seat, free, chunk),
+            Stage::Added(roomy, chunk) => self.load_more(round, seat, roomy, chunk),
             Stage::Loaded(line) => self.settle(round, seat, line),
-            Stage::Settled(free) => self.go_on(round, seat, free),
+            Stage::Settled(line) => self.go_on(round, seat, line),
         }
     }
 
@@ -254,7 +191,7 @@ impl Worker {
     ) -> Stage<H::Line>
         ensures same { seat.new ≡ seat.old }
         ensures begun { HasBegun result (setup_by (arc_value self.old.login)
-            (hex_drawn 0 4 self.old.rng) self.old.ack_wait round.entry.now.now) }
+            (hex_drawn 0 4 self.old.rng) self.old.acks round.entry.now.now) }
     {
         if round.out.is_claimed(round.rt, round.now) {
             return Stage::Idle;
@@ -269,7 +206,12 @@ impl Worker {
             Ok(free) => Stage::Took(free, chunk),
             Err(why) => {
                 self.tell_unmet(why, server);
-                miss(round, seat, world.clock, why.leaving(Some(chunk), server));
+                miss(
+                    round,
+                    seat,
+                    world.clock,
+                    why.leaving(self.alloc, Some(chunk), server),
+                );
                 Stage::Idle
             }
         }
@@ -285,7 +227,7 @@ impl Worker {
     ) -> Stage<H::Line>
         ensures same { seat.new ≡ seat.old }
         ensures sought { HasSought result (setup_by (arc_value self.old.login)
-            (hex_drawn 0 4 self.old.rng) self.old.ack_wait round.entry.now.now) }
+            (hex_drawn 0 4 self.old.rng) self.old.acks round.entry.now.now) }
     {
         if round.out.counts(round.rt).held == 0 {
             return Stage::Idle;
@@ -311,13 +253,18 @@ impl Worker {
         ensures same { seat.new ≡ seat.old }
         ensures begun { IfSome result (λ free. (free.line.ending ≡ None)
             × (free.line.session ≡ session_begins (setup_by (arc_value self.old.login)
-            (hex_drawn 0 4 self.old.rng) self.old.ack_wait round.entry.now.now server))) }
+            (hex_drawn 0 4 self.old.rng) self.old.acks round.entry.now.now server))) }
     {
         match self.meet(round, world.hub, server) {
             Ok(free) => Some(free),
             Err(why) => {
                 self.tell_unmet(why, server);
-                miss(round, seat, world.clock, why.leaving(None, server));
+                miss(
+                    round,
+                    seat,
+                    world.clock,
+                    why.leaving(self.alloc, None, server),
+                );
                 None
             }
         }
@@ -347,7 +294,7 @@ impl Worker {
         ensures same { seat.new ≡ seat.old }
         ensures begun { IfSome result (λ free. (free.line.ending ≡ None)
             × Begins (setup_by (arc_value self.old.login) (hex_drawn 0 4 self.old.rng)
-            self.old.ack_wait round.entry.now.now) free.line.session) }
+            self.old.acks round.entry.now.now) free.line.session) }
     {
         let server = round.out.choose(round.rt, self.number, round.now)?;
         if server == own {
@@ -385,7 +332,7 @@ impl Worker {
     ) -> Result<FreeLine<H::Line>, Unmet>
         ensures begun { IfOk result (λ free. free.line.session
             ≡ session_begins (setup_by (arc_value self.old.login) (hex_drawn 0 4 self.old.rng)
-            self.old.ack_wait round.entry.now.now server)) }
+            self.old.acks round.entry.now.now server)) }
         ensures on { IfOk result (λ free. free.line.ending ≡ None) }
     {
         let link = match hub.connect(round.rt, server) {
@@ -404,13 +351,14 @@ impl Worker {
           server = server;
           login = arc_value self.old.login;
           salt = hex_drawn 0 4 self.old.rng;
-          ack_wait = self.old.ack_wait;
+          ack_wait = self.old.acks.ack_wait;
+          window = self.old.acks.window;
           start = now;
         })) }
     {
         let login = Arc::try_clone(&self.login)?;
         let salt = self.draw_salt()?;
-        Ok(Session::up(self.alloc, server, login, salt, self.ack_wait, now))
+        Session::up(self.alloc, server, login, salt, self.acks, now)
     }
 
     /// The salt of the next login: 32 hexadecimal digits. The only error is out of memory.
@@ -499,7 +447,7 @@ impl Worker {
         ensures taken { free.line.ending ≡ None → HasTakenNext result self.new.news
             free.line.session round.entry.now.now (H.Line.calls free.line.link)
             (setup_by (arc_value self.old.login) (hex_drawn 0 4 self.old.rng)
-            self.old.ack_wait round.entry.now.now) }
+            self.old.acks round.entry.now.now) }
     {
         let free = excuse(serve_free(round.rt, self.alloc, free, round.now));
         if free.line.ending.is_some() || !free.line.session.is_ready() {
@@ -552,6 +500,32 @@ impl Worker {
         }
     }
 
+    /// Loads the chunk that was taken, beside those that the session has.
+    fn load_more<A: Tally, S: Tally, L: Link, R: Wait>(
+        &mut self,
+        round: &Round<'_, A, S, R>,
+        seat: &mut S::Seat,
+        roomy: RoomyLine<L>,
+        chunk: Carried,
+    ) -> Stage<L>
+        ensures same { seat.new ≡ seat.old }
+        ensures loaded { HasLoadedMore result self.new.news roomy.line.session chunk
+            round.entry.now.now }
+        ensures gone { HasGone result self.old.last self.new.last self.new.news }
+    {
+        let RoomyLine { mut line } = roomy;
+        match line.session.load(self.alloc, chunk, round.now) {
+            Ok(()) => {
+                self.go_to(line.session.server());
+                Stage::Loaded(line)
+            }
+            Err(LoadFailed { chunk, error: _ }) => {
+                let why = Ending::Lost(Loss::Memory);
+                self.lose(round, seat, ended(line, why), why, Some(chunk))
+            }
+        }
+    }
+
     /// A chunk goes to a server, which is told where the last one went to another.
     fn go_to(&mut self, server: u16)
         ensures told { self.new.news ≡ went_of self.old.last server }
@@ -589,15 +563,16 @@ impl Worker {
         }
     }
 
-    /// Settles the chunk that was acknowledged; until then the session is served. Where that ends
-    /// the chunk is lost, and the worker seeks a server while it waits.
+    /// Settles the chunk that was accepted first; until one is, the session is served, and a chunk
+    /// more is taken where one may be added. Where the session ends its chunks are lost, and the
+    /// worker seeks a server while they wait.
     fn settle<A: Tally, S: Tally, L: Link, R: Wait>(
         &mut self,
         round: &Round<'_, A, S, R>,
         seat: &mut S::Seat,
         line: Line<L>,
     ) -> Stage<L>
-        ensures same { line.session.reply ≡ None → seat.new ≡ seat.old }
+        ensures same { line.session.accepted ≡ [] → seat.new ≡ seat.old }
         ensures settled { HasSettled result line.session }
         ensures lost { line.ending ≡ None → HasLost result self.new.news line.session
             round.entry.now.now (L.calls line.link) }
@@ -607,78 +582,104 @@ impl Worker {
         let mut line = line;
         if line.session.is_acked() {
             self.news = settle_line(round, seat, &mut line);
-            return Stage::Settled(FreeLine { line });
+            return Stage::Settled(line);
         }
+        let adds = line.may_add();
         let line = serve(round.rt, self.alloc, line, round.now);
+        if line.session.is_acked() {
+            return Stage::Loaded(line);
+        }
         match line.ending {
-            Some(ending) if !line.session.is_acked() => {
-                self.news = ending.news(line.session.server());
-                end_line(round, seat, line);
-                Stage::Seeking
-            }
-            _ => Stage::Loaded(line),
+            Some(ending) => self.lose(round, seat, line, ending, None),
+            None if adds => self.add(round, seat, line),
+            None => Stage::Loaded(line),
         }
     }
 
-    /// The chunk was settled: the session stands, where it takes another one.
+    /// A session ends with chunks that are not acknowledged: they are lost, and the one that may
+    /// have been taken for it goes back. The worker seeks a server while they wait.
+    fn lose<A: Tally, S: Tally, L: Link, R: Wait>(
+        &mut self,
+        round: &Round<'_, A, S, R>,
+        seat: &mut S::Seat,
+        line: Line<L>,
+        why: Ending,
+        taken: Option<Carried>,
+    ) -> Stage<L>
+        requires { line.session.accepted ≡ [] }
+        ensures same { seat.new ≡ seat.old }
+        ensures told { self.new.news ≡ news_of why line.session.setup.server }
+        ensures last { self.new.last ≡ self.old.last }
+        ensures seeks { result ≡ Stage.Seeking }
+    {
+        self.news = why.news(line.session.server());
+        end_line(round, seat, line, taken);
+        Stage::Seeking
+    }
+
+    /// Takes a chunk for a session that has others, where one more may be added and the worker is
+    /// to try no other server: else it goes there once its chunks are acknowledged. What another
+    /// worker claims is left to it.
+    fn add<A: Tally, S: Tally, L: Link, R: Wait>(
+        &mut self,
+        round: &Round<'_, A, S, R>,
+        seat: &mut S::Seat,
+        line: Line<L>,
+    ) -> Stage<L>
+        requires settled { line.session.accepted ≡ [] }
+        requires on { line.ending ≡ None }
+        ensures same { seat.new ≡ seat.old }
+        ensures added { HasAdded result line.session }
+    {
+        if !line.may_add() || round.out.is_claimed(round.rt, round.now) {
+            return Stage::Loaded(line);
+        }
+        if self.is_to_try_other(round, line.session.server()) {
+            return Stage::Loaded(line);
+        }
+        match self.next_chunk(round, seat) {
+            Some(chunk) => Stage::Added(RoomyLine { line }, chunk),
+            None => Stage::Loaded(line),
+        }
+    }
+
+    /// Whether the worker is to try another server than the one of its session. That it asks for
+    /// its own choice no clause can see through the lock: it is tested.
+    fn is_to_try_other<A: Tally, S: Tally, R: Wait>(
+        &self,
+        round: &Round<'_, A, S, R>,
+        own: u16,
+    ) -> bool {
+        match round.out.choose(round.rt, self.number, round.now) {
+            Some(server) => server != own,
+            None => false,
+        }
+    }
+
+    /// A chunk was settled: the worker goes on with those that the session still has. Without any
+    /// the session stands, where it takes another one.
     fn go_on<A: Tally, S: Tally, L: Link, R: Wait>(
         &mut self,
         round: &Round<'_, A, S, R>,
         seat: &mut S::Seat,
-        free: FreeLine<L>,
+        line: Line<L>,
     ) -> Stage<L>
         ensures same { seat.new ≡ seat.old }
-        ensures stands { free.line.ending ≡ None → live_is_ready free.line.session ≡ true
-            → result ≡ Stage.Standing free }
-        ensures spent { free.line.ending ≡ None → live_is_ready free.line.session ≡ false
-            → (result ≡ Stage.Idle) × (self.new.news ≡ None) }
-        ensures ends { IfSome free.line.ending (λ why. (result ≡ Stage.Idle)
-            × (self.new.news ≡ news_of why free.line.session.setup.server)) }
+        ensures goes { HasGoneOn result self.new.news line.session line.ending }
     {
+        if line.session.is_acked() {
+            return Stage::Loaded(line);
+        }
+        if line.session.has_chunk() {
+            return match line.ending {
+                Some(ending) => self.lose(round, seat, line, ending, None),
+                None => Stage::Loaded(line),
+            };
+        }
+        let free = FreeLine { line };
         if free.line.ending.is_some() || free.line.session.is_ready() {
             return self.stand(round, seat, free);
         }
         self.stand(round, seat, to_end(free, Ending::Spent))
-    }
-}
-
-/// A line without a chunk, whose server may have closed it and owed nothing.
-fn excuse<L: Link>(free: FreeLine<L>) -> FreeLine<L>
-    ensures session { result.line.session ≡ free.line.session }
-    ensures ending { result.line.ending ≡ option_map
-        (λ why. idle_ending why (is_done free.line.session.handshake)) free.line.ending }
-{
-    match free.line.ending {
-        None => free,
-        Some(why) => {
-            let why = why.idle(free.line.session.is_greeted());
-            to_end(free, why)
-        }
-    }
-}
-
-/// A line without a chunk is to end.
-fn to_end<L: Link>(free: FreeLine<L>, why: Ending) -> FreeLine<L>
-    ensures session { result.line.session ≡ free.line.session }
-    ensures ending { result.line.ending ≡ Some why }
-{
-    let FreeLine { mut line } = free;
-    line.ending = Some(why);
-    FreeLine { line }
-}
-
-/// A session that begins over a link of which no call was made.
-fn free_line<L: Link>(link: L, session: Session) -> FreeLine<L>
-    requires begun { (setup : Setup) × (session ≡ session_begins setup) }
-    requires fresh { L.calls link ≡ [] }
-    ensures session { result.line.session ≡ session }
-    ensures on { result.line.ending ≡ None }
-{
-    FreeLine {
-        line: Line {
-            link,
-            session,
-            ending: None,
-        },
     }
 }

@@ -7,7 +7,7 @@ use fwd_chunks::{Buffer, Carried, FlushKind};
 use fwd_core::OutputState;
 use fwd_handshake::Login;
 use fwd_modes::{Batch, Origin};
-use fwd_session::{LoadFailed, OwnedSalt, Session};
+use fwd_session::{AckTerms, LoadFailed, OwnedSalt, Session};
 use std::alloc::{AllocError, Global};
 use std::rt::Runtime;
 use std::sync::Arc;
@@ -35,18 +35,25 @@ fn drop_chunk(alloc: Global, chunk: Carried) {
     buffer.free(chunk, None);
 }
 
-/// The session is no more, and neither is its chunk.
-fn drop_session(alloc: Global, session: Session) {
-    let mut session = session;
-    if let Some((_, chunk)) = session.acked() {
+/// These chunks are no more.
+fn drop_chunks(alloc: Global, chunks: Vec<Carried>) {
+    let mut rest = chunks.into_iter();
+    while let Some(chunk) = rest.next() {
         drop_chunk(alloc, chunk);
     }
-    if let Some(chunk) = session.end() {
-        drop_chunk(alloc, chunk);
-    }
+    rest.destroy_empty();
 }
 
-/// A session without a login, which takes chunks at once.
+/// The session is no more, and neither are its chunks.
+fn drop_session(alloc: Global, session: Session) {
+    let mut session = session;
+    while let Some((_, chunk)) = session.acked() {
+        drop_chunk(alloc, chunk);
+    }
+    drop_chunks(alloc, session.end());
+}
+
+/// A session without a login, which takes chunks at once, one at a time.
 fn session(alloc: Global) -> Result<Session> {
     let login = Login {
         hostname: Bytes::new(alloc),
@@ -58,7 +65,11 @@ fn session(alloc: Global) -> Result<Session> {
         bail!("no memory");
     };
     let salt = OwnedSalt::new(Bytes::from_slice(alloc, b"salt")?).context("no salt")?;
-    Ok(Session::up(alloc, 0, login, salt, 10_000, 0))
+    let terms = AckTerms {
+        window: 1,
+        ack_wait: 10_000,
+    };
+    Ok(Session::up(alloc, 0, login, salt, terms, 0)?)
 }
 
 /// A server's reply to a chunk.
@@ -71,7 +82,7 @@ fn reply_to(alloc: Global, chunk: &Carried) -> Result<Vec<u8>, AllocError> {
 /// The chunk goes through the session: it is sent whole, and its reply is heard.
 fn send(alloc: Global, session: &mut Session, chunk: Carried) -> Result<()> {
     let reply = reply_to(alloc, &chunk);
-    if session.has_chunk() {
+    if session.room() == 0 {
         drop_chunk(alloc, chunk);
         bail!("the session has a chunk");
     }

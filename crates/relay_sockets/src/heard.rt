@@ -1,6 +1,7 @@
 //! What a run told of its sources and servers.
 
 use fwd_loop::{Fact, SourceEnd, Watch};
+use fwd_session::SessionFault;
 use fwd_workers::{LinkFault, Loss};
 use std::alloc::Global;
 
@@ -13,6 +14,8 @@ pub struct Heard {
     pub lost: u32,
     /// Of those, how often it could not be connected to.
     pub unreached: u32,
+    /// The faults of servers, in their order. One for which memory is refused is left out.
+    pub faults: Vec<SessionFault>,
     /// How often a server that was lost came back.
     pub back: u32,
     /// How often a worker sent its chunk to another server than the one before.
@@ -26,6 +29,7 @@ impl Heard {
             closings: Vec::new(alloc),
             lost: 0,
             unreached: 0,
+            faults: Vec::new(alloc),
             back: 0,
             changed: 0,
         }
@@ -34,8 +38,12 @@ impl Heard {
     /// A server is lost.
     fn lose(&mut self, why: Loss) {
         self.lost = self.lost.saturating_add(1);
-        if let Loss::Link(LinkFault::Connect) = why {
-            self.unreached = self.unreached.saturating_add(1);
+        match why {
+            Loss::Link(LinkFault::Connect) => self.unreached = self.unreached.saturating_add(1),
+            Loss::Fault(fault) => {
+                let _ = self.faults.push(fault);
+            }
+            _ => {}
         }
     }
 

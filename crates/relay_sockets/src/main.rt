@@ -7,6 +7,7 @@
 mod asking;
 mod by_hand;
 mod course;
+mod early;
 mod ends;
 mod facts;
 mod failover;
@@ -42,8 +43,10 @@ mod torn;
 mod traffic;
 mod unread;
 mod unrouted;
+mod values;
 mod watched;
 mod whole_way;
+mod window;
 
 use crate::course::Course;
 use anyhow::Result;
@@ -70,6 +73,7 @@ fn say_starts<R: Net<Listener = TcpListener, Stream = TcpStream> + Print + Alloc
 fn main(rt: HostRuntime) -> Result<()> {
     say_scenes(&rt, scenes::play_all(&rt, &scenes::SCENES)?)?;
     say_scenes(&rt, scenes::play_all(&rt, &scenes::LOSSES)?)?;
+    say_scenes(&rt, scenes::play_all(&rt, &scenes::WINDOWS)?)?;
     say_starts(&rt)?;
     facts::say_each(&rt);
     println!(rt; "--")?;

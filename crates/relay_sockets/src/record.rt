@@ -152,7 +152,7 @@ impl Record {
 
     /// The numbers of the requests in a frame. It is an error that it is none of them, spelled as
     /// they were sent.
-    fn numbers(&self, frame: &[u8]) -> Result<Vec<u32>> {
+    pub fn numbers(&self, frame: &[u8]) -> Result<Vec<u32>> {
         let name = name_of(frame)?;
         let mut numbers = Vec::new(self.alloc);
         put_numbers(&mut numbers, frame)?;

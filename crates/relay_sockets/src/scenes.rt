@@ -10,6 +10,7 @@ use crate::running::run_until;
 use crate::sealed::Sealed;
 use crate::server::Servers;
 use crate::site::{SEED, Site, free_site, put_output, put_relay, relay};
+use crate::window::Window;
 use crate::{
     fault, full, hostile, keys, late, liar, limits, monitors, outputs, reset, split, standby, torn,
     unread, unrouted, whole_way,
@@ -46,6 +47,7 @@ pub enum Scene {
     Reset,
     Failover(Failover),
     Primaries(Primaries),
+    Window(Window),
 }
 
 /// Scenes of a relay, its sources, its servers and its monitors.
@@ -87,6 +89,14 @@ pub static LOSSES: [Scene; 15] = [
     Scene::Primaries(Primaries(Kind::FirstDies, 2)),
 ];
 
+/// Scenes of several chunks that are sent and not acknowledged.
+pub static WINDOWS: [Scene; 4] = [
+    Scene::Window(Window::Backwards),
+    Scene::Window(Window::Early),
+    Scene::Window(Window::Wrong),
+    Scene::Window(Window::Parting),
+];
+
 impl Scene {
     /// What it is about.
     fn title(self) -> &'static str {
@@ -109,6 +119,7 @@ impl Scene {
             Scene::Reset => "sources that reset",
             Scene::Failover(scene) => scene.title(),
             Scene::Primaries(scene) => scene.title(),
+            Scene::Window(scene) => scene.title(),
         }
     }
 
@@ -133,6 +144,7 @@ impl Scene {
             Scene::Reset => 20,
             Scene::Failover(scene) => scene.host(),
             Scene::Primaries(scene) => scene.host(),
+            Scene::Window(scene) => scene.host(),
         }
     }
 
@@ -165,6 +177,7 @@ impl Scene {
         match self {
             Scene::Failover(scene) => scene.put_settings(text, site),
             Scene::Primaries(scene) => scene.put_settings(text, site),
+            Scene::Window(scene) => scene.put_settings(text, site),
             _ => self.put_plain(text, site),
         }
     }
@@ -216,6 +229,7 @@ impl Scene {
             Scene::Reset => reset::play(rt, site, &servers.first, course),
             Scene::Failover(scene) => scene.play(rt, site, servers, course),
             Scene::Primaries(scene) => scene.play(rt, site, servers, course),
+            Scene::Window(scene) => scene.play(rt, site, &servers.first, course),
         }
     }
 
@@ -262,6 +276,7 @@ impl Scene {
         match self {
             Scene::Failover(scene) => scene.put_end(text, heard)?,
             Scene::Primaries(scene) => scene.put_end(text, heard)?,
+            Scene::Window(scene) => scene.put_end(text, ended, heard)?,
             _ => write!(text, "\n  {ended:?}")?,
         }
         let why = &heard.closings;

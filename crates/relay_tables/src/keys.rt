@@ -66,6 +66,7 @@ fn print_numbers<R: Print>(rt: &R, place: usize, output: &OutputSettings) -> Res
         ("retry_wait", output.retry_wait),
         ("retry_max", output.retry_max),
         ("ack_wait", output.ack_wait),
+        ("window", u64::from(output.window)),
     ] {
         println!(rt; "output[{place}].{key} {number}")?;
     }

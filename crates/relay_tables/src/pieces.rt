@@ -1,9 +1,9 @@
-//! Values whose bytes come in pieces, and what a scanner tells of each piece: `more`; `end` with how
-//! many bytes of the piece end the value; or the fault.
+//! Values whose bytes come in pieces, and what a scanner tells of each piece: `more`; `end` with
+//! how many bytes of the piece end the value; or the fault.
 //!
 //! A line is the most bytes and the greatest depth of a value, and then its pieces, in hex. A piece
-//! `UNITxCOUNT` has the unit so many times. Each piece of a line is fed, also behind a fault; behind
-//! an end the scanner is restarted.
+//! `UNITxCOUNT` has the unit so many times. Each piece of a line is fed, also behind a fault;
+//! behind an end the scanner is restarted.
 
 ghost use Rattle.std.specs.Prelude.{◌≡◌};
 ghost use Rattle.fwd_msgpack.specs.Scans.{verdict_of, whole_len};

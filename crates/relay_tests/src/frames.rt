@@ -1,4 +1,4 @@
-//! A frame on its way out: its parts, one by one, and gathered in rooms of any size.
+//! A frame on its way out: its parts, one by one, gathered in rooms of any size, and lent.
 
 ghost use Rattle.std.specs.Prelude.{◌≡◌, None};
 
@@ -94,6 +94,27 @@ fn gathered_in(alloc: Global, size: usize) -> Result<Vec<u8>, Fail> {
     sent
 }
 
+/// How many pieces a session lends of the frame of two requests' entries, where so many bytes of it
+/// are sent, and the pieces joined.
+fn lent(alloc: Global, session: &mut Session, sent: usize) -> Result<(usize, Vec<u8>), Fail> {
+    loaded(alloc, session, &[ONE, ONE])?;
+    session.wrote(sent.min(session.waiting() as usize));
+    let pieces = session.pieces();
+    let mut joined = Vec::new(alloc);
+    for piece in pieces.as_slice() {
+        joined.extend_from_slice(piece)?;
+    }
+    Ok((pieces.as_slice().len(), joined))
+}
+
+/// The same of a session of its own.
+fn lent_behind(alloc: Global, sent: usize) -> Result<(usize, Vec<u8>), Fail> {
+    let mut session = session(alloc, None)?;
+    let lent = lent(alloc, &mut session, sent);
+    drop_session(alloc, session);
+    lent
+}
+
 #[test]
 fn a_frame_goes_out_in_its_parts(rt: HostRuntime) -> Result<(), Fail> {
     let one = parts_of(rt.alloc(), &[ONE])?;
@@ -110,6 +131,18 @@ fn a_frame_is_gathered_in_rooms_of_any_size(rt: HostRuntime) -> Result<(), Fail>
     for size in 1..60 {
         let sent = gathered_in(rt.alloc(), size)?;
         assert_eq!(rt; sent.as_slice(), FRAME);
+    }
+    Ok(())
+}
+
+#[test]
+fn a_frame_is_lent_in_its_pieces(rt: HostRuntime) -> Result<(), Fail> {
+    for sent in 0..FRAME.len() {
+        let (_, joined) = lent_behind(rt.alloc(), sent)?;
+        assert_eq!(rt; joined.as_slice(), FRAME.get(sent..).unwrap_or(&[]));
+    }
+    for (sent, count) in [(0, 4), (4, 4), (5, 3), (7, 3), (8, 2), (11, 1), (49, 0)] {
+        assert_eq!(rt; lent_behind(rt.alloc(), sent)?.0, count);
     }
     Ok(())
 }

@@ -41,3 +41,5 @@ mod session;
 mod untold;
 #[cfg(test)]
 mod values;
+#[cfg(test)]
+mod windows;

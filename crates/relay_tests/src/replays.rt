@@ -1,6 +1,6 @@
 use fwd_base::{Bytes, Seq};
 use fwd_handshake::Login;
-use fwd_model::{Answer, BufferLimits, Config, OutputConfig};
+use fwd_model::{AckTerms, Answer, BufferLimits, Config, OutputConfig};
 use fwd_script::{print_answer, read_config};
 use std::alloc::Global;
 use std::process::Abort;
@@ -51,7 +51,11 @@ fn has_row_output(rt: &impl Abort, output: &OutputConfig) {
     assert_eq!(rt; output.workers, 2);
     assert_eq!(rt; output.standby.as_slice(), [false, true].as_slice());
     assert_eq!(rt; output.limits, LIMITS);
-    assert_eq!(rt; output.ack_wait, 10_000);
+    let acks = AckTerms {
+        window: 1,
+        ack_wait: 10_000,
+    };
+    assert_eq!(rt; output.acks, acks);
     assert!(rt; is_keyless(&output.login));
 }
 

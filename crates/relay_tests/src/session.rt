@@ -7,7 +7,7 @@ use fwd_base::Bytes;
 use fwd_chunks::{Buffer, BufferLimits, Carried, FlushKind};
 use fwd_handshake::Login;
 use fwd_modes::Origin;
-use fwd_session::{LoadFailed, OwnedSalt, Session, SessionFault, SessionHeard};
+use fwd_session::{AckTerms, LoadFailed, OwnedSalt, Session, SessionFault, SessionHeard};
 use std::alloc::Global;
 use std::sync::Arc;
 use std::test::Fail;
@@ -59,15 +59,28 @@ pub fn drop_chunk(alloc: Global, chunk: Carried) {
     buffer.free(chunk, None);
 }
 
-/// The session is no more, and neither is its chunk.
-pub fn drop_session(alloc: Global, session: Session) {
+/// These chunks are no more.
+pub fn drop_chunks(alloc: Global, chunks: Vec<Carried>) {
+    let mut rest = chunks.into_iter();
+    while let Some(chunk) = rest.next() {
+        drop_chunk(alloc, chunk);
+    }
+    rest.destroy_empty();
+}
+
+/// The session is no more, once each acknowledged chunk is taken out: the chunks that it gives
+/// back.
+pub fn end_session(alloc: Global, session: Session) -> Vec<Carried> {
     let mut session = session;
-    if let Some((_, chunk)) = session.acked() {
+    while let Some((_, chunk)) = session.acked() {
         drop_chunk(alloc, chunk);
     }
-    if let Some(chunk) = session.end() {
-        drop_chunk(alloc, chunk);
-    }
+    session.end()
+}
+
+/// The session is no more, and neither are its chunks.
+pub fn drop_session(alloc: Global, session: Session) {
+    drop_chunks(alloc, end_session(alloc, session));
 }
 
 /// The client's side of a handshake.
@@ -84,20 +97,29 @@ fn login(alloc: Global, key: Option<Bytes>) -> Result<Arc<Login>, Fail> {
     }
 }
 
-/// A session that begins at the moment 0 and waits 10 seconds.
-pub fn session(alloc: Global, key: Option<Bytes>) -> Result<Session, Fail> {
+/// A session that begins at the moment 0.
+pub fn session_under(alloc: Global, key: Option<Bytes>, terms: AckTerms) -> Result<Session, Fail> {
     let Some(salt) = OwnedSalt::new(Bytes::from_slice(alloc, b"The quick ")?) else {
         return Err(Fail::from("no salt"));
     };
     let salt = salt.try_clone(alloc)?;
-    Ok(Session::up(alloc, 3, login(alloc, key)?, salt, 10_000, 0))
+    Ok(Session::up(alloc, 3, login(alloc, key)?, salt, terms, 0)?)
 }
 
-/// Loads a chunk at the moment 5, if the session has none.
+/// A session that begins at the moment 0, has one chunk at a time, and waits 10 seconds.
+pub fn session(alloc: Global, key: Option<Bytes>) -> Result<Session, Fail> {
+    let terms = AckTerms {
+        window: 1,
+        ack_wait: 10_000,
+    };
+    session_under(alloc, key, terms)
+}
+
+/// Loads a chunk at the moment 5, if the session has room for it.
 pub fn load_chunk(alloc: Global, session: &mut Session, chunk: Carried) -> Result<(), Fail> {
-    if session.has_chunk() {
+    if session.room() == 0 {
         drop_chunk(alloc, chunk);
-        return Err(Fail::from("has a chunk"));
+        return Err(Fail::from("no room"));
     }
     match session.load(alloc, chunk, 5) {
         Ok(()) => Ok(()),

@@ -1,5 +1,5 @@
-//! A server in memory that acts one step for each read of its link, and for each write that it does not
-//! take whole.
+//! A server in memory that acts one step for each read of its link, and for each write that it does
+//! not take whole.
 
 use crate::batches::{FRAME, OTHER_OUTPUT, SECOND};
 use fwd_handshake::key_digest;
@@ -49,7 +49,9 @@ pub enum Act {
     Denies,
     /// It acknowledges the last chunk that came.
     Acks,
-    /// It acknowledges it, and gives a byte that begins no value.
+    /// It acknowledges all chunks that came, the last first.
+    AcksAll,
+    /// It acknowledges the last chunk that came, and gives a byte that begins no value.
     AcksAndFaults,
     /// It acknowledges a chunk that nobody sent.
     AcksAnother,
@@ -73,6 +75,7 @@ impl Act {
             Act::Greets(_) => ", HELO",
             Act::LetsIn | Act::OtherKey | Act::Denies => ", PONG",
             Act::Acks => ", ack",
+            Act::AcksAll => ", all acks",
             Act::AcksAndFaults => ", ack and fault",
             Act::AcksAnother => ", ack of another chunk",
             Act::Closes => ", closed",
@@ -92,6 +95,8 @@ pub struct Server {
     salt: Vec<u8>,
     /// The name of the last chunk.
     name: Vec<u8>,
+    /// The acknowledgements of all chunks, the last first.
+    acks: Vec<u8>,
 }
 
 /// What a message of a client is.
@@ -123,6 +128,7 @@ impl Server {
             part: Vec::new(alloc),
             salt: Vec::new(alloc),
             name: Vec::new(alloc),
+            acks: Vec::new(alloc),
         }
     }
 
@@ -154,6 +160,8 @@ impl Server {
         if let Some(name) = message.get(from..) {
             self.name = Vec::from_slice(self.alloc, name)?;
         }
+        let ack = joined(self.alloc, ACK, &self.name)?;
+        self.acks = joined(self.alloc, &ack, &self.acks)?;
         let told = title(message);
         let told = format!(in self.alloc; "{told}")?;
         Ok(Some(told))
@@ -174,6 +182,7 @@ impl Server {
             Act::OtherKey => self.pong(b"another"),
             Act::Denies => joined(self.alloc, DENIAL, b""),
             Act::Acks => joined(self.alloc, ACK, &self.name),
+            Act::AcksAll => Vec::from_slice(self.alloc, &self.acks),
             Act::AcksAndFaults => self.ack_and_fault(),
             Act::AcksAnother => joined(self.alloc, ACK, ANOTHER),
             _ => Ok(Vec::new(self.alloc)),

@@ -9,7 +9,7 @@ use fwd_core::{BufferLimits, OutputState};
 use fwd_handshake::Login;
 use fwd_modes::{Batch, Reading, read_request};
 use fwd_msgpack::{Cut, Limits, cut};
-use fwd_session::Session;
+use fwd_session::{AckTerms, Session};
 use std::alloc::Global;
 use std::sync::Arc;
 
@@ -99,14 +99,55 @@ pub fn drop_chunk(alloc: Global, chunk: Carried) {
     buffer.free(chunk, None);
 }
 
-/// The session is no more, and neither is its chunk.
-pub fn drop_session(alloc: Global, session: Session) {
-    let mut session = session;
-    if let Some((_, chunk)) = session.acked() {
+/// The chunks are no more.
+fn drop_chunks(alloc: Global, chunks: Vec<Carried>) {
+    let mut rest = chunks.into_iter();
+    while let Some(chunk) = rest.next() {
         drop_chunk(alloc, chunk);
     }
-    if let Some(chunk) = session.end() {
+    rest.destroy_empty();
+}
+
+/// The session is no more, and neither are its chunks.
+pub fn drop_session(alloc: Global, session: Session) {
+    let mut session = session;
+    while let Some((_, chunk)) = session.acked() {
         drop_chunk(alloc, chunk);
+    }
+    drop_chunks(alloc, session.end());
+}
+
+/// A chunk as its worker leaves it: taken, or loaded where it is said to be lost.
+pub fn left_as(
+    alloc: Global,
+    chunk: Option<Carried>,
+    lost: bool,
+) -> (Option<Carried>, Vec<Carried>) {
+    let Some(chunk) = chunk else {
+        return (None, Vec::new(alloc));
+    };
+    if !lost {
+        return (Some(chunk), Vec::new(alloc));
+    }
+    match Vec::with_capacity(alloc, 1) {
+        Ok(mut loaded) => {
+            loaded.push_reserved(chunk);
+            (None, loaded)
+        }
+        Err(_) => (Some(chunk), Vec::new(alloc)),
+    }
+}
+
+/// A window of so many chunks, and 10 s for what a server owes.
+pub fn terms(window: u8) -> AckTerms {
+    terms_of(window, 10_000)
+}
+
+/// A window of so many chunks, and so long (milliseconds) for what a server owes.
+pub fn terms_of(window: u8, ack_wait: u64) -> AckTerms {
+    AckTerms {
+        window: window.clamp(1, 8),
+        ack_wait,
     }
 }
 

@@ -41,7 +41,7 @@ pub trait Output {
     fn settle(&mut self, acked: Arc<Acked>, carried: Carried) -> u64
         requires { IsEvidence (arc_value acked) carried };
 
-    fn end(&mut self, chunk: Option<Carried>, server: Option<u16>, lost: bool, now: u64);
+    fn end(&mut self, taken: Option<Carried>, loaded: Vec<Carried>, server: Option<u16>, now: u64);
 }
 
 impl Output for Locked<Plain, Plain> {
@@ -90,8 +90,8 @@ impl Output for Locked<Plain, Plain> {
         Locked::settle(self, &mut (), acked, carried)
     }
 
-    fn end(&mut self, chunk: Option<Carried>, server: Option<u16>, lost: bool, now: u64) {
-        Locked::end(self, &mut (), chunk, server, lost, now);
+    fn end(&mut self, taken: Option<Carried>, loaded: Vec<Carried>, server: Option<u16>, now: u64) {
+        Locked::end(self, &mut (), taken, loaded, server, now);
     }
 }
 
@@ -149,7 +149,8 @@ impl<'a, R: Wait> Output for Behind<'a, R> {
         self.shared.settle(self.rt, &mut (), acked, carried)
     }
 
-    fn end(&mut self, chunk: Option<Carried>, server: Option<u16>, lost: bool, now: u64) {
-        self.shared.end(self.rt, &mut (), chunk, server, lost, now);
+    fn end(&mut self, taken: Option<Carried>, loaded: Vec<Carried>, server: Option<u16>, now: u64) {
+        self.shared
+            .end(self.rt, &mut (), taken, loaded, server, now);
     }
 }

@@ -4,7 +4,7 @@ ghost use Rattle.std.specs.Prelude.{◌≡◌, ◌+◌, IfOk};
 
 use crate::batches::output;
 use crate::memory::Open;
-use crate::turns::{admits, collected, works};
+use crate::turns::{Post, admits, collected, works};
 use anyhow::Result;
 use fwd_workers::{Closing, Ledgered, Locked, Seat, SharedOutput, Tally, Ticket, open};
 use std::alloc::Global;
@@ -41,29 +41,32 @@ fn admit_both<L: Ledger + Send + Sync, M: Ledger + Send + Sync, R: Threads + Wai
     )
 }
 
-/// Two workers send, each with its seat.
+/// Two workers send, each with its seat and a window of so many chunks.
 fn work_both<L: Ledger + Send + Sync, M: Ledger + Send + Sync, R: Threads + Wait + Sync>(
     rt: &R,
     alloc: Global,
     out: &SharedOutput<Ledgered<L>, Ledgered<M>>,
-    one: Seat<M>,
-    other: Seat<M>,
+    seats: (Seat<M>, Seat<M>),
+    window: u8,
 ) -> ((Seat<M>, bool), (Seat<M>, bool))
-    ensures { (result.0.0.parts ≡ one.parts) × (result.1.0.parts ≡ other.parts) }
+    ensures { (result.0.0.parts ≡ seats.0.parts) × (result.1.0.parts ≡ seats.1.parts) }
 {
+    let (one, other) = seats;
+    let (first, second) = (Post { number: 0, window }, Post { number: 1, window });
     thread::join(
         rt,
-        move || works(rt, alloc, out, one, 0, &mut Open),
-        move || works(rt, alloc, out, other, 1, &mut Open),
+        move || works(rt, alloc, out, one, first, &mut Open),
+        move || works(rt, alloc, out, other, second, &mut Open),
     )
 }
 
-/// A day by these two ledgers, whose parts are two each.
+/// A day by these two ledgers, whose parts are two each, with windows of so many chunks.
 fn day_by<L: Ledger + Send + Sync, M: Ledger + Send + Sync, R: Threads + Wait + Sync>(
     rt: &R,
     alloc: Global,
     admitting: Blank,
     working: Blank,
+    window: u8,
 ) -> Result<Day>
     requires admitting { (admitting.name ≡ L.name) × (admitting.parts ≡ L.parts) × (L.parts ≡ 2) }
     requires working { (working.name ≡ M.name) × (working.parts ≡ M.parts) × (M.parts ≡ 2) }
@@ -85,7 +88,7 @@ fn day_by<L: Ledger + Send + Sync, M: Ledger + Send + Sync, R: Threads + Wait + 
         move || -> ((Seat<M>, bool), (Seat<M>, bool))
             requires { (third.parts ≡ 1) × (fourth.parts ≡ 1) }
             ensures { (result.0.0.parts ≡ 1) × (result.1.0.parts ≡ 1) }
-        { work_both(rt, alloc, out, third, fourth) },
+        { work_both(rt, alloc, out, (third, fourth), window) },
     );
     let ((one, tickets), (other, others)) = admitted;
     let ((ours, _), (theirs, _)) = worked;
@@ -102,9 +105,9 @@ fn day_by<L: Ledger + Send + Sync, M: Ledger + Send + Sync, R: Threads + Wait + 
     })
 }
 
-/// A day.
-pub fn whole_day<R: Threads + Wait + Sync>(rt: &R, alloc: Global) -> Result<Day>
+/// A day with windows of so many chunks.
+pub fn whole_day<R: Threads + Wait + Sync>(rt: &R, alloc: Global, window: u8) -> Result<Day>
     ensures { IfOk result (λ day. day.closing.accepted ≡ day.closing.settled + day.closing.left) }
 {
-    day_by::<Brand, Brand, R>(rt, alloc, Blank::new(2), Blank::new(2))
+    day_by::<Brand, Brand, R>(rt, alloc, Blank::new(2), Blank::new(2), window)
 }

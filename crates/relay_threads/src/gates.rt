@@ -1,6 +1,6 @@
 //! Two workers at work at once: a gate lets neither settle alone.
 
-use crate::turns::works;
+use crate::turns::{Post, works};
 use fwd_workers::{Gate, Pass, Place, Plain, SharedOutput};
 use std::alloc::Global;
 use std::rt::Clock;
@@ -86,14 +86,14 @@ pub fn both_work<R: Threads + Wait + Clock + Sync>(
                 clock: rt,
                 sight: seen,
             };
-            works(rt, alloc, out, (), 0, &mut gate)
+            works(rt, alloc, out, (), Post::narrow(0), &mut gate)
         },
         move || {
             let mut gate = Both {
                 clock: rt,
                 sight: seen,
             };
-            works(rt, alloc, out, (), 1, &mut gate)
+            works(rt, alloc, out, (), Post::narrow(1), &mut gate)
         },
     );
     (first, second)

@@ -2,7 +2,7 @@
 //! tells, and how it leaves its output.
 
 use crate::acts::KEY;
-use crate::batches::{login_with, output_at, output_of_three};
+use crate::batches::{login_with, output_at, output_of_three, terms_of};
 use crate::played::{Meetings, PlayedHub};
 use crate::record::Record;
 use crate::turns::{abandon_all, admits};
@@ -43,6 +43,8 @@ pub struct Life {
     /// Whether servers have to know the shared key.
     pub is_keyed: bool,
     pub ack_wait: u64,
+    /// How many chunks it may have that are not acknowledged.
+    pub window: u8,
     /// How long a turn lasts.
     pub tick: u64,
     pub turns: u64,
@@ -62,6 +64,7 @@ pub const PLAIN: Life = Life {
     worker: 0,
     is_keyed: false,
     ack_wait: 10_000,
+    window: 1,
     tick: 1,
     turns: 0,
     meetings: &[],
@@ -105,6 +108,7 @@ impl Telling {
         let Life {
             worker,
             ack_wait,
+            window,
             turns,
             meetings,
             interrupt,
@@ -112,8 +116,9 @@ impl Telling {
         } = self.life;
         let key = if self.life.is_keyed { Some(KEY) } else { None };
         let login = login_with(self.alloc, key)?;
+        let acks = terms_of(window, ack_wait);
         let rng = ChaCha20Rng::from_seed([0; 32]);
-        let mut worker = Worker::new(self.alloc, worker, login, ack_wait, rng);
+        let mut worker = Worker::new(self.alloc, worker, login, acks, rng);
         let mut hub = PlayedHub::new(self.alloc, self.record.share()?, meetings);
         let mut gate = Watched::new(self.alloc, self.record.share()?, interrupt);
         let mut clock = Ticking::new(self.life.tick);
@@ -156,7 +161,8 @@ impl Telling {
             return;
         };
         let number = chunk.number();
-        self.out.end(rt, &mut (), Some(chunk), None, false, now);
+        let loaded = Vec::new(self.alloc);
+        self.out.end(rt, &mut (), Some(chunk), loaded, None, now);
         self.record
             .note_made(rt, format!(in self.alloc; ", chunk {number}"));
     }

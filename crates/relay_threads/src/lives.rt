@@ -365,6 +365,46 @@ static RETURNS: [Life; 2] = [
     },
 ];
 
+/// Windows of two chunks: one more is taken while the first is not acknowledged.
+static WINDOWS: [Life; 3] = [
+    Life {
+        name: "two chunks at once, acknowledged in reverse order",
+        requests: 2,
+        window: 2,
+        turns: 10,
+        meetings: &[Some(&[Act::Silent, Act::AcksAll])],
+        looks: [10, 11, 12],
+        ..PLAIN
+    },
+    Life {
+        name: "the second of two is acknowledged, and the server closes",
+        requests: 2,
+        window: 2,
+        tick: 250,
+        turns: 16,
+        meetings: &[
+            Some(&[Act::Silent, Act::Acks, Act::Closes]),
+            Some(&[Act::Silent, Act::Acks]),
+        ],
+        looks: [4000, 4001, 4002],
+        ..PLAIN
+    },
+    Life {
+        name: "stopped with a chunk in the session, before it takes another",
+        requests: 2,
+        window: 2,
+        turns: 9,
+        meetings: &[Some(&[])],
+        interrupt: Some(Interrupt {
+            place: Place::BeforeTake,
+            from: 1,
+            ..STOP
+        }),
+        looks: [4, 502, 503],
+        ..PLAIN
+    },
+];
+
 /// Numbers of workers, servers, chunks and outputs.
 static NUMBERS: [Life; 4] = [
     Life {
@@ -424,5 +464,6 @@ pub fn tell_all<R: Wait + Print>(rt: &R, alloc: Global) -> Result<()> {
     tell(rt, alloc, &WAITS)?;
     tell(rt, alloc, &SOUGHT)?;
     tell(rt, alloc, &RETURNS)?;
+    tell(rt, alloc, &WINDOWS)?;
     tell(rt, alloc, &NUMBERS)
 }

@@ -22,6 +22,7 @@ mod watched;
 use crate::batches::output;
 use crate::memory::Open;
 use crate::mirror::{Story, mirrored, told};
+use crate::turns::Post;
 use anyhow::Result;
 use fwd_core::FlushKind;
 use fwd_workers::{Closing, Locked, Plain, SharedOutput};
@@ -50,13 +51,14 @@ fn shared(alloc: Global, chunk: u32) -> Result<SharedOutput<Plain, Plain>> {
     Ok(SharedOutput::new(Locked::new(state, Plain::new(0), Plain::new(0))))
 }
 
-/// Two threads admit and two workers send, and what the ledgers say at the close.
-fn tell_day<R: Threads + Wait + Sync + Print>(rt: &R, alloc: Global) -> Result<()> {
-    let day = day::whole_day(rt, alloc)?;
+/// Two threads admit and two workers send, each with a window of so many chunks, and what the
+/// ledgers say at the close.
+fn tell_day<R: Threads + Wait + Sync + Print>(rt: &R, alloc: Global, window: u8) -> Result<()> {
+    let day = day::whole_day(rt, alloc, window)?;
     let closing = day.closing;
     let tickets = (day.first, day.second);
     println!(rt;
-        "two and two: accepted {}, tickets {tickets:?}",
+        "two and two, a window of {window}: accepted {}, tickets {tickets:?}",
         closing.accepted
     )?;
     let is_sum = closing.settled.saturating_add(closing.left) == closing.accepted;
@@ -100,7 +102,8 @@ fn tell_worker<R: Wait + Print>(rt: &R, alloc: Global) -> Result<()> {
     let out = shared(alloc, 1000)?;
     let ((), tickets) = turns::admits(rt, alloc, &out, (), 1, 3);
     out.flush(rt, 0, FlushKind::All);
-    let ((), stopped) = turns::works(rt, alloc, &out, (), 0, &mut Open);
+    let post = Post::narrow(0);
+    let ((), stopped) = turns::works(rt, alloc, &out, (), post, &mut Open);
     let (receipts, left) = turns::collected(rt, alloc, &out, tickets);
     println!(rt; "one worker: stopped {stopped}, receipts {receipts}, left {left}")?;
     Ok(())
@@ -132,7 +135,8 @@ fn main(rt: HostRuntime) -> Result<()> {
             the frame: {is_frame}"
         )?;
     }
-    tell_day(&rt, alloc)?;
+    tell_day(&rt, alloc, 1)?;
+    tell_day(&rt, alloc, 8)?;
     tell_seats(&rt, alloc)?;
     tell_gates(&rt, alloc)
 }

@@ -6,7 +6,8 @@ ghost use Rattle.std.specs.Arc.{arc_value};
 ghost use Rattle.fwd_session.specs.Evidence.{IsEvidence};
 
 use crate::batches::{
-    LONGER, MESSAGE, OTHER, THREE, batch, drop_chunk, drop_session, login, output, output_of_three,
+    LONGER, MESSAGE, OTHER, THREE, batch, drop_chunk, drop_session, left_as, login, output,
+    output_of_three, terms,
 };
 use crate::calls::{Behind, Output};
 use anyhow::Result;
@@ -66,7 +67,10 @@ fn acknowledged(alloc: Global, chunk: Carried) -> Option<(Arc<Acked>, Carried)>
     let mut reply = [0; 30];
     reply[..6].copy_from_slice(b"\x81\xa3ack\xb8");
     reply[6..].copy_from_slice(chunk.name());
-    let mut session = Session::up(alloc, 0, login, salt, 10_000, 0);
+    let Ok(mut session) = Session::up(alloc, 0, login, salt, terms(1), 0) else {
+        drop_chunk(alloc, chunk);
+        return None;
+    };
     if let Err(LoadFailed { chunk, error: _ }) = session.load(alloc, chunk, 0) {
         drop_chunk(alloc, chunk);
     }
@@ -151,7 +155,8 @@ impl<'a, O: Output> Play<'a, O> {
 
     /// A worker's end at a moment (milliseconds): a server may be lost, and its chunk may be.
     fn end_as(&mut self, chunk: Option<Carried>, server: Option<u16>, lost: bool, now: u64) {
-        self.out.end(chunk, server, lost, now);
+        let (taken, loaded) = left_as(self.alloc, chunk, lost);
+        self.out.end(taken, loaded, server, now);
         self.note(Answer::Done);
     }
 

@@ -3,10 +3,10 @@
 
 ghost use Rattle.std.specs.Prelude.{◌≡◌, ◌+◌, ◌<◌, ◌≤◌, IfOk, vec_len};
 
-use crate::batches::{login, output};
+use crate::batches::{login, output, terms};
 use crate::hand::Hand;
 use crate::memory::{Open, Still, Wires};
-use crate::turns::{abandon_all, admits, works};
+use crate::turns::{Post, abandon_all, admits, works};
 use anyhow::Result;
 use fwd_core::FlushKind;
 use fwd_workers::{
@@ -97,7 +97,7 @@ fn work_hand<L: Ledger, M: Ledger, R: Wait>(
         return Hand { number, seat };
     };
     let rng = ChaCha20Rng::from_seed([0; 32]);
-    let mut worker = Worker::new(alloc, number, login, 10_000, rng);
+    let mut worker = Worker::new(alloc, number, login, terms(1), rng);
     let mut gate = Until { admitted };
     let mut hub = Wires(alloc);
     let (seat, _) = worker.run(rt, out, seat, &mut hub, &mut gate, &mut Still, u64::MAX);
@@ -179,7 +179,7 @@ fn work_off<L: Ledger, M: Ledger, R: Wait>(
     ensures { result.parts ≡ seat.parts }
 {
     out.flush(rt, 0, FlushKind::All);
-    let (seat, _) = works(rt, alloc, out, seat, 0, &mut Open);
+    let (seat, _) = works(rt, alloc, out, seat, Post::narrow(0), &mut Open);
     seat
 }
 

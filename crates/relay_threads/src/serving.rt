@@ -1,8 +1,9 @@
 //! Turns of a session over a link that holds an acknowledgement before the frame's last byte.
 
-ghost use Rattle.std.specs.Prelude.{◌≡◌, ◌≤◌, None, false, length, IfOk};
+ghost use Rattle.std.specs.Prelude.{◌≡◌, ◌≤◌, ◌<◌, false, length, IfOk};
+ghost use Rattle.fwd_session.specs.Live.{live_room};
 
-use crate::batches::{ACK, MESSAGE, batch, drop_chunk, drop_session, login, output};
+use crate::batches::{ACK, MESSAGE, batch, drop_chunk, drop_session, login, output, terms};
 use crate::memory::{Wire, give};
 use anyhow::{Result, bail};
 use fwd_base::Bytes;
@@ -57,23 +58,15 @@ impl Link for Hasty {
     }
 }
 
-/// A session that begins.
-fn session_of(alloc: Global, login: Arc<Login>, salt: OwnedSalt) -> Session
-    ensures loaded { result.loaded ≡ None }
-    ensures down { result.down ≡ false }
-{
-    Session::up(alloc, 0, login, salt, 10_000, 0)
-}
-
 /// A session that begins, with a login without a key.
 fn session(alloc: Global) -> Result<Session>
-    ensures { IfOk result (λ s. (s.loaded ≡ None) × (s.down ≡ false)) }
+    ensures { IfOk result (λ s. (0 < live_room s) × (s.down ≡ false)) }
 {
     let Some(salt) = OwnedSalt::new(Bytes::new(alloc)) else {
         bail!("no salt");
     };
     let login = login(alloc)?;
-    Ok(session_of(alloc, login, salt))
+    Ok(Session::up(alloc, 0, login, salt, terms(1), 0)?)
 }
 
 /// Admits a Message.

@@ -2,7 +2,7 @@
 
 ghost use Rattle.std.specs.Prelude.{◌≡◌, ◌≤◌};
 
-use crate::batches::{MESSAGE, batch, login};
+use crate::batches::{MESSAGE, batch, login, terms};
 use crate::memory::{Open, Still, Wires};
 use fwd_core::Origin;
 use fwd_workers::{Ended, Gate, SharedOutput, Tally, Ticket, Worker};
@@ -55,13 +55,27 @@ pub fn admits<A: Tally, S: Tally, R: Wait>(
     (seat, tickets)
 }
 
+/// A worker's number, and how many chunks it may have that are not acknowledged.
+#[derive(Clone, Copy)]
+pub struct Post {
+    pub number: u16,
+    pub window: u8,
+}
+
+impl Post {
+    /// A worker with one chunk at a time.
+    pub fn narrow(number: u16) -> Post {
+        Post { number, window: 1 }
+    }
+}
+
 /// A worker's run, and whether the gate stopped it.
 pub fn works<A: Tally, S: Tally, G: Gate, R: Wait>(
     rt: &R,
     alloc: Global,
     out: &SharedOutput<A, S>,
     seat: S::Seat,
-    number: u16,
+    post: Post,
     gate: &mut G,
 ) -> (S::Seat, bool)
     ensures parts { S.parts result.0 ≡ S.parts seat }
@@ -71,7 +85,8 @@ pub fn works<A: Tally, S: Tally, G: Gate, R: Wait>(
         return (seat, false);
     };
     let rng = ChaCha20Rng::from_seed([0; 32]);
-    let mut worker = Worker::new(alloc, number, login, 10_000, rng);
+    let Post { number, window } = post;
+    let mut worker = Worker::new(alloc, number, login, terms(window), rng);
     let mut hub = Wires(alloc);
     let (seat, ended) = worker.run(rt, out, seat, &mut hub, gate, &mut Still, 10_000);
     (seat, ended == Ended::Stopped)

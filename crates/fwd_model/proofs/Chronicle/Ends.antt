@@ -9,7 +9,7 @@ use Rattle.fwd_model.specs.declared.event.Event.{Event}
 use Rattle.fwd_model.specs.declared.event.Event.TheVariants as event
 use Rattle.fwd_model.specs.declared.event.EndKind.{EndKind}
 use Rattle.fwd_model.specs.Outputs.{Return, output_history_ends}
-use Rattle.fwd_model.specs.History.{Connection, Lane, with_output, without_session}
+use Rattle.fwd_model.specs.History.{Connection, Lane, with_output, with_place}
 use Rattle.fwd_model.proofs.Reached.{slice_get-set}
 use Rattle.fwd_model.proofs.Follows.Ends.{Keeps, back-keeps}
 use Rattle.fwd_model.proofs.Chronicle.{Stands, SessionStory, NumberStory, AllTold, has_origin, LaneStory, session_still, number_still}
@@ -18,10 +18,10 @@ none_some : {X : Type 0} {x : X} → None ≡ Some x → ⊥
 none_some e = cc
 
 pub lane_ends : (config : Config) (es : List Event) (cs : List Connection) (o w : ℕ)
-    (kind : EndKind) (now : ℕ) (l : Lane) (back : Option Return) (server : Option ℕ)
+    (kind : EndKind) (now : ℕ) (l : Lane) (back : List Return) (server : Option ℕ)
     → LaneStory config es cs o l
     → LaneStory config (es ++ event.End o w kind now ∷ []) cs o
-    (without_session w (with_output l (output_history_ends l.output back server now)))
+    (with_place w None (with_output l (output_history_ends l.output back server now)))
 lane_ends config es cs o w kind now l back server t = record {
   sessions = λ j u h. at j u (slice_get-set l.sessions w j None (Some u) h);
   numbers = λ k h. subst (λ cells. NumberStory config (es ++ e ∷ []) o cells k) (sym keeps.cells)
@@ -36,10 +36,10 @@ lane_ends config es cs o w kind now l back server t = record {
     e = event.End o w kind now
 
     keeps : Keeps l.output.buffer (output_history_ends l.output back server now).buffer
-    keeps = back-keeps l.output.buffer w now back
+    keeps = back-keeps l.output.buffer now back
 
     another : (j : ℕ) → (w ≡ j → ⊥) → Stands config es e o j
-    another j differ kind' moment number is done = differ cc
+    another j differ kind' moment numbers is done = differ cc
 
     at : (j : ℕ) (u : SessionHistory)
         → ((w ≡ j) × (None ≡ Some u)) ⊎ ((w ≡ j → ⊥) × (slice_get l.sessions j ≡ Some (Some u)))

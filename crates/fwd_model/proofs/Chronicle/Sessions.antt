@@ -1,65 +1,34 @@
 -- What the events of sessions add to the chronicle.
-use Rattle.std.proofs.Common.{◌≡◌, ℕ, ◌<◌, ◌≤◌, Bool, true, false, cond, List, [], ◌∷◌, ◌++◌, length, Option, Some, None, refl, sym, ap, subst, ◌∙◌, inl, inr, arith}
-use Rattle.std.specs.Prelude.{◌⊎◌, option_map, is_some, not, ◌||◌, slice_get}
-use Rattle.std.proofs.lemmas.Bool.Decides.{nat_tests}
-use Rattle.std.proofs.lemmas.List.{length-append, append-nil}
+use Rattle.std.proofs.Common.{◌≡◌, ℕ, zero, suc, ◌+◌, ◌<◌, ◌≤◌, Bool, true, false, cond, List, [], ◌∷◌, ◌++◌, length, drop, Option, Some, None, refl, sym, ap, subst, ◌∙◌, inl, inr, arith}
+use Rattle.std.specs.Prelude.{◌⊎◌, slice_get}
+use Rattle.std.proofs.lemmas.List.{length-append}
+use Rattle.std.proofs.lemmas.Option.{same_Some}
 use Rattle.fwd_msgpack.specs.Heads.{head_bytes}
-use Rattle.fwd_msgpack.specs.Scans.{Split, values_of}
 use Rattle.fwd_modes.specs.Frames.{chunk_frame}
-use Rattle.fwd_modes.specs.Acks.{ack_name}
-use Rattle.fwd_handshake.specs.declared.credentials.Login.{Login}
-use Rattle.fwd_chunks.specs.History.{BufferHistory, Load}
-use Rattle.fwd_session.specs.declared.fault.SessionFault.{SessionFault}
-use Rattle.fwd_session.specs.declared.handshake.Handshake.{Handshake}
-use Rattle.fwd_session.specs.Evidence.{frame_of}
-use Rattle.fwd_session.specs.Said.{Said, said_in, out_of}
+use Rattle.fwd_chunks.specs.History.{Load}
+use Rattle.fwd_session.specs.Evidence.{Accepted, frame_of}
 use Rattle.fwd_session.specs.History as session
-use Rattle.fwd_session.specs.History.{SessionHistory, handshake_of, is_done, is_handed_on, says, newly_heard, awaited}
-use Rattle.fwd_session.proofs.Saying.{Names as IsNamedBy, named_in, Placed, placed_in}
-use Rattle.fwd_session.proofs.Pieces.{said_mute, stays_done}
-use Rattle.fwd_session.proofs.Following.{handshake-hears}
+use Rattle.fwd_session.specs.History.{Loaded, SessionHistory, IsSane as IsSaneHistory, IsAppended, IsFramed, IsAcknowledged, is_ready, newly_accepted, says}
+use Rattle.fwd_session.proofs.Lists.{all_append, all_left, all_same}
+use Rattle.fwd_session.proofs.Framing.{begins-framed, loads-framed, sends-framed, hears-framed, unloads-framed, looks-framed}
+use Rattle.fwd_session.proofs.Accepting.{acknowledged}
 use Rattle.fwd_model.specs.declared.config.Config.{Config}
 use Rattle.fwd_model.specs.declared.event.Event.{Event}
 use Rattle.fwd_model.specs.declared.event.Event.TheVariants as event
 use Rattle.fwd_model.specs.declared.answer.Answer.TheVariants as answer
-use Rattle.fwd_model.specs.History.{Connection, Lane, with_session}
-use Rattle.fwd_model.specs.Delivered.{reached, answered, session_of, WasAcknowledged}
-use Rattle.fwd_model.proofs.Reached.{IsSaneSession, slice_get-set}
-use Rattle.fwd_model.proofs.Chronicle.{Stands, Quiet, ChunkStory, SessionStory, LaneStory, session_still, begun_still, loaded_still, sent_still, acked_still, lane_still, extends_same}
-use Rattle.std.proofs.lemmas.Option.{same_Some}
-
--- ---- a value that acknowledges names the chunk
-
--- the value is one of these, and has the awaited name
-record Names (a : Option (List ℕ)) (values : List (List ℕ)) : Type 0 where
-  pub place : ℕ
-  pub value : List ℕ
-  pub name : List ℕ
-  pub here : slice_get values place ≡ Some value
-  pub named : ack_name value ≡ Some name
-  pub was : a ≡ Some name
-
-names_by : (a : Option (List ℕ)) (values : List (List ℕ)) (value : List ℕ)
-    → IsNamedBy a (Some value) → Placed values (Some value) → Names a values
-names_by None values value n p = absurd n
-names_by (Some name) values value n p = record { place = p.0; value = value; name = name; here = p.1; named = n; was = refl }
-
-accepted_names : (login : Login) (salt : List ℕ) (at : Handshake) (a : Option (List ℕ))
-    (s : Split) (value : List ℕ) → (said_in login salt at a s).reply ≡ Some value
-    → Names a (values_of s)
-accepted_names login salt at a s value e =
-    names_by a (values_of s) value (subst (IsNamedBy a) e (named_in login salt at a s)) (subst (Placed (values_of s)) e (placed_in login salt at a s))
+use Rattle.fwd_model.specs.History.{Connection, Lane, with_place}
+use Rattle.fwd_model.specs.Delivered.{reached, answered, session_of, WasSent}
+use Rattle.fwd_model.proofs.Lists.{all_at, all_both, all_drop}
+use Rattle.fwd_model.proofs.Reached.{slice_get-set}
+use Rattle.fwd_model.proofs.Chronicle.{Stands, Quiet, LoadedStory, AckedStory, SessionStory, LaneStory, session_still, loads_still, acks_still, begun_still, loaded_still, lane_still, extends_same}
 
 -- ---- one session's story goes on
-
-true_false : (b : Bool) → b ≡ true → b ≡ false → ⊥
-true_false b e f = cc
 
 pub put_session : (config : Config) (es : List Event) (e : Event) (o : ℕ) (cs : List Connection)
     (l : Lane) (w : ℕ) (s : SessionHistory) → Quiet config es e o
     → LaneStory config es cs o l
     → SessionStory config (es ++ e ∷ []) o w s
-    → LaneStory config (es ++ e ∷ []) cs o (with_session w s l)
+    → LaneStory config (es ++ e ∷ []) cs o (with_place w (Some s) l)
 put_session config es e o cs l w s quiet t story =
     let still = lane_still config es e cs cs o l (extends_same cs) quiet t in record {
       sessions = λ j u h. at j u (slice_get-set l.sessions w j (Some s) (Some u) h);
@@ -85,51 +54,47 @@ frame_some : (c : Load) → 0 < length (frame_of c)
 unfolding chunk_frame head_bytes
 frame_some c = omega arith
 
-not_yet : (s : SessionHistory) (c : Load) (now : ℕ) → s.sent ≤ length s.appended
-    → is_handed_on (session.loads s c now) ≡ false
-not_yet s c now le = grind (arith, nat_tests, length-append s.appended (frame_of c), frame_some c)
-
--- what is awaited is the name of the session's chunk, which was handed on whole
-awaits : (s : SessionHistory) (name : List ℕ) → awaited s ≡ Some name
-    → (c : Load) × (s.loaded ≡ Some c) × (name ≡ c.name) × (is_handed_on s ≡ true)
-awaits s name h = at (is_some s.reply) (is_handed_on s) s.loaded refl refl h
-  where
-    at : (a b : Bool) (loaded : Option Load) → s.loaded ≡ loaded → is_handed_on s ≡ b
-        → cond (a || not b) None (option_map (λ (c : Load). c.name) loaded) ≡ Some name
-        → (c : Load) × (s.loaded ≡ Some c) × (name ≡ c.name) × (is_handed_on s ≡ true)
-    at true b loaded e f g = absurd cc
-    at false false loaded e f g = absurd cc
-    at false true None e f g = absurd cc
-    at false true (Some c) e f g = (c, e, sym (same_Some _ _ g), f)
+-- a frame that is appended now is not sent yet
+not_yet : (s : SessionHistory) (c : Load) → s.sent ≤ length s.appended
+    → length (s.appended ++ frame_of c) ≤ s.sent → ⊥
+not_yet s c le through = omega (arith, length-append s.appended (frame_of c), frame_some c, le, through)
 
 module _ (config : Config) (es : List Event) (o w : ℕ) where
   pub begins : (setup : session.Setup) (server : ℕ) (salt : List ℕ) (now : ℕ)
       → answered config es (event.Up o w server salt now) ≡ answer.Done
       → SessionStory config (es ++ event.Up o w server salt now ∷ []) o w (session.begins setup)
   begins setup server salt now done = record {
-    begun = record { before = es; server = server; salt = salt; moment = now; later = []; split = refl; done = done; kept = λ between rest kind m number at e. no_split between (event.End o w kind m) rest at };
-    has_one = λ e. absurd cc;
-    greeted = λ e. absurd cc;
-    chunk = λ c e. absurd cc;
+    begun = record { before = es; server = server; salt = salt; moment = now; later = []; split = refl; done = done; kept = λ between rest kind m numbers at e. no_split between (event.End o w kind m) rest at };
+    framed = begins-framed setup;
+    loaded = tt;
+    acked = tt;
   }
 
-  pub loads : (b : BufferHistory) (s : SessionHistory) (c : Load) (now : ℕ)
-      → SessionStory config es o w s → IsSaneSession w b s → is_some s.loaded ≡ false
-      → is_done (handshake_of s) ≡ true
+  pub loads : (s : SessionHistory) (c : Load) (now : ℕ)
+      → SessionStory config es o w s → IsSaneHistory s → is_ready s ≡ true
       → answered config es (event.Load o w now) ≡ answer.Frame (frame_of c)
       → SessionStory config (es ++ event.Load o w now ∷ []) o w (session.loads s c now)
-  loads b s c now t fits fresh done answered = record {
-    begun = begun_still config es (event.Load o w now) o w (λ kind moment number is done. absurd cc) t.begun;
-    has_one = λ e. refl;
-    greeted = λ e. done;
-    chunk = λ d e. subst (λ x. ChunkStory config (es ++ event.Load o w now ∷ []) o w (session.loads s c now) x) (same_Some _ _ e) (record {
-      was_loaded = record { before = es; moment = now; later = []; split = refl; loads = answered; kept = λ between rest kind m number at e. no_split between (event.End o w kind m) rest at; begun = t.begun };
-      front = s.appended;
-      ends = refl;
-      was_sent = λ b. absurd (true_false (is_handed_on (session.loads s c now)) b (not_yet s c now fits.own.sent));
-      was_acked = λ b. absurd (true_false (is_some s.loaded) (t.has_one b) fresh);
-    });
+  loads s c now t own ready answered = record {
+    begun = begun_still config es e o w calm t.begun;
+    framed = loads-framed s c now t.framed ready;
+    loaded = all_append (LoadedStory config (es ++ e ∷ []) o w s.sent) s.carried (one ∷ []) (loads_still config es e o w s.sent s.carried calm t.loaded) (
+      record {
+        was_loaded = record { before = es; moment = now; later = []; split = refl; loads = answered; kept = λ between rest kind m numbers at e. no_split between (event.End o w kind m) rest at; begun = t.begun };
+        was_sent = λ through. absurd (not_yet s c own.sent through);
+      },
+      tt,
+    );
+    acked = acks_still config es e o w s.accepted t.acked;
   }
+    where
+      e : Event
+      e = event.Load o w now
+
+      calm : Stands config es e o w
+      calm kind moment numbers is done = absurd cc
+
+      one : Loaded
+      one = record { chunk = c; through = length (s.appended ++ frame_of c); moment = Rattle.std.proofs.Common.max s.moment now }
 
   pub sends : (s : SessionHistory) (count : ℕ) → SessionStory config es o w s
       → answered config es (event.Wrote o w count) ≡ answer.Done
@@ -137,14 +102,11 @@ module _ (config : Config) (es : List Event) (o w : ℕ) where
       (session.sends s count)
       → SessionStory config (es ++ event.Wrote o w count ∷ []) o w (session.sends s count)
   sends s count t done stands = record {
-    begun = begun_still config es (event.Wrote o w count) o w (λ kind moment number is done. absurd cc) t.begun;
-    has_one = t.has_one;
-    greeted = t.greeted;
-    chunk = λ c e. let own = t.chunk c e in record {
-      was_loaded = loaded_still config es (event.Wrote o w count) o w (frame_of c) (λ kind moment number is done. absurd cc) own.was_loaded;
-      front = own.front;
-      ends = own.ends;
-      was_sent = λ b. record {
+    begun = begun_still config es e o w calm t.begun;
+    framed = sends-framed s count t.framed;
+    loaded = all_both (IsAppended s.appended) (LoadedStory config es o w s.sent) (LoadedStory config (es ++ e ∷ []) o w (s.sent + count)) s.carried (λ l at its. record {
+      was_loaded = loaded_still config es e o w (frame_of l.chunk) calm its.was_loaded;
+      was_sent = λ through. record {
         before = es;
         count = count;
         later = [];
@@ -152,72 +114,43 @@ module _ (config : Config) (es : List Event) (o w : ℕ) where
         done = done;
         session = session.sends s count;
         stands = stands;
-        taken = record { front = own.front; ends = own.ends; through = grind (arith, nat_tests, b) };
-        kept = λ between rest kind m number at e. no_split between (event.End o w kind m) rest at;
-        loaded = own.was_loaded;
+        taken = record { front = at.front; back = at.back; framed = at.framed; through = subst (λ n. n ≤ s.sent + count) at.through through };
+        kept = λ between rest kind m numbers split e. no_split between (event.End o w kind m) rest split;
+        loaded = its.was_loaded;
       };
-      was_acked = λ b. acked_still config es (event.Wrote o w count) o w (frame_of c) c.name (own.was_acked b);
-    };
+    }) t.framed.framed t.loaded;
+    acked = acks_still config es e o w s.accepted t.acked;
   }
+    where
+      e : Event
+      e = event.Wrote o w count
 
-  pub hears : (bytes : List ℕ) (b : BufferHistory) (s : SessionHistory)
-      → SessionStory config es o w s → IsSaneSession w b s → s.down ≡ false
+      calm : Stands config es e o w
+      calm kind moment numbers is done = absurd cc
+
+  pub hears : (bytes : List ℕ) (s : SessionHistory)
+      → SessionStory config es o w s → IsSaneHistory s → s.down ≡ false
       → session_of (reached config es) o w ≡ Some s
       → SessionStory config (es ++ event.Heard o w bytes ∷ []) o w
       (session.listens s bytes (says s bytes))
-  hears bytes b s t fits up stands = record {
+  hears bytes s t own up stands = record {
     begun = begun_still config es e o w calm t.begun;
-    has_one = λ x. has_one said.reply refl x;
-    greeted = λ x. ap is_done (handshake-hears s bytes fits.own up) ∙ stays_done s.setup.login s.setup.salt (handshake_of s) (awaited s) (newly_heard s bytes) (t.greeted x);
-    chunk = λ c f. let own = t.chunk c f in record {
-      was_loaded = loaded_still config es e o w (frame_of c) calm own.was_loaded;
-      front = own.front;
-      ends = ap (λ out. s.appended ++ out) (mute (ap is_some f)) ∙ append-nil s.appended ∙ own.ends;
-      was_sent = λ x. sent_still config es e o w (frame_of c) calm (own.was_sent (sent (ap is_some f) x));
-      was_acked = λ x. acked c f own said.reply refl x;
-    };
+    framed = subst IsFramed (ap (λ b. cond b s (session.listens s bytes (says s bytes))) up) (hears-framed s bytes own t.framed);
+    loaded = all_left (LoadedStory config (es ++ e ∷ []) o w s.sent) (λ l. l.chunk.name) (says s bytes).replies s.carried (loads_still config es e o w s.sent s.carried calm t.loaded);
+    acked = all_append (AckedStory config (es ++ e ∷ []) o w) s.accepted (newly_accepted s bytes) (acks_still config es e o w s.accepted t.acked)
+        (all_same (IsAcknowledged s bytes) (AckedStory config (es ++ e ∷ []) o w) (newly_accepted s bytes) acked (acknowledged s bytes));
   }
     where
       e : Event
       e = event.Heard o w bytes
 
       calm : Stands config es e o w
-      calm kind moment number is done = absurd cc
+      calm kind moment numbers is done = absurd cc
 
-      said : Said
-      said = says s bytes
-
-      names : (value : List ℕ) → said.reply ≡ Some value
-          → Names (awaited s) (values_of (newly_heard s bytes))
-      names value x = accepted_names s.setup.login s.setup.salt (handshake_of s) (awaited s) (newly_heard s bytes) value x
-
-      has_one : (reply : Option (List ℕ)) → said.reply ≡ reply
-          → is_some (cond (is_some reply) reply s.reply) ≡ true → is_some s.loaded ≡ true
-      has_one None is x = t.has_one x
-      has_one (Some value) is x = let n = names value is in let a = awaits s n.name n.was in ap is_some a.1
-
-      -- nothing is sent for the handshake any more
-      unless : (fault : Option SessionFault) (out : List ℕ) → out ≡ []
-          → cond (is_some fault) [] out ≡ []
-      unless None out x = x
-      unless (Some f) out x = refl
-
-      mute : is_some s.loaded ≡ true → out_of said ≡ []
-      mute x = unless said.fault said.out (said_mute s.setup.login s.setup.salt (handshake_of s) (awaited s) (newly_heard s bytes) (t.greeted x))
-
-      sent : is_some s.loaded ≡ true → is_handed_on (session.listens s bytes said) ≡ true
-          → is_handed_on s ≡ true
-      sent has x = ap (λ xs. Rattle.std.specs.Prelude.nat_le (length xs) s.sent) (sym (ap (λ out. s.appended ++ out) (mute has) ∙ append-nil s.appended)) ∙ x
-
-      acked : (c : Load) → s.loaded ≡ Some c → ChunkStory config es o w s c
-          → (reply : Option (List ℕ)) → said.reply ≡ reply
-          → is_some (cond (is_some reply) reply s.reply) ≡ true
-          → WasAcknowledged config (es ++ event.Heard o w bytes ∷ []) o w (frame_of c) c.name
-      acked c f own None is x = acked_still config es e o w (frame_of c) c.name (own.was_acked x)
-      acked c f own (Some value) is x =
-          let n = names value is in
-          let a = awaits s n.name n.was in
-          let same : a.0 ≡ c = same_Some _ _ (sym a.1 ∙ f) in
+      acked : (a : Accepted) → IsAcknowledged s bytes a
+          → AckedStory config (es ++ event.Heard o w bytes ∷ []) o w a
+      acked a is =
+          let its = all_at (LoadedStory config es o w s.sent) s.carried is.place is.loaded t.loaded is.carried in
           record {
             before = es;
             bytes = bytes;
@@ -226,23 +159,21 @@ module _ (config : Config) (es : List Event) (o w : ℕ) where
             session = s;
             stands = stands;
             is_up = up;
-            value = n.value;
-            place = n.place;
-            ended = n.here;
-            names = n.named ∙ ap Some (a.2 ∙ ap (λ (y : Load). y.name) same);
-            sent = own.was_sent a.3;
+            value = a.reply;
+            place = is.turn;
+            ended = is.ended;
+            names = is.named;
+            sent = subst (λ c. WasSent config es o w (frame_of c)) is.chunk (its.was_sent is.handed_on);
           }
 
   pub looks : (s : SessionHistory) (now : ℕ) → SessionStory config es o w s
       → SessionStory config (es ++ event.Late o w now ∷ []) o w (session.looks s now)
   looks s now t =
-      let still = session_still config es (event.Late o w now) o w s (λ kind moment number is done. absurd cc) t in record {
-        begun = still.begun;
-        has_one = still.has_one;
-        greeted = still.greeted;
-        chunk = λ c f. let own = still.chunk c f in record { was_loaded = own.was_loaded; front = own.front; ends = own.ends; was_sent = own.was_sent; was_acked = own.was_acked };
-      }
+      let still = session_still config es (event.Late o w now) o w s (λ kind moment numbers is done. absurd cc) t in
+      record { begun = still.begun; framed = looks-framed s now t.framed; loaded = still.loaded; acked = still.acked }
 
   pub unloads : (e : Event) (s : SessionHistory) → Stands config es e o w
       → SessionStory config es o w s → SessionStory config (es ++ e ∷ []) o w (session.unloads s)
-  unloads e s quiet t = record { begun = begun_still config es e o w quiet t.begun; has_one = λ b. absurd cc; greeted = λ b. absurd cc; chunk = λ c f. absurd cc }
+  unloads e s quiet t =
+      let still = session_still config es e o w s quiet t in
+      record { begun = still.begun; framed = unloads-framed s t.framed; loaded = still.loaded; acked = all_drop (AckedStory config (es ++ e ∷ []) o w) s.accepted still.acked }

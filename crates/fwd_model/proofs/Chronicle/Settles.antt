@@ -1,58 +1,56 @@
 -- What settling and telling add to the chronicle.
-use Rattle.std.proofs.Common.{◌≡◌, ℕ, Bool, true, false, cond, eqb, List, [], ◌∷◌, ◌++◌, Option, Some, None, refl, sym, ap, subst, ◌∙◌, inl, inr, arith}
-use Rattle.std.specs.Prelude.{◌⊎◌, map, is_some, ◌||◌, slice_get, ◌&&◌}
-use Rattle.std.proofs.lemmas.Bool.Decides.{nat_tests}
+use Rattle.std.proofs.Common.{◌≡◌, ℕ, Bool, true, false, eqb, List, [], ◌∷◌, ◌++◌, Some, refl, sym, ap, subst, ◌∙◌, inl, inr}
+use Rattle.std.specs.Prelude.{◌⊎◌, map, ◌||◌, slice_get, ◌&&◌}
 use Rattle.fwd_chunks.specs.Cells.{Cell, has_number}
 use Rattle.fwd_chunks.proofs.Numbers.{has_number-push}
 use Rattle.fwd_model.specs.declared.config.Config.{Config}
 use Rattle.fwd_model.specs.declared.event.Event.{Event}
 use Rattle.fwd_modes.specs.Frames.{chunk_name}
 use Rattle.fwd_chunks.specs.History.{BufferHistory, Load}
-use Rattle.fwd_session.specs.Evidence.{frame_of, evidence_of}
+use Rattle.fwd_session.specs.Evidence.{Accepted, frame_of, evidence_of}
 use Rattle.fwd_session.specs.History as session
-use Rattle.fwd_session.specs.History.{SessionHistory, acked}
+use Rattle.fwd_session.specs.History.{SessionHistory, first_in}
 use Rattle.fwd_model.specs.Delivered.{WasAcknowledged}
+use Rattle.fwd_model.proofs.Lists.{all_first}
 use Rattle.fwd_model.proofs.Settling.{IsHis}
 use Rattle.fwd_book.specs.History.{Fate, Told, Forgotten, Admission, BookHistory, is_untold, is_due, is_owed_to, becomes, leaves, tells_due, forgets_of}
 use Rattle.fwd_model.specs.Outputs.{output_history_settles}
-use Rattle.fwd_model.specs.History.{Connection, Lane, with_session, with_output, with_book}
-use Rattle.fwd_model.proofs.Chronicle.{Quiet, IsNamed, frame_at, frame_is, LaneStory, NumberStory, RequestStory, AllTold, Extends, extends_same, lane_still, number_still, SessionStory, AreNumbered, numbered-becomes}
+use Rattle.fwd_model.specs.History.{Connection, Lane, with_place, with_output, with_book}
+use Rattle.fwd_model.proofs.Chronicle.{Quiet, IsNamed, frame_at, frame_is, LaneStory, NumberStory, RequestStory, AllTold, Extends, extends_same, lane_still, number_still, AckedStory, SessionStory, AreNumbered, numbered-becomes}
 use Rattle.fwd_model.proofs.Chronicle.Sessions.{put_session, unloads}
 use Rattle.std.proofs.lemmas.Bool.{eqb-true}
 
-loaded_of : (b : Bool) (loaded : Option Load) (c : Load) → cond b loaded None ≡ Some c
-    → (b ≡ true) × (loaded ≡ Some c)
-loaded_of true loaded c e = (refl, e)
-loaded_of false loaded c e = absurd cc
-
 -- the number of an accepted acknowledgement was acknowledged
 pub acked_number_is : (config : Config) (es : List Event) (o w : ℕ) (b : BufferHistory)
-    (s : SessionHistory) (c : Load) → SessionStory config es o w s → IsHis b w c
-    → IsNamed config o b → acked s ≡ Some c → NumberStory config es o b.cells c.number
-acked_number_is config es o w b s c t is named e =
-    let has = loaded_of (is_some s.reply) s.loaded c e in
+    (s : SessionHistory) (a : Accepted) → SessionStory config es o w s → IsHis b w a.chunk
+    → IsNamed config o b → first_in s.accepted ≡ Some a
+    → NumberStory config es o b.cells a.chunk.number
+acked_number_is config es o w b s a t is named e =
+    let c = a.chunk in
     let frame : frame_of c ≡ frame_at config o b.cells c.number = ap frame_of (sym is.same) ∙ frame_is config o c.number b named in
     let name : c.name ≡ chunk_name config.run o c.number = ap (λ (x : Load). x.name) (sym is.same) ∙ (λ i. chunk_name (named.0 i) (named.1 i) c.number) in
-    (w, subst (λ n. WasAcknowledged config es o w (frame_at config o b.cells c.number) n) name (subst (λ f. WasAcknowledged config es o w f c.name) frame ((t.chunk c has.1).was_acked has.0)))
+    (w, subst (λ n. WasAcknowledged config es o w (frame_at config o b.cells c.number) n) name (subst (λ f. WasAcknowledged config es o w f c.name) frame (all_first (AckedStory config es o w) s.accepted a t.acked e)))
 
 either : (a b : Bool) → (a || b) ≡ true → (a ≡ true) ⊎ (b ≡ true)
 either true b h = inl refl
 either false b h = inr h
 
 pub lane_settles : (config : Config) (es : List Event) (e : Event) (cs : List Connection)
-    (o w server : ℕ) (reply : Option (List ℕ)) (l : Lane) (s : SessionHistory) (c : Load)
-    → slice_get l.sessions w ≡ Some (Some s) → IsHis l.output.buffer w c → acked s ≡ Some c
+    (o w server : ℕ) (l : Lane) (s : SessionHistory) (a : Accepted)
+    → slice_get l.sessions w ≡ Some (Some s) → IsHis l.output.buffer w a.chunk
+    → first_in s.accepted ≡ Some a
     → Quiet config es e o → LaneStory config es cs o l
-    → LaneStory config (es ++ e ∷ []) cs o (with_session w (session.unloads s)
-    (with_output l (output_history_settles l.output (evidence_of c server reply))))
-lane_settles config es e cs o w server reply l s c here his is quiet t =
+    → LaneStory config (es ++ e ∷ []) cs o (with_place w (Some (session.unloads s))
+    (with_output l (output_history_settles l.output (evidence_of server a))))
+lane_settles config es e cs o w server l s a here his is quiet t =
     let own = t.sessions w s here in
     let cells = l.output.buffer.cells in
+    let k = a.chunk.number in
     let put = put_session config es e o cs l w (session.unloads s) quiet t (unloads config es o w e s (quiet w) own) in record {
       sessions = put.sessions;
-      numbers = λ j h. elim (either (has_number j l.output.buffer.acknowledged) (eqb c.number j) (sym (has_number-push j c.number l.output.buffer.acknowledged) ∙ h)) [
+      numbers = λ j h. elim (either (has_number j l.output.buffer.acknowledged) (eqb k j) (sym (has_number-push j k l.output.buffer.acknowledged) ∙ h)) [
         | inl x ↦ put.numbers j x
-        | inr x ↦ subst (λ n. NumberStory config (es ++ e ∷ []) o cells n) (eqb-true c.number j x) (number_still config es e o cells c.number (acked_number_is config es o w l.output.buffer s c own his t.named is))
+        | inr x ↦ subst (λ n. NumberStory config (es ++ e ∷ []) o cells n) (eqb-true k j x) (number_still config es e o cells k (acked_number_is config es o w l.output.buffer s a own his t.named is))
       ];
       own = put.own;
       requests = put.requests;

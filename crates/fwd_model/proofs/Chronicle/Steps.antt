@@ -1,6 +1,6 @@
 -- The chronicle goes on at each event of a run.
 use Rattle.std.proofs.Common.{◌≡◌, ℕ, zero, suc, ◌+◌, ◌≤◌, Bool, true, false, cond, List, [], ◌∷◌, ◌++◌, length, drop, Option, Some, None, refl, sym, ap, subst, ◌∙◌, arith}
-use Rattle.std.specs.Prelude.{not, is_some, option_map, ◌&&◌, nat_lt, ◌==◌, slice_get}
+use Rattle.std.specs.Prelude.{not, is_some, ◌||◌, nat_lt, ◌==◌, slice_get}
 use Rattle.std.proofs.lemmas.Bool.Decides.{nat_tests}
 use Rattle.fwd_modes.specs.Requests.{Request}
 use Rattle.fwd_match.specs.Patterns.{route}
@@ -16,12 +16,10 @@ use Rattle.fwd_chunks.specs.History as buffer
 use Rattle.fwd_chunks.specs.History.{Load}
 use Rattle.fwd_session.specs.declared.told.SessionHeard.{SessionHeard}
 use Rattle.fwd_session.specs.declared.told.SessionHeard.TheVariants as heard_as
-use Rattle.fwd_session.specs.declared.handshake.Handshake.{Handshake}
-use Rattle.fwd_session.specs.declared.handshake.Handshake.TheVariants.{AwaitsHelo, AwaitsPong, Done}
 use Rattle.fwd_session.specs.Evidence.{frame_of, evidence_of}
 use Rattle.fwd_session.specs.Said.{out_of}
 use Rattle.fwd_session.specs.History as session
-use Rattle.fwd_session.specs.History.{SessionHistory, handshake_of, is_done, is_free_for, says, told_of}
+use Rattle.fwd_session.specs.History.{SessionHistory, handshake_of, says, told_of}
 use Rattle.fwd_model.specs.declared.config.Config.{Config}
 use Rattle.fwd_model.specs.declared.event.Event.{Event}
 use Rattle.fwd_model.specs.declared.event.Event.TheVariants as event
@@ -35,12 +33,13 @@ use Rattle.fwd_model.specs.Step as steps
 use Rattle.fwd_model.specs.Step.{step}
 use Rattle.fwd_model.specs.declared.event.EndKind.{EndKind}
 use Rattle.fwd_model.specs.Setups.{setup_of, session_setup}
-use Rattle.fwd_model.specs.Outputs.{returned, output_history_enters, output_history_settles, output_history_looks}
-use Rattle.fwd_model.specs.History.{Connection, ever_at, source_at, with_source, with_gone, Lane, History, with_connection, with_lane, with_output, with_buffer, with_book, with_session, without_session, histories}
+use Rattle.fwd_model.specs.Outputs.{numbers_back, output_history_enters, output_history_settles, output_history_looks}
+use Rattle.fwd_model.specs.History.{Connection, ever_at, source_at, with_source, with_gone, Lane, History, with_connection, with_lane, with_output, with_buffer, with_book, with_place, histories}
 use Rattle.fwd_model.specs.Delivered.{reached, answered, session_of, standing, session_at}
 use Rattle.fwd_model.proofs.Onward.{Onward, to, past, past_found, Resting, rests, rest_past, rest_found, rest_within, at_next, source_on, lane_on, both_on, worker_on, session_on}
+use Rattle.fwd_model.proofs.Lists.{slice_get-append}
 use Rattle.fwd_model.proofs.Places.{slice_get-set_same, same_at}
-use Rattle.fwd_model.proofs.Reached.{IsSaneLane, IsSane, AllSources-at, AllSane-at}
+use Rattle.fwd_model.proofs.Reached.{IsSaneLane, IsSane, AllSources-at, AllSane-at, own_session}
 use Rattle.fwd_model.proofs.Follows.Workers.{session_here}
 use Rattle.fwd_model.proofs.Follows.Settles.{acked_is}
 use Rattle.fwd_model.proofs.Chronicle.{Quiet, Calm, SessionStory, LaneStory, Story, Grows, ever_from, extends_push, extends_with, extends_gone, extends_same, lanes_stay, all_stays, lane_put, still, after-push}
@@ -48,12 +47,6 @@ use Rattle.fwd_model.proofs.Chronicle.Sessions.{put_session, begins, loads, send
 use Rattle.fwd_model.proofs.Chronicle.Settles.{lane_forgets, lane_settles, lane_tells}
 use Rattle.fwd_model.proofs.Chronicle.Ends.{lane_ends}
 use Rattle.fwd_model.proofs.Chronicle.Admits.{lane_enters}
-
-slice_get-append : {X : Type 0} (xs ys : List X) (i : ℕ) (x : X) → slice_get xs i ≡ Some x
-    → slice_get (xs ++ ys) i ≡ Some x
-slice_get-append [] ys i x h = absurd cc
-slice_get-append (a ∷ xs) ys zero x h = h
-slice_get-append (a ∷ xs) ys (suc i) x h = slice_get-append xs ys i x h
 
 first_of-drop : (n : ℕ) (xs : List Request) (q : Request) → first_of (drop n xs) ≡ Some q
     → slice_get xs n ≡ Some q
@@ -118,15 +111,15 @@ module _ (config : Config) (es : List Event) (sane : IsSane (reached config es))
 
   session_put : (e : Event) → Calm config es e t → (o w : ℕ) (l : Lane) (u : SessionHistory)
       → slice_get h.lanes o ≡ Some l → SessionStory config (es ++ e ∷ []) o w u
-      → Story config (es ++ e ∷ []) (with_lane o (with_session w u l) h)
-  session_put e calm o w l u here story = lane_next e calm o (with_session w u l) (put_session config es e o h.connections l w u (calm o) (t.lanes o l here) story)
+      → Story config (es ++ e ∷ []) (with_lane o (with_place w (Some u) l) h)
+  session_put e calm o w l u here story = lane_next e calm o (with_place w (Some u) l) (put_session config es e o h.connections l w u (calm o) (t.lanes o l here) story)
 
   -- the session that was put stands at its place
   stands_put : (o w : ℕ) (l : Lane) (s u : SessionHistory) → slice_get h.lanes o ≡ Some l
       → slice_get l.sessions w ≡ Some (Some s)
-      → session_of (with_lane o (with_session w u l) h) o w ≡ Some u
+      → session_of (with_lane o (with_place w (Some u) l) h) o w ≡ Some u
   stands_put o w l s u lane here =
-      ap (λ x. standing (session_at w x)) (slice_get-set_same h.lanes o (with_session w u l) l lane) ∙ ap standing (slice_get-set_same l.sessions w (Some u) (Some s) here)
+      ap (λ x. standing (session_at w x)) (slice_get-set_same h.lanes o (with_place w (Some u) l) l lane) ∙ ap standing (slice_get-set_same l.sessions w (Some u) (Some s) here)
 
   -- ---- connections
 
@@ -262,7 +255,7 @@ module _ (config : Config) (es : List Event) (sane : IsSane (reached config es))
       → Onward (λ a k. Story config (es ++ e ∷ []) k)
       (steps.at_lane histories h o (λ l. steps.take histories l w now))
   take_on e calm o w now = lane_on histories h o _ (λ l. steps.take histories l w now) (λ l lane.
-      past_found NoSuch {x = histories.worker_at l w} (λ x at. past NotNow {b = is_some x.chunk} (λ none. to {a = chunk_answer (histories.given l now)} (lane_next e calm o _ (taken_story e calm o w now l lane)))))
+      past_found NoSuch {x = histories.worker_at l w} (λ x at. past NotNow {b = is_some x.taken || steps.is_full histories x.session} (λ none. to {a = chunk_answer (histories.given l now)} (lane_next e calm o _ (taken_story e calm o w now l lane)))))
 
   watched_story : (e : Event) → Calm config es e t → (o now : ℕ) (l : Lane)
       → slice_get h.lanes o ≡ Some l
@@ -285,10 +278,10 @@ module _ (config : Config) (es : List Event) (sane : IsSane (reached config es))
       lane_on histories h o _ (λ l. steps.settle histories l w) (λ l lane.
       past_found _ (λ x at.
       past_found _ (λ s f.
-      past_found _ (λ c acked. to (
+      past_found _ (λ a acked. to (
       let here = session_here l w x s at f in
-      lane_next e calm o (with_session w (session.unloads s) (with_output l (output_history_settles l.output (evidence_of c s.setup.server s.reply))))
-      (lane_settles config es e h.connections o w s.setup.server s.reply l s c here (acked_is l.output.buffer w s c ((own_lane o l lane).sessions w s here) acked) acked (calm o) (t.lanes o l lane)))))))
+      lane_next e calm o (with_place w (Some (session.unloads s)) (with_output l (output_history_settles l.output (evidence_of s.setup.server a))))
+      (lane_settles config es e h.connections o w s.setup.server l s a here (acked_is l.output.buffer w s a ((own_lane o l lane).workers w (Some s) here) acked) acked (calm o) (t.lanes o l lane)))))))
 
   -- ---- sessions: what is answered and where it leads count
 
@@ -300,16 +293,12 @@ module _ (config : Config) (es : List Event) (sane : IsSane (reached config es))
       worker_on histories l w _ (steps.up histories l.config server salt now) (λ x at.
       past NoSuch {b = not (nat_lt server (length l.config.standby))} (λ known.
       past NotNow {b = is_some x.session} (λ none. to {a = answer.Done} {s = steps.with_session x (session.begins (session_setup l.config server salt now))} (λ done leads.
-      session_put (event.Up o w server salt now) (λ j v kind moment number is done. absurd cc) o w l (session.begins (session_setup l.config server salt now)) lane
+      session_put (event.Up o w server salt now) (λ j v kind moment numbers is done. absurd cc) o w l (session.begins (session_setup l.config server salt now)) lane
       (begins config es o w (session_setup l.config server salt now) server salt now done))))))
 
-  -- a session that takes a chunk is up, and its handshake is done
-  ready_done : (down : Bool) (at : Handshake) (acked : Bool)
-      → not (not down && is_free_for at acked) ≡ false → is_done at ≡ true
-  ready_done true at acked e = absurd cc
-  ready_done false AwaitsHelo acked e = absurd cc
-  ready_done false (AwaitsPong nonce keepalive) acked e = absurd cc
-  ready_done false (Done keepalive) acked e = refl
+  not_not : (b : Bool) → not b ≡ false → b ≡ true
+  not_not true e = refl
+  not_not false e = absurd cc
 
   load_on : (o w now : ℕ)
       → Onward (Next (event.Load o w now)) (step histories h (event.Load o w now))
@@ -318,11 +307,11 @@ module _ (config : Config) (es : List Event) (sane : IsSane (reached config es))
       worker_on histories l w _ (steps.load histories now) (λ x at.
       past_found _ (λ s f.
       past_found _ (λ c g.
-      past NotNow {b = is_some s.loaded} (λ fresh.
-      past NotUp {b = not (session.is_ready s)} (λ ready. to {a = answer.Frame (frame_of c)} {s = steps.with_session x (session.loads s c now)} (λ done leads.
+      past NotNow {b = session.room s == 0} (λ some.
+      past NotUp {b = not (session.is_ready s)} (λ ready. to {a = answer.Frame (frame_of c)} {s = steps.with_loaded (session.loads s c now)} (λ done leads.
       let here = session_here l w x s at f in
-      session_put (event.Load o w now) (λ j v kind moment number is done. absurd cc) o w l (session.loads s c now) lane
-      (loads config es o w l.output.buffer s c now ((t.lanes o l lane).sessions w s here) ((own_lane o l lane).sessions w s here) fresh (ready_done s.down (handshake_of s) s.has_acked ready) done))))))))
+      session_put (event.Load o w now) (λ j v kind moment numbers is done. absurd cc) o w l (session.loads s c now) lane
+      (loads config es o w s c now ((t.lanes o l lane).sessions w s here) (own_session l w s (own_lane o l lane) here) (not_not (session.is_ready s) ready) done))))))))
 
   wrote_on : (o w count : ℕ)
       → Onward (Next (event.Wrote o w count)) (step histories h (event.Wrote o w count))
@@ -331,8 +320,8 @@ module _ (config : Config) (es : List Event) (sane : IsSane (reached config es))
       worker_on histories l w _ (λ x. steps.at_session histories x (steps.wrote histories count)) (λ x at.
       session_on histories x _ (steps.wrote histories count) (λ s f.
       let here = session_here l w x s at f in
-      past _ (λ few. to (λ done leads.
-      session_put (event.Wrote o w count) (λ j v kind moment number is done. absurd cc) o w l (session.sends s count) lane
+      past NotNow {b = nat_lt (length (session.to_send s)) count} (λ few. to {a = answer.Done} {s = session.sends s count} (λ done leads.
+      session_put (event.Wrote o w count) (λ j v kind moment numbers is done. absurd cc) o w l (session.sends s count) lane
       (sends config es o w s count ((t.lanes o l lane).sessions w s here) done
       (ap (λ k. session_of k o w) leads ∙ stands_put o w l s (session.sends s count) lane here)))))))
 
@@ -354,7 +343,7 @@ module _ (config : Config) (es : List Event) (sane : IsSane (reached config es))
       session_on histories x _ (steps.heard histories bytes) (λ s f. by l lane x s (session_here l w x s at f) s.down refl)))
     where
       P : Lane → Worker SessionHistory → Answer → SessionHistory → Type 0
-      P l x a u = Story config (es ++ event.Heard o w bytes ∷ []) (with_lane o (with_session w u l) h)
+      P l x a u = Story config (es ++ event.Heard o w bytes ∷ []) (with_lane o (with_place w (Some u) l) h)
 
       by : (l : Lane) → slice_get h.lanes o ≡ Some l
           → (x : Worker SessionHistory) (s : SessionHistory)
@@ -365,8 +354,8 @@ module _ (config : Config) (es : List Event) (sane : IsSane (reached config es))
       by l lane x s here true down = record { holds = tt }
       by l lane x s here false up =
           told_on (P l x) (told_of (handshake_of s) (says s bytes)) (out_of (says s bytes)) (session.listens s bytes (says s bytes)) (λ a.
-          session_put (event.Heard o w bytes) (λ j v kind moment number is done. absurd cc) o w l (session.listens s bytes (says s bytes)) lane
-          (hears_story config es o w bytes l.output.buffer s ((t.lanes o l lane).sessions w s here) ((own_lane o l lane).sessions w s here) up (ap (λ x. standing (session_at w x)) lane ∙ ap standing here)))
+          session_put (event.Heard o w bytes) (λ j v kind moment numbers is done. absurd cc) o w l (session.listens s bytes (says s bytes)) lane
+          (hears_story config es o w bytes s ((t.lanes o l lane).sessions w s here) (own_session l w s (own_lane o l lane) here) up (ap (λ x. standing (session_at w x)) lane ∙ ap standing here)))
 
   late_on : (o w now : ℕ)
       → Onward (λ a k. Story config (es ++ event.Late o w now ∷ []) k)
@@ -377,7 +366,7 @@ module _ (config : Config) (es : List Event) (sane : IsSane (reached config es))
       session_on histories x _ (steps.late histories now) (λ s f.
       let here = session_here l w x s at f in
       past NotUp {b = s.down} (λ up. to {a = answer.Late (session.is_late s now)} {s = session.looks s now} (
-      session_put (event.Late o w now) (λ j v kind moment number is done. absurd cc) o w l (session.looks s now) lane
+      session_put (event.Late o w now) (λ j v kind moment numbers is done. absurd cc) o w l (session.looks s now) lane
       (looks config es o w s now ((t.lanes o l lane).sessions w s here)))))))
 
   end_on : (o w : ℕ) (kind : EndKind) (now : ℕ)
@@ -387,12 +376,12 @@ module _ (config : Config) (es : List Event) (sane : IsSane (reached config es))
       lane_on histories h o _ (λ l. steps.end histories l w kind now) (λ l lane.
       past_found NoSuch {x = histories.worker_at l w} (λ x at.
       past NotNow {b = steps.is_idle histories x} (λ some.
-      past NotNow {b = steps.has_acked histories x.session} (λ none. to {a = answer.Ended (option_map (λ c. c.number) x.chunk)} (
+      past NotNow {b = steps.has_acked histories x.session} (λ none. to {a = answer.Ended (numbers_back (steps.gives_back histories x))} (
       lane_put config es (event.End o w kind now) t h.connections o _ another (extends_same h.connections)
-      (lane_ends config es h.connections o w kind now l (returned x.chunk (steps.has_loaded histories x.session)) (steps.lost_server histories kind x.session) (t.lanes o l lane)))))))
+      (lane_ends config es h.connections o w kind now l (steps.gives_back histories x) (steps.lost_server histories kind x.session) (t.lanes o l lane)))))))
     where
       another : (j : ℕ) → (o ≡ j → ⊥) → Quiet config es (event.End o w kind now) j
-      another j differ v kind' moment number is done = differ cc
+      another j differ v kind' moment numbers is done = differ cc
 
   -- an end that is refused ends nothing
   end_rests : (o w : ℕ) (kind : EndKind) (now : ℕ)
@@ -404,9 +393,9 @@ module _ (config : Config) (es : List Event) (sane : IsSane (reached config es))
   refused_end : (o w : ℕ) (kind : EndKind) (now : ℕ) (a : Answer)
       → step histories h (event.End o w kind now) ≡ Stays a
       → Calm config es (event.End o w kind now) t
-  refused_end o w kind now a is j v kind' moment number same done =
+  refused_end o w kind now a is j v kind' moment numbers same done =
       let stays : is_refusal a ≡ true = (subst Resting is (end_rests o w kind now)).stays in
-      let ended : a ≡ answer.Ended number = sym (ap answer_of is) ∙ done in
+      let ended : a ≡ answer.Ended numbers = sym (ap answer_of is) ∙ done in
       no (sym stays ∙ ap is_refusal ended)
     where
       no : true ≡ false → ⊥
@@ -433,23 +422,23 @@ module _ (config : Config) (es : List Event) (sane : IsSane (reached config es))
   calmly e calm on = goes_by e (λ a is. calm) on
 
   pub goes_on : (e : Event) → Story config (es ++ e ∷ []) (state_of h (step histories h e))
-  goes_on (event.Accept id nonce auth) = calmly (event.Accept id nonce auth) (λ j v kind' moment number is done. absurd cc) (anyhow _ _ (accept_on (event.Accept id nonce auth) (λ j v kind' moment number is done. absurd cc) (setup_of h.security h.limits id nonce auth)))
-  goes_on (event.Piece id bytes) = calmly (event.Piece id bytes) (λ j v kind' moment number is done. absurd cc) (anyhow _ _ (piece_on (event.Piece id bytes) (λ j v kind' moment number is done. absurd cc) id bytes))
-  goes_on (event.Admit id o now) = calmly (event.Admit id o now) (λ j v kind' moment number is done. absurd cc) (anyhow _ _ (admit_on (event.Admit id o now) (λ j v kind' moment number is done. absurd cc) id o now))
-  goes_on (event.Flush o now kind) = calmly (event.Flush o now kind) (λ j v kind' moment number is done. absurd cc) (anyhow _ _ (flush_on (event.Flush o now kind) (λ j v kind' moment number is done. absurd cc) o now kind))
-  goes_on (event.Choose o w now) = calmly (event.Choose o w now) (λ j v kind' moment number is done. absurd cc) (anyhow _ _ (choose_on (event.Choose o w now) (λ j v kind' moment number is done. absurd cc) o w now))
-  goes_on (event.Up o w server salt now) = calmly (event.Up o w server salt now) (λ j v kind' moment number is done. absurd cc) (up_on o w server salt now)
-  goes_on (event.Take o w now) = calmly (event.Take o w now) (λ j v kind' moment number is done. absurd cc) (anyhow _ _ (take_on (event.Take o w now) (λ j v kind' moment number is done. absurd cc) o w now))
-  goes_on (event.Load o w now) = calmly (event.Load o w now) (λ j v kind' moment number is done. absurd cc) (load_on o w now)
-  goes_on (event.Wrote o w count) = calmly (event.Wrote o w count) (λ j v kind' moment number is done. absurd cc) (wrote_on o w count)
-  goes_on (event.Heard o w bytes) = calmly (event.Heard o w bytes) (λ j v kind' moment number is done. absurd cc) (anyhow _ _ (heard_on o w bytes))
-  goes_on (event.Late o w now) = calmly (event.Late o w now) (λ j v kind' moment number is done. absurd cc) (anyhow _ _ (late_on o w now))
-  goes_on (event.Settle o w) = calmly (event.Settle o w) (λ j v kind' moment number is done. absurd cc) (anyhow _ _ (settle_on (event.Settle o w) (λ j v kind' moment number is done. absurd cc) o w))
+  goes_on (event.Accept id nonce auth) = calmly (event.Accept id nonce auth) (λ j v kind' moment numbers is done. absurd cc) (anyhow _ _ (accept_on (event.Accept id nonce auth) (λ j v kind' moment numbers is done. absurd cc) (setup_of h.security h.limits id nonce auth)))
+  goes_on (event.Piece id bytes) = calmly (event.Piece id bytes) (λ j v kind' moment numbers is done. absurd cc) (anyhow _ _ (piece_on (event.Piece id bytes) (λ j v kind' moment numbers is done. absurd cc) id bytes))
+  goes_on (event.Admit id o now) = calmly (event.Admit id o now) (λ j v kind' moment numbers is done. absurd cc) (anyhow _ _ (admit_on (event.Admit id o now) (λ j v kind' moment numbers is done. absurd cc) id o now))
+  goes_on (event.Flush o now kind) = calmly (event.Flush o now kind) (λ j v kind' moment numbers is done. absurd cc) (anyhow _ _ (flush_on (event.Flush o now kind) (λ j v kind' moment numbers is done. absurd cc) o now kind))
+  goes_on (event.Choose o w now) = calmly (event.Choose o w now) (λ j v kind' moment numbers is done. absurd cc) (anyhow _ _ (choose_on (event.Choose o w now) (λ j v kind' moment numbers is done. absurd cc) o w now))
+  goes_on (event.Up o w server salt now) = calmly (event.Up o w server salt now) (λ j v kind' moment numbers is done. absurd cc) (up_on o w server salt now)
+  goes_on (event.Take o w now) = calmly (event.Take o w now) (λ j v kind' moment numbers is done. absurd cc) (anyhow _ _ (take_on (event.Take o w now) (λ j v kind' moment numbers is done. absurd cc) o w now))
+  goes_on (event.Load o w now) = calmly (event.Load o w now) (λ j v kind' moment numbers is done. absurd cc) (load_on o w now)
+  goes_on (event.Wrote o w count) = calmly (event.Wrote o w count) (λ j v kind' moment numbers is done. absurd cc) (wrote_on o w count)
+  goes_on (event.Heard o w bytes) = calmly (event.Heard o w bytes) (λ j v kind' moment numbers is done. absurd cc) (anyhow _ _ (heard_on o w bytes))
+  goes_on (event.Late o w now) = calmly (event.Late o w now) (λ j v kind' moment numbers is done. absurd cc) (anyhow _ _ (late_on o w now))
+  goes_on (event.Settle o w) = calmly (event.Settle o w) (λ j v kind' moment numbers is done. absurd cc) (anyhow _ _ (settle_on (event.Settle o w) (λ j v kind' moment numbers is done. absurd cc) o w))
   goes_on (event.End o w kind now) = goes_by (event.End o w kind now) (refused_end o w kind now) (anyhow _ _ (end_on o w kind now))
-  goes_on (event.Collect id o) = calmly (event.Collect id o) (λ j v kind' moment number is done. absurd cc) (anyhow _ _ (collect_on (event.Collect id o) (λ j v kind' moment number is done. absurd cc) id o))
-  goes_on (event.Forget id o) = calmly (event.Forget id o) (λ j v kind' moment number is done. absurd cc) (anyhow _ _ (forget_on (event.Forget id o) (λ j v kind' moment number is done. absurd cc) id o))
-  goes_on (event.Drained id count) = calmly (event.Drained id count) (λ j v kind' moment number is done. absurd cc) (anyhow _ _ (drained_on (event.Drained id count) (λ j v kind' moment number is done. absurd cc) id count))
+  goes_on (event.Collect id o) = calmly (event.Collect id o) (λ j v kind' moment numbers is done. absurd cc) (anyhow _ _ (collect_on (event.Collect id o) (λ j v kind' moment numbers is done. absurd cc) id o))
+  goes_on (event.Forget id o) = calmly (event.Forget id o) (λ j v kind' moment numbers is done. absurd cc) (anyhow _ _ (forget_on (event.Forget id o) (λ j v kind' moment numbers is done. absurd cc) id o))
+  goes_on (event.Drained id count) = calmly (event.Drained id count) (λ j v kind' moment numbers is done. absurd cc) (anyhow _ _ (drained_on (event.Drained id count) (λ j v kind' moment numbers is done. absurd cc) id count))
   -- a connection is shut, or nothing changes
   goes_on e =
-      let calm : Calm config es e t = λ j v kind' moment number is done. absurd cc in
+      let calm : Calm config es e t = λ j v kind' moment numbers is done. absurd cc in
       calmly e calm (anyhow e (step histories h e) (Prim.first_of (search (shut_on e calm), search (same_at, all_stays config es e t calm))))

@@ -1,6 +1,8 @@
 -- The live part follows the history where an output enters a connection's first waiting request.
-use Rattle.std.proofs.Common.{◌≡◌, ℕ, true, Option, Some, None, refl, sym, ap, subst, ◌∙◌}
-use Rattle.std.specs.Prelude.{option_map, not}
+use Rattle.std.proofs.Common.{◌≡◌, ℕ, Bool, true, false, cond, List, [], ◌∷◌, refl, sym, ap, subst, ◌∙◌}
+use Rattle.std.specs.Prelude.{not, ◌==◌}
+use Rattle.std.proofs.Common.{arith}
+use Rattle.std.proofs.lemmas.Bool.Decides.{nat_tests}
 use Rattle.std.specs.List.{list_all}
 use Rattle.fwd_modes.specs.Requests.{Request}
 use Rattle.fwd_modes.specs.Frames.{chunk_name}
@@ -14,14 +16,14 @@ use Rattle.fwd_book.specs.History.{entered_as, are_fresh}
 use Rattle.fwd_book.specs.Live as kept
 use Rattle.fwd_book.specs.Live.{live_book}
 use Rattle.fwd_failover.specs.Live.{live_servers}
-use Rattle.fwd_model.specs.Outputs.{carry_of, carried_by, output_history_enters, live_output, output_enters}
+use Rattle.fwd_model.specs.Outputs.{carries_of, carried_by, output_history_enters, live_output, output_enters}
 use Rattle.fwd_model.specs.History.{Lane, with_output}
 use Rattle.fwd_model.specs.Live.{live_lane, with_live_output}
 use Rattle.fwd_model.proofs.Places.{live_workers-same}
-use Rattle.fwd_model.proofs.Settling.{AreApart, carry_of-carried}
+use Rattle.fwd_model.proofs.Settling.{AreApart, loads_of}
 use Rattle.fwd_book.proofs.Following.{follows-enters}
 use Rattle.fwd_model.proofs.Settled.{unsettled-fresh}
-use Rattle.fwd_model.proofs.Reached.{IsSaneLane}
+use Rattle.fwd_model.proofs.Reached.{IsSaneLane, IsSaneWorker}
 
 -- ---- what a worker has stays
 
@@ -36,19 +38,39 @@ load-stays h origin r now k own has =
       name = chunk_name (setting i).run (setting i).output k;
     }
 
-one_stays : (h : BufferHistory) (origin : Origin) (r : Request) (now : ℕ) (c : Option Carry)
-    → sane.IsSane h → ((d : Carry) → c ≡ Some d → is_carried d.number h.carried ≡ true)
-    → option_map (λ d. load_of (enters h origin r now) d.number) c
-    ≡ option_map (λ d. load_of h d.number) c
-one_stays h origin r now None own has = refl
-one_stays h origin r now (Some d) own has = ap Some (load-stays h origin r now d.number own (has d refl))
+-- each of these is carried
+abbrev AreIn : BufferHistory → List Carry → Type 0
+AreIn h [] = Unit {0}
+AreIn h (c ∷ cs) = (is_carried c.number h.carried ≡ true) × AreIn h cs
+
+all_stay : (h : BufferHistory) (origin : Origin) (r : Request) (now : ℕ) (cs : List Carry)
+    → sane.IsSane h → AreIn h cs → loads_of (enters h origin r now) cs ≡ loads_of h cs
+all_stay h origin r now [] own has = refl
+all_stay h origin r now (c ∷ cs) own has = λ i. load-stays h origin r now c.number own has.0 i ∷ all_stay h origin r now cs own has.1 i
+
+-- what a worker carries is carried
+own_carried : (h : BufferHistory) (w : ℕ) (cs : List Carry)
+    → ((k : ℕ) → is_carried k cs ≡ true → is_carried k h.carried ≡ true) → AreIn h (carries_of w cs)
+own_carried h w [] within = tt
+own_carried h w (c ∷ cs) within = by (c.worker == w) (own_carried h w cs (λ k e. within k (later k e)))
+  where
+    later : (k : ℕ) → is_carried k cs ≡ true → is_carried k (c ∷ cs) ≡ true
+    later k e = grind (arith, nat_tests, e)
+
+    here : is_carried c.number (c ∷ cs) ≡ true
+    here = grind (arith, nat_tests)
+
+    by : (b : Bool) → AreIn h (carries_of w cs)
+        → AreIn h (cond b (c ∷ carries_of w cs) (carries_of w cs))
+    by true rest = (within c.number here, rest)
+    by false rest = rest
 
 pub worker_stays : (h : BufferHistory) (origin : Origin) (r : Request) (now w : ℕ)
     → sane.IsSane h
     → carried_by (enters h origin r now) w ≡ carried_by h w
 worker_stays h origin r now w own =
-    ap (λ cs. option_map (λ d. load_of (enters h origin r now) d.number) (carry_of w cs)) (enters-carried h origin r now)
-    ∙ one_stays h origin r now (carry_of w h.carried) own (λ d e. carry_of-carried w h.carried d e)
+    ap (λ cs. loads_of (enters h origin r now) (carries_of w cs)) (enters-carried h origin r now)
+    ∙ all_stay h origin r now (carries_of w h.carried) own (own_carried h w h.carried (λ k e. e))
 
 -- ---- the output
 
@@ -82,5 +104,5 @@ enters-sane l origin r now own =
       apart = subst AreApart same own.apart;
       marks = own.marks ∙ sym (enters-acknowledged h origin r now);
       waits = own.waits;
-      sessions = λ w s e. let fits = own.sessions w s e in record { own = fits.own; carries = λ c f. worker_stays h origin r now w own.buffer ∙ fits.carries c f };
+      workers = λ w x e. subst (λ cs. IsSaneWorker l.config.acks.window cs x) (sym (worker_stays h origin r now w own.buffer)) (own.workers w x e);
     }

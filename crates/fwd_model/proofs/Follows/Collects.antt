@@ -30,7 +30,7 @@ with_book-sane l b same own = record {
   apart = own.apart;
   marks = same ∙ own.marks;
   waits = own.waits;
-  sessions = own.sessions;
+  workers = own.workers;
 }
 
 pub tells-live : (conn : ℕ) (l : Lane)

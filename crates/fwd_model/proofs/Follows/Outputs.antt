@@ -1,6 +1,6 @@
 -- The live part follows the history at the events of outputs and workers.
 use Rattle.std.proofs.Common.{◌≡◌, ℕ, refl, ap, ◌∙◌, zero-add, max}
-use Rattle.std.specs.Prelude.{map, option_map, slice_get}
+use Rattle.std.specs.Prelude.{option_map, slice_get}
 use Rattle.std.proofs.lemmas.List.{map-set}
 use Rattle.std.proofs.lemmas.Option.{slice_get-map}
 use Rattle.fwd_chunks.specs.declared.flush.FlushKind.{FlushKind}
@@ -14,7 +14,7 @@ use Rattle.fwd_failover.proofs.Orders.{choice_kept}
 use Rattle.fwd_book.specs.Live.{live_book}
 use Rattle.fwd_model.specs.Outputs.{live_output, output_history_choice, output_history_looks, output_choice, output_looks}
 use Rattle.fwd_model.specs.History.{Lane, History, with_lane, with_buffer, with_output}
-use Rattle.fwd_model.specs.Live.{live_worker, live_lane, live, live_connection, known, with_live_lane, with_live_buffer, with_live_output}
+use Rattle.fwd_model.specs.Live.{live_worker, live_lane, live, with_live_lane, with_live_buffer, with_live_output}
 use Rattle.fwd_model.proofs.Places.{live_workers-same, live_workers-at}
 use Rattle.fwd_model.proofs.Reached.{IsSaneLane, IsSane, AllSane-set}
 
@@ -59,7 +59,7 @@ flushes-sane l now kind own = record {
   apart = own.apart;
   marks = own.marks;
   waits = own.waits;
-  sessions = λ w s e. let fits = own.sessions w s e in record { own = fits.own; carries = fits.carries };
+  workers = own.workers;
 }
 
 -- ---- choose
@@ -92,5 +92,5 @@ watches-sane l now own = record {
   apart = own.apart;
   marks = own.marks;
   waits = own.waits;
-  sessions = λ w s e. let fits = own.sessions w s e in record { own = fits.own; carries = fits.carries };
+  workers = own.workers;
 }

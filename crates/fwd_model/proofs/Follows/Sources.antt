@@ -6,7 +6,7 @@ use Rattle.fwd_source.specs.History.{Setup, SourceHistory, IsSane as IsSaneSourc
 use Rattle.fwd_source.specs.Live.{live_source}
 use Rattle.fwd_source.proofs.Following.{opened-live, opened-sane, drains-sane}
 use Rattle.fwd_model.specs.History.{Connection, History, source_at, is_fresh, accepts, with_connection, leaves}
-use Rattle.fwd_model.specs.Live.{live_connection, live_lane, live, last_id, known, is_above, live_accepts, with_live_connection, live_leaves}
+use Rattle.fwd_model.specs.Live.{live_connection, live, last_id, known, is_above, live_accepts, with_live_connection, live_leaves}
 use Rattle.fwd_model.proofs.Places.{with_source-live, with_gone-live, known-push, Once-with_source, Once-with_gone, Once-push, last_id-with_source, last_id-with_gone, is_fresh-with_source, is_fresh-with_gone, last_id-push, is_fresh-push, is_fresh-above}
 use Rattle.fwd_model.proofs.Reached.{IsSane, AllSources-with_source, AllSources-with_gone, AllSources-push}
 

@@ -1,90 +1,135 @@
 -- The live part follows the history where a worker takes a chunk.
-use Rattle.std.proofs.Common.{◌≡◌, ◌≢◌, ℕ, zero, suc, ◌+◌, ◌<◌, Bool, true, false, eqb, List, [], ◌∷◌, ◌++◌, Option, Some, None, refl, sym, ap, ◌∙◌, zero-add, max, inl, inr, arith}
+use Rattle.std.proofs.Common.{◌≡◌, ◌≢◌, ℕ, ◌≤◌, Bool, true, false, eqb, List, [], ◌∷◌, ◌++◌, length, Option, Some, None, refl, sym, ap, subst, ◌∙◌, zero-add, inl, inr, arith, suc, ◌+◌, ◌-◌, ◌<◌}
 use Rattle.std.proofs.Math.ListN.{set}
-use Rattle.std.specs.Prelude.{◌⊎◌, option_map, slice_get}
+use Rattle.std.specs.Prelude.{map, ◌⊎◌, not, ◌==◌, option_map, slice_get}
+use Rattle.std.specs.List.{AllByRecursion}
 use Rattle.std.proofs.lemmas.Bool.Decides.{nat_tests}
+use Rattle.std.proofs.lemmas.Option.{same_Some}
+use Rattle.std.proofs.lemmas.List.{length-append, map-append}
 use Rattle.fwd_chunks.specs.Cells.{Carry, is_carried}
 use Rattle.fwd_chunks.specs.History.{BufferHistory, Load, load_of, looks, given, carry_more, takes}
 use Rattle.fwd_chunks.specs.Live.{live_load, live_given}
 use Rattle.fwd_chunks.proofs.Follows as buffer
 use Rattle.fwd_chunks.proofs.Runs.{load-live}
 use Rattle.fwd_chunks.proofs.Sane as sane
-use Rattle.fwd_model.specs.Layers.{Worker}
 use Rattle.fwd_failover.specs.Live.{live_servers}
-use Rattle.fwd_model.specs.Outputs.{OutputHistory, carry_of, carried_by, live_output}
+use Rattle.fwd_session.proofs.Lists.{all_same, length_map}
+use Rattle.fwd_model.specs.Outputs.{carries_of, carried_by, has_chunk, not_loaded, live_output}
 use Rattle.fwd_book.specs.Live.{live_book}
-use Rattle.fwd_session.specs.History.{SessionHistory}
-use Rattle.fwd_session.specs.Live.{LiveSession, live_session}
-use Rattle.fwd_model.specs.History.{Lane, with_buffer, histories}
+use Rattle.fwd_session.specs.Evidence.{Accepted}
+use Rattle.fwd_session.specs.History.{Loaded, SessionHistory, chunks_of}
+use Rattle.fwd_model.specs.Step as steps
+use Rattle.fwd_session.specs.Live.{live_session}
+use Rattle.fwd_model.specs.History.{Lane, loaded_in, taken_by, with_buffer, histories}
 use Rattle.fwd_model.specs.Live.{live_worker, live_workers, live_lane, lane_gives, lane_takes}
-use Rattle.fwd_model.proofs.Places.{live_workers-same, live_workers-at}
-use Rattle.fwd_model.proofs.Settling.{AreApart, apart-push, carry_of-push_other, carry_of-push_same}
-use Rattle.fwd_model.proofs.Reached.{IsSaneLane, IsSaneSession}
+use Rattle.fwd_model.proofs.Chunks.{IsAmong, among-append, among-has, missing, none_found, found_last}
+use Rattle.fwd_model.proofs.Places.{set-same, one_changes}
+use Rattle.fwd_model.proofs.Settling.{AreApart, loads_of, mine-carried, apart-push, carries-push_other, carries-push_same}
+use Rattle.fwd_model.proofs.Reached.{IsSaneLane, IsSaneWorker}
 
 -- ---- one more carry
 
--- an output that differs in what is carried
-abbrev with_carried : OutputHistory → List Carry → ℕ → OutputHistory
-with_carried o carried moment = record o { buffer = record (o.buffer) { carried = carried; moment = moment } }
+same_or : (a b : ℕ) → (a ≡ b) ⊎ (a ≢ b)
+same_or a b = by_test (eqb a b) refl
+  where
+    by_test : (t : Bool) → eqb a b ≡ t → (a ≡ b) ⊎ (a ≢ b)
+    by_test true e = inl (grind (arith, nat_tests, e))
+    by_test false e = inr (λ same. grind (arith, nat_tests, e, same))
 
--- an output that differs in one more carry, of worker w
-abbrev more_carried : OutputHistory → ℕ → ℕ → ℕ → OutputHistory
-more_carried o w k moment = with_carried o (o.buffer.carried ++ record { worker = w; number = k } ∷ []) moment
+-- a number that is not carried is of no chunk of a session
+fresh_in : (k : ℕ) (hs cs : List Load) → AllByRecursion (λ c. IsAmong c cs) hs
+    → has_chunk k cs ≡ false → has_chunk k hs ≡ false
+fresh_in k [] cs all free = refl
+fresh_in k (c ∷ hs) cs all free = by (c.number == k) refl (fresh_in k hs cs all.1 free)
+  where
+    no : true ≡ false → ⊥
+    no e = cc
 
-abbrev gets_chunk : OutputHistory → ℕ → Option SessionHistory → Worker LiveSession
-gets_chunk o k s = record { chunk = Some (load_of o.buffer k); session = option_map live_session s }
+    by : (b : Bool) → (c.number == k) ≡ b → has_chunk k hs ≡ false → has_chunk k (c ∷ hs) ≡ false
+    by true e rest =
+        let same : c.number ≡ k = grind (arith, nat_tests, e) in
+        absurd (no (sym (ap (λ j. has_chunk j cs) (sym same) ∙ among-has c cs all.0) ∙ free))
+    by false e rest = grind (arith, nat_tests, e, rest)
 
-others_stay : (o : OutputHistory) (w k moment b : ℕ) (ss : List (Option SessionHistory)) → w < b
-    → live_workers (more_carried o w k moment) b ss ≡ live_workers o b ss
-others_stay o w k moment b [] lt = refl
-others_stay o w k moment b (s ∷ ss) lt = λ i.
-    record { chunk = option_map (λ c. load_of o.buffer c.number) (carry_of-push_other w b k o.buffer.carried (omega arith) i); session = option_map live_session s }
-    ∷ others_stay o w k moment (suc b) ss (omega arith) i
+free_of : (b : BufferHistory) (w k : ℕ) → is_carried k b.carried ≡ false
+    → has_chunk k (carried_by b w) ≡ false
+free_of b w k free = by (has_chunk k (carried_by b w)) refl
+  where
+    no : false ≡ true → ⊥
+    no e = cc
 
-one_gets : (o : OutputHistory) (w k moment b j : ℕ) (ss : List (Option SessionHistory))
-    (s : Option SessionHistory) → w ≡ b + j → carry_of w o.buffer.carried ≡ None
-    → slice_get ss j ≡ Some s
-    → live_workers (more_carried o w k moment) b ss ≡ set (live_workers o b ss) j (gets_chunk o k s)
-one_gets o w k moment b j [] s at none here = absurd cc
-one_gets o w k moment b zero (t ∷ ss) s at none here =
-    let same : w ≡ b = omega (arith, at) in
-    let own : carry_of b (o.buffer.carried ++ record { worker = w; number = k } ∷ []) ≡ Some (record { worker = w; number = k }) =
-    ap (λ x. carry_of x (o.buffer.carried ++ record { worker = w; number = k } ∷ [])) (sym same) ∙ carry_of-push_same w k o.buffer.carried none in
-    let session : t ≡ s = cc in λ i.
-    record { chunk = option_map (λ c. load_of o.buffer c.number) (own i); session = option_map live_session (session i) }
-    ∷ others_stay o w k moment (suc b) ss (omega (arith, at)) i
-one_gets o w k moment b (suc j) (t ∷ ss) s at none here = λ i.
-    record { chunk = option_map (λ c. load_of o.buffer c.number) (carry_of-push_other w b k o.buffer.carried (omega (arith, at)) i); session = option_map live_session t }
-    ∷ one_gets o w k moment (suc b) j ss s (omega (arith, at)) none here i
+    by : (t : Bool) → has_chunk k (carried_by b w) ≡ t → t ≡ false
+    by true e = absurd (no (sym free ∙ mine-carried b w k e))
+    by false e = refl
 
-set_same : {X : Type 0} (xs : List X) (i : ℕ) (x : X) → slice_get xs i ≡ Some x
-    → set xs i x ≡ xs
-set_same [] i x h = refl
-set_same (a ∷ xs) zero x h = let e : a ≡ x = cc in ap (λ y. y ∷ xs) (sym e)
-set_same (a ∷ xs) (suc i) x h = ap (λ ys. a ∷ ys) (set_same xs i x h)
+-- the chunks that the worker has then
+takes_more : (b : BufferHistory) (w : ℕ) (cs : List Carry) (k : ℕ)
+    → loads_of b (carries_of w (carry_more w (Some k) cs))
+    ≡ loads_of b (carries_of w cs) ++ load_of b k ∷ []
+takes_more b w cs k =
+    ap (loads_of b) (carries-push_same w k cs)
+    ∙ map-append (λ (c : Carry). load_of b c.number) (carries_of w cs) (record { worker = w; number = k } ∷ [])
+
+-- what a worker has that took, where all that it had was loaded and there was room
+record Took (n : ℕ) (hs : List Load) (cs : List Load) (taken : Option Load) : Type 0 where
+  pub is : not_loaded hs cs ≡ taken
+  pub his : AllByRecursion (λ c. IsAmong c cs) hs
+  pub rest : length (missing hs cs) ≤ 1
+  pub whole : length cs ≡ length hs + length (missing hs cs)
+  pub few : length cs ≤ n
+
+took : (n : ℕ) (b : BufferHistory) (w : ℕ) (hs : List Load) (found : Option ℕ)
+    → AllByRecursion (λ c. IsAmong c (carried_by b w)) hs
+    → not_loaded hs (carried_by b w) ≡ None
+    → length (carried_by b w) ≡ length hs + length (missing hs (carried_by b w))
+    → length hs < n
+    → ((k : ℕ) → found ≡ Some k → is_carried k b.carried ≡ false)
+    → Took n hs (loads_of b (carries_of w (carry_more w found b.carried))) (option_map (load_of b) found)
+took n b w hs None his none whole room free =
+    let left : length (missing hs (carried_by b w)) ≡ 0 = ap length (none_found (λ c. not (has_chunk c.number hs)) (carried_by b w) none) in
+    record { is = none; his = his; rest = omega (arith, left); whole = whole; few = omega (arith, whole, left, room) }
+took n b w hs (Some k) his none whole room free =
+    let cs = carried_by b w in
+    let fresh : has_chunk k hs ≡ false = fresh_in k hs cs his (free_of b w k (free k refl)) in
+    let last = found_last (λ c. not (has_chunk c.number hs)) cs (load_of b k) none (ap not fresh) in
+    let left : length (missing hs cs) ≡ 0 = ap length (none_found (λ c. not (has_chunk c.number hs)) cs none) in
+    let one : length (missing hs (cs ++ load_of b k ∷ [])) ≡ 1 = ap length last.1 in
+    let more : length (cs ++ load_of b k ∷ []) ≡ suc (length cs) = omega (arith, length-append cs (load_of b k ∷ [])) in
+    subst (λ ds. Took n hs ds (Some (load_of b k))) (sym (takes_more b w b.carried k)) (record {
+      is = last.0;
+      his = all_same (λ c. IsAmong c cs) (λ c. IsAmong c (cs ++ load_of b k ∷ [])) hs (λ c one. among-append c cs (load_of b k ∷ []) one) his;
+      rest = omega (arith, one);
+      whole = omega (arith, more, whole, left, one);
+      few = omega (arith, more, whole, left, room);
+    })
+
+-- where a session is not full, it has fewer chunks than its window
+has_room : (n : ℕ) (cs : List Load) (x : Option SessionHistory) → IsSaneWorker n cs x → 0 < n
+    → steps.is_full histories x ≡ false → length (loaded_in x) < n
+has_room n cs None fits some e = some
+has_room n cs (Some s) fits some e =
+    let front = chunks_of s.carried in
+    let back = map (λ (a : Accepted). a.chunk) s.accepted in
+    let left : (n - (length s.carried + length s.accepted) == 0) ≡ false = ap (λ k. k - (length s.carried + length s.accepted) == 0) (sym (fits.window s refl)) ∙ e in
+    let below : length s.carried + length s.accepted < n = less n (length s.carried + length s.accepted) left in
+    omega (arith, length-append front back, length_map (λ (l : Loaded). l.chunk) s.carried, length_map (λ (a : Accepted). a.chunk) s.accepted, below)
+  where
+    less : (n k : ℕ) → (n - k == 0) ≡ false → k < n
+    less n k e = grind (arith, nat_tests, e)
+
+pub others_carry : (w j : ℕ) (found : Option ℕ) (cs : List Carry) → w ≢ j
+    → carries_of j (carry_more w found cs) ≡ carries_of j cs
+others_carry w j None cs differ = refl
+others_carry w j (Some k) cs differ = carries-push_other w j k cs differ
 
 -- ---- take
 
-workers_taken : (l : Lane) (w now : ℕ) (s : Option SessionHistory) (found : Option ℕ)
-    → slice_get l.sessions w ≡ Some s → carry_of w l.output.buffer.carried ≡ None
-    → live_workers
-    (with_carried l.output (carry_more w found l.output.buffer.carried)
-    (max l.output.buffer.moment now)) 0 l.sessions
-    ≡ set (live_workers l.output 0 l.sessions) w
-    (record {
-      chunk = option_map
-          (load_of l.output.buffer) found;
-      session = option_map live_session s;
-    })
-workers_taken l w now s None here none =
-    let own : live_worker l.output w s ≡ record { chunk = None; session = option_map live_session s } =
-    λ i. record { chunk = option_map (λ c. load_of l.output.buffer c.number) (none i); session = option_map live_session s } in
-    let at : slice_get (live_workers l.output 0 l.sessions) w ≡ Some (record { chunk = None; session = option_map live_session s }) =
-    live_workers-at l.output 0 w l.sessions ∙ ap (λ k. option_map (λ x. live_worker l.output k x) (slice_get l.sessions w)) (zero-add w)
-    ∙ ap (option_map (λ x. live_worker l.output w x)) here ∙ ap Some own in
-    live_workers-same (with_carried l.output l.output.buffer.carried (max l.output.buffer.moment now)) l.output 0 l.sessions (λ k. refl)
-    ∙ sym (set_same (live_workers l.output 0 l.sessions) w (record { chunk = None; session = option_map live_session s }) at)
-workers_taken l w now s (Some k) here none = one_gets l.output w k (max l.output.buffer.moment now) 0 w l.sessions s (sym (zero-add w)) none here
+-- what is given is not carried
+given_free : (l : Lane) (now : ℕ) → IsSaneLane l → (k : ℕ)
+    → given (looks l.output.buffer now) ≡ Some k → is_carried k l.output.buffer.carried ≡ false
+given_free l now own k e =
+    let b = looks l.output.buffer now in
+    (sane.free_parts b k (sane.given-free b k (sane.looks-sane l.output.buffer now own.buffer) e)).uncarried
 
 -- the same chunk is given
 pub given-same : (l : Lane) (now : ℕ) → IsSaneLane l
@@ -94,59 +139,54 @@ given-same l now own =
     load-live (looks l.output.buffer now) l.output.buffer.setting.limits.bounded (sane.looks-sane l.output.buffer now own.buffer)
     ∙ ap (λ b. option_map (live_load b) (live_given b)) (buffer.looks-live l.output.buffer now)
 
-pub takes-live : (l : Lane) (w now : ℕ) (s : Option SessionHistory)
-    → slice_get l.sessions w ≡ Some s → carry_of w l.output.buffer.carried ≡ None → IsSaneLane l
-    → live_lane (with_buffer l (takes l.output.buffer w now)) ≡ lane_takes (live_lane l) w
-    (live_worker l.output w s) now
-unfolding live_lane live_output
-takes-live l w now s here none own = λ i. record {
-  config = l.config;
-  output = record { buffer = buffer.takes-live l.output.buffer w now l.output.buffer.setting.limits.bounded own.buffer i; book = live_book l.output.book; servers = live_servers l.output.setting l.output.servers };
-  workers = (workers_taken l w now s (given (looks l.output.buffer now)) here none
-      ∙ ap (λ c. set (live_workers l.output 0 l.sessions) w (record { chunk = c; session = option_map live_session s })) (given-same l now own)) i;
-}
+module _ (l : Lane) (w now : ℕ) (s : Option SessionHistory) (here : slice_get l.sessions w ≡ Some s) (none : taken_by l.output.buffer w s ≡ None) (free : steps.is_full histories s ≡ false) (own : IsSaneLane l) where
+  abbrev its : Took l.config.acks.window
+      (loaded_in s) (carried_by (takes l.output.buffer w now) w) (histories.given l now)
+  its =
+      let fits = own.workers w s here in
+      took l.config.acks.window l.output.buffer w (loaded_in s) (given (looks l.output.buffer now)) fits.his none fits.whole (has_room l.config.acks.window (carried_by l.output.buffer w) s fits l.config.acks.some free) (given_free l now own)
 
--- ---- an output stays sane
+  others_have : (v : ℕ) → w ≢ v → carried_by (takes l.output.buffer w now) v ≡ carried_by l.output.buffer v
+  others_have v differ = ap (loads_of l.output.buffer) (others_carry w v (given (looks l.output.buffer now)) l.output.buffer.carried differ)
 
-same_or : (a b : ℕ) → (a ≡ b) ⊎ (a ≢ b)
-same_or a b = by_test (eqb a b) refl
-  where
-    by_test : (t : Bool) → eqb a b ≡ t → (a ≡ b) ⊎ (a ≢ b)
-    by_test true e = inl (grind (arith, nat_tests, e))
-    by_test false e = inr (λ same. grind (arith, nat_tests, e, same))
+  workers_taken : live_workers (record (l.output) { buffer = takes l.output.buffer w now }) 0 l.sessions
+      ≡ set (live_workers l.output 0 l.sessions) w
+      (record { taken = histories.given l now; session = option_map live_session s })
+  workers_taken =
+      ap (live_workers (record (l.output) { buffer = takes l.output.buffer w now }) 0) (sym (set-same l.sessions w s here))
+      ∙ one_changes l.output (record (l.output) { buffer = takes l.output.buffer w now }) w 0 w l.sessions s s (histories.given l now) others_have its.is (sym (zero-add w)) here
 
-none_some : {X : Type 0} {x : X} → None ≡ Some x → ⊥
-none_some e = cc
+  pub takes-live : live_lane (with_buffer l (takes l.output.buffer w now)) ≡ lane_takes (live_lane l) w
+      (live_worker l.output w s) now
+  unfolding live_lane live_output
+  takes-live = λ i. record {
+    config = l.config;
+    output = record { buffer = buffer.takes-live l.output.buffer w now l.output.buffer.setting.limits.bounded own.buffer i; book = live_book l.output.book; servers = live_servers l.output.setting l.output.servers };
+    workers = (workers_taken ∙ ap (λ c. set (live_workers l.output 0 l.sessions) w (record { taken = c; session = option_map live_session s })) (given-same l now own)) i;
+  }
 
-carry_more-apart : (w : ℕ) (found : Option ℕ) (cs : List Carry) → AreApart cs
-    → carry_of w cs ≡ None → ((k : ℕ) → found ≡ Some k → is_carried k cs ≡ false)
-    → AreApart (carry_more w found cs)
-carry_more-apart w None cs apart none free = apart
-carry_more-apart w (Some k) cs apart none free = apart-push w k cs apart none (free k refl)
+  -- ---- an output stays sane
 
-pub others_carry : (w j : ℕ) (found : Option ℕ) (cs : List Carry) → w ≢ j
-    → carry_of j (carry_more w found cs) ≡ carry_of j cs
-others_carry w j None cs differ = refl
-others_carry w j (Some k) cs differ = carry_of-push_other w j k cs differ
+  carry_more-apart : (found : Option ℕ) (cs : List Carry) → AreApart cs
+      → ((k : ℕ) → found ≡ Some k → is_carried k cs ≡ false)
+      → AreApart (carry_more w found cs)
+  carry_more-apart None cs apart free = apart
+  carry_more-apart (Some k) cs apart free = apart-push w k cs apart (free k refl)
 
-carry_more-session : (w j now : ℕ) (b : BufferHistory) (s : SessionHistory)
-    → carry_of w b.carried ≡ None → IsSaneSession j b s → IsSaneSession j (takes b w now) s
-carry_more-session w j now b s none fits = record { own = fits.own; carries = λ c e. by c e (same_or w j) }
-  where
-    by : (c : Load) → s.loaded ≡ Some c → (w ≡ j) ⊎ (w ≢ j) → carried_by (takes b w now) j ≡ Some c
-    by c e (inl same) = absurd (none_some (sym (ap (λ k. carried_by b k) (sym same) ∙ ap (option_map (λ d. load_of b d.number)) none) ∙ fits.carries c e))
-    by c e (inr differ) = ap (option_map (λ d. load_of b d.number)) (others_carry w j (given (looks b now)) b.carried differ) ∙ fits.carries c e
+  still : (j : ℕ) (x : Option SessionHistory) → slice_get l.sessions j ≡ Some x → (w ≡ j) ⊎ (w ≢ j)
+      → IsSaneWorker l.config.acks.window (carried_by (takes l.output.buffer w now) j) x
+  still j x h (inl same) =
+      let is : s ≡ x = same_Some _ _ (sym here ∙ ap (slice_get l.sessions) same ∙ h) in
+      let fits = own.workers w s here in
+      subst (λ k. IsSaneWorker l.config.acks.window (carried_by (takes l.output.buffer w now) k) x) same
+      (subst (λ y. IsSaneWorker l.config.acks.window (carried_by (takes l.output.buffer w now) w) y) is (record { own = fits.own; window = fits.window; his = its.his; once = fits.once; rest = its.rest; whole = its.whole; few = its.few }))
+  still j x h (inr differ) = subst (λ cs. IsSaneWorker l.config.acks.window cs x) (sym (others_have j differ)) (own.workers j x h)
 
-pub takes-sane : (l : Lane) (w now : ℕ) → carry_of w l.output.buffer.carried ≡ None
-    → IsSaneLane l → IsSaneLane (with_buffer l (takes l.output.buffer w now))
-takes-sane l w now none own =
-    let b = looks l.output.buffer now in
-    let free : (k : ℕ) → given b ≡ Some k → is_carried k l.output.buffer.carried ≡ false =
-    λ k e. (sane.free_parts b k (sane.given-free b k (sane.looks-sane l.output.buffer now own.buffer) e)).uncarried in
-    record {
-      buffer = sane.takes-sane l.output.buffer w now own.buffer;
-      apart = carry_more-apart w (given b) l.output.buffer.carried own.apart none free;
-      marks = own.marks;
-      waits = own.waits;
-      sessions = λ j s h. carry_more-session w j now l.output.buffer s none (own.sessions j s h);
-    }
+  pub takes-sane : IsSaneLane (with_buffer l (takes l.output.buffer w now))
+  takes-sane = record {
+    buffer = sane.takes-sane l.output.buffer w now own.buffer;
+    apart = carry_more-apart (given (looks l.output.buffer now)) l.output.buffer.carried own.apart (given_free l now own);
+    marks = own.marks;
+    waits = own.waits;
+    workers = λ j x h. still j x h (same_or w j);
+  }

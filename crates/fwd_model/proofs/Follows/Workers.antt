@@ -1,19 +1,16 @@
--- Where there is a worker, there is a place for its session, and its chunk is the one that it
--- carries.
-use Rattle.std.proofs.Common.{◌≡◌, ℕ, Option, Some, None, false, refl, sym, ap, ◌∙◌}
-use Rattle.std.specs.Prelude.{option_map, is_some, slice_get}
-use Rattle.fwd_chunks.specs.Cells.{Carry}
-use Rattle.fwd_chunks.specs.History.{load_of}
-use Rattle.fwd_model.specs.Outputs.{carry_of, carried_by}
+-- Where there is a worker, there is a place for its session, and its chunk is the one that it took
+-- and did not load.
+use Rattle.std.proofs.Common.{◌≡◌, ℕ, Option, Some, None, refl, sym, ap, ◌∙◌}
+use Rattle.std.specs.Prelude.{option_map, slice_get}
 use Rattle.fwd_model.specs.Layers.{Worker}
 use Rattle.fwd_session.specs.History.{SessionHistory}
 use Rattle.fwd_session.specs.Live.{live_session}
-use Rattle.fwd_model.specs.History.{Lane, history_worker, histories}
+use Rattle.fwd_model.specs.History.{Lane, taken_by, history_worker, histories}
 use Rattle.fwd_model.specs.Live as model
 
 -- a worker whose session is seen through a map
 abbrev pub worker_map : {S T : Type 0} → (S → T) → Worker S → Worker T
-worker_map f x = record { chunk = x.chunk; session = option_map f x.session }
+worker_map f x = record { taken = x.taken; session = option_map f x.session }
 
 pub worker_seen : (l : Lane) (w : ℕ) (s : Option (Option SessionHistory))
     → option_map (λ t. model.live_worker l.output w t) s ≡ option_map (worker_map live_session)
@@ -41,16 +38,7 @@ pub session_here : (l : Lane) (w : ℕ) (x : Worker SessionHistory) (s : Session
     → slice_get l.sessions w ≡ Some (Some s)
 session_here l w x s e f = (worker_is l w x e).here ∙ ap Some f
 
-pub none_carried : (l : Lane) (w : ℕ) (x : Worker SessionHistory) → IsWorker l w x
-    → is_some x.chunk ≡ false → carry_of w l.output.buffer.carried ≡ None
-none_carried l w x at none = by (carry_of w l.output.buffer.carried) (ap (λ y. is_some y.chunk) at.is ∙ none)
-  where
-    by : (c : Option Carry) → is_some (option_map (λ c. load_of l.output.buffer c.number) c) ≡ false
-        → c ≡ None
-    by None e = refl
-    by (Some c) e = absurd cc
-
--- a worker's chunk is the one that it carries
-pub carried_is : (l : Lane) (w : ℕ) (x : Worker SessionHistory) → IsWorker l w x
-    → carried_by l.output.buffer w ≡ x.chunk
-carried_is l w x at = ap (λ (y : Worker SessionHistory). y.chunk) at.is
+-- a worker's chunk is the one that it took and did not load
+pub taken_is : (l : Lane) (w : ℕ) (x : Worker SessionHistory) → IsWorker l w x
+    → taken_by l.output.buffer w x.session ≡ x.taken
+taken_is l w x at = ap (λ (y : Worker SessionHistory). y.taken) at.is

@@ -11,7 +11,7 @@ use Rattle.fwd_source.specs.History.{Setup, SourceHistory, opened, waiting}
 use Rattle.fwd_chunks.specs.declared.flush.FlushKind.{FlushKind}
 use Rattle.fwd_chunks.specs.declared.fault.AdmitError.{AdmitError}
 use Rattle.fwd_chunks.specs.declared.fault.AdmitError.TheVariants.{Full, NumbersSpent, Memory}
-use Rattle.fwd_chunks.specs.History.{Load}
+use Rattle.fwd_session.specs.Evidence.{Accepted, evidence_of}
 use Rattle.fwd_session.specs.History.{SessionHistory, unloads}
 use Rattle.fwd_model.specs.declared.config.OutputConfig.{OutputConfig}
 use Rattle.fwd_model.specs.declared.event.Event.{Event}
@@ -24,8 +24,8 @@ use Rattle.fwd_model.specs.Layers.{Worker}
 use Rattle.fwd_model.specs.Step as steps
 use Rattle.fwd_model.specs.Step.{step}
 use Rattle.fwd_model.specs.Setups.{setup_of}
-use Rattle.fwd_model.specs.Outputs.{OutputHistory, carried_by, returned, output_history_settles, output_history_ends}
-use Rattle.fwd_model.specs.History.{Connection, Lane, History, histories, history_worker, with_output}
+use Rattle.fwd_model.specs.Outputs.{OutputHistory, carried_by, not_loaded, output_history_settles, output_history_ends}
+use Rattle.fwd_model.specs.History.{Connection, Lane, History, histories, history_worker, loaded_in, with_output}
 use Rattle.fwd_model.specs.Names as part
 use Rattle.fwd_model.specs.Names.{Named, is_same, does_name, is_accept}
 use Rattle.fwd_model.proofs.Agree.{Agrees, stays, goes, checked, sought, inside}
@@ -106,25 +106,26 @@ worker_stays : (l : Lane) (v w : ℕ) (s : Option SessionHistory) → v ≢ w
     → histories.worker_at (with_place v s l) w ≡ histories.worker_at l w
 worker_stays l v w s apart = ap (option_map (history_worker l w)) (slice_get-set_other l.sessions v w s apart)
 
--- and beside another history of the output, where that leaves the worker's chunk
+-- and beside another history of the output, where that leaves the worker's chunks
 chunk_stays : (l : Lane) (x : OutputHistory) (w : ℕ)
     → carried_by x.buffer w ≡ carried_by l.output.buffer w
     → histories.worker_at (with_output l x) w ≡ histories.worker_at l w
-chunk_stays l x w same = λ i. option_map (λ s. record { chunk = same i; session = s }) (slice_get l.sessions w)
+chunk_stays l x w same = λ i. option_map (λ s. record { taken = not_loaded (loaded_in s) (same i); session = s }) (slice_get l.sessions w)
 
 -- a worker that may have another session
-abbrev seated : Bool → Option SessionHistory → Worker SessionHistory → Worker SessionHistory
-seated b s x = record { chunk = x.chunk; session = cond b s x.session }
+abbrev seated : Lane → ℕ → Bool → Option SessionHistory → Worker SessionHistory
+    → Worker SessionHistory
+seated l w b s x = history_worker l w (cond b s x.session)
 
 -- beside any session there are the same workers
 still_seated : (l : Lane) (v w : ℕ) (s : Option SessionHistory)
     → histories.worker_at (with_place v s l) w
-    ≡ option_map (seated (eqb v w) s) (histories.worker_at l w)
+    ≡ option_map (seated l w (eqb v w) s) (histories.worker_at l w)
 still_seated l v w s = ap (option_map (history_worker l w)) (slice_get-set_any l.sessions v w s) ∙ by (slice_get l.sessions w)
   where
     by : (t : Option (Option SessionHistory))
         → option_map (history_worker l w) (option_map (λ y. cond (eqb v w) s y) t)
-        ≡ option_map (seated (eqb v w) s) (option_map (history_worker l w) t)
+        ≡ option_map (seated l w (eqb v w) s) (option_map (history_worker l w) t)
     by None = refl
     by (Some t) = refl
 
@@ -149,7 +150,7 @@ module _ (l : Lane) (v : ℕ) (s : Option SessionHistory) where
   flush now kind = goes refl (refl, tt)
 
   choose : (w now : ℕ) → IsBeside (with_place v s) (λ l. steps.choose histories l w now) l
-  choose w now = sought {g = seated (eqb v w) s} _ _ (still_seated l v w s) (λ x e. goes refl (refl, tt))
+  choose w now = sought {g = seated l w (eqb v w) s} _ _ (still_seated l v w s) (λ x e. goes refl (refl, tt))
 
   module _ (w : ℕ) (apart : v ≢ w) where
     worker_here : histories.worker_at (with_place v s l) w
@@ -164,14 +165,14 @@ module _ (l : Lane) (v : ℕ) (s : Option SessionHistory) where
     take : (now : ℕ) → IsBeside (with_place v s) (λ l. steps.take histories l w now) l
     take now =
         sought {g = λ (x : Worker SessionHistory). x} _ _ worker_here (λ x e.
-        checked NotNow {b = is_some x.chunk} refl (λ none. goes refl (refl, tt)))
+        checked NotNow {b = is_some x.taken || steps.is_full histories x.session} refl (λ none. goes refl (refl, tt)))
 
     settle : IsBeside (with_place v s) (λ l. steps.settle histories l w) l
     settle =
         sought {g = λ (x : Worker SessionHistory). x} _ _ worker_here (λ x e.
         sought {g = λ (t : SessionHistory). t} _ _ (option_id x.session) (λ t f.
-        sought {g = λ (c : Load). c} _ _ (option_id (histories.acked t)) (λ c g.
-        goes refl (both_places (output_history_settles l.output (histories.evidence t c)) (Some (unloads t)), tt))))
+        sought {g = λ (a : Accepted). a} _ _ (option_id (histories.acked t)) (λ a g.
+        goes refl (both_places (output_history_settles l.output (evidence_of t.setup.server a)) (Some (unloads t)), tt))))
 
     end : (kind : EndKind) (now : ℕ)
         → IsBeside (with_place v s) (λ l. steps.end histories l w kind now) l
@@ -179,7 +180,7 @@ module _ (l : Lane) (v : ℕ) (s : Option SessionHistory) where
         sought {g = λ (x : Worker SessionHistory). x} _ _ worker_here (λ x e.
         checked NotNow {b = steps.is_idle histories x} refl (λ some.
         checked NotNow {b = steps.has_acked histories x.session} refl (λ none.
-        goes refl (both_places (output_history_ends l.output (returned x.chunk (steps.has_loaded histories x.session)) (steps.lost_server histories kind x.session) now) None, tt))))
+        goes refl (both_places (output_history_ends l.output (steps.gives_back histories x) (steps.lost_server histories kind x.session) now) None, tt))))
 
 -- ---- a connection's and an output's events beside the session of a worker
 

@@ -1,7 +1,7 @@
 -- What an event goes on to: changes of parts that it names. What the workers have that it does not
 -- name stays.
 use Rattle.std.proofs.Common.{◌≡◌, ◌≢◌, ℕ, ◌+◌, Bool, true, false, cond, eqb, List, [], ◌∷◌, length, Option, Some, None, refl, sym, ap, ◌∙◌}
-use Rattle.std.specs.Prelude.{option_map, slice_get, is_some, not, ◌==◌, ◌&&◌, ◌||◌}
+use Rattle.std.specs.Prelude.{slice_get, is_some, not, ◌==◌, ◌&&◌, ◌||◌}
 use Rattle.fwd_modes.specs.Requests.{Request}
 use Rattle.fwd_match.specs.Patterns.{route}
 use Rattle.fwd_modes.specs.declared.origin.Origin.{Origin}
@@ -9,7 +9,8 @@ use Rattle.fwd_source.specs.History.{Setup, SourceHistory, opened, opening_text,
 use Rattle.fwd_chunks.specs.declared.flush.FlushKind.{FlushKind}
 use Rattle.fwd_chunks.specs.declared.fault.AdmitError.{AdmitError}
 use Rattle.fwd_chunks.specs.declared.fault.AdmitError.TheVariants.{Full, NumbersSpent, Memory}
-use Rattle.fwd_chunks.specs.History.{load_of, looks, given, flushes, takes}
+use Rattle.fwd_chunks.specs.History.{looks, given, flushes, takes}
+use Rattle.fwd_session.specs.Evidence.{evidence_of}
 use Rattle.fwd_session.specs.History.{SessionHistory, unloads}
 use Rattle.fwd_book.specs.History.{tells_due, forgets_of}
 use Rattle.fwd_model.specs.declared.event.Event.{Event}
@@ -23,18 +24,19 @@ use Rattle.fwd_model.specs.Layers.{Worker}
 use Rattle.fwd_model.specs.Step as steps
 use Rattle.fwd_model.specs.Step.{step}
 use Rattle.fwd_model.specs.Setups.{setup_of}
-use Rattle.fwd_model.specs.Outputs.{OutputHistory, carried_by, returned, output_history_enters, output_history_settles, output_history_looks, output_history_ends}
+use Rattle.fwd_model.specs.Outputs.{OutputHistory, carried_by, numbers_back, output_history_enters, output_history_settles, output_history_looks, output_history_ends}
 use Rattle.fwd_model.specs.History.{Lane, History, histories, accepts, with_connection, leaves, with_output, with_lane}
 use Rattle.fwd_model.specs.Names as part
 use Rattle.fwd_model.specs.Names.{Named, is_same, does_name, is_accept}
 use Rattle.fwd_model.proofs.Onward.{Onward, to, past, past_found, source_on, lane_on, both_on, worker_on}
 use Rattle.fwd_model.proofs.Places.{same_at}
 use Rattle.fwd_model.proofs.Reached.{IsSane, IsSaneLane, AllSane-at}
-use Rattle.fwd_model.proofs.Follows.Workers.{worker_is, session_here, carried_is}
+use Rattle.fwd_model.proofs.Settling.{loads_of}
+use Rattle.fwd_model.proofs.Follows.Workers.{session_here}
 use Rattle.fwd_model.proofs.Follows.Admits.{worker_stays}
 use Rattle.fwd_model.proofs.Follows.Takes.{others_carry}
-use Rattle.fwd_model.proofs.Follows.Settles.{acked_is, settles-drops}
-use Rattle.fwd_model.proofs.Follows.Ends.{backs, back-drops}
+use Rattle.fwd_model.proofs.Follows.Settles.{others_have as settles-others}
+use Rattle.fwd_model.proofs.Follows.Ends.{gives_all, others_have as ends-others}
 use Rattle.fwd_model.proofs.Orders.Changes.{Change, Arrives, AtSource, Departs, AtOutput, AtSession, part_of, comes, made, all_made, changed_lane, with_place, same_number, changed-here, changed_twice}
 use Rattle.fwd_model.proofs.Orders.Besides.{same_self, named_alone, no_test}
 use Rattle.std.proofs.lemmas.Option.{same_Some}
@@ -256,20 +258,20 @@ module _ (h : History) (sane : IsSane h) where
       let b = l.output.buffer in
       let next : OutputHistory = record (l.output) { buffer = takes b w now } in
       past_found NoSuch {x = histories.worker_at l w} (λ x at.
-      past NotNow {b = is_some x.chunk} (λ none. to {a = chunk_answer (histories.given l now)}
+      past NotNow {b = is_some x.taken || steps.is_full histories x.session} (λ none. to {a = chunk_answer (histories.given l now)}
       (turns (event.Take o w now) h o l here next (named_first (part.Output o) (part.Session o w))
-      (λ v others. ap (option_map (λ d. load_of b d.number)) (others_carry w v (given (looks b now)) b.carried (other_named o v w others))))))
+      (λ v others. ap (loads_of b) (others_carry w v (given (looks b now)) b.carried (other_named o v w others))))))
 
   settle : (o w : ℕ) (l : Lane) → slice_get h.lanes o ≡ Some l → IsSaneLane l
       → Onward (LaneLeads (event.Settle o w) h o) (steps.settle histories l w)
   settle o w l here own =
       past_found NoSuch {x = histories.worker_at l w} (λ x at.
       past_found NotNow {x = x.session} (λ s f.
-      past_found NotNow {x = histories.acked s} (λ c g. to {a = answer.Settled (histories.entries_at l c.number)}
-      (let is = acked_is l.output.buffer w s c (own.sessions w s (session_here l w x s at f)) g in
-      let next = output_history_settles l.output (histories.evidence s c) in
+      past_found NotNow {x = histories.acked s} (λ a g. to {a = answer.Settled (histories.entries_at l a.chunk.number)}
+      (let its = session_here l w x s at f in
+      let next = output_history_settles l.output (evidence_of s.setup.server a) in
       turns_and_seats (event.Settle o w) h o l here next w (Some (unloads s)) (named_first (part.Output o) (part.Session o w)) (named_second (part.Output o) (part.Session o w))
-      (λ v others. (settles-drops l.output w s.setup.server s.reply c own.apart is).others v (other_named o v w others))))))
+      (λ v others. settles-others l w s a s.setup.server its own g v (other_named o v w others))))))
 
   end : (o w : ℕ) (kind : EndKind) (now : ℕ) (l : Lane) → slice_get h.lanes o ≡ Some l
       → IsSaneLane l
@@ -277,12 +279,12 @@ module _ (h : History) (sane : IsSane h) where
   end o w kind now l here own =
       past_found NoSuch {x = histories.worker_at l w} (λ x at.
       past NotNow {b = steps.is_idle histories x} (λ some.
-      past NotNow {b = steps.has_acked histories x.session} (λ none. to {a = answer.Ended (option_map (λ c. c.number) x.chunk)}
-      (let back = returned x.chunk (steps.has_loaded histories x.session) in
-      let is = backs l.output.buffer w x.chunk (steps.has_loaded histories x.session) (carried_is l w x (worker_is l w x at)) in
+      past NotNow {b = steps.has_acked histories x.session} (λ none. to {a = answer.Ended (numbers_back (steps.gives_back histories x))}
+      (let back = steps.gives_back histories x in
+      let is = gives_all l w x own at none in
       let next = output_history_ends l.output back (steps.lost_server histories kind x.session) now in
       turns_and_seats (event.End o w kind now) h o l here next w None (named_first (part.Output o) (part.Session o w)) (named_second (part.Output o) (part.Session o w))
-      (λ v others. (back-drops l.output.buffer w now back is own.apart).others v (other_named o v w others))))))
+      (λ v others. ends-others l w back now own is v (other_named o v w others))))))
 
   module _ (id o now : ℕ) (l : Lane) (here : slice_get h.lanes o ≡ Some l) (own : IsSaneLane l) where
     admits : (s : SourceHistory) (x : OutputHistory) → Keeps (event.Admit id o now) o l x

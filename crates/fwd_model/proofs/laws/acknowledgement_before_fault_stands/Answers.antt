@@ -1,5 +1,9 @@
+use Rattle.fwd_session.proofs.Accepting.{each_accepts}
 use Rattle.fwd_model.proofs.WayBack.{before_fault-stands}
 use Rattle.fwd_model.proofs.laws.acknowledgement_before_fault_stands.Goals as goal
 
-pub returns : goal.returns
-returns _ h o w c bytes l s f here at up loaded accepted fault = before_fault-stands h o w c bytes l s f here at up loaded accepted fault
+pub returns-clause-each : goal.returns-clause-each
+returns-clause-each c s bytes = each_accepts s bytes
+
+pub returns-clause-stands : goal.returns-clause-stands
+returns-clause-stands c h o w a bytes l s f here at up first fault = before_fault-stands h o w a bytes l s f here at up first fault

@@ -1,4 +1,4 @@
-use Rattle.fwd_session.proofs.Following.{begins-live, ready-live, late-live, acked-live, told-live, out-live, loads-live, sends-live, hears-live, unloads-live, looks-live}
+use Rattle.fwd_session.proofs.Following.{begins-live, ready-live, room-live, late-live, acked-live, told-live, out-live, loads-live, sends-live, hears-live, unloads-live, looks-live}
 use Rattle.fwd_session.proofs.laws.live_follows.Goals as goal
 
 pub returns-clause-begins : goal.returns-clause-begins
@@ -6,6 +6,9 @@ returns-clause-begins c setup = begins-live setup
 
 pub returns-clause-ready : goal.returns-clause-ready
 returns-clause-ready c s = ready-live s
+
+pub returns-clause-room : goal.returns-clause-room
+returns-clause-room c s = room-live s
 
 pub returns-clause-late : goal.returns-clause-late
 returns-clause-late c s now = late-live s now

@@ -5,7 +5,7 @@ pub returns-clause-begins : goal.returns-clause-begins
 returns-clause-begins c setup = begins-framed setup
 
 pub returns-clause-loads : goal.returns-clause-loads
-returns-clause-loads c s chunk now ready = loads-framed s chunk now ready
+returns-clause-loads c s chunk now own ready = loads-framed s chunk now own ready
 
 pub returns-clause-sends : goal.returns-clause-sends
 returns-clause-sends c s count own = sends-framed s count own
@@ -14,7 +14,7 @@ pub returns-clause-hears : goal.returns-clause-hears
 returns-clause-hears c s bytes sane own = hears-framed s bytes sane own
 
 pub returns-clause-unloads : goal.returns-clause-unloads
-returns-clause-unloads c s = unloads-framed s
+returns-clause-unloads c s own = unloads-framed s own
 
 pub returns-clause-looks : goal.returns-clause-looks
 returns-clause-looks c s now own = looks-framed s now own

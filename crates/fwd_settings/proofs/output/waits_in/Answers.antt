@@ -33,6 +33,17 @@ returns-in_err-ack_wait c =
       c.in_err-ack_wait.ensures.reads m,
     )
 
+pub returns-in_err-window : goal.returns-in_err-window
+returns-in_err-window c =
+    told _ _ _ c.in_err-window.field-0.0 c.from_residual-in_err-window.ensures.1 λ m.
+    rw (
+      c.in_ok-flush_interval.ensures.reads.0,
+      c.in_ok-retry_wait.ensures.reads.0,
+      c.in_ok-retry_max.ensures.0,
+      c.in_ok-ack_wait.ensures.reads.0,
+      c.in_err-window.ensures.reads m,
+    )
+
 pub returns : goal.returns
 returns c = (
   rw (
@@ -40,11 +51,13 @@ returns c = (
     c.in_ok-retry_wait.ensures.reads.0,
     c.in_ok-retry_max.ensures.0,
     c.in_ok-ack_wait.ensures.reads.0,
+    c.in_ok-window.ensures.reads.0,
   ) refl,
   rw (
     c.in_ok-flush_interval.ensures.reads.1,
     c.in_ok-retry_wait.ensures.reads.1,
     c.in_ok-retry_max.ensures.1,
     c.in_ok-ack_wait.ensures.reads.1,
+    c.in_ok-window.ensures.reads.1,
   ) refl,
 )

@@ -9,10 +9,10 @@ pub returns-clause-acked : goal.returns-clause-acked
 returns-clause-acked c s t before after sane up bytes is =
     acknowledged s t before after sane up bytes is
 
+pub returns-clause-any : goal.returns-clause-any
+returns-clause-any c setup deeds what s middle t start before between after taken given lives up one has =
+    any-first setup deeds what s middle t start before between after taken given lives up one has
+
 pub returns-clause-whole : goal.returns-clause-whole
 returns-clause-whole c setup deeds s middle t start before between after taken given lives up one heard =
     whole-first setup deeds s middle t start before between after taken given lives up one heard
-
-pub returns-clause-any : goal.returns-clause-any
-returns-clause-any c setup deeds what s middle t start before between after taken given lives up one has none some =
-    any-first setup deeds what s middle t start before between after taken given lives up one has none some

@@ -1,4 +1,7 @@
+use Rattle.std.proofs.Common.{ap}
 use Rattle.std.specs.Prelude.{is_some}
+use Rattle.fwd_session.specs.Live.{LiveSession}
+use Rattle.fwd_workers.proofs.Keeping.{same-window}
 use Rattle.fwd_workers.proofs.Leading.{acked-line}
 use Rattle.fwd_workers.proofs.parting.settle_line.Goals as goal
 
@@ -6,5 +9,7 @@ pub invariant_of-line : goal.invariant_of-line
 invariant_of-line g c = record {
   of_link = acked-line c.args.line.now.session c.acked.new.self
       (g.L.Link.calls c.args.line.now.link) (is_some c.args.line.now.ending)
-      c.args.line.now.of_link c.acked.ensures.some c.acked.ensures.none;
+      c.args.line.now.of_link c.acked.ensures.next c.acked.ensures.none;
+  window = same-window c.args.line.now.session c.acked.new.self
+      (ap (λ (x : LiveSession). x.setup) c.acked.ensures.next) c.args.line.now.window;
 }

@@ -1,7 +1,6 @@
-use Rattle.std.proofs.Common.{◌≡◌, ◌<◌, inl, length, subst, sym, arith}
+use Rattle.std.proofs.Common.{inl}
 use Rattle.fwd_workers.specs.declared.serve.Served.TheVariants as served
-use Rattle.fwd_workers.specs.Served.{IsTurn}
-use Rattle.fwd_workers.proofs.Serving.{breaks-turn, reads-turn, served-of, has-sent, sent-served}
+use Rattle.fwd_workers.proofs.Serving.{breaks-turn, reads-turn, sends-served, served-of}
 use Rattle.fwd_workers.proofs.serve.serve_gathered.Goals as goal
 
 pub returns-in-Err-clause-turn : goal.returns-in-Err-clause-turn
@@ -16,14 +15,6 @@ returns-in-Err-clause-served g c =
     (breaks-turn c.args.session.now c.send.new.session (g.L.Link.calls c.args.link.now)
     (g.L.Link.calls c.send.new.link) c.in-Err.fault c.in-Err.ensures.failed)
 
-pub returns-then-left-waiting-clause-served : goal.returns-then-left-waiting-clause-served
-returns-then-left-waiting-clause-served g c =
-    let left : c.waiting-left.result ≡ length c.send.new.session.waiting = c.waiting-left.ensures in
-    let all : c.waiting-waiting.result ≡ length c.args.session.now.waiting = c.waiting-waiting.ensures in
-    sent-served served.Quiet c.args.session.now c.send.new.session (g.L.Link.calls c.args.link.now) (g.L.Link.calls c.send.new.link)
-    (has-sent c.args.session.now c.send.new.session (g.L.Link.calls c.args.link.now) (g.L.Link.calls c.send.new.link) c.in_default.ensures.sent
-    (omega (arith, left, c.if-left-gt0.true)) (omega (arith, left, all, c.if-left-waiting.true)))
-
 pub returns-clause-turn : goal.returns-clause-turn
 returns-clause-turn g c =
     let r = c.read.ensures.read in
@@ -37,3 +28,8 @@ returns-clause-served g c =
     (g.L.Link.calls c.args.link.now) (g.L.Link.calls c.read.new.link)
     (reads-turn c.read.result c.args.session.now c.send.new.session c.read.new.session (g.L.Link.calls c.args.link.now)
     (g.L.Link.calls c.send.new.link) (g.L.Link.calls c.read.new.link) r.room r.answer c.in_default.ensures.sent r.calls r.some r.within r.comes)
+
+pub returns-then-takes_more-clause-served : goal.returns-then-takes_more-clause-served
+returns-then-takes_more-clause-served g c =
+    sends-served c.args.session.now c.send.new.session (g.L.Link.calls c.args.link.now)
+    (g.L.Link.calls c.send.new.link) c.in_default.ensures.sent

@@ -114,16 +114,16 @@ fill-requires-clause-fits c = λ n d joins at small.
     let chunk : c.self.inside.limits.chunk < 2 ^ 32 = search rules in
     rw plan.front (joining-fits c.self.inside.limits.chunk o d r.entries (e.1.0 ∙ ap Some is) chunk small)
 
-pub invariant_of-self-in_err-fill : goal.invariant_of-self-in_err-fill
-invariant_of-self-in_err-fill c =
+pub invariant_of-self-in_err-key : goal.invariant_of-self-in_err-key
+invariant_of-self-in_err-key c =
     let r = c.args.batch.now in
     let plan : IsPlan (the_view c.self.inside) c.args.batch.now c.args.plan = subst (λ (x : LiveBuffer). IsPlan x c.args.batch.now c.args.plan) (sym c.self.view_is) c.requires.planned in
     let kept : c.reserve.new.self.chunks ≡ c.self.inside.slots.chunks = ap (λ (h : Held). h.chunks) c.in_ok-reserve.ensures.kept in
     let kept_last : c.reserve.new.self.last ≡ c.self.inside.slots.last = ap (λ (h : Held). h.last) c.in_ok-reserve.ensures.kept in
     let kept_retry : c.reserve.new.self.retry ≡ c.self.inside.slots.retry = ap (λ (h : Held). h.retry) c.in_ok-reserve.ensures.kept in
-    let there : IsSome (tag_number r.tag c.self.inside.tags) = joined-has c.self.inside.tags c.self.inside.slots.chunks r.tag c.args.plan.joins c.self.invariant.newest plan.joins c.in_err-fill.ensures.sure in
+    let there : IsSome (tag_number r.tag c.self.inside.tags) = joined-has c.self.inside.tags c.self.inside.slots.chunks r.tag c.args.plan.joins c.self.invariant.newest plan.joins c.in_err-key.ensures.sure in
     let tags : c.prepare.new.self ≡ c.self.inside.tags = c.prepare.ensures.same (subst (λ t. IsSome (tag_number t c.self.inside.tags)) (sym c.tag-tag.ensures.value) there) in
-    rw (c.in_err-fill.ensures.err, kept, kept_last, kept_retry, tags) (record {
+    rw (c.in_err-key.ensures.err, kept, kept_last, kept_retry, tags) (record {
       stored = c.self.invariant.stored;
       newest = c.self.invariant.newest;
       counted = c.self.invariant.counted;
@@ -285,8 +285,8 @@ invariant_of-self-2 c =
     let kept_last : c.reserve.new.self.last ≡ c.self.inside.slots.last = ap (λ (h : Held). h.last) c.in_ok-reserve.ensures.kept in
     let kept_retry : c.reserve.new.self.retry ≡ c.self.inside.slots.retry = ap (λ (h : Held). h.retry) c.in_ok-reserve.ensures.kept in
     let chunks : c.fill.new.slots.chunks ≡ filled_in p.joins (entries_in p.front) (stage_last (length c.in_ok-fresh.fresh.items == 0)) c.self.inside.slots.chunks ++ c.in_ok-fresh.fresh.items =
-    ap (λ (h : Held). h.chunks) c.in_ok-fill.ensures.ok ∙ ap (λ l. filled_in p.joins (entries_in p.front) (stage_last (length c.in_ok-fresh.fresh.items == 0)) l ++ c.in_ok-fresh.fresh.items) kept in
-    let last : c.fill.new.slots.last ≡ last_of c.self.inside.slots.last c.in_ok-fresh.fresh.items = ap (λ (h : Held). h.last) c.in_ok-fill.ensures.ok ∙ ap (λ o. last_of o c.in_ok-fresh.fresh.items) kept_last in
+    ap (λ (h : Held). h.chunks) c.in_ok-key.ensures.ok ∙ ap (λ l. filled_in p.joins (entries_in p.front) (stage_last (length c.in_ok-fresh.fresh.items == 0)) l ++ c.in_ok-fresh.fresh.items) kept in
+    let last : c.fill.new.slots.last ≡ last_of c.self.inside.slots.last c.in_ok-fresh.fresh.items = ap (λ (h : Held). h.last) c.in_ok-key.ensures.ok ∙ ap (λ o. last_of o c.in_ok-fresh.fresh.items) kept_last in
     let same : record v { chunks = c.fill.new.slots.chunks; greatest = c.fill.new.slots.last; accepted = c.self.inside.accepted + c.len-count.result; moment = c.max-moment.result } ≡ live_enters v r c.args.now =
     (λ i. record v { chunks = chunks i; greatest = last i; accepted = c.self.inside.accepted + c.len-count.result; moment = c.max-moment.ensures i })
     ∙ entered v r c.args.now p own.sound plan c.unwrap_or-first.result c.in_ok-fresh.fresh.items c.len-count.result made next c.len-count.ensures.value in
@@ -315,7 +315,7 @@ invariant_of-self-2 c =
           c.prepare.ensures.held c.prepare.ensures.bytes
           (subst (λ l. (t : List ℕ) (e : TagEntry) → tag_entry t c.prepare.new.self ≡ Some e → (tag_entry t c.self.inside.tags ≡ Some e) ⊎ ((l ≡ t) × IsSome c.newest_of-newest.result)) c.tag-tag.ensures.value c.prepare.ensures.only)
           some held bytes each);
-      waits = ap (λ (h : Held). h.retry) c.in_ok-fill.ensures.ok ∙ kept_retry ∙ c.self.invariant.waits;
+      waits = ap (λ (h : Held). h.retry) c.in_ok-key.ensures.ok ∙ kept_retry ∙ c.self.invariant.waits;
     })
 
 pub returns-clause-ok : goal.returns-clause-ok
@@ -335,8 +335,8 @@ returns-clause-ok c =
     let kept : c.reserve.new.self.chunks ≡ c.self.inside.slots.chunks = ap (λ (h : Held). h.chunks) c.in_ok-reserve.ensures.kept in
     let kept_last : c.reserve.new.self.last ≡ c.self.inside.slots.last = ap (λ (h : Held). h.last) c.in_ok-reserve.ensures.kept in
     let chunks : c.fill.new.slots.chunks ≡ filled_in p.joins (entries_in p.front) (stage_last (length c.in_ok-fresh.fresh.items == 0)) c.self.inside.slots.chunks ++ c.in_ok-fresh.fresh.items =
-    ap (λ (h : Held). h.chunks) c.in_ok-fill.ensures.ok ∙ ap (λ l. filled_in p.joins (entries_in p.front) (stage_last (length c.in_ok-fresh.fresh.items == 0)) l ++ c.in_ok-fresh.fresh.items) kept in
-    let last : c.fill.new.slots.last ≡ last_of c.self.inside.slots.last c.in_ok-fresh.fresh.items = ap (λ (h : Held). h.last) c.in_ok-fill.ensures.ok ∙ ap (λ o. last_of o c.in_ok-fresh.fresh.items) kept_last in
+    ap (λ (h : Held). h.chunks) c.in_ok-key.ensures.ok ∙ ap (λ l. filled_in p.joins (entries_in p.front) (stage_last (length c.in_ok-fresh.fresh.items == 0)) l ++ c.in_ok-fresh.fresh.items) kept in
+    let last : c.fill.new.slots.last ≡ last_of c.self.inside.slots.last c.in_ok-fresh.fresh.items = ap (λ (h : Held). h.last) c.in_ok-key.ensures.ok ∙ ap (λ o. last_of o c.in_ok-fresh.fresh.items) kept_last in
     let same : record v { chunks = c.fill.new.slots.chunks; greatest = c.fill.new.slots.last; accepted = c.self.inside.accepted + c.len-count.result; moment = c.max-moment.result } ≡ live_enters v r c.args.now =
     (λ i. record v { chunks = chunks i; greatest = last i; accepted = c.self.inside.accepted + c.len-count.result; moment = c.max-moment.ensures i })
     ∙ entered v r c.args.now p own.sound plan c.unwrap_or-first.result c.in_ok-fresh.fresh.items c.len-count.result made next c.len-count.ensures.value in
@@ -356,7 +356,7 @@ returns-clause-spans c =
     (subst (λ (x : LiveBuffer). IfNone c.next_number.result (live_next_number x ≡ 2 ^ 64)) (sym c.self.view_is) c.next_number.ensures.none) room.0 up in
     let made : c.in_ok-fresh.fresh.items ≡ fresh_of c.self.inside.limits.chunk r.tag (max c.self.inside.moment c.args.now) c.unwrap_or-first.result (entries_in p.back) =
     c.in_ok-fresh.ensures ∙ (λ i. fresh_of (c.from-limit.ensures i) (c.tag-tag.ensures.value i) (c.max-moment.ensures i) c.unwrap_or-first.result (entries_in p.back)) in
-    let opened : option_copied c.open_of.result ≡ find (is_open_of r.tag) c.self.inside.slots.chunks = c.open_of.ensures ∙ ap (λ (x : LiveBuffer). find (is_open_of c.tag-tag.result.now) x.chunks) (sym c.self.view_is) ∙ ap (λ l. find (is_open_of l) c.self.inside.slots.chunks) c.tag-tag.ensures.value in
+    let opened : option_copied c.joined_by.result ≡ find (is_open_of r.tag) c.self.inside.slots.chunks = c.joined_by.ensures ∙ ap (λ (x : LiveBuffer). find (is_open_of c.args.batch.now.tag) x.chunks) (sym c.self.view_is) in
     let spans : c.in_ok-spans.spans ≡ joined_span (find (is_open_of r.tag) c.self.inside.slots.chunks) (entries_in p.front) ++ map span_of c.in_ok-fresh.fresh.items =
     c.in_ok-spans.ensures
     ∙ (λ i. (c.joined_span-joined.ensures ∙ ap (λ o. joined_span o (entries_in p.front)) opened) i ++ map span_of (c.deref.ensures.value i)) in

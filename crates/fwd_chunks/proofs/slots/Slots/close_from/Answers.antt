@@ -8,7 +8,7 @@ use Rattle.fwd_chunks.proofs.slots.Slots.close_from.Goals as goal
 pub overflow_add-count : goal.overflow_add-count
 overflow_add-count c =
     let test = began_by c.args.moment in
-    let found : Some c.in-Some.number ≡ option_map (λ d. d.number) (find (began_by c.args.moment) c.loop-number.self.chunks) = sym c.in-Some.is ∙ c.first_due.ensures in
+    let found : Some c.in-Some.number ≡ option_map (λ d. d.number) (find (began_by c.args.moment) c.loop-number.self.chunks) = ap (option_map (λ p. p.0)) (sym c.in-Some.is) ∙ c.first_due.ensures in
     let it = number-found (find (began_by c.args.moment) c.loop-number.self.chunks) c.in-Some.number found in
     let next : c.stage.new.self.chunks ≡ changed (is_at it.0.number) (staged Closed) c.loop-number.self.chunks = ap (λ (h : Held). h.chunks) c.stage.ensures ∙ ap (λ n. changed (is_at n) (staged Closed) c.loop-number.self.chunks) (sym it.1.1) in
     let one : length (filter (began_by c.args.moment) c.stage.new.self.chunks) + 1 ≡ length (filter (began_by c.args.moment) c.loop-number.self.chunks) = ap (λ l. length (filter test l) + 1) next ∙ closed-count test (staged Closed) (λ d. refl) c.loop-number.self.chunks it.0 c.is_ordered-in-Some.ensures.rise it.1.0 in
@@ -17,7 +17,7 @@ overflow_add-count c =
 pub loop-number-smaller : goal.loop-number-smaller
 loop-number-smaller c =
     let test = began_by c.args.moment in
-    let found : Some c.in-Some.number ≡ option_map (λ d. d.number) (find (began_by c.args.moment) c.loop-number.self.chunks) = sym c.in-Some.is ∙ c.first_due.ensures in
+    let found : Some c.in-Some.number ≡ option_map (λ d. d.number) (find (began_by c.args.moment) c.loop-number.self.chunks) = ap (option_map (λ p. p.0)) (sym c.in-Some.is) ∙ c.first_due.ensures in
     let it = number-found (find (began_by c.args.moment) c.loop-number.self.chunks) c.in-Some.number found in
     let next : c.stage.new.self.chunks ≡ changed (is_at it.0.number) (staged Closed) c.loop-number.self.chunks = ap (λ (h : Held). h.chunks) c.stage.ensures ∙ ap (λ n. changed (is_at n) (staged Closed) c.loop-number.self.chunks) (sym it.1.1) in
     let one : length (filter (began_by c.args.moment) c.stage.new.self.chunks) + 1 ≡ length (filter (began_by c.args.moment) c.loop-number.self.chunks) = ap (λ l. length (filter test l) + 1) next ∙ closed-count test (staged Closed) (λ d. refl) c.loop-number.self.chunks it.0 c.is_ordered-in-Some.ensures.rise it.1.0 in
@@ -26,7 +26,7 @@ loop-number-smaller c =
 pub loop-number-preserved : goal.loop-number-preserved
 loop-number-preserved c =
     let test = began_by c.args.moment in
-    let found : Some c.in-Some.number ≡ option_map (λ d. d.number) (find (began_by c.args.moment) c.loop-number.self.chunks) = sym c.in-Some.is ∙ c.first_due.ensures in
+    let found : Some c.in-Some.number ≡ option_map (λ d. d.number) (find (began_by c.args.moment) c.loop-number.self.chunks) = ap (option_map (λ p. p.0)) (sym c.in-Some.is) ∙ c.first_due.ensures in
     let it = number-found (find (began_by c.args.moment) c.loop-number.self.chunks) c.in-Some.number found in
     let next : c.stage.new.self.chunks ≡ changed (is_at it.0.number) (staged Closed) c.loop-number.self.chunks = ap (λ (h : Held). h.chunks) c.stage.ensures ∙ ap (λ n. changed (is_at n) (staged Closed) c.loop-number.self.chunks) (sym it.1.1) in
     let one : length (filter (began_by c.args.moment) c.stage.new.self.chunks) + 1 ≡ length (filter (began_by c.args.moment) c.loop-number.self.chunks) = ap (λ l. length (filter test l) + 1) next ∙ closed-count test (staged Closed) (λ d. refl) c.loop-number.self.chunks it.0 c.is_ordered-in-Some.ensures.rise it.1.0 in
@@ -43,11 +43,11 @@ loop-number-preserved c =
 
 pub returns-clause-count : goal.returns-clause-count
 returns-clause-count c =
-    let none : find (began_by c.args.moment) c.loop-number.self.chunks ≡ None = number-none (find (began_by c.args.moment) c.loop-number.self.chunks) (sym c.in_default.is ∙ c.first_due.ensures) in
+    let none : find (began_by c.args.moment) c.loop-number.self.chunks ≡ None = number-none (find (began_by c.args.moment) c.loop-number.self.chunks) (ap (option_map (λ p. p.0)) (sym c.in_default.is) ∙ c.first_due.ensures) in
     omega (arith, c.loop-number.invariant.counted, ap length (none-pass (began_by c.args.moment) c.loop-number.self.chunks none))
 
 pub returns-clause-closed : goal.returns-clause-closed
 returns-clause-closed c =
-    let none : find (began_by c.args.moment) c.loop-number.self.chunks ≡ None = number-none (find (began_by c.args.moment) c.loop-number.self.chunks) (sym c.in_default.is ∙ c.first_due.ensures) in
+    let none : find (began_by c.args.moment) c.loop-number.self.chunks ≡ None = number-none (find (began_by c.args.moment) c.loop-number.self.chunks) (ap (option_map (λ p. p.0)) (sym c.in_default.is) ∙ c.first_due.ensures) in
     let chunks : c.loop-number.self.chunks ≡ changed (began_by c.args.moment) (staged Closed) c.args.self.now.chunks = sym (closed-all (began_by c.args.moment) (staged Closed) c.loop-number.self.chunks none) ∙ c.loop-number.invariant.closed in
     c.loop-number.invariant.kept ∙ ap (λ l. record c.args.self.now { chunks = l }) chunks

@@ -1,59 +1,55 @@
-use Rattle.std.proofs.Common.{refl, ◌≡◌, position, find, Some, None, sym, ap, ◌∙◌, subst, cond, true, false}
-use Rattle.std.specs.Prelude.{slice_set}
-use Rattle.fwd_chunks.specs.Live.{is_at, changed, is_open, is_closed}
-use Rattle.std.proofs.lemmas.Bool.{and_parts}
+use Rattle.std.proofs.Common.{refl, ◌≡◌, ℕ, Bool, List, Option, option_map, position, find, Some, None, IsSomeAnd, sym, ap, ◌∙◌, subst, cond, true, false}
+use Rattle.std.specs.Prelude.{slice_get}
+use Rattle.fwd_chunks.specs.declared.chunk.Chunk.{Chunk}
 use Rattle.fwd_chunks.specs.declared.stage.Stage.{Stage}
 use Rattle.fwd_chunks.specs.declared.stage.Stage.TheVariants.{Open, Closed, Taken}
-use Rattle.fwd_chunks.proofs.Numbers.{true_false}
-use Rattle.fwd_chunks.specs.Slots.{ready_key, due_key, Held, is_slot, IsSlotted}
-use Rattle.fwd_retry.specs.Tallies.{end_of_wait}
+use Rattle.fwd_chunks.specs.Live.{is_at, changed, is_open, is_closed}
 use Rattle.fwd_chunks.specs.Filling.{joined_by, stage_last}
 use Rattle.fwd_chunks.specs.Parts.{entries_in}
+use Rattle.fwd_chunks.specs.Shelved.{Shelved}
+use Rattle.fwd_chunks.specs.Slots.{Held, IsSlotted, chunk_in, is_slot, noted, revised, ready_key, due_key}
+use Rattle.fwd_retry.specs.declared.retry.Retry.{Retry}
+use Rattle.fwd_retry.specs.Tallies.{end_of_wait}
+use Rattle.fwd_chunks.proofs.Numbers.{true_false}
 use Rattle.fwd_chunks.proofs.Slotting.{changed-absent}
-use Rattle.fwd_chunks.proofs.Slotted.{shown, ready-within, due-within, found-slot, kept-keys, changed-slotted, changed-shown, unset-shown}
+use Rattle.fwd_chunks.proofs.Slotted.{shown, ready-within, due-within, found-slot, put-slotted, put-shown, still-keys}
 use Rattle.fwd_chunks.proofs.slots.Slots.join.Goals as goal
 
 pub returns-in_default-clause-ok : goal.returns-in_default-clause-ok
 returns-in_default-clause-ok c =
-    let nowhere : position (is_slot c.args.number) c.self.inside.slots.items ≡ None = ap (position (is_slot c.args.number)) (sym c.deref.ensures.value) ∙ sym c.place_of.ensures ∙ c.in_default.is in
+    let nowhere : position (is_slot c.args.number) c.self.inside.shelf.slots ≡ None = sym c.place_of.ensures ∙ c.in_default.is in
     sym c.self.view_is
-    ∙ (λ j. record (shown c.self.inside.slots.items c.self.inside.keys c.self.inside.last) { chunks = sym (changed-absent c.self.inside.slots.items c.args.number (joined_by (entries_in c.args.front) (stage_last c.args.last)) c.self.invariant.own nowhere) j })
+    ∙ (λ j. record (shown c.self.inside.shelf.slots c.self.inside.keys c.self.inside.last c.self.inside.shelf.spare) { chunks = sym (changed-absent c.self.inside.shelf.slots c.args.number (joined_by (entries_in c.args.front) (stage_last c.args.last)) c.self.invariant.own nowhere) j })
     ∙ ap (λ (h : Held). record h { chunks = changed (is_at c.args.number) (joined_by (entries_in c.args.front) (stage_last c.args.last)) h.chunks }) c.self.view_is
 
-pub join-requires : goal.join-requires
-join-requires c =
-    let place : position (is_slot c.args.number) c.self.inside.slots.items ≡ Some c.in-Some.place = ap (position (is_slot c.args.number)) (sym c.deref.ensures.value) ∙ sym c.place_of.ensures ∙ c.in-Some.is in
-    let there : find (is_at c.args.number) c.args.self.now.chunks ≡ Some c.in-Some-chunk.chunk =
-    ap (λ (h : Held). find (is_at c.args.number) h.chunks) (sym c.self.view_is) ∙ found-slot _ _ _ _ _ c.self.invariant _ _ _ place c.index_mut.ensures.value ∙ c.in-Some-chunk.is in
-    c.requires c.in-Some-chunk.chunk there
+pub join-requires-clause-fits : goal.join-requires-clause-fits
+join-requires-clause-fits c =
+    let place : position (is_slot c.args.number) c.self.inside.shelf.slots ≡ Some c.in-Some.place = sym c.place_of.ensures ∙ c.in-Some.is in
+    λ d e. c.requires d (ap (λ (h : Held). find (is_at c.args.number) h.chunks) (sym c.self.view_is)
+    ∙ found-slot c.self.inside.shelf.slots c.self.inside.shelf.cap c.self.inside.keys c.self.inside.last c.self.invariant c.args.number c.in-Some.place place ∙ e)
 
-pub set-requires-clause-ready : goal.set-requires-clause-ready
-set-requires-clause-ready c =
-    let place : position (is_slot c.args.number) c.self.inside.slots.items ≡ Some c.in-Some.place = ap (position (is_slot c.args.number)) (sym c.deref.ensures.value) ∙ sym c.place_of.ensures ∙ c.in-Some.is in
-    ready-within _ _ _ _ _ c.self.invariant _ _ _ place c.index_mut.ensures.value
+pub note-requires-clause-ready : goal.note-requires-clause-ready
+note-requires-clause-ready c =
+    let place : position (is_slot c.args.number) c.self.inside.shelf.slots ≡ Some c.in-Some.place = sym c.place_of.ensures ∙ c.in-Some.is in
+    ready-within c.self.inside.shelf.slots c.self.inside.shelf.cap c.self.inside.keys c.self.inside.last c.self.invariant c.args.number c.in-Some.place place
 
-pub set-requires-clause-due : goal.set-requires-clause-due
-set-requires-clause-due c =
-    let place : position (is_slot c.args.number) c.self.inside.slots.items ≡ Some c.in-Some.place = ap (position (is_slot c.args.number)) (sym c.deref.ensures.value) ∙ sym c.place_of.ensures ∙ c.in-Some.is in
-    due-within _ _ _ _ _ c.self.invariant _ _ _ place c.index_mut.ensures.value
+pub note-requires-clause-due : goal.note-requires-clause-due
+note-requires-clause-due c =
+    let place : position (is_slot c.args.number) c.self.inside.shelf.slots ≡ Some c.in-Some.place = sym c.place_of.ensures ∙ c.in-Some.is in
+    due-within c.self.inside.shelf.slots c.self.inside.shelf.cap c.self.inside.keys c.self.inside.last c.self.invariant c.args.number c.in-Some.place place
 
 pub invariant_of-self-then-not-stays : goal.invariant_of-self-then-not-stays
 invariant_of-self-then-not-stays c =
-    let place : position (is_slot c.args.number) c.self.inside.slots.items ≡ Some c.in-Some.place = ap (position (is_slot c.args.number)) (sym c.deref.ensures.value) ∙ sym c.place_of.ensures ∙ c.in-Some.is in
-    subst (λ k. IsSlotted (slice_set c.self.inside.slots.items c.in-Some.place (record c.index_mut.result.now { chunk = Some c.join.new.chunk })) c.self.inside.slots.cap k c.self.inside.held c.self.inside.last) (sym c.set.ensures)
-    (changed-slotted _ _ _ _ _ c.self.invariant _ _ _ place c.index_mut.ensures.value c.in-Some-chunk.chunk c.join.new.chunk c.in-Some-chunk.is (ap (λ y. y.number) c.in_ok-join.ensures.ok) (ap (λ y. y.since) c.in_ok-join.ensures.ok))
+    let place : position (is_slot c.args.number) c.self.inside.shelf.slots ≡ Some c.in-Some.place = sym c.place_of.ensures ∙ c.in-Some.is in
+    rw (c.note.ensures, c.in_ok-join.ensures.ok)
+    (put-slotted c.self.inside.shelf.slots c.self.inside.shelf.cap c.self.inside.keys c.self.inside.last c.self.invariant c.args.number c.in-Some.place place (joined_by (entries_in c.args.front) (stage_last c.args.last)) (λ d. refl) (λ d. refl))
 
 pub returns-then-not-stays-clause-ok : goal.returns-then-not-stays-clause-ok
 returns-then-not-stays-clause-ok c =
-    let place : position (is_slot c.args.number) c.self.inside.slots.items ≡ Some c.in-Some.place = ap (position (is_slot c.args.number)) (sym c.deref.ensures.value) ∙ sym c.place_of.ensures ∙ c.in-Some.is in
-    ap (λ k. shown (slice_set c.self.inside.slots.items c.in-Some.place (record c.index_mut.result.now { chunk = Some c.join.new.chunk })) k c.self.inside.last) c.set.ensures
-    ∙ changed-shown _ _ _ _ _ c.self.invariant _ _ _ place c.index_mut.ensures.value c.in-Some-chunk.chunk c.join.new.chunk (joined_by (entries_in c.args.front) (stage_last c.args.last)) c.in-Some-chunk.is c.in_ok-join.ensures.ok
-    ∙ ap (λ (h : Held). record h { chunks = changed (is_at c.args.number) (joined_by (entries_in c.args.front) (stage_last c.args.last)) h.chunks }) c.self.view_is
-
-pub returns-in_default-chunk-clause-ok : goal.returns-in_default-chunk-clause-ok
-returns-in_default-chunk-clause-ok c =
-    let place : position (is_slot c.args.number) c.self.inside.slots.items ≡ Some c.in-Some.place = ap (position (is_slot c.args.number)) (sym c.deref.ensures.value) ∙ sym c.place_of.ensures ∙ c.in-Some.is in
-    unset-shown _ _ _ _ _ c.self.invariant _ _ _ place c.index_mut.ensures.value (joined_by (entries_in c.args.front) (stage_last c.args.last)) c.in_default-chunk.is
+    let place : position (is_slot c.args.number) c.self.inside.shelf.slots ≡ Some c.in-Some.place = sym c.place_of.ensures ∙ c.in-Some.is in
+    ap (λ k. shown c.join.new.self.slots k c.self.inside.last c.join.new.self.spare) c.note.ensures
+    ∙ ap (λ (h : Shelved). shown h.slots (noted c.in-Some.place (chunk_in (slice_get h.slots c.in-Some.place)) c.self.inside.keys) c.self.inside.last h.spare) c.in_ok-join.ensures.ok
+    ∙ put-shown c.self.inside.shelf.slots c.self.inside.shelf.cap c.self.inside.keys c.self.inside.last c.self.invariant c.args.number c.in-Some.place place (joined_by (entries_in c.args.front) (stage_last c.args.last)) (λ d. refl) (λ d. refl) c.self.inside.shelf.spare
     ∙ ap (λ (h : Held). record h { chunks = changed (is_at c.args.number) (joined_by (entries_in c.args.front) (stage_last c.args.last)) h.chunks }) c.self.view_is
 
 open-is : (s : Stage) → is_open s ≡ true → s ≡ Open
@@ -61,31 +57,36 @@ open-is Open e = refl
 open-is Closed e = absurd (true_false false e refl)
 open-is (Taken worker) e = absurd (true_false false e refl)
 
+-- a chunk that stays open has the keys that it had
+keeps : (retry : Retry) (entries : List (List ℕ)) (last : Bool) (o : Option Chunk)
+    → IsSomeAnd o (λ c. is_open c.stage ≡ true) → last ≡ true
+    → IsSomeAnd o (λ c.
+    (ready_key retry (joined_by entries (stage_last last) c) ≡ ready_key retry c)
+    × (due_key (joined_by entries (stage_last last) c) ≡ due_key c))
+keeps retry entries last None opened shut = absurd opened
+keeps retry entries last (Some c) opened shut =
+    let stage : stage_last last ≡ c.stage = ap stage_last shut ∙ sym (open-is c.stage opened) in (
+      λ j. cond (is_closed (stage j)) (end_of_wait retry c.losses) None,
+      λ j. cond (is_open (stage j)) (Some c.since) None,
+    )
+
 pub invariant_of-self-else-not-stays : goal.invariant_of-self-else-not-stays
 invariant_of-self-else-not-stays c =
-    let place : position (is_slot c.args.number) c.self.inside.slots.items ≡ Some c.in-Some.place = ap (position (is_slot c.args.number)) (sym c.deref.ensures.value) ∙ sym c.place_of.ensures ∙ c.in-Some.is in
-    let old = c.in-Some-chunk.chunk in
-    let new = c.join.new.chunk in
-    let ok = c.in_ok-join.ensures.ok in
-    let parts = and_parts (is_open c.in-Some-chunk.chunk.stage) c.args.last (sym c.stays_open-stays.ensures ∙ c.if-not-stays.false) in
-    let stage : c.join.new.chunk.stage ≡ c.in-Some-chunk.chunk.stage = ap (λ d. d.stage) ok ∙ ap stage_last parts.1 ∙ sym (open-is c.in-Some-chunk.chunk.stage parts.0) in
-    let ready : ready_key c.self.inside.keys.retry c.join.new.chunk ≡ ready_key c.self.inside.keys.retry c.in-Some-chunk.chunk = λ j. cond (is_closed (stage j)) (end_of_wait c.self.inside.keys.retry (ap (λ d. d.losses) ok j)) None in
-    let due : due_key c.join.new.chunk ≡ due_key c.in-Some-chunk.chunk = λ j. cond (is_open (stage j)) (Some (ap (λ d. d.since) ok j)) None in
-    let kept = kept-keys _ _ _ _ _ c.self.invariant _ _ _ place c.index_mut.ensures.value old new c.in-Some-chunk.is ready due in
-    subst (λ k. IsSlotted (slice_set c.self.inside.slots.items c.in-Some.place (record c.index_mut.result.now { chunk = Some new })) c.self.inside.slots.cap k c.self.inside.held c.self.inside.last) kept
-    (changed-slotted _ _ _ _ _ c.self.invariant _ _ _ place c.index_mut.ensures.value old new c.in-Some-chunk.is (ap (λ y. y.number) ok) (ap (λ y. y.since) ok))
+    let place : position (is_slot c.args.number) c.self.inside.shelf.slots ≡ Some c.in-Some.place = sym c.place_of.ensures ∙ c.in-Some.is in
+    let stays = c.stays_open-stays.ensures c.if-not-stays.false in
+    let opened : IsSomeAnd (chunk_in (slice_get c.self.inside.shelf.slots c.in-Some.place)) (λ d. is_open d.stage ≡ true) = subst (λ o. IsSomeAnd o (λ d. is_open d.stage ≡ true)) c.get.ensures stays.0 in
+    let kept = still-keys c.self.inside.shelf.slots c.self.inside.shelf.cap c.self.inside.keys c.self.inside.last c.self.invariant c.args.number c.in-Some.place place (joined_by (entries_in c.args.front) (stage_last c.args.last)) (λ d. refl) (λ d. refl) (keeps c.self.inside.keys.retry (entries_in c.args.front) c.args.last (chunk_in (slice_get c.self.inside.shelf.slots c.in-Some.place)) opened stays.1) in
+    rw c.in_ok-join.ensures.ok
+    (subst (λ k. IsSlotted (revised c.in-Some.place (option_map (joined_by (entries_in c.args.front) (stage_last c.args.last))) c.self.inside.shelf.slots) c.self.inside.shelf.cap k c.self.inside.last) kept
+    (put-slotted c.self.inside.shelf.slots c.self.inside.shelf.cap c.self.inside.keys c.self.inside.last c.self.invariant c.args.number c.in-Some.place place (joined_by (entries_in c.args.front) (stage_last c.args.last)) (λ d. refl) (λ d. refl)))
 
 pub returns-else-not-stays-clause-ok : goal.returns-else-not-stays-clause-ok
 returns-else-not-stays-clause-ok c =
-    let place : position (is_slot c.args.number) c.self.inside.slots.items ≡ Some c.in-Some.place = ap (position (is_slot c.args.number)) (sym c.deref.ensures.value) ∙ sym c.place_of.ensures ∙ c.in-Some.is in
-    let old = c.in-Some-chunk.chunk in
-    let new = c.join.new.chunk in
-    let ok = c.in_ok-join.ensures.ok in
-    let parts = and_parts (is_open c.in-Some-chunk.chunk.stage) c.args.last (sym c.stays_open-stays.ensures ∙ c.if-not-stays.false) in
-    let stage : c.join.new.chunk.stage ≡ c.in-Some-chunk.chunk.stage = ap (λ d. d.stage) ok ∙ ap stage_last parts.1 ∙ sym (open-is c.in-Some-chunk.chunk.stage parts.0) in
-    let ready : ready_key c.self.inside.keys.retry c.join.new.chunk ≡ ready_key c.self.inside.keys.retry c.in-Some-chunk.chunk = λ j. cond (is_closed (stage j)) (end_of_wait c.self.inside.keys.retry (ap (λ d. d.losses) ok j)) None in
-    let due : due_key c.join.new.chunk ≡ due_key c.in-Some-chunk.chunk = λ j. cond (is_open (stage j)) (Some (ap (λ d. d.since) ok j)) None in
-    let kept = kept-keys _ _ _ _ _ c.self.invariant _ _ _ place c.index_mut.ensures.value old new c.in-Some-chunk.is ready due in
-    ap (λ k. shown (slice_set c.self.inside.slots.items c.in-Some.place (record c.index_mut.result.now { chunk = Some new })) k c.self.inside.last) (sym kept)
-    ∙ changed-shown _ _ _ _ _ c.self.invariant _ _ _ place c.index_mut.ensures.value old new (joined_by (entries_in c.args.front) (stage_last c.args.last)) c.in-Some-chunk.is ok
+    let place : position (is_slot c.args.number) c.self.inside.shelf.slots ≡ Some c.in-Some.place = sym c.place_of.ensures ∙ c.in-Some.is in
+    let stays = c.stays_open-stays.ensures c.if-not-stays.false in
+    let opened : IsSomeAnd (chunk_in (slice_get c.self.inside.shelf.slots c.in-Some.place)) (λ d. is_open d.stage ≡ true) = subst (λ o. IsSomeAnd o (λ d. is_open d.stage ≡ true)) c.get.ensures stays.0 in
+    let kept = still-keys c.self.inside.shelf.slots c.self.inside.shelf.cap c.self.inside.keys c.self.inside.last c.self.invariant c.args.number c.in-Some.place place (joined_by (entries_in c.args.front) (stage_last c.args.last)) (λ d. refl) (λ d. refl) (keeps c.self.inside.keys.retry (entries_in c.args.front) c.args.last (chunk_in (slice_get c.self.inside.shelf.slots c.in-Some.place)) opened stays.1) in
+    ap (λ (h : Shelved). shown h.slots c.self.inside.keys c.self.inside.last h.spare) c.in_ok-join.ensures.ok
+    ∙ ap (λ k. shown (revised c.in-Some.place (option_map (joined_by (entries_in c.args.front) (stage_last c.args.last))) c.self.inside.shelf.slots) k c.self.inside.last c.self.inside.shelf.spare) (sym kept)
+    ∙ put-shown c.self.inside.shelf.slots c.self.inside.shelf.cap c.self.inside.keys c.self.inside.last c.self.invariant c.args.number c.in-Some.place place (joined_by (entries_in c.args.front) (stage_last c.args.last)) (λ d. refl) (λ d. refl) c.self.inside.shelf.spare
     ∙ ap (λ (h : Held). record h { chunks = changed (is_at c.args.number) (joined_by (entries_in c.args.front) (stage_last c.args.last)) h.chunks }) c.self.view_is

@@ -1,43 +1,39 @@
-use Rattle.std.proofs.Common.{◌≡◌, position, Some, None, refl, sym, ap, ◌∙◌, subst}
-use Rattle.std.specs.Prelude.{slice_set}
+use Rattle.std.proofs.Common.{◌≡◌, position, Some, None, refl, sym, ap, ◌∙◌}
+use Rattle.std.specs.Prelude.{slice_get}
 use Rattle.fwd_chunks.specs.Live.{is_at, staged, changed}
-use Rattle.fwd_chunks.specs.Slots.{Held, is_slot, IsSlotted}
+use Rattle.fwd_chunks.specs.Shelved.{Shelved}
+use Rattle.fwd_chunks.specs.Slots.{Held, chunk_in, is_slot, noted}
 use Rattle.fwd_chunks.proofs.Slotting.{changed-absent}
-use Rattle.fwd_chunks.proofs.Slotted.{shown, ready-within, due-within, changed-slotted, changed-shown, unset-shown}
+use Rattle.fwd_chunks.proofs.Slotted.{shown, ready-within, due-within, put-slotted, put-shown}
 use Rattle.fwd_chunks.proofs.slots.Slots.stage.Goals as goal
 
 pub returns-in_default : goal.returns-in_default
 returns-in_default c =
-    let nowhere : position (is_slot c.args.number) c.self.inside.slots.items ≡ None = ap (position (is_slot c.args.number)) (sym c.deref.ensures.value) ∙ sym c.place_of.ensures ∙ c.in_default.is in
+    let nowhere : position (is_slot c.args.number) c.self.inside.shelf.slots ≡ None = sym c.place_of.ensures ∙ c.in_default.is in
     sym c.self.view_is
-    ∙ (λ j. record (shown c.self.inside.slots.items c.self.inside.keys c.self.inside.last) { chunks = sym (changed-absent c.self.inside.slots.items c.args.number (staged c.args.stage) c.self.invariant.own nowhere) j })
+    ∙ (λ j. record (shown c.self.inside.shelf.slots c.self.inside.keys c.self.inside.last c.self.inside.shelf.spare) { chunks = sym (changed-absent c.self.inside.shelf.slots c.args.number (staged c.args.stage) c.self.invariant.own nowhere) j })
     ∙ ap (λ (h : Held). record h { chunks = changed (is_at c.args.number) (staged c.args.stage) h.chunks }) c.self.view_is
 
-pub set-requires-clause-ready : goal.set-requires-clause-ready
-set-requires-clause-ready c =
-    let place : position (is_slot c.args.number) c.self.inside.slots.items ≡ Some c.in-Some.place = ap (position (is_slot c.args.number)) (sym c.deref.ensures.value) ∙ sym c.place_of.ensures ∙ c.in-Some.is in
-    ready-within _ _ _ _ _ c.self.invariant _ _ _ place c.index_mut.ensures.value
+pub note-requires-clause-ready : goal.note-requires-clause-ready
+note-requires-clause-ready c =
+    let place : position (is_slot c.args.number) c.self.inside.shelf.slots ≡ Some c.in-Some.place = sym c.place_of.ensures ∙ c.in-Some.is in
+    ready-within c.self.inside.shelf.slots c.self.inside.shelf.cap c.self.inside.keys c.self.inside.last c.self.invariant c.args.number c.in-Some.place place
 
-pub set-requires-clause-due : goal.set-requires-clause-due
-set-requires-clause-due c =
-    let place : position (is_slot c.args.number) c.self.inside.slots.items ≡ Some c.in-Some.place = ap (position (is_slot c.args.number)) (sym c.deref.ensures.value) ∙ sym c.place_of.ensures ∙ c.in-Some.is in
-    due-within _ _ _ _ _ c.self.invariant _ _ _ place c.index_mut.ensures.value
+pub note-requires-clause-due : goal.note-requires-clause-due
+note-requires-clause-due c =
+    let place : position (is_slot c.args.number) c.self.inside.shelf.slots ≡ Some c.in-Some.place = sym c.place_of.ensures ∙ c.in-Some.is in
+    due-within c.self.inside.shelf.slots c.self.inside.shelf.cap c.self.inside.keys c.self.inside.last c.self.invariant c.args.number c.in-Some.place place
 
 pub invariant_of-self : goal.invariant_of-self
 invariant_of-self c =
-    let place : position (is_slot c.args.number) c.self.inside.slots.items ≡ Some c.in-Some.place = ap (position (is_slot c.args.number)) (sym c.deref.ensures.value) ∙ sym c.place_of.ensures ∙ c.in-Some.is in
-    subst (λ k. IsSlotted (slice_set c.self.inside.slots.items c.in-Some.place (record c.index_mut.result.now { chunk = Some (staged c.args.stage c.in-Some-chunk.chunk) })) c.self.inside.slots.cap k c.self.inside.held c.self.inside.last) (sym c.set.ensures)
-    (changed-slotted _ _ _ _ _ c.self.invariant _ _ _ place c.index_mut.ensures.value c.in-Some-chunk.chunk (staged c.args.stage c.in-Some-chunk.chunk) c.in-Some-chunk.is refl refl)
+    let place : position (is_slot c.args.number) c.self.inside.shelf.slots ≡ Some c.in-Some.place = sym c.place_of.ensures ∙ c.in-Some.is in
+    rw (c.note.ensures, c.stage.ensures)
+    (put-slotted c.self.inside.shelf.slots c.self.inside.shelf.cap c.self.inside.keys c.self.inside.last c.self.invariant c.args.number c.in-Some.place place (staged c.args.stage) (λ d. refl) (λ d. refl))
 
-pub returns-in-Some-chunk : goal.returns-in-Some-chunk
-returns-in-Some-chunk c =
-    let place : position (is_slot c.args.number) c.self.inside.slots.items ≡ Some c.in-Some.place = ap (position (is_slot c.args.number)) (sym c.deref.ensures.value) ∙ sym c.place_of.ensures ∙ c.in-Some.is in
-    ap (λ k. shown (slice_set c.self.inside.slots.items c.in-Some.place (record c.index_mut.result.now { chunk = Some (staged c.args.stage c.in-Some-chunk.chunk) })) k c.self.inside.last) c.set.ensures
-    ∙ changed-shown _ _ _ _ _ c.self.invariant _ _ _ place c.index_mut.ensures.value c.in-Some-chunk.chunk (staged c.args.stage c.in-Some-chunk.chunk) (staged c.args.stage) c.in-Some-chunk.is refl
-    ∙ ap (λ (h : Held). record h { chunks = changed (is_at c.args.number) (staged c.args.stage) h.chunks }) c.self.view_is
-
-pub returns-in_default-chunk : goal.returns-in_default-chunk
-returns-in_default-chunk c =
-    let place : position (is_slot c.args.number) c.self.inside.slots.items ≡ Some c.in-Some.place = ap (position (is_slot c.args.number)) (sym c.deref.ensures.value) ∙ sym c.place_of.ensures ∙ c.in-Some.is in
-    unset-shown _ _ _ _ _ c.self.invariant _ _ _ place c.index_mut.ensures.value (staged c.args.stage) c.in_default-chunk.is
+pub returns : goal.returns
+returns c =
+    let place : position (is_slot c.args.number) c.self.inside.shelf.slots ≡ Some c.in-Some.place = sym c.place_of.ensures ∙ c.in-Some.is in
+    ap (λ k. shown c.stage.new.self.slots k c.self.inside.last c.stage.new.self.spare) c.note.ensures
+    ∙ ap (λ (h : Shelved). shown h.slots (noted c.in-Some.place (chunk_in (slice_get h.slots c.in-Some.place)) c.self.inside.keys) c.self.inside.last h.spare) c.stage.ensures
+    ∙ put-shown c.self.inside.shelf.slots c.self.inside.shelf.cap c.self.inside.keys c.self.inside.last c.self.invariant c.args.number c.in-Some.place place (staged c.args.stage) (λ d. refl) (λ d. refl) c.self.inside.shelf.spare
     ∙ ap (λ (h : Held). record h { chunks = changed (is_at c.args.number) (staged c.args.stage) h.chunks }) c.self.view_is

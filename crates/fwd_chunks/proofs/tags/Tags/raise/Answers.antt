@@ -29,6 +29,6 @@ returns c = λ t.
           let entry : Some w.in-Some.place.now ≡ tag_entry c.args.tag.now c.args.self.now = w.in-Some.ensures.value ∙ sym same in
           ap (λ x. tag_entry t (the_view x)) w.self-inside-is
           ∙ seen-updates m (c.get_mut.follows.lender w.raised.result) (Some w.raised.result) (λ k. k.items) tag ((c.get_mut.follows.holds w.raised.result).3 there) t
-          ∙ (λ i. cond (bytes_eq tag t) ((ap Some w.raised.ensures ∙ ap (option_map (raised c.args.number c.args.count c.args.size)) entry) i) (tag_entry t (c.self.view_is i)))
+          ∙ (λ i. cond (bytes_eq tag t) ((ap Some w.raised.ensures ∙ ap (option_map (raised c.args.number c.args.key c.args.count c.args.size)) entry) i) (tag_entry t (c.self.view_is i)))
       | in_default w ↦ absurd (true_false false (subst IsSome (sym w.in_default.ensures.value) there) refl)
     ]

@@ -1,4 +1,4 @@
-use Rattle.std.proofs.Common.{◌≡◌, ap, ◌∙◌}
+use Rattle.std.proofs.Common.{ap, ◌∙◌}
 use Rattle.fwd_source.specs.Live.{opened_source}
 use Rattle.fwd_core.proofs.connection.Connection.new.Goals as goal
 

@@ -15,7 +15,7 @@ invariant_of-self c =
     let x = c.index_mut.result.now in
     let size : c.len.result ≡ length workers.items = c.len.ensures ∙ workers.ok.0 in
     let here : slice_get workers.items c.from-place.result ≡ Some x = slice_get_read workers.items c.len.result c.from-place.result x size c.if-place-len.false c.index_mut.ensures.value in
-    held-put c.self.inside.output.buffer workers.items c.from-place.result x c.load.new.self c.self.invariant here c.load.ensures.chunk
+    held-put c.self.inside.output.buffer workers.items c.from-place.result x c.load.new.self c.self.invariant here c.load.ensures.chunks
 
 pub returns-clause-answer : goal.returns-clause-answer
 returns-clause-answer c =

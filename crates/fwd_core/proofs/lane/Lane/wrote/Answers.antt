@@ -11,7 +11,7 @@ pub invariant_of-self : goal.invariant_of-self
 invariant_of-self c =
     let size : c.len.result ≡ length c.self.inside.workers.items = c.len.ensures ∙ c.self.inside.workers.ok.0 in
     let here : slice_get c.self.inside.workers.items c.from-place.result ≡ Some c.index_mut.result.now = slice_get_read c.self.inside.workers.items c.len.result c.from-place.result c.index_mut.result.now size c.if-place-len.false c.index_mut.ensures.value in
-    held-put c.self.inside.output.buffer c.self.inside.workers.items c.from-place.result c.index_mut.result.now c.wrote.new.self c.self.invariant here c.wrote.ensures.chunk
+    held-put c.self.inside.output.buffer c.self.inside.workers.items c.from-place.result c.index_mut.result.now c.wrote.new.self c.self.invariant here c.wrote.ensures.chunks
 
 pub returns-clause-answer : goal.returns-clause-answer
 returns-clause-answer c =

@@ -1,24 +1,29 @@
-use Rattle.std.proofs.Common.{sym, subst}
-use Rattle.fwd_core.specs.declared.output.OutputState.TheInside.{Inside}
+use Rattle.std.proofs.Common.{◌≡◌, max, sym, ap, subst, ◌∙◌}
+use Rattle.std.specs.Prelude.{map, option_to_list, ◌++◌}
+use Rattle.fwd_chunks.specs.Live.{live_looks}
+use Rattle.fwd_model.specs.Outputs.{LiveOutput, live_gets_back, live_loses, output_ends, returned}
 use Rattle.fwd_core.specs.Coupling.{IsCoupled}
-use Rattle.fwd_core.proofs.CouplingLemmas.{looks-coupled, frees-coupled}
+use Rattle.fwd_core.specs.Lanes.{AreHere, IsHandedBack, kept_back, lost_back}
+use Rattle.fwd_core.proofs.CouplingLemmas.{looks-coupled}
+use Rattle.fwd_core.proofs.HandingLemmas.{handed-back}
 use Rattle.fwd_core.proofs.output.OutputState.end.Goals as goal
-use Rattle.fwd_core.proofs.output.OutputState.end.Goals.{in-Some, in_default}
 
 pub invariant_of-self : goal.invariant_of-self
 invariant_of-self c =
     let o = c.self.inside in
     let looked : IsCoupled c.look-moment.new.self o.book.live = subst (λ b. IsCoupled b o.book.live) (sym c.look-moment.ensures.looked) (looks-coupled o.buffer o.book.live c.args.now c.self.invariant) in
-    elim c.match-chunk.branch [
-      | in-Some w ↦ subst (λ (x : Inside). IsCoupled x.buffer x.book.live) (sym w.self-inside-is) (frees-coupled c.look-moment.new.self o.book.live w.put_back.new.buffer _ _ w.put_back.ensures.either looked)
-      | in_default w ↦ subst (λ (x : Inside). IsCoupled x.buffer x.book.live) (sym w.self-inside-is) looked
-    ]
+    c.hand_back.ensures.coupled o.book.live looked
 
-pub invariant_of-self-in_default-server : goal.invariant_of-self-in_default-server
-invariant_of-self-in_default-server c =
+pub returns-clause-here : goal.returns-clause-here
+returns-clause-here c = λ own.
     let o = c.self.inside in
-    let looked : IsCoupled c.look-moment.new.self o.book.live = subst (λ b. IsCoupled b o.book.live) (sym c.look-moment.ensures.looked) (looks-coupled o.buffer o.book.live c.args.now c.self.invariant) in
-    elim c.match-chunk.branch [
-      | in-Some w ↦ subst (λ (x : Inside). IsCoupled x.buffer x.book.live) (sym w.self-inside-is) (frees-coupled c.look-moment.new.self o.book.live w.put_back.new.buffer _ _ w.put_back.ensures.either looked)
-      | in_default w ↦ subst (λ (x : Inside). IsCoupled x.buffer x.book.live) (sym w.self-inside-is) looked
-    ]
+    let now = c.args.now in
+    let taken = c.args.taken in
+    let loaded = c.args.loaded.items in
+    let here : AreHere o.buffer (option_to_list taken ++ loaded) = subst (λ (x : LiveOutput). AreHere x.buffer (option_to_list taken ++ loaded)) (sym c.self.view_is) own in
+    let back : IsHandedBack (live_looks o.buffer now) (map kept_back (option_to_list taken) ++ map lost_back loaded) now c.hand_back.new.buffer =
+    subst (λ b. IsHandedBack b (map kept_back (option_to_list taken) ++ map lost_back loaded) now c.hand_back.new.buffer) c.look-moment.ensures.looked c.hand_back.ensures.back in
+    let buffer : c.hand_back.new.buffer ≡ live_gets_back (live_looks o.buffer now) (returned taken loaded) now = handed-back loaded o.buffer taken now c.hand_back.new.buffer here back in
+    let servers : c.lose.new.servers ≡ live_loses o.servers c.args.server (max o.buffer.moment now) = c.lose.ensures ∙ ap (live_loses o.servers c.args.server) c.look-moment.ensures.greatest in
+    (λ i. record { buffer = buffer i; book = o.book.live; servers = servers i })
+    ∙ ap (λ x. output_ends x (returned taken loaded) c.args.server now) c.self.view_is

@@ -1,4 +1,4 @@
-use Rattle.std.proofs.Common.{◌≡◌, ◌∙◌, sym, ap}
+use Rattle.std.proofs.Common.{◌∙◌, sym, ap}
 use Rattle.std.proofs.lemmas.Result.{IfOk-weaker}
 use Rattle.fwd_model.specs.Live.{live_relay_reports}
 use Rattle.fwd_core.proofs.relay.Relay.reports.Goals as goal

@@ -1,4 +1,4 @@
-use Rattle.std.proofs.Common.{rules, ◌≡◌, ◌+◌, ◌++◌, List, ℕ, take, drop, ap, ◌∙◌}
+use Rattle.std.proofs.Common.{rules, ◌≡◌, ◌+◌, ◌++◌, take, drop, ap, ◌∙◌}
 use Rattle.fwd_session.proofs.Gathering.{IsGathered, gathered_both}
 use Rattle.fwd_session.proofs.frame.Frame.gather.Goals as goal
 

@@ -1,4 +1,4 @@
-use Rattle.std.proofs.Common.{rules, ◌≡◌, ◌++◌, length, ap, sym, ◌∙◌}
+use Rattle.std.proofs.Common.{rules, ◌≡◌, ◌++◌, length, ap, ◌∙◌}
 use Rattle.std.specs.List.{concat}
 use Rattle.fwd_modes.specs.Frames.{frame_head, frame_option}
 use Rattle.fwd_chunks.specs.Cells.{size_of}

@@ -1,4 +1,4 @@
-use Rattle.std.proofs.Common.{rules, ◌≡◌, ◌+◌, ◌<◌, ◌++◌, List, ℕ, length, take, drop, deque_len, slice_index_or, ap, subst, sym, ◌∙◌, arith}
+use Rattle.std.proofs.Common.{rules, ◌≡◌, ◌+◌, ◌<◌, ◌++◌, List, ℕ, length, take, drop, ap, subst, sym, ◌∙◌, arith}
 use Rattle.std.specs.List.{concat}
 use Rattle.fwd_session.proofs.Gathering.{IsGathered, gathered_both, gathered_full, next_frame, frames_behind}
 use Rattle.fwd_session.proofs.outbox.Outbox.gather.Goals as goal
@@ -22,11 +22,11 @@ loop-place-preserved c =
     }
 
 full : (c : goal.Then-filled-room)
-    → IsGathered c.args.self.now c.args.room.now c.loop-place.room c.loop-place.filled
+    → IsGathered (concat c.args.self.now) c.args.room.now c.loop-place.room c.loop-place.filled
 full c =
     let frames : List (List ℕ) = c.self.inside.frames.items in
     let l = c.loop-place in
-    subst (λ bytes. IsGathered bytes c.args.room.now l.room l.filled) (sym (frames_behind frames l.place) ∙ c.self.view_is)
+    subst (λ bytes. IsGathered bytes c.args.room.now l.room l.filled) (sym (frames_behind frames l.place) ∙ ap concat c.self.view_is)
     (gathered_full (concat (take l.place frames)) (concat (drop l.place frames)) c.args.room.now l.room l.filled l.invariant.gathered (omega (arith, c.if-filled-room.true, l.auto.room)))
 
 pub returns-then-filled-room-clause-count : goal.returns-then-filled-room-clause-count

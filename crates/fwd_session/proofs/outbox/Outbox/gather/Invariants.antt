@@ -1,4 +1,4 @@
-use Rattle.std.proofs.Common.{◌≡◌, ◌≤◌, length, take}
+use Rattle.std.proofs.Common.{◌≤◌, length, take}
 use Rattle.std.specs.List.{concat}
 use Rattle.fwd_session.proofs.Gathering.{IsGathered}
 use Rattle.fwd_session.proofs.outbox.Outbox.gather.Given as goal

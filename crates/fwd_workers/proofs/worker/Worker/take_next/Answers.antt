@@ -1,5 +1,5 @@
-use Rattle.std.proofs.Common.{◌≡◌, inl, Some, None, IfSome, sym, ap, subst, ◌∙◌}
-use Rattle.std.specs.Prelude.{ℕ, is_some, option_map}
+use Rattle.std.proofs.Common.{◌≡◌, inl, IfSome, sym, ap, subst, ◌∙◌}
+use Rattle.std.specs.Prelude.{is_some, option_map}
 use Rattle.std.specs.Arc.{arc_value}
 use Rattle.fwd_handshake.specs.Draws.{hex_drawn}
 use Rattle.fwd_session.specs.History.{is_done}
@@ -21,7 +21,7 @@ returns-then-is_some-clause-taken g c none =
     subst (λ at. HasTakenNext at c.stand.new.self.news c.args.free.line.session
     c.args.round.now.now (g.H.Line.Link.calls c.args.free.line.link)
     (setup_by (arc_value c.args.self.now.login) (hex_drawn 0 4 c.args.self.now.rng)
-    c.args.self.now.ack_wait c.args.round.now.now))
+    c.args.self.now.acks c.args.round.now.now))
     (sym (c.stand.ensures.stands same).0)
     (goes-on c.args.free.line.session c.serve_free.result.line.session
     c.excuse-free.result.line.session c.args.round.now.now
@@ -38,7 +38,7 @@ returns-then-is_some-clause-taken g c none =
     subst (λ at. HasTakenNext at c.stand.new.self.news c.args.free.line.session
     c.args.round.now.now (g.H.Line.Link.calls c.args.free.line.link)
     (setup_by (arc_value c.args.self.now.login) (hex_drawn 0 4 c.args.self.now.rng)
-    c.args.self.now.ack_wait c.args.round.now.now))
+    c.args.self.now.acks c.args.round.now.now))
     (sym ends.0) (
       c.serve_free.result.line.session,
       g.H.Line.Link.calls c.serve_free.result.line.link,

@@ -1,0 +1,5 @@
+use Rattle.std.specs.Vec.Iter.{into_iter_len}
+use Rattle.relay_tests.proofs.session.drop_chunks.Given as goal
+
+abbrev pub decreases-loop-chunk : goal.decreases-loop-chunk
+decreases-loop-chunk l = into_iter_len l.rest
