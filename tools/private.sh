@@ -26,7 +26,7 @@ top, folder = Path(sys.argv[1]), Path(sys.argv[2])
 # Each type with its library, its fields and their types, and a reader of one of them.
 TYPES = {
     "Acked": ("fwd_session", "number: u64, tag: Bytes, entries: Body, server: u16, reply: Bytes", "number", "u64"),
-    "Carried": ("fwd_chunks", "number: u64, tag: Bytes, entries: Body, name: [u8; 24]", "number", "u64"),
+    "Carried": ("fwd_chunks", "number: u64, key: usize, tag: Bytes, entries: Body, name: [u8; 24]", "number", "u64"),
     "Ticket": (
         "fwd_workers",
         "run: [u8; 6], output: u16, origin: Origin, batch: Batch, spans: Seq<Span>",
