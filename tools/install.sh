@@ -71,7 +71,7 @@ install_all() {
     }
     put "$program" 755 "$sbin/forward_relay"
     put packaging/forward_relay.8 644 "$man/forward_relay.8"
-    for file in docs/OPERATING.md docs/FORMATS.md examples/*.toml; do
+    for file in docs/OPERATING.md docs/FORMATS.md examples/*.toml examples/*.conf; do
         put "$file" 644 "$doc/${file##*/}"
     done
     paths=$(mktemp)
@@ -94,7 +94,7 @@ TEXT
 uninstall_all() {
     take "$sbin/forward_relay"
     take "$man/forward_relay.8"
-    for file in docs/OPERATING.md docs/FORMATS.md examples/*.toml; do
+    for file in docs/OPERATING.md docs/FORMATS.md examples/*.toml examples/*.conf; do
         take "$doc/${file##*/}"
     done
     take "$unit/forward_relay.service"

@@ -19,7 +19,7 @@ BLUE, ORANGE = "#1f5fa8", "#c8641e"
 PANELS = [
     ("accepted (blue) and settled (orange)", "entries/s", [("accepted/s", BLUE), ("settled/s", ORANGE)]),
     ("greatest resident memory of the minute", "MB", [("MB", BLUE)]),
-    ("most open files of the minute", "files", [("files", BLUE)]),
+    ("most open files of the minute", "count", [("files", BLUE)]),
     ("processor time", "s per million entries", [("cpu_s/M", BLUE)]),
     ("not acknowledged at the end of the minute", "entries", [("unacknowledged", BLUE)]),
 ]
