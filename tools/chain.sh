@@ -9,8 +9,8 @@
 #
 #     clients -> a near relay -> a far relay, with a shared key and a user -> a server
 #
-# Every few seconds one of the two relays and the server is killed (kill -9) and started again, at moments that are drawn;
-# SEED=N draws the same ones again. Three clients send meanwhile, on ports of 127.0.0.1:
+# Every few seconds one of the two relays and the server is killed (kill -9) and started again, at moments that are
+# drawn; SEED=N draws the same ones again. Three clients send meanwhile, on ports of 127.0.0.1:
 #
 #     go        fluent-logger-golang with RequestAck, an entry at a time, sent again until it is acknowledged
 #     asking    tools/chain/clients.py, requests of 1 to 50 entries over three connections, each sent again until it is

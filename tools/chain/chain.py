@@ -106,7 +106,10 @@ def lines_in(path):
 
 
 class Tally:
-    """What is held as delivered, what is at the server, and what was sent: read in this order, while all of it grows."""
+    """What is held as delivered, what is at the server, and what was sent: read in this order, while all of it grows.
+
+    So a line that is held was at the server by then, and a line there was sent.
+    """
 
     def __init__(self, folder):
         self.held = {name: set(lines_in(folder / f"{name}.held")) for name in CLIENTS}

@@ -9,7 +9,6 @@ import collections
 import os
 import pathlib
 import socket
-import statistics
 import subprocess
 import sys
 import threading
@@ -22,7 +21,6 @@ from page import NoPage, read_page  # noqa: E402
 
 TICK = os.sysconf("SC_CLK_TCK")
 LAST = 30  # seconds that all that was accepted has to be settled
-TENTHS = 10
 
 SETTINGS = """[relay]
 listen = "127.0.0.1:{port}"
@@ -110,23 +108,13 @@ class Weather(threading.Thread):
         self.second.start()
 
 
-class Looked(list):
-    """What was looked at each second: resident memory in bytes, or open files."""
-
-    def tenths(self):
-        size = len(self) / TENTHS
-        return [self[int(size * place) : int(size * (place + 1))] for place in range(TENTHS)]
-
-    def rises(self, name, slack):
-        """Whether a later tenth is above the first, by its greatest or by its middle one, and says by how much."""
-        is_risen = False
-        for measure, what in ((max, "greatest"), (statistics.median, "middle")):
-            first, *later = [measure(tenth) for tenth in self.tenths()]
-            risen = max(later) > first * 1.1 + slack
-            verdict = ", RISEN" if risen else ""
-            print(f"{name}, the {what} of a tenth: first {first:.0f}, later at most {max(later):.0f}{verdict}")
-            is_risen = is_risen or risen
-        return is_risen
+def rises(looked, name, slack):
+    """Whether what was looked at each second is above its first tenth later, and says of each how much it was."""
+    tenth = len(looked) // 10
+    first, later = max(looked[:tenth]), max(looked[tenth:])
+    is_risen = later > first * 1.1 + slack
+    print(f"{name}: in the first tenth at most {first}, later {later}{', RISEN' if is_risen else ''}")
+    return is_risen
 
 
 class Subject:
@@ -202,15 +190,16 @@ def is_over(subject, before, workers):
         time.sleep(0.5)
     time.sleep(1)
     files = subject.files()
-    print(f"behind the load: unacknowledged {held}, open files {files}, before it {before}, MB {subject.memory() / 1e6:.1f}")
+    megabytes = subject.memory() / 1e6
+    print(f"behind the load: unacknowledged {held}, open files {files}, before it {before}, MB {megabytes:.1f}")
     return held == 0 and files <= before + workers
 
 
 def run(main, second, subject, load, minutes):
     subject.counts()
     before = subject.files()
-    round_s = min(60, minutes * 60 / TENTHS / 2)
-    stopped, memory, files = threading.Event(), Looked(), Looked()
+    round_s = min(60, minutes * 60 / 20)
+    stopped, memory, files = threading.Event(), [], []
     weather = Weather(main, second, round_s, stopped)
     weather.start()
     sources = loads.sources(load)
@@ -228,9 +217,10 @@ def run(main, second, subject, load, minutes):
     for source in sources:
         source.join(LAST)
     print(f"lines of the journal: {told(subject.journal)}")
-    verdicts = [is_over(subject, before, 3), not memory.rises("bytes", 2_000_000), not files.rises("files", 2), not load.wrong]
+    is_quiet = is_over(subject, before, 3)
+    is_risen = [rises(memory, "resident bytes", 4_000_000), rises(files, "open files", 2)]
     print("".join(f"wrong: {what}\n" for what in load.wrong), end="")
-    return all(verdicts)
+    return is_quiet and not any(is_risen) and not load.wrong
 
 
 def main():
