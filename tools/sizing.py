@@ -63,10 +63,10 @@ class Site:
     """A relay, and what is seen of it."""
 
     def __init__(self, program, folder, workers=1, key=""):
-        self.port, monitor, server = free_ports(3)
+        self.port, monitor, self.server = free_ports(3)
         self.url = f"http://127.0.0.1:{monitor}/"
         path = pathlib.Path(folder) / "relay.toml"
-        values = {"port": self.port, "monitor": monitor, "server": server, "workers": workers, "key": key}
+        values = {"port": self.port, "monitor": monitor, "server": self.server, "workers": workers, "key": key}
         path.write_text(SETTINGS.format(**values))
         self.streams = []
         self.relay = subprocess.Popen([program, "run", path])
@@ -143,6 +143,19 @@ def unfinished(program, folder, size, count=200):
         row(f"a connection with {size:,} bytes of an unfinished request ({count:,})", site.grown(count), size)
 
 
+def sessions(program, folder, workers=16):
+    """Workers of which each has a session, with a chunk of one entry that is not acknowledged: how many files each has."""
+    with Site(program, folder, workers) as site, socket.create_server(("127.0.0.1", site.server)) as listener:
+        before = site.files()
+        stream = site.connect()
+        for number in range(workers):
+            stream.sendall(request(b"app.%06d" % number, 1))
+        for _ in range(workers):
+            site.streams.append(listener.accept()[0])
+        row(f"a worker with a session and a chunk of 1 entry ({workers})", site.grown(workers), SIZE)
+        return (site.files() - before - 1) / workers
+
+
 def main():
     program = (sys.argv[1:] + [os.environ.get("RELAY") or "crates/forward_relay/out/forward_relay"])[0]
     with tempfile.TemporaryDirectory() as folder:
@@ -159,8 +172,10 @@ def main():
             row("a worker (15)", (many.before - one.before) / 15, 0)
             a_worker = (many.files() - one.files()) / 15
             base = one.files() - a_worker
+            a_session = sessions(program, folder)
             print(f"\nA relay with one output and one worker, and nothing held: {one.before:,} bytes.")
-            print(f"Files: {base:.0f}, each worker {a_worker:.0f}, each connection {a_connection:.0f}.")
+            print(f"Files: {base:.0f}, each connection {a_connection:.0f}, each worker {a_worker:.0f}, with a session", end=" ")
+            print(f"{a_worker + a_session:.0f}.")
 
 
 if __name__ == "__main__":

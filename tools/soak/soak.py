@@ -66,16 +66,19 @@ class Server:
 
     def __init__(self, folder, port):
         self.path, self.port = folder / "sink", port
+        self.is_away = False
         self.start()
 
     def start(self, *words):
         self.process = subprocess.Popen([self.path, *words, str(self.port)], stdout=subprocess.DEVNULL)
+        self.is_away = False
 
     def end(self):
-        if self.process.poll() is not None:
+        if self.process.poll() is not None and not self.is_away:
             raise RuntimeError(f"the server at port {self.port} ended by itself")
         self.process.kill()
         self.process.wait()
+        self.is_away = True
 
 
 class Weather(threading.Thread):
