@@ -6,7 +6,6 @@ use Rattle.fwd_chunks.specs.declared.span.Span.{Span}
 use Rattle.std.proofs.lemmas.Bool.{eqb-true, eqb-false, eq-eqb}
 use Rattle.fwd_modes.specs.declared.origin.Origin.{Origin}
 use Rattle.fwd_book.specs.History.{is_origin}
-use Rattle.std.proofs.lemmas.Option.{same_Some}
 
 pub apart : false ≡ true → ⊥
 apart e = absurd cc

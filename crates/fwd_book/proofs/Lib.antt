@@ -5,7 +5,8 @@ pub mod Noting
 pub mod Slotting
 pub mod Linking
 pub mod Chaining
-pub mod Orders
+pub mod Leading
+pub mod Seats
 pub mod Keeping
 pub mod Stepping
 pub mod Following
@@ -13,3 +14,4 @@ pub mod Right
 pub mod Sound
 pub mod Whose
 pub mod Dues
+pub mod Gathering

@@ -52,6 +52,11 @@ last_other r m [] none = turned r m (neither_left (m == r) false none)
 last_other r m (s ∷ rs) none =
     last_other s m rs (neither_right (m == r) (list_any (λ x. m == x) (s ∷ rs)) none)
 
+pub last_none : (rs : List ℕ) (m : ℕ) → list_any (λ s. m == s) rs ≡ false
+    → is_the (last_of None rs) m ≡ false
+last_none [] m none = refl
+last_none (r ∷ rs) m none = last_other r m rs none
+
 -- ---- a request comes behind the others
 
 -- the links with one more: the last so far leads to it
@@ -166,7 +171,7 @@ relinked_none n earlier later m = by (n == m) (is_the earlier m) (is_the later m
     by false false false = refl
 
 -- the request behind one is another than what is not there
-later_other : (before : Option ℕ) (rs : List ℕ) (n : ℕ) (link : Link) (m : ℕ)
+pub later_other : (before : Option ℕ) (rs : List ℕ) (n : ℕ) (link : Link) (m : ℕ)
     → link_in before rs n ≡ Some link → list_any (λ r. m == r) rs ≡ false
     → is_the link.later m ≡ false
 later_other before [] n link m there none = absurd (none_some there)
@@ -186,7 +191,7 @@ later_other before (r ∷ rs) n link m there none = by (r == n) there (λ f. lat
     by false f more = more f
 
 -- and so is the request before one
-earlier_other : (before : Option ℕ) (rs : List ℕ) (n : ℕ) (link : Link) (m : ℕ)
+pub earlier_other : (before : Option ℕ) (rs : List ℕ) (n : ℕ) (link : Link) (m : ℕ)
     → link_in before rs n ≡ Some link → list_any (λ r. m == r) rs ≡ false
     → is_the before m ≡ false → is_the link.earlier m ≡ false
 earlier_other before [] n link m there none first = absurd (none_some there)
@@ -418,7 +423,7 @@ last_without before (r ∷ rs) n link once there = by (r == n) refl there (last_
 -- ---- one after the other
 
 -- what stands at a place is among them
-among_at : (rs : List ℕ) (i n m : ℕ) → slice_get rs i ≡ Some n → list_any (λ r. m == r) rs ≡ false
+pub among_at : (rs : List ℕ) (i n m : ℕ) → slice_get rs i ≡ Some n → list_any (λ r. m == r) rs ≡ false
     → (m == n) ≡ false
 among_at [] i n m at none = absurd (none_some at)
 among_at (r ∷ rs) zero n m at none =

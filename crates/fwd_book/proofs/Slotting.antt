@@ -1,8 +1,8 @@
 -- Requests in slots by their origins.
-use Rattle.std.proofs.Common.{arith, ◌≡◌, ◌≤◌, length, ℕ, Bool, true, false, cond, suc, Option, Some, None, List, [], ◌∷◌, ◌++◌, refl, sym, ap, ◌∙◌}
-use Rattle.std.specs.Prelude.{IfSome, not, filter, find, ◌||◌, ◌&&◌, ◌==◌, is_some, option_to_list}
+use Rattle.std.proofs.Common.{◌≡◌, ℕ, Bool, true, false, cond, Option, Some, None, List, [], ◌∷◌, ◌++◌, refl, sym, ap, ◌∙◌}
+use Rattle.std.specs.Prelude.{IfSome, not, filter, find, ◌||◌, ◌&&◌, ◌==◌, option_to_list}
 use Rattle.std.specs.List.{list_any, AllByRecursion, IsDistinct}
-use Rattle.std.specs.Map.{keys_of, lookup, set_value, remove_entry}
+use Rattle.std.specs.Map.{keys_of, lookup, remove_entry}
 use Rattle.std.proofs.lemmas.Bool.{eqb-true}
 use Rattle.std.proofs.lemmas.Grind.{flat_map-append}
 use Rattle.fwd_modes.specs.declared.origin.Origin.{Origin}
@@ -79,45 +79,6 @@ slot_found (e ∷ slots) o keyed distinct = by e.1 (is_key (key_of o) e.0) refl 
 
 -- ---- a request leaves its slot
 
-pub emptied : (slots : List Slot) (o : Origin) → AreKeyed slots → IsDistinct is_key (keys_of slots)
-    → present (set_value (is_key (key_of o)) slots None) ≡ filter (λ q. not (is_origin o q.origin))
-    (present slots)
-unfolding IsDistinct
-emptied [] o keyed distinct = refl
-emptied (e ∷ slots) o keyed distinct = by e.1 (is_key (key_of o) e.0) refl keyed.0 (emptied slots o keyed.1 distinct.1)
-  where
-    leaves : Entered → Bool
-    leaves q = is_origin o q.origin
-
-    left : List Entered
-    left = filter (λ q. not (leaves q)) (present slots)
-
-    rest : List Slot
-    rest = set_value (is_key (key_of o)) slots None
-
-    by : (w : Option Entered) (a : Bool) → is_key (key_of o) e.0 ≡ a
-        → IfSome w (λ q. e.0 ≡ key_of q.origin)
-        → present rest ≡ left
-        → present (cond a ((e.0, None) ∷ slots) ((e.0, w) ∷ rest)) ≡ filter (λ q. not (leaves q))
-        (option_to_list w ++ present slots)
-    by (Some q) true same at more =
-        sym (filter_none leaves (present slots) (none_there o e.0 slots same distinct.0 keyed.1))
-        ∙ sym (ap (λ b. cond (not b) (q ∷ left) left) (ap (is_key (key_of o)) (sym at) ∙ same))
-    by None true same at more = sym (filter_none leaves (present slots) (none_there o e.0 slots same distinct.0 keyed.1))
-    by (Some q) false same at more =
-        ap (λ qs. q ∷ qs) more ∙ sym (ap (λ b. cond (not b) (q ∷ left) left) (ap (is_key (key_of o)) (sym at) ∙ same))
-    by None false same at more = more
-
-pub keyed_emptied : (slots : List Slot) (test : ℕ × ℕ → Bool) → AreKeyed slots
-    → AreKeyed (set_value test slots None)
-keyed_emptied [] test keyed = tt
-keyed_emptied (e ∷ slots) test keyed = by (test e.0) (keyed_emptied slots test keyed.1)
-  where
-    by : (a : Bool) → AreKeyed (set_value test slots None)
-        → AreKeyed (cond a ((e.0, None) ∷ slots) (e ∷ set_value test slots None))
-    by true more = (tt, keyed.1)
-    by false more = (keyed.0, more)
-
 -- ---- an empty slot leaves
 
 pub removed : (slots : List Slot) (o : Origin) → AreKeyed slots
@@ -141,70 +102,8 @@ removed (e ∷ slots) o keyed none = by e.1 (is_key (key_of o) e.0) refl keyed.0
         ap (λ qs. q ∷ qs) (more (sym (ap (λ b. cond b (Some q) (request_at (present slots) o)) (ap (is_key (key_of o)) (sym at) ∙ same)) ∙ n))
     by None false same at n more = more n
 
-pub keyed_removed : (slots : List Slot) (test : ℕ × ℕ → Bool) → AreKeyed slots
-    → AreKeyed (remove_entry test slots)
-keyed_removed [] test keyed = tt
-keyed_removed (e ∷ slots) test keyed = by (test e.0) (keyed_removed slots test keyed.1)
-  where
-    by : (a : Bool) → AreKeyed (remove_entry test slots)
-        → AreKeyed (cond a slots (e ∷ remove_entry test slots))
-    by true more = keyed.1
-    by false more = (keyed.0, more)
-
 -- ---- a slot comes behind the others
 
 pub pushed : (slots : List Slot) (k : ℕ × ℕ) (q : Entered)
     → present (slots ++ (k, Some q) ∷ []) ≡ present slots ++ q ∷ []
 pushed slots k q = flat_map-append (λ (e : Slot). option_to_list e.1) slots ((k, Some q) ∷ [])
-
-pub keyed_pushed : (slots : List Slot) (q : Entered) → AreKeyed slots
-    → AreKeyed (slots ++ (key_of q.origin, Some q) ∷ [])
-keyed_pushed [] q keyed = (refl, tt)
-keyed_pushed (e ∷ slots) q keyed = (keyed.0, keyed_pushed slots q keyed.1)
-
--- ---- empty slots leave
-
-pub kept_present : (slots : List Slot) → present (filter (λ e. is_some e.1) slots) ≡ present slots
-kept_present [] = refl
-kept_present (e ∷ slots) = by e.1 (kept_present slots)
-  where
-    by : (w : Option Entered) → present (filter (λ d. is_some d.1) slots) ≡ present slots
-        → present
-        (cond (is_some w) ((e.0, w) ∷ filter (λ d. is_some d.1) slots)
-        (filter (λ d. is_some d.1) slots)) ≡ option_to_list w ++ present slots
-    by None more = more
-    by (Some q) more = ap (λ qs. q ∷ qs) more
-
-pub keyed_kept : (slots : List Slot) → AreKeyed slots → AreKeyed (filter (λ e. is_some e.1) slots)
-keyed_kept [] keyed = tt
-keyed_kept (e ∷ slots) keyed = by (is_some e.1) (keyed_kept slots keyed.1)
-  where
-    by : (a : Bool) → AreKeyed (filter (λ d. is_some d.1) slots)
-        → AreKeyed (cond a (e ∷ filter (λ d. is_some d.1) slots) (filter (λ d. is_some d.1) slots))
-    by true more = (keyed.0, more)
-    by false more = more
-
--- ---- no more requests than slots
-
-pub few_present : (slots : List Slot) → length (present slots) ≤ length slots
-few_present [] = omega arith
-few_present (e ∷ slots) = by e.1 (few_present slots)
-  where
-    by : (w : Option Entered) → length (present slots) ≤ length slots
-        → length (option_to_list w ++ present slots) ≤ length (e ∷ slots)
-    by None more = omega (arith, more)
-    by (Some q) more = omega (arith, more)
-
--- those that are not empty are as many as the requests
-pub length-kept : (slots : List Slot)
-    → length (filter (λ e. is_some e.1) slots) ≡ length (present slots)
-length-kept [] = refl
-length-kept (e ∷ slots) = by e.1 (length-kept slots)
-  where
-    by : (w : Option Entered)
-        → length (filter (λ d. is_some d.1) slots) ≡ length (present slots)
-        → length
-        (cond (is_some w) ((e.0, w) ∷ filter (λ d. is_some d.1) slots)
-        (filter (λ d. is_some d.1) slots)) ≡ length (option_to_list w ++ present slots)
-    by None more = more
-    by (Some q) more = ap suc more

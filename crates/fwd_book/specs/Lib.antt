@@ -3,6 +3,7 @@ pub mod History
 pub mod Receipts
 pub mod Live
 -- how the code keeps it
+pub mod Gathering
 pub mod Slots
 pub mod Links
 pub mod Notes

@@ -1,38 +1,44 @@
--- How the code finds a connection's requests: each request that is held is linked to the earlier
--- and to the later one of its own connection, and a connection's first and last are known.
-use Rattle.std.specs.Prelude.{◌≡◌, ◌==◌, ℕ, Bool, false, not, List, [], ◌∷◌, ◌++◌, Option, None, Some, map, filter, option_map, slice_get, if◌then◌else◌}
+-- How the code finds a connection's requests: each request in a slot is linked to the earlier and
+-- to the later one of its own connection, and a connection's first and last are known.
+use Rattle.std.specs.Prelude.{◌≡◌, ◌==◌, ℕ, Bool, false, not, List, [], ◌∷◌, ◌++◌, Option, None, Some, map, filter, option_map, option_to_list, slice_get, if◌then◌else◌}
 use Rattle.std.specs.List.{list_any}
 use Rattle.std.specs.Map.{lookup}
+use Rattle.slab.specs.Slab.{Slab, get}
 use Rattle.fwd_modes.specs.declared.origin.Origin.{Origin}
 use Rattle.fwd_book.specs.declared.chains.Link.{Link}
 use Rattle.fwd_book.specs.declared.chains.Ends.{Ends}
+use Rattle.fwd_book.specs.declared.chains.Kept.{Kept}
 use Rattle.fwd_book.specs.History.{Entered, is_of}
-use Rattle.fwd_book.specs.Slots.{is_key}
 
--- the link of a connection's request, if it has one
-abbrev pub link_at : List ((ℕ × ℕ) × Link) → ℕ → ℕ → Option Link
-link_at links conn request = lookup (is_key (conn, request)) links
+-- the link of a request that is kept, if it is the connection's
+abbrev pub link_of : ℕ → Option Kept → Option Link
+link_of conn None = None
+link_of conn (Some k) = if is_of conn k.request then Some k.link else None
+
+-- the link of the request in a slot, if it is the connection's
+abbrev pub link_at : Slab Kept → ℕ → ℕ → Option Link
+link_at kept conn slot = link_of conn (get kept slot)
 
 -- the first and the last request of a connection, if it has any
 abbrev pub ends_at : List (ℕ × Ends) → ℕ → Option Ends
 ends_at ends conn = lookup (λ c. conn == c) ends
 
--- there is such a request, and it is this one
+-- there is such a slot, and it is this one
 abbrev pub is_the : Option ℕ → ℕ → Bool
-is_the None request = false
-is_the (Some own) request = own == request
+is_the None slot = false
+is_the (Some own) slot = own == slot
 
--- the last of these requests, or the one before them
+-- the last of these slots, or the one before them
 abbrev pub last_of : Option ℕ → List ℕ → Option ℕ
 last_of earlier [] = earlier
 last_of earlier (r ∷ rs) = last_of (Some r) rs
 
--- the link of a request among these, which come behind another one or none
+-- the link of a slot among these, which come behind another one or none
 abbrev pub link_in : Option ℕ → List ℕ → ℕ → Option Link
-link_in earlier [] request = None
-link_in earlier (r ∷ rs) request =
-    if r == request then Some (record { earlier = earlier; later = slice_get rs 0 })
-    else link_in (Some r) rs request
+link_in earlier [] slot = None
+link_in earlier (r ∷ rs) slot =
+    if r == slot then Some (record { earlier = earlier; later = slice_get rs 0 })
+    else link_in (Some r) rs slot
 
 -- the link leads to another later request
 abbrev pub with_later : Option ℕ → Link → Link
@@ -42,32 +48,45 @@ with_later later link = record { earlier = link.earlier; later = later }
 abbrev pub with_earlier : Option ℕ → Link → Link
 with_earlier earlier link = record { earlier = earlier; later = link.later }
 
--- each of these requests stands once
+-- another request is the later one
+abbrev pub leads_to : Option ℕ → Kept → Kept
+leads_to later k = record { request = k.request; link = with_later later k.link }
+
+-- another request is the earlier one
+abbrev pub follows_on : Option ℕ → Kept → Kept
+follows_on earlier k = record { request = k.request; link = with_earlier earlier k.link }
+
+-- the ends with this slot behind the others, if there are any
+abbrev pub with_last : ℕ → Option Ends → Ends
+with_last slot None = record { first = slot; last = slot }
+with_last slot (Some e) = record { first = e.first; last = slot }
+
+-- the origin of the request in a slot, by what the slots hold
+abbrev pub origin_at : (ℕ → Option Entered) → ℕ → Option Origin
+origin_at held slot = option_map (λ q. q.origin) (held slot)
+
+-- the origin of the request in a slot, by what the slots hold, if it passes the test
+abbrev pub passing_at : (Entered → Bool) → (ℕ → Option Entered) → ℕ → List Origin
+passing_at test held slot = map (λ q. q.origin) (filter test (option_to_list (held slot)))
+
+-- each of these slots stands once
 abbrev pub AreOnce : List ℕ → Type 0
 AreOnce [] = Unit {0}
 AreOnce (r ∷ rs) = (list_any (λ s. r == s) rs ≡ false) × AreOnce rs
 
--- the numbers of each connection's requests, in the order in which they were entered
-abbrev pub order_of : List Entered → ℕ → List ℕ
-order_of qs conn = map (λ q. q.origin.request) (filter (is_of conn) qs)
+-- each connection's slots with one more, which is its last
+abbrev pub order_with : ℕ → ℕ → (ℕ → List ℕ) → ℕ → List ℕ
+order_with conn slot order c = if conn == c then order c ++ slot ∷ [] else order c
 
--- each connection's requests with one more, which is its last
-abbrev pub order_with : Origin → (ℕ → List ℕ) → ℕ → List ℕ
-order_with origin order conn =
-    if origin.conn == conn then order conn ++ origin.request ∷ [] else order conn
+-- each connection's slots without one
+abbrev pub order_without : ℕ → (ℕ → List ℕ) → ℕ → List ℕ
+order_without slot order c = filter (λ r. not (slot == r)) (order c)
 
--- each connection's requests without one
-abbrev pub order_without : Origin → (ℕ → List ℕ) → ℕ → List ℕ
-order_without origin order conn =
-    if origin.conn == conn then filter (λ r. not (origin.request == r)) (order conn)
-    else order conn
-
--- These links and ends show each connection's requests in this order: a request is linked to the
--- one before it and to the one behind it, the ends are the first and the last, and each stands
--- once.
+-- These links and ends show each connection's slots in this order: a request is linked to the one
+-- before it and to the one behind it, the ends are the first and the last, and each stands once.
 pub record AreChained
-    (links : List ((ℕ × ℕ) × Link)) (ends : List (ℕ × Ends)) (order : ℕ → List ℕ) : Type 0 where
-  pub linked : (conn request : ℕ) → link_at links conn request ≡ link_in None (order conn) request
+    (links : ℕ → ℕ → Option Link) (ends : List (ℕ × Ends)) (order : ℕ → List ℕ) : Type 0 where
+  pub linked : (conn slot : ℕ) → links conn slot ≡ link_in None (order conn) slot
   pub first : (conn : ℕ) → option_map (λ e. e.first) (ends_at ends conn) ≡ slice_get (order conn) 0
   pub last : (conn : ℕ) → option_map (λ e. e.last) (ends_at ends conn) ≡ last_of None (order conn)
   pub once : (conn : ℕ) → AreOnce (order conn)

@@ -7,6 +7,7 @@ use Rattle.std.specs.Prelude.{
   ◌+◌,
   ◌-◌,
   ◌==◌,
+  Bool,
   List,
   length,
   filter,
@@ -17,6 +18,7 @@ use Rattle.std.specs.Prelude.{
   nat_lt,
   if◌then◌else◌,
 }
+use Rattle.std.specs.List.{list_all}
 use Rattle.std.specs.Map.{lookup}
 use Rattle.fwd_modes.specs.Requests.{Request}
 use Rattle.fwd_session.specs.Evidence.{Evidence}
@@ -50,6 +52,10 @@ found_in (Some note) = note.found
 -- what was acknowledged under a number, as is noted
 abbrev pub found_at : List (ℕ × Note) → ℕ → Option Evidence
 found_at notes number = found_in (note_at number notes)
+
+-- something is noted as acknowledged under the number of each of the request's runs
+abbrev pub are_found : List (ℕ × Note) → Entered → Bool
+are_found notes q = list_all (λ s. is_some (found_at notes s.number)) q.spans
 
 -- one request more has the number
 abbrev pub used_more : Option Note → Note

@@ -16,7 +16,9 @@ ghost use Rattle.std.specs.Prelude.{
   ◌==◌,
   length,
   map,
+  option_map,
   is_some,
+  find,
   filter,
   slice_get,
   if◌then◌else◌,
@@ -25,6 +27,7 @@ ghost use Rattle.std.specs.Prelude.{
   option_and_then,
   IsSome,
   IfSome,
+  IfNone,
   IsOk,
   IfOk,
   OnOk,
@@ -34,8 +37,10 @@ ghost use Rattle.std.specs.Arc.{arc_value};
 ghost use Rattle.std.specs.List.{list_any};
 ghost use Rattle.fwd_modes.specs.Acks.{ack_name};
 ghost use Rattle.fwd_chunks.specs.Spans.{AreCutBy, AreRising};
+ghost use Rattle.fwd_modes.specs.declared.origin.Origin.{Origin as AbstractOrigin};
 ghost use Rattle.fwd_book.specs.History.{
   is_of,
+  is_settled,
   Entered,
   entered_as,
   name_at,
@@ -48,7 +53,9 @@ ghost use Rattle.fwd_book.specs.Receipts.{
   once,
   receipts,
   receipt_if,
+  receipt_of,
 };
+ghost use Rattle.fwd_book.specs.Gathering.{stands_behind, receipts_at};
 ghost use Rattle.fwd_book.specs.Live.{
   IsOf,
   IsSound,
@@ -147,6 +154,34 @@ fn leave_all(numbers: &mut Numbers, spans: &[Span])
     }
 }
 
+/// Whether an origin stands behind another one: of a greater connection, or of the same one with a
+/// greater number.
+fn is_behind(before: Option<Origin>, origin: Origin) -> bool
+    ensures { result ≡ stands_behind before origin }
+{
+    match before {
+        None => true,
+        Some(before) => {
+            before.conn < origin.conn
+                || before.conn == origin.conn && before.request < origin.request
+        }
+    }
+}
+
+/// Whether the origins rise. Then each stands once.
+fn are_rising(origins: &[Origin]) -> bool
+    ensures { result ≡ true → once origins.now ≡ origins.now }
+{
+    let mut before = None;
+    for origin in origins {
+        if !is_behind(before, *origin) {
+            return false;
+        }
+        before = Some(*origin);
+    }
+    true
+}
+
 /// Each origin once, where it stands first.
 fn once(alloc: Global, origins: &[Origin]) -> Result<Vec<Origin>, AllocError>
     ensures { IfOk result (λ asked. asked.items ≡ once origins.now) }
@@ -243,6 +278,21 @@ impl Book {
         true
     }
 
+    /// The first request of a connection leaves, if it has one. Answers its origin.
+    fn leave_first(&mut self, conn: u64) -> Option<Origin>
+        ensures first { result
+            ≡ option_map (λ q. q.origin) (find (is_of conn) self.old.live.requests) }
+        ensures left { IfSome result (λ origin. self.new ≡ record self.old {
+          live = live_leaves self.old.live (origin ∷ []);
+        }) }
+        ensures same { IfNone result (self.new ≡ self.old) }
+        ensures sound { IsSound self.old.live }
+    {
+        let kept = self.requests.take_first(conn)?;
+        leave_all(&mut self.numbers, kept.spans());
+        Some(kept.origin())
+    }
+
     /// A server acknowledged a chunk: it is kept where some request has entries in it. Answers how
     /// many entries it has.
     pub fn settle(&mut self, acked: Arc<Acked>) -> usize
@@ -305,23 +355,33 @@ impl Book {
     {
         self.requests.are_few();
         let mut count = 0;
-        while let Some(origin) = self.requests.first_of(conn) {
-            self.is_sound();
-            self.leave(origin);
+        while let Some(_) = self.leave_first(conn) {
             count += 1;
         }
         self.is_sound();
         count
     }
 
+    /// The request of an origin, if it is owed an answer and all its entries are acknowledged.
+    fn settled(&self, origin: Origin) -> Option<&EnteredRequest>
+        ensures some { IfSome result (λ kept.
+            (request_at self.now.live.requests origin ≡ Some kept.now)
+            × (is_settled self.now.live.settled kept.now ≡ true)) }
+        ensures none { IfNone result (live_is_settled self.now.live origin ≡ false) }
+    {
+        let kept = self.requests.get(origin)?;
+        if self.numbers.has_all(kept.spans()) {
+            Some(kept)
+        } else {
+            None
+        }
+    }
+
     /// Whether the request of an origin is owed an answer, and all its entries are acknowledged.
     pub fn is_settled(&self, origin: Origin) -> bool
         ensures { result ≡ live_is_settled self.now.live origin }
     {
-        match self.requests.get(origin) {
-            None => false,
-            Some(kept) => self.numbers.has_all(kept.spans()),
-        }
+        self.settled(origin).is_some()
     }
 
     /// Whether a request of one of these origins is owed an answer, and all its entries are
@@ -340,19 +400,7 @@ impl Book {
             ≡ map (λ q. q.origin) (live_due self.now.live conn)) }
         ensures none { live_due self.now.live conn ≡ [] → IsOk result }
     {
-        self.is_sound();
-        let mut due = Vec::new(alloc);
-        let mut next = self.requests.first_of(conn);
-        for _ in 0..self.requests.slots() {
-            let Some(origin) = next else {
-                break;
-            };
-            if self.is_settled(origin) {
-                due.push(origin)?;
-            }
-            next = self.requests.later_of(origin);
-        }
-        Ok(due)
+        self.requests.due(alloc, conn, &self.numbers)
     }
 
     /// The bytes of the option's `chunk` value of an origin's request, as they were sent, if the
@@ -392,17 +440,43 @@ impl Book {
     {
         self.is_sound();
         receipts_are_right();
+        if are_rising(origins) {
+            return self.receipts(alloc, origins);
+        }
         if !self.has_settled(origins) {
             return Ok(Vec::new(alloc));
         }
-        let asked = once(alloc, origins)?;
+        self.receipts(alloc, &once(alloc, origins)?)
+    }
+
+    /// The receipts of the requests of these origins whose entries are all acknowledged, one
+    /// origin after the other. The only error is out of memory, and where there are none it takes
+    /// no memory.
+    fn receipts(&self, alloc: Global, origins: &[Origin]) -> Result<Vec<Receipt>, AllocError>
+        ensures given { IfOk result (λ given. given.items
+            ≡ receipts_at self.now.live.settled self.now.live.requests origins.now) }
+        ensures none { receipts_at self.now.live.settled self.now.live.requests origins.now ≡ []
+            → IsOk result }
+    {
         let mut given = Vec::new(alloc);
-        for origin in &asked {
-            if let Some(receipt) = self.receipt(alloc, *origin)? {
-                given.push(receipt)?;
+        for origin in origins {
+            if let Some(kept) = self.settled(*origin) {
+                given.push(self.receipt_of(alloc, kept)?)?;
             }
         }
         Ok(given)
+    }
+
+    /// The receipt of a request that is owed an answer, whose entries are all acknowledged. The
+    /// only error is out of memory.
+    fn receipt_of(&self, alloc: Global, kept: &EnteredRequest) -> Result<Receipt, AllocError>
+        requires held { (origin : AbstractOrigin)
+            × (request_at self.now.live.requests origin ≡ Some kept.now) }
+        requires settled { is_settled self.now.live.settled kept.now ≡ true }
+        ensures { IfOk result (λ receipt. receipt ≡ receipt_of self.now.live.settled kept.now) }
+    {
+        let parts = self.numbers.parts(alloc, kept.spans())?;
+        Receipt::new(kept, parts)
     }
 
     /// The receipt of an origin's request, if it is here and its entries are all acknowledged. The
@@ -411,13 +485,9 @@ impl Book {
         ensures { IfOk result (λ given. option_to_list given
             ≡ receipt_if self.now.live.settled (request_at self.now.live.requests origin)) }
     {
-        let Some(kept) = self.requests.get(origin) else {
-            return Ok(None);
-        };
-        if !self.numbers.has_all(kept.spans()) {
-            return Ok(None);
+        match self.settled(origin) {
+            None => Ok(None),
+            Some(kept) => Ok(Some(self.receipt_of(alloc, kept)?)),
         }
-        let parts = self.numbers.parts(alloc, kept.spans())?;
-        Ok(Some(Receipt::new(kept, parts)?))
     }
 }

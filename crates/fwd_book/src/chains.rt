@@ -1,131 +1,139 @@
-//! The requests of each connection, in the order in which they were entered.
+//! The requests of a book in slots, those of each connection in the order in which they were
+//! entered.
 
 ghost use Rattle.std.specs.Prelude.{
   ◌≡◌,
   ◌<◌,
   ◌≤◌,
-  ◌==◌,
   ◌&&◌,
+  ◌==◌,
   ℕ,
   List,
-  false,
   [],
+  false,
+  None,
   Some,
   IsSome,
   is_some,
   length,
-  map,
+  option_copied,
   option_map,
-  option_and_then,
-  unwrap_or,
+  option_to_list,
   not,
   if◌then◌else◌,
   IfOk,
+  IsOk,
   OnOk,
 };
-ghost use Rattle.std.specs.List.{list_any};
+ghost use Rattle.std.specs.List.{flat_map, list_any};
 ghost use Rattle.indexmap.specs.IndexMap.{spare};
+ghost use Rattle.slab.specs.Slab.{get, slab_len};
+ghost use Rattle.fwd_book.specs.Notes.{are_found};
+ghost use Rattle.fwd_book.specs.Slots.{key_of, held_at, keyed};
 ghost use Rattle.fwd_book.specs.Links.{
-  link_at,
   ends_at,
   is_the,
-  with_later,
-  with_earlier,
+  leads_to,
+  follows_on,
+  link_at,
+  origin_at,
+  passing_at,
+  with_last,
   order_with,
   order_without,
   AreChained,
 };
 
+use crate::entered_request::EnteredRequest;
+use crate::numbers::Numbers;
 use fwd_modes::Origin;
 use indexmap::IndexMap;
+use slab::Slab;
 use std::alloc::{AllocError, Global};
 
-/// The numbers of the earlier and of the later request of the same connection.
+/// The slots of the earlier and of the later request of the same connection.
 #[derive(Clone, Copy)]
 pub(crate) struct Link {
-    earlier: Option<u64>,
-    later: Option<u64>,
+    earlier: Option<usize>,
+    later: Option<usize>,
 }
 
-/// The numbers of a connection's first and last request.
+/// The slots of a connection's first and last request.
 #[derive(Clone, Copy)]
 pub(crate) struct Ends {
-    first: u64,
-    last: u64,
+    first: usize,
+    last: usize,
 }
 
-/// Each request by its connection and number, and each connection that has one.
+/// A request with its link.
+#[derive(Drop)]
+pub(crate) struct Kept {
+    request: EnteredRequest,
+    link: Link,
+}
+
+/// Each request in a slot, and each connection that has one.
 #[derive(Drop)]
 pub(crate) struct Chains {
-    links: IndexMap<(u64, u64), Link>,
+    kept: Slab<Kept>,
     ends: IndexMap<u64, Ends>,
 }
 
-/// The request behind this one, if this one is there, is another.
-fn set_later(
-    links: &mut IndexMap<(u64, u64), Link>,
-    conn: u64,
-    request: Option<u64>,
-    later: Option<u64>,
-)
-    ensures linked { (c r : ℕ) → link_at links.new.entries c r
-        ≡ (if (conn == c) && is_the request r
-        then option_map (with_later later) (link_at links.old.entries c r)
-        else link_at links.old.entries c r) }
-    ensures room { spare links.old ≤ spare links.new }
+/// The request behind the one in this slot, if there is such a slot, is another.
+fn set_later(kept: &mut Slab<Kept>, slot: Option<usize>, later: Option<usize>)
+    ensures linked { (k : ℕ) → get kept.new k
+        ≡ (if is_the slot k then option_map (leads_to later) (get kept.old k)
+        else get kept.old k) }
+    ensures len { slab_len kept.new ≡ slab_len kept.old }
+    ensures capacity { kept.new.capacity ≡ kept.old.capacity }
+    ensures next { kept.new.vacant_key ≡ kept.old.vacant_key }
 {
-    let Some(request) = request else {
+    let Some(slot) = slot else {
         return;
     };
-    if let Some(link) = links.get_mut(&(conn, request)) {
-        link.later = later;
+    if let Some(kept) = kept.get_mut(slot) {
+        kept.link.later = later;
     }
 }
 
-/// The request before this one, if this one is there, is another.
-fn set_earlier(
-    links: &mut IndexMap<(u64, u64), Link>,
-    conn: u64,
-    request: Option<u64>,
-    earlier: Option<u64>,
-)
-    ensures linked { (c r : ℕ) → link_at links.new.entries c r
-        ≡ (if (conn == c) && is_the request r
-        then option_map (with_earlier earlier) (link_at links.old.entries c r)
-        else link_at links.old.entries c r) }
-    ensures room { spare links.old ≤ spare links.new }
+/// The request before the one in this slot, if there is such a slot, is another.
+fn set_earlier(kept: &mut Slab<Kept>, slot: Option<usize>, earlier: Option<usize>)
+    ensures linked { (k : ℕ) → get kept.new k
+        ≡ (if is_the slot k then option_map (follows_on earlier) (get kept.old k)
+        else get kept.old k) }
+    ensures len { slab_len kept.new ≡ slab_len kept.old }
+    ensures capacity { kept.new.capacity ≡ kept.old.capacity }
 {
-    let Some(request) = request else {
+    let Some(slot) = slot else {
         return;
     };
-    if let Some(link) = links.get_mut(&(conn, request)) {
-        link.earlier = earlier;
+    if let Some(kept) = kept.get_mut(slot) {
+        kept.link.earlier = earlier;
     }
 }
 
-/// The number of a connection's last request, if it has one.
-fn last_in(ends: Option<Ends>) -> Option<u64>
-    ensures { result ≡ option_map (λ e. e.last) ends }
+/// A request in this slot is its connection's last. Answers the slot of the one before it, if there
+/// is one.
+fn put_last(ends: &mut IndexMap<u64, Ends>, conn: u64, slot: usize) -> Option<usize>
+    requires { 0 < spare ends.old }
+    ensures earlier { result ≡ option_map (λ e. e.last) (ends_at ends.old.entries conn) }
+    ensures last { (c : ℕ) → ends_at ends.new.entries c
+        ≡ (if conn == c then Some (with_last slot (ends_at ends.old.entries conn))
+        else ends_at ends.old.entries c) }
 {
-    match ends {
-        None => None,
-        Some(ends) => Some(ends.last),
+    if let Some(ends) = ends.get_mut(&conn) {
+        let earlier = ends.last;
+        ends.last = slot;
+        return Some(earlier);
     }
-}
-
-/// The ends of a connection with this request behind its others, if it has any.
-fn ends_with(ends: Option<Ends>, request: u64) -> Ends
-    ensures first { result.first ≡ unwrap_or (option_map (λ e. e.first) ends) request }
-    ensures last { result.last ≡ request }
-{
-    let first = match ends {
-        None => request,
-        Some(ends) => ends.first,
+    let alone = Ends {
+        first: slot,
+        last: slot,
     };
-    Ends {
-        first,
-        last: request,
-    }
+    let Ok(_) = ends.insert(conn, alone) else {
+        unreachable!();
+    };
+    None
 }
 
 /// The ends of a connection that has some, once a request left that was linked so.
@@ -161,51 +169,47 @@ fn leave_ends(ends: &mut IndexMap<u64, Ends>, conn: u64, link: Link)
 impl Chains {
     /// No requests.
     pub(crate) fn new(alloc: Global) -> Self
-        ensures { AreChained result.links.entries result.ends.entries (λ _. []) }
+        ensures { AreChained (link_at result.kept) result.ends.entries (λ _. []) }
     {
         Chains {
-            links: IndexMap::new(alloc),
+            kept: Slab::new(alloc),
             ends: IndexMap::new(alloc),
         }
     }
 
     /// Makes room for one more request. On an error nothing has changed.
     pub(crate) fn reserve(&mut self) -> Result<(), AllocError>
-        ensures ok { OnOk result ((0 < spare self.new.links) × (0 < spare self.new.ends)) }
-        ensures links { self.new.links.entries ≡ self.old.links.entries }
+        ensures kept_room { OnOk result (slab_len self.new.kept < self.new.kept.capacity) }
+        ensures ends_room { OnOk result (0 < spare self.new.ends) }
+        ensures kept { self.new.kept ≡ record self.old.kept { capacity = self.new.kept.capacity } }
         ensures ends { self.new.ends.entries ≡ self.old.ends.entries }
-        ensures more_links { spare self.old.links ≤ spare self.new.links }
+        ensures more_kept { self.old.kept.capacity ≤ self.new.kept.capacity }
         ensures more_ends { spare self.old.ends ≤ spare self.new.ends }
     {
-        self.links.reserve(1)?;
+        self.kept.reserve(1)?;
         self.ends.reserve(1)
     }
 
-    /// The first and the last request of a connection.
-    fn ends_of(&self, conn: u64) -> Option<Ends>
-        ensures { result ≡ ends_at self.now.ends.entries conn }
-    {
-        self.ends.get(&conn).copied()
-    }
-
-    /// The number of a connection's first request, if it has one.
-    pub(crate) fn first(&self, conn: u64) -> Option<u64>
+    /// The slot of a connection's first request, if it has one.
+    pub(crate) fn first(&self, conn: u64) -> Option<usize>
         ensures { result ≡ option_map (λ e. e.first) (ends_at self.now.ends.entries conn) }
     {
-        match self.ends_of(conn) {
+        match self.ends.get(&conn) {
             None => None,
             Some(ends) => Some(ends.first),
         }
     }
 
-    /// The number of the request behind this one, if this one is there and is not the last.
-    pub(crate) fn later(&self, conn: u64, request: u64) -> Option<u64>
-        ensures { result
-            ≡ option_and_then (λ k. k.later) (link_at self.now.links.entries conn request) }
+    /// The request in a slot, if it is the one of the origin.
+    pub(crate) fn get(&self, slot: usize, origin: Origin) -> Option<&EnteredRequest>
+        ensures { option_copied result ≡ keyed (key_of origin) (held_at self.now.kept slot) }
     {
-        match self.links.get(&(conn, request)) {
-            None => None,
-            Some(link) => link.later,
+        let kept = self.kept.get(slot)?;
+        let own = kept.request.origin();
+        if origin.conn == own.conn && origin.request == own.request {
+            Some(&kept.request)
+        } else {
+            None
         }
     }
 
@@ -217,62 +221,104 @@ impl Chains {
         most: usize,
     ) -> Result<Vec<Origin>, AllocError>
         ensures { (order : ℕ → List ℕ)
-            → AreChained self.now.links.entries self.now.ends.entries order
+            → AreChained (link_at self.now.kept) self.now.ends.entries order
             → length (order conn) ≤ most → IfOk result (λ origins. origins.items
-            ≡ map (λ r. record { conn = conn; request = r }) (order conn)) }
+            ≡ flat_map (λ k. option_to_list (origin_at (held_at self.now.kept) k)) (order conn)) }
     {
         let mut origins = Vec::new(alloc);
         let mut next = self.first(conn);
         for _ in 0..most {
-            let Some(request) = next else {
+            let Some(slot) = next else {
                 break;
             };
-            origins.push(Origin { conn, request })?;
-            next = self.later(conn, request);
+            let Some(kept) = self.kept.get(slot) else {
+                break;
+            };
+            origins.push(kept.request.origin())?;
+            next = kept.link.later;
         }
         Ok(origins)
     }
 
-    /// A request comes behind its connection's others, into room that was made for it.
-    pub(crate) fn push(&mut self, origin: Origin)
-        requires links { 0 < spare self.old.links }
-        requires ends { 0 < spare self.old.ends }
-        ensures { (order : ℕ → List ℕ)
-            → AreChained self.old.links.entries self.old.ends.entries order
-            → list_any (λ r. origin.request == r) (order origin.conn) ≡ false
-            → AreChained self.new.links.entries self.new.ends.entries (order_with origin order) }
+    /// The origins of a connection's requests, which are not more than so many, whose entries are
+    /// all acknowledged, in their order. The only error is out of memory, and where there are none
+    /// it takes no memory.
+    pub(crate) fn due(
+        &self,
+        alloc: Global,
+        conn: u64,
+        most: usize,
+        numbers: &Numbers,
+    ) -> Result<Vec<Origin>, AllocError>
+        ensures due { (order : ℕ → List ℕ)
+            → AreChained (link_at self.now.kept) self.now.ends.entries order
+            → length (order conn) ≤ most → IfOk result (λ due. due.items
+            ≡ flat_map (passing_at (are_found numbers.now.notes) (held_at self.now.kept))
+            (order conn)) }
+        ensures none { (order : ℕ → List ℕ)
+            → AreChained (link_at self.now.kept) self.now.ends.entries order
+            → flat_map (passing_at (are_found numbers.now.notes) (held_at self.now.kept))
+            (order conn) ≡ [] → IsOk result }
     {
-        let Origin { conn, request } = origin;
-        let ends = self.ends_of(conn);
-        let earlier = last_in(ends);
-        set_later(&mut self.links, conn, earlier, Some(request));
+        let mut due = Vec::new(alloc);
+        let mut next = self.first(conn);
+        for _ in 0..most {
+            let Some(slot) = next else {
+                break;
+            };
+            let Some(kept) = self.kept.get(slot) else {
+                break;
+            };
+            if numbers.has_all(kept.request.spans()) {
+                due.push(kept.request.origin())?;
+            }
+            next = kept.link.later;
+        }
+        Ok(due)
+    }
+
+    /// A request comes behind its connection's others, into room that was made for it. Answers its
+    /// slot, which was empty.
+    pub(crate) fn push(&mut self, request: EnteredRequest) -> usize
+        requires kept { slab_len self.old.kept < self.old.kept.capacity }
+        requires ends { 0 < spare self.old.ends }
+        ensures empty { held_at self.old.kept result ≡ None }
+        ensures held { (k : ℕ) → held_at self.new.kept k
+            ≡ (if result == k then Some request else held_at self.old.kept k) }
+        ensures chained { (order : ℕ → List ℕ)
+            → AreChained (link_at self.old.kept) self.old.ends.entries order
+            → list_any (λ k. result == k) (order request.origin.conn) ≡ false
+            → AreChained (link_at self.new.kept) self.new.ends.entries
+            (order_with request.origin.conn result order) }
+    {
+        let slot = self.kept.vacant_key();
+        let earlier = put_last(&mut self.ends, request.origin().conn, slot);
+        set_later(&mut self.kept, earlier, Some(slot));
         let link = Link {
             earlier,
             later: None,
         };
-        let Ok(_) = self.links.insert((conn, request), link) else {
-            unreachable!();
-        };
-        let Ok(_) = self.ends.insert(conn, ends_with(ends, request)) else {
-            unreachable!();
-        };
+        self.kept.insert_reserved(Kept { request, link })
     }
 
-    /// A request leaves, if it is there: the one before it and the one behind it are linked.
-    pub(crate) fn remove(&mut self, origin: Origin)
+    /// The request in a slot leaves, if there is one: the one before it and the one behind it are
+    /// linked.
+    pub(crate) fn remove(&mut self, slot: usize) -> Option<EnteredRequest>
+        ensures taken { result ≡ held_at self.old.kept slot }
+        ensures held { (k : ℕ) → held_at self.new.kept k
+            ≡ (if slot == k then None else held_at self.old.kept k) }
         ensures chained { (order : ℕ → List ℕ)
-            → AreChained self.old.links.entries self.old.ends.entries order
-            → AreChained self.new.links.entries self.new.ends.entries
-            (order_without origin order) }
-        ensures links { spare self.old.links ≤ spare self.new.links }
+            → AreChained (link_at self.old.kept) self.old.ends.entries order
+            → AreChained (link_at self.new.kept) self.new.ends.entries
+            (order_without slot order) }
+        ensures len { slab_len self.new.kept ≤ slab_len self.old.kept }
+        ensures capacity { self.new.kept.capacity ≡ self.old.kept.capacity }
         ensures ends { spare self.old.ends ≤ spare self.new.ends }
     {
-        let Origin { conn, request } = origin;
-        let Some(link) = self.links.swap_remove(&(conn, request)) else {
-            return;
-        };
-        set_later(&mut self.links, conn, link.earlier, link.later);
-        set_earlier(&mut self.links, conn, link.later, link.earlier);
-        leave_ends(&mut self.ends, conn, link);
+        let Kept { request, link } = self.kept.try_remove(slot)?;
+        set_later(&mut self.kept, link.earlier, link.later);
+        set_earlier(&mut self.kept, link.later, link.earlier);
+        leave_ends(&mut self.ends, request.origin().conn, link);
+        Some(request)
     }
 }

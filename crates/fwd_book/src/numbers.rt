@@ -164,7 +164,7 @@ impl Numbers {
         ensures { IfOk result (λ parts. parts.items
             ≡ flat_map (λ s. part_of (found_at self.now.notes s.number) s) spans.now) }
     {
-        let mut parts = Vec::new(alloc);
+        let mut parts = Vec::with_capacity(alloc, spans.len())?;
         for span in spans {
             if let Some(acked) = self.get(span.number) {
                 parts.push(Part::new(Arc::try_clone(acked)?, span.from, span.count))?;

@@ -6,6 +6,7 @@ ghost use Rattle.std.specs.Prelude.{
   ◌≤◌,
   ◌+◌,
   ◌^◌,
+  ◌&&◌,
   ℕ,
   length,
   ◌++◌,
@@ -21,48 +22,88 @@ ghost use Rattle.std.specs.Prelude.{
   option_map,
   IfOk,
   option_copied,
+  IfSome,
+  IfNone,
+  IsOk,
   OnOk,
-  slice_get,
 };
+ghost use Rattle.std.specs.List.{IsDistinct};
+ghost use Rattle.std.specs.Map.{keys_of, lookup, remove_entry};
+ghost use Rattle.indexmap.specs.IndexMap.{spare};
 ghost use Rattle.fwd_book.specs.History.{is_of, is_origin, request_at};
+ghost use Rattle.fwd_book.specs.Notes.{are_found};
+ghost use Rattle.fwd_book.specs.Slots.{is_key, held_at, led_to};
 
 use crate::chains::Chains;
 use crate::entered_request::EnteredRequest;
+use crate::numbers::Numbers;
 use fwd_modes::Origin;
 use indexmap::IndexMap;
 use std::alloc::{AllocError, Global};
 use std::marker::Model;
 
-/// Requests in the order in which they were entered. A slot stays, empty, until room is made anew,
-/// so that what leaves moves nothing. A connection's requests are chained by their numbers, which
-/// stay as they are when slots move.
+/// Requests in the order in which they were entered. An entry of the index stays, and leads to none,
+/// until room is made anew, so that what leaves moves nothing. A request stays in its slot.
 #[derive(Drop)]
 pub(crate) struct Requests {
-    slots: IndexMap<(u64, u64), Option<EnteredRequest>>,
+    index: IndexMap<(u64, u64), usize>,
     chains: Chains,
 }
 
 impl Model for Requests {
-    ghost use Rattle.std.specs.Prelude.{min, length};
+    ghost use Rattle.std.specs.Prelude.{◌-◌, min, length};
     ghost use Rattle.std.specs.Map.{keys_of};
     ghost use Rattle.std.specs.List.{IsDistinct};
     ghost use Rattle.indexmap.specs.IndexMap.{spare};
-    ghost use Rattle.fwd_book.specs.Slots.{Held, is_key, present, AreKeyed};
-    ghost use Rattle.fwd_book.specs.Links.{order_of, AreChained};
+    ghost use Rattle.slab.specs.Slab.{slab_len};
+    ghost use Rattle.fwd_book.specs.Slots.{Held, is_key, present, held_at, slots_by, order_by};
+    ghost use Rattle.fwd_book.specs.Links.{link_at, AreChained};
 
     ghost Value = { Held };
 
     ghost view = { λ r. record {
-      items = present r.slots.entries;
-      room = min (spare r.slots) (min (spare r.chains.links) (spare r.chains.ends));
-      slots = length r.slots.entries;
-      places = spare r.slots;
+      items = present (slots_by (held_at r.chains.kept) r.index.entries);
+      room = min (spare r.index)
+          (min (r.chains.kept.capacity - slab_len r.chains.kept) (spare r.chains.ends));
+      slots = length r.index.entries;
+      places = spare r.index;
     } };
 
-    ghost invariant = { λ r. AreKeyed r.slots.entries
-        × IsDistinct is_key (keys_of r.slots.entries)
-        × AreChained r.chains.links.entries r.chains.ends.entries
-        (order_of (present r.slots.entries)) };
+    ghost invariant = { λ r. IsDistinct is_key (keys_of r.index.entries)
+        × AreChained (link_at r.chains.kept) r.chains.ends.entries
+        (order_by (held_at r.chains.kept) r.index.entries) };
+}
+
+/// The index leads from a key to a slot, behind all its other entries.
+fn lead(index: &mut IndexMap<(u64, u64), usize>, key: (u64, u64), slot: usize)
+    requires { 0 < spare index.old }
+    ensures entries { index.new.entries
+        ≡ remove_entry (is_key key) index.old.entries ++ (key, slot) ∷ [] }
+    ensures apart { lookup (is_key key) (remove_entry (is_key key) index.old.entries) ≡ None }
+    ensures unique { IsDistinct is_key (keys_of index.new.entries) }
+{
+    index.shift_remove(&key);
+    let Ok(_) = index.insert(key, slot) else {
+        unreachable!();
+    };
+}
+
+/// The entries that lead to no request leave the index.
+fn drop_empty(index: &mut IndexMap<(u64, u64), usize>, chains: &Chains)
+    ensures left { index.new.entries
+        ≡ filter (λ e. is_some (led_to (held_at chains.now.kept) e)) index.old.entries }
+    ensures unique { IsDistinct is_key (keys_of index.new.entries) }
+    ensures room { spare index.old ≤ spare index.new }
+{
+    index.retain(
+        |key: &(u64, u64), slot: &mut usize| -> bool
+            ensures { (result ≡ is_some (led_to (held_at chains.entry.now.kept) (key.now, slot.old)))
+                × (slot.new ≡ slot.old) }
+        {
+            let (conn, request) = *key;
+            chains.get(*slot, Origin { conn, request }).is_some()
+        },
+    );
 }
 
 impl Requests {
@@ -71,7 +112,7 @@ impl Requests {
         ensures { result.items ≡ [] }
     {
         Requests {
-            slots: IndexMap::new(alloc),
+            index: IndexMap::new(alloc),
             chains: Chains::new(alloc),
         }
     }
@@ -80,7 +121,8 @@ impl Requests {
     pub(crate) fn get(&self, origin: Origin) -> Option<&EnteredRequest>
         ensures { option_copied result ≡ request_at self.now.items origin }
     {
-        self.slots.get(&(origin.conn, origin.request))?.as_ref()
+        let slot = *self.index.get(&(origin.conn, origin.request))?;
+        self.chains.get(slot, origin)
     }
 
     /// The origins of a connection's requests, in the order in which they were entered.
@@ -88,41 +130,40 @@ impl Requests {
         ensures { IfOk result (λ origins. origins.items
             ≡ map (λ q. q.origin) (filter (is_of conn) self.now.items)) }
     {
-        self.chains.origins(alloc, conn, self.slots.len())
+        self.chains.origins(alloc, conn, self.index.len())
     }
 
-    /// The origin of a connection's first request, if it has one.
-    pub(crate) fn first_of(&self, conn: u64) -> Option<Origin>
-        ensures { result ≡ option_map (λ q. q.origin) (find (is_of conn) self.now.items) }
+    /// The origins of a connection's requests whose entries are all acknowledged, in the order in
+    /// which they were entered. The only error is out of memory, and where there are none it takes
+    /// no memory.
+    pub(crate) fn due(
+        &self,
+        alloc: Global,
+        conn: u64,
+        numbers: &Numbers,
+    ) -> Result<Vec<Origin>, AllocError>
+        ensures due { IfOk result (λ due. due.items ≡ map (λ q. q.origin)
+            (filter (λ q. is_of conn q && are_found numbers.now.notes q) self.now.items)) }
+        ensures none { filter (λ q. is_of conn q && are_found numbers.now.notes q) self.now.items
+            ≡ [] → IsOk result }
     {
-        let request = self.chains.first(conn)?;
-        Some(Origin { conn, request })
+        self.chains.due(alloc, conn, self.index.len(), numbers)
     }
 
-    /// The origin of the request behind this one among its connection's, if there is one.
-    pub(crate) fn later_of(&self, origin: Origin) -> Option<Origin>
-        ensures { (i : ℕ) → slice_get (map (λ q. q.origin)
-            (filter (is_of origin.conn) self.now.items)) i ≡ Some origin
-            → result ≡ slice_get (map (λ q. q.origin)
-            (filter (is_of origin.conn) self.now.items)) (i + 1) }
+    /// The first request of a connection leaves, if it has one.
+    pub(crate) fn take_first(&mut self, conn: u64) -> Option<EnteredRequest>
+        ensures taken { result ≡ find (is_of conn) self.old.items }
+        ensures left { IfSome result (λ q. self.new.items
+            ≡ filter (λ r. not (is_origin q.origin r.origin)) self.old.items) }
+        ensures same { IfNone result (self.new.items ≡ self.old.items) }
+        ensures room { self.old.room ≤ self.new.room }
     {
-        let request = self.chains.later(origin.conn, origin.request)?;
-        Some(Origin {
-            conn: origin.conn,
-            request,
-        })
+        let slot = self.chains.first(conn)?;
+        self.chains.remove(slot)
     }
 
-    /// How many slots there are: at least one for each request.
-    pub(crate) fn slots(&self) -> usize
-        ensures slots { result ≡ self.now.slots }
-        ensures all { length self.now.items ≤ result }
-    {
-        self.slots.len()
-    }
-
-    /// Makes room for one more request. No slot comes, and where no more had a place, the empty
-    /// ones leave. On an error no request has changed.
+    /// Makes room for one more request. No entry of the index comes, and where no more had a place,
+    /// those that lead to no request leave. On an error no request has changed.
     pub(crate) fn reserve(&mut self) -> Result<(), AllocError>
         ensures ok { OnOk result (0 < self.new.room) }
         ensures same { self.new.items ≡ self.old.items }
@@ -130,33 +171,29 @@ impl Requests {
         ensures slots { self.new.slots ≤ self.old.slots }
         ensures full { self.old.places ≡ 0 → self.new.slots ≡ length self.new.items }
     {
-        if self.slots.len() == self.slots.capacity() {
+        if self.index.len() == self.index.capacity() {
             self.compact();
-            self.slots.reserve(self.slots.len())?;
+            self.index.reserve(self.index.len())?;
         }
-        self.slots.reserve(1)?;
+        self.index.reserve(1)?;
         self.chains.reserve()
     }
 
-    /// Empty slots leave: there are as many as requests.
+    /// The entries that lead to no request leave the index: it has as many as there are requests.
     fn compact(&mut self)
         ensures same { self.new.items ≡ self.old.items }
         ensures more { self.old.room ≤ self.new.room }
         ensures slots { self.new.slots ≡ length self.new.items }
         ensures fewer { self.new.slots ≤ self.old.slots }
     {
-        self.slots.retain(
-            |_key: &(u64, u64), slot: &mut Option<EnteredRequest>| -> bool
-                ensures { (result ≡ is_some slot.old) × (slot.new ≡ slot.old) }
-            { slot.is_some() },
-        );
+        drop_empty(&mut self.index, &self.chains);
     }
 
     /// There are less than 2^63 requests.
     pub(crate) fn are_few(&self)
         ensures { length self.now.items < 2 ^ 63 }
     {
-        let _len = self.slots.len();
+        let _len = self.index.len();
     }
 
     /// A request comes, into room that was made for it.
@@ -166,12 +203,8 @@ impl Requests {
         ensures { self.new.items ≡ self.old.items ++ kept ∷ [] }
     {
         let origin = kept.origin();
-        self.chains.push(origin);
-        let key = (origin.conn, origin.request);
-        self.slots.shift_remove(&key);
-        let Ok(_) = self.slots.insert(key, Some(kept)) else {
-            unreachable!();
-        };
+        let slot = self.chains.push(kept);
+        lead(&mut self.index, (origin.conn, origin.request), slot);
     }
 
     /// The request of an origin leaves, if it is there.
@@ -181,8 +214,8 @@ impl Requests {
             ≡ filter (λ q. not (is_origin origin q.origin)) self.old.items }
         ensures room { self.old.room ≤ self.new.room }
     {
-        let taken = self.slots.get_mut(&(origin.conn, origin.request))?.take();
-        self.chains.remove(origin);
-        taken
+        let slot = *self.index.get(&(origin.conn, origin.request))?;
+        self.chains.get(slot, origin)?;
+        self.chains.remove(slot)
     }
 }

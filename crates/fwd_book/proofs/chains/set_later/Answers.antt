@@ -1,17 +1,17 @@
-use Rattle.std.proofs.Common.{◌≡◌, Some, cond, refl, sym, ap, subst, ◌∙◌}
-use Rattle.std.specs.Prelude.{IsSome, option_map, ◌&&◌, ◌==◌}
-use Rattle.fwd_book.specs.declared.chains.Link.{Link}
-use Rattle.fwd_book.specs.Slots.{is_key}
-use Rattle.fwd_book.specs.Links.{link_at, is_the, with_later}
-use Rattle.fwd_book.proofs.Chaining.{told}
+use Rattle.std.proofs.Common.{◌≡◌, Some, cond, rules, sym, ap, ◌∙◌}
+use Rattle.std.specs.Prelude.{option_map}
+use Rattle.slab.specs.Slab.{get}
+use Rattle.fwd_book.specs.Links.{is_the, leads_to}
+use Rattle.fwd_book.proofs.Seats.{written, written-len}
 use Rattle.fwd_book.proofs.chains.set_later.Goals as goal
 
 pub returns-in-Some-get_mut-clause-linked : goal.returns-in-Some-get_mut-clause-linked
-returns-in-Some-get_mut-clause-linked c = λ k r.
-    let link : Link = c.in-Some-get_mut.link.now in
-    let new : Link = record { earlier = link.earlier; later = c.args.later } in
-    let there : link_at c.args.links.now.entries c.args.conn c.in-Some.request ≡ Some link = sym c.in-Some-get_mut.ensures.value in
-    ((c.get_mut.follows.holds new).3 (subst IsSome c.in-Some-get_mut.ensures.value refl)).0 (k, r)
-    ∙ ap (λ o. cond (is_key (c.args.conn, c.in-Some.request) (k, r)) (option_map (with_later c.args.later) o) (link_at c.args.links.now.entries k r)) (sym there)
-    ∙ told c.args.links.now.entries c.args.conn c.in-Some.request (with_later c.args.later) k r
-    ∙ ap (λ o. cond ((c.args.conn == k) && is_the o r) (option_map (with_later c.args.later) (link_at c.args.links.now.entries k r)) (link_at c.args.links.now.entries k r)) (sym c.in-Some.is)
+returns-in-Some-get_mut-clause-linked c = λ k.
+    let there : get c.args.kept.now c.in-Some.slot ≡ Some c.in-Some-get_mut.kept.now = search rules in
+    written c.args.kept.now c.in-Some.slot c.in-Some-get_mut.kept.now (leads_to c.args.later) there k
+    ∙ ap (λ o. cond (is_the o k) (option_map (leads_to c.args.later) (get c.args.kept.now k)) (get c.args.kept.now k)) (sym c.in-Some.is)
+
+pub returns-in-Some-get_mut-clause-len : goal.returns-in-Some-get_mut-clause-len
+returns-in-Some-get_mut-clause-len c =
+    let there : get c.args.kept.now c.in-Some.slot ≡ Some c.in-Some-get_mut.kept.now = search rules in
+    written-len c.args.kept.now c.in-Some.slot c.in-Some-get_mut.kept.now (leads_to c.args.later c.in-Some-get_mut.kept.now) there

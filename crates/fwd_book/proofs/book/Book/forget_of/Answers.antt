@@ -1,14 +1,14 @@
-use Rattle.std.proofs.Common.{arith, ◌≡◌, ◌≤◌, ℕ, suc, Bool, true, false, cond, Option, Some, None, List, [], ◌∷◌, length, refl, sym, ap, ◌∙◌}
+use Rattle.std.proofs.Common.{arith, ◌≡◌, ◌≤◌, ℕ, suc, Bool, true, false, cond, Option, Some, None, List, [], ◌∷◌, length, refl, sym, ap, subst, ◌∙◌}
 use Rattle.std.specs.Prelude.{filter, find, option_map}
 use Rattle.fwd_modes.specs.declared.origin.Origin.{Origin}
 use Rattle.fwd_book.specs.History.{Entered, is_of}
-use Rattle.fwd_book.specs.Live.{LiveBook, BookState, IsSound, live_leaves, live_forgets_of, live_owed_of}
+use Rattle.fwd_book.specs.Live.{LiveBook, BookState, IsSound, evidence_for, live_leaves, live_forgets_of, live_owed_of}
 use Rattle.fwd_book.proofs.Whose.{forgets-then, owed-less, none-forgotten}
 use Rattle.fwd_book.proofs.book.Book.forget_of.Goals as goal
 use Rattle.std.proofs.lemmas.Option.{same_Some}
 
-pub loop-origin-init : goal.loop-origin-init
-loop-origin-init c = record { same = refl; left = refl; count = omega arith }
+pub loop-count-init : goal.loop-count-init
+loop-count-init c = record { same = refl; left = refl; count = omega arith }
 
 -- the request whose origin is found
 first_is : (p : Entered → Bool) (qs : List Entered) (o : Origin)
@@ -53,46 +53,40 @@ step b d conn o found sound is =
 
 pub overflow_add-count : goal.overflow_add-count
 overflow_add-count c =
-    let b : LiveBook = c.loop-origin.self.live in
-    let shown = ap (λ (s : BookState). s.live.requests) c.self-in-loop-origin.view_is in
-    let found = sym c.in-Some.is ∙ c.first_of.ensures ∙ ap (λ qs. option_map (λ q. q.origin) (find (is_of c.args.conn) qs)) shown in
-    let d = step b (c.leave.new.self).live c.args.conn c.in-Some.origin found c.is_sound.ensures.sound (ap (λ (s : BookState). s.live) c.leave.ensures.left) in
+    let b : LiveBook = c.loop-count.self.live in
+    let d = step b (c.leave_first.new.self).live c.args.conn c.in-Some.field-0 c.in-Some.ensures.first c.in-Some.ensures.sound (ap (λ (s : BookState). s.live) c.in-Some.ensures.left) in
     let few = few_of (is_of c.args.conn) c.args.self.now.live.requests in
     let all = c.are_few.ensures in
-    omega (arith, c.loop-origin.invariant.count, d.1, few, all, ap (λ (s : BookState). length s.live.requests) c.self.view_is)
+    omega (arith, c.loop-count.invariant.count, d.1, few, all, ap (λ (s : BookState). length s.live.requests) c.self.view_is)
 
-pub loop-origin-smaller : goal.loop-origin-smaller
-loop-origin-smaller c =
-    let b : LiveBook = c.loop-origin.self.live in
-    let shown = ap (λ (s : BookState). s.live.requests) c.self-in-loop-origin.view_is in
-    let found = sym c.in-Some.is ∙ c.first_of.ensures ∙ ap (λ qs. option_map (λ q. q.origin) (find (is_of c.args.conn) qs)) shown in
-    let d = step b (c.leave.new.self).live c.args.conn c.in-Some.origin found c.is_sound.ensures.sound (ap (λ (s : BookState). s.live) c.leave.ensures.left) in
+pub loop-count-smaller : goal.loop-count-smaller
+loop-count-smaller c =
+    let b : LiveBook = c.loop-count.self.live in
+    let d = step b (c.leave_first.new.self).live c.args.conn c.in-Some.field-0 c.in-Some.ensures.first c.in-Some.ensures.sound (ap (λ (s : BookState). s.live) c.in-Some.ensures.left) in
     omega (arith, d.1)
 
-pub loop-origin-preserved : goal.loop-origin-preserved
-loop-origin-preserved c =
-    let b : LiveBook = c.loop-origin.self.live in
-    let shown = ap (λ (s : BookState). s.live.requests) c.self-in-loop-origin.view_is in
-    let found = sym c.in-Some.is ∙ c.first_of.ensures ∙ ap (λ qs. option_map (λ q. q.origin) (find (is_of c.args.conn) qs)) shown in
-    let d = step b (c.leave.new.self).live c.args.conn c.in-Some.origin found c.is_sound.ensures.sound (ap (λ (s : BookState). s.live) c.leave.ensures.left) in
+pub loop-count-preserved : goal.loop-count-preserved
+loop-count-preserved c =
+    let b : LiveBook = c.loop-count.self.live in
+    let d = step b (c.leave_first.new.self).live c.args.conn c.in-Some.field-0 c.in-Some.ensures.first c.in-Some.ensures.sound (ap (λ (s : BookState). s.live) c.in-Some.ensures.left) in
     record {
-      same = (λ i. record { live = (c.leave.new.self).live; ready = (ap (λ (s : BookState). s.ready) c.leave.ensures.left ∙ ap (λ (s : BookState). s.ready) c.loop-origin.invariant.same) i });
-      left = d.0 ∙ c.loop-origin.invariant.left;
-      count = omega (arith, c.loop-origin.invariant.count, d.1);
+      same = (λ i. record { live = (c.leave_first.new.self).live; ready = (ap (λ (s : BookState). s.ready) c.in-Some.ensures.left ∙ ap (λ (s : BookState). s.ready) c.loop-count.invariant.same) i });
+      left = d.0 ∙ c.loop-count.invariant.left;
+      count = omega (arith, c.loop-count.invariant.count, d.1);
     }
 
 pub returns-clause-count : goal.returns-clause-count
 returns-clause-count c =
-    let b : LiveBook = c.loop-origin.self.live in
-    let shown = ap (λ (s : BookState). s.live.requests) c.self-in-loop-origin.view_is in
-    let none = none_is (is_of c.args.conn) b.requests (sym c.in_default.is ∙ c.first_of.ensures ∙ ap (λ qs. option_map (λ q. q.origin) (find (is_of c.args.conn) qs)) shown) in
-    let all = (none-forgotten b c.args.conn c.is_sound-2.ensures.kept none).1 in
-    omega (arith, c.loop-origin.invariant.count, all)
+    let b : LiveBook = c.loop-count.self.live in
+    let same = c.in_default.ensures.same in
+    let kept = subst (λ (s : BookState). evidence_for s.live.requests s.live.settled ≡ s.live.settled) same c.is_sound.ensures.kept in
+    let all = (none-forgotten b c.args.conn kept (none_is (is_of c.args.conn) b.requests c.in_default.ensures.first)).1 in
+    omega (arith, c.loop-count.invariant.count, all)
 
 pub returns-clause-left : goal.returns-clause-left
 returns-clause-left c =
-    let b : LiveBook = c.loop-origin.self.live in
-    let shown = ap (λ (s : BookState). s.live.requests) c.self-in-loop-origin.view_is in
-    let none = none_is (is_of c.args.conn) b.requests (sym c.in_default.is ∙ c.first_of.ensures ∙ ap (λ qs. option_map (λ q. q.origin) (find (is_of c.args.conn) qs)) shown) in
-    let all = (none-forgotten b c.args.conn c.is_sound-2.ensures.kept none).0 in
-    c.loop-origin.invariant.same ∙ (λ i. record { live = (sym all ∙ c.loop-origin.invariant.left) i; ready = c.args.self.now.ready })
+    let b : LiveBook = c.loop-count.self.live in
+    let same = c.in_default.ensures.same in
+    let kept = subst (λ (s : BookState). evidence_for s.live.requests s.live.settled ≡ s.live.settled) same c.is_sound.ensures.kept in
+    let all = (none-forgotten b c.args.conn kept (none_is (is_of c.args.conn) b.requests c.in_default.ensures.first)).0 in
+    same ∙ c.loop-count.invariant.same ∙ (λ i. record { live = (sym all ∙ c.loop-count.invariant.left) i; ready = c.args.self.now.ready })

@@ -1,16 +1,25 @@
-use Rattle.std.proofs.Common.{Some, None, ap, cond, ◌∙◌}
-use Rattle.std.specs.Prelude.{unwrap_or, option_map}
-use Rattle.fwd_book.specs.declared.chains.Link.{Link}
-use Rattle.fwd_book.specs.Slots.{is_key}
-use Rattle.fwd_book.proofs.Chaining.{chained_with}
+use Rattle.std.proofs.Common.{◌≡◌, ℕ, Some, None, cond, refl, sym, ap, ◌∙◌}
+use Rattle.std.specs.Prelude.{◌==◌, option_map}
+use Rattle.std.proofs.lemmas.Bool.{eq-eqb}
+use Rattle.slab.specs.Slab.{get}
+use Rattle.fwd_book.specs.declared.chains.Kept.{Kept}
+use Rattle.fwd_book.specs.Links.{ends_at, is_the, leads_to, with_last}
+use Rattle.fwd_book.proofs.Chaining.{kept_with}
+use Rattle.fwd_book.proofs.Seats.{updated}
 use Rattle.fwd_book.proofs.chains.Chains.push.Goals as goal
 
-pub returns : goal.returns
-returns c = λ order chained fresh.
-    let new : Link = record { earlier = c.last_in-earlier.result; later = None } in
-    chained_with c.args.self.now.links.entries c.insert.new.self.entries c.args.self.now.ends.entries c.insert-2.new.self.entries order c.args.origin c.last_in-earlier.result c.ends_with.result
-    (c.last_in-earlier.ensures ∙ ap (option_map (λ e. e.last)) c.ends_of-ends.ensures)
-    (c.ends_with.ensures.first ∙ ap (λ o. unwrap_or (option_map (λ e. e.first) o) c.args.origin.request) c.ends_of-ends.ensures)
-    c.ends_with.ensures.last
-    (λ k r. c.in-Ok.ensures.updates.0 (k, r) ∙ ap (λ o. cond (is_key (c.args.origin.conn, c.args.origin.request) (k, r)) (Some new) o) (c.set_later.ensures.linked k r))
-    c.in-Ok-insert.ensures.updates.0 fresh chained
+pub returns-clause-chained : goal.returns-clause-chained
+returns-clause-chained c = λ order chained fresh.
+    let slot : ℕ = c.insert_reserved.result in
+    let own : Kept = record { request = c.args.request; link = record { earlier = c.put_last-earlier.result; later = None } } in
+    let conn : ℕ = c.args.request.origin.conn in
+    let at : c.vacant_key-slot.result ≡ slot = c.vacant_key-slot.ensures.value ∙ sym c.set_later.ensures.next ∙ sym c.insert_reserved.ensures.key in
+    let empty : get c.args.self.now.kept slot ≡ None = ap (get c.args.self.now.kept) (sym at) ∙ c.vacant_key-slot.ensures.vacant in
+    kept_with (get c.args.self.now.kept) (get c.insert_reserved.new.self) c.args.self.now.ends.entries c.put_last-earlier.new.ends.entries order chained conn slot own (eq-eqb conn conn refl) empty
+    (c.put_last-earlier.ensures.earlier ∙ (λ i. option_map (λ e. e.last) (ends_at c.args.self.now.ends.entries (c.origin.ensures i).conn)))
+    refl
+    (λ k. updated c.set_later.new.kept c.insert_reserved.new.self slot (Some own) c.insert_reserved.ensures.updates k
+    ∙ ap (cond (slot == k) (Some own)) (c.set_later.ensures.linked k ∙ (λ i. cond (is_the c.put_last-earlier.result k) (option_map (leads_to (Some (at i))) (get c.args.self.now.kept k)) (get c.args.self.now.kept k))))
+    (λ n. c.put_last-earlier.ensures.last n
+    ∙ (λ i. cond ((c.origin.ensures i).conn == n) (Some (with_last (at i) (ends_at c.args.self.now.ends.entries (c.origin.ensures i).conn))) (ends_at c.args.self.now.ends.entries n)))
+    fresh

@@ -1,0 +1,62 @@
+use Rattle.std.proofs.Common.{◌≡◌, ℕ, Some, cond, List, ◌∷◌, [], filter, sym, ap, subst, ◌∙◌}
+use Rattle.std.specs.Prelude.{not, map, ◌==◌}
+use Rattle.std.specs.List.{list_any}
+use Rattle.fwd_modes.specs.declared.origin.Origin.{Origin}
+use Rattle.fwd_session.specs.Evidence.{Evidence}
+use Rattle.fwd_chunks.specs.Spans.{AreRising}
+use Rattle.fwd_book.specs.History.{BookSetting, Entered, is_of, is_origin, request_at}
+use Rattle.fwd_book.specs.Live.{BookState, IsSound, found_for, evidence_for, live_leaves}
+use Rattle.fwd_book.specs.Notes.{Note, note_at, found_at, used_less, AreOf, live_of}
+use Rattle.fwd_book.proofs.Keeping.{less-of, less-shown, among-one, room-more}
+use Rattle.fwd_book.proofs.Whose.{found-own}
+use Rattle.fwd_book.proofs.Right.{found_stands}
+use Rattle.fwd_book.proofs.Sound.{sound-leaves}
+use Rattle.fwd_book.proofs.book.Book.leave_first.Goals as goal
+
+pub leave_all-requires : goal.leave_all-requires
+leave_all-requires c =
+    let stands = found_stands (is_of c.args.conn) c.self.inside.requests.items c.in_ok-kept.kept (sym c.in_ok-kept.ensures.taken) in
+    record { rising = subst (λ ss. AreRising (map (λ s. s.number) ss)) (sym c.spans.ensures) (c.self.invariant.1.rising stands.place c.in_ok-kept.kept stands.here) }
+
+pub invariant_of-self-2 : goal.invariant_of-self-2
+invariant_of-self-2 c =
+    let notes : List (ℕ × Note) = c.self.inside.numbers.notes in
+    let new : List (ℕ × Note) = c.leave_all.new.numbers.notes in
+    let qs : List Entered = c.self.inside.requests.items in
+    let q : Entered = c.in_ok-kept.kept in
+    let o : Origin = q.origin in
+    let stands = found_stands (is_of c.args.conn) qs q (sym c.in_ok-kept.ensures.taken) in
+    let setting : BookSetting = record { run = c.self.inside.run; output = c.self.inside.output } in
+    let settled : List Evidence = found_for (found_at notes) qs in
+    let there : request_at qs o ≡ Some q = found-own qs c.self.invariant.1.apart stands.place q stands.here in
+    let less : (n : ℕ) → note_at n new ≡ cond (list_any (λ s. s.number == n) q.spans) (used_less (note_at n notes)) (note_at n notes) =
+    λ n. c.leave_all.ensures.noted n ∙ ap (λ ss. cond (list_any (λ s. s.number == n) ss) (used_less (note_at n notes)) (note_at n notes)) c.spans.ensures in
+    let items : c.take_first.new.self.items ≡ filter (λ r. not (is_origin o r.origin)) qs = c.in_ok-kept.ensures.left in
+    let shown : found_for (found_at new) (filter (λ r. not (is_origin o r.origin)) qs) ≡ evidence_for (filter (λ r. not (is_origin o r.origin)) qs) settled = less-shown notes new qs o q c.self.invariant.0 c.self.invariant.1.apart there less in
+    let whole : live_of setting c.take_first.new.self.items new ≡ live_leaves (live_of setting qs notes) (o ∷ []) =
+    (λ i. record { setting = setting; requests = (items ∙ sym (among-one qs o)) i; settled = (ap (found_for (found_at new)) items ∙ shown ∙ ap (λ rs. evidence_for rs settled) (sym (among-one qs o))) i }) in (
+      subst (λ xs. AreOf new xs) (sym items) (less-of notes new qs o q c.self.invariant.0 c.self.invariant.1.apart there less),
+      subst IsSound (sym whole) (sound-leaves (live_of setting qs notes) (o ∷ []) c.self.invariant.1),
+      room-more c.self.inside.ready c.self.invariant.2 c.take_first.ensures.room c.leave_all.ensures.room,
+    )
+
+pub returns-clause-left : goal.returns-clause-left
+returns-clause-left c =
+    let notes : List (ℕ × Note) = c.self.inside.numbers.notes in
+    let new : List (ℕ × Note) = c.leave_all.new.numbers.notes in
+    let qs : List Entered = c.self.inside.requests.items in
+    let q : Entered = c.in_ok-kept.kept in
+    let o : Origin = q.origin in
+    let stands = found_stands (is_of c.args.conn) qs q (sym c.in_ok-kept.ensures.taken) in
+    let setting : BookSetting = record { run = c.self.inside.run; output = c.self.inside.output } in
+    let settled : List Evidence = found_for (found_at notes) qs in
+    let there : request_at qs o ≡ Some q = found-own qs c.self.invariant.1.apart stands.place q stands.here in
+    let less : (n : ℕ) → note_at n new ≡ cond (list_any (λ s. s.number == n) q.spans) (used_less (note_at n notes)) (note_at n notes) =
+    λ n. c.leave_all.ensures.noted n ∙ ap (λ ss. cond (list_any (λ s. s.number == n) ss) (used_less (note_at n notes)) (note_at n notes)) c.spans.ensures in
+    let items : c.take_first.new.self.items ≡ filter (λ r. not (is_origin o r.origin)) qs = c.in_ok-kept.ensures.left in
+    let shown : found_for (found_at new) (filter (λ r. not (is_origin o r.origin)) qs) ≡ evidence_for (filter (λ r. not (is_origin o r.origin)) qs) settled = less-shown notes new qs o q c.self.invariant.0 c.self.invariant.1.apart there less in
+    let whole : live_of setting c.take_first.new.self.items new ≡ live_leaves (live_of setting qs notes) (o ∷ []) =
+    (λ i. record { setting = setting; requests = (items ∙ sym (among-one qs o)) i; settled = (ap (found_for (found_at new)) items ∙ shown ∙ ap (λ rs. evidence_for rs settled) (sym (among-one qs o))) i }) in
+    (λ i. record { live = whole i; ready = c.self.inside.ready })
+    ∙ ap (λ (s : BookState). record { live = live_leaves s.live (o ∷ []); ready = s.ready }) c.self.view_is
+    ∙ ap (λ (x : Origin). record { live = live_leaves c.args.self.now.live (x ∷ []); ready = c.args.self.now.ready }) (sym c.origin.ensures)
