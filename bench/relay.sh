@@ -1,5 +1,5 @@
 #!/bin/sh
-# How fast the relay hands on entries, beside a bare proxy and beside rsyslog, and what it takes.
+# How fast the relay hands on entries, beside a bare proxy, the least that a relay does and rsyslog, and what it takes.
 #
 #     sh bench/relay.sh
 #
@@ -9,12 +9,13 @@
 # of 127.0.0.1 only. It ends with 1 where a row failed.
 #
 #     RELAY=PATH          the program
+#     BEFORE=PATH         another build of it, measured as `before 0 1` right ahead of `relay`, to compare the two
 #     QUICK=1             a small run of some seconds, to see that all works
 #     ENTRIES=1000000     entries of a row; a fifth of them with one entry in a request, and over RELP (QUICK: 20000)
 #     WINDOW=4            unacknowledged requests of a connection
 #     SECONDS_MOST=5      seconds after which a row sends no more, also where it has not sent all its entries
 #     TIMEOUT=60          seconds after which a row has failed
-#     WAYS="direct socat relay rsyslog"     which ways are measured
+#     WAYS="direct socat least relay rsyslog"     which ways are measured
 #     MINUTES=0           so many minutes more, at the end, for which one relay is at work (QUICK: of two seconds each)
 #
 # The ways, each from bench/relay/generator.c to bench/relay/sink.c (for RELP relp_generator.c and relp_sink.c), which
@@ -22,7 +23,9 @@
 #
 #     direct          nothing between: what the two can do at most
 #     socat           `socat TCP-LISTEN,fork TCP`, a process a connection, which copies bytes and knows nothing of them
+#     least           bench/relay/least.c, a relay in C of the relay's shape that does the least: the floor
 #     relay F W N     forward_relay with flush_interval F ms, W workers and, where N is not 1, a window of N chunks
+#     before 0 1      the same, of the program BEFORE
 #     rsyslog         rsyslogd with imrelp and omrelp, a message of about 200 bytes for an entry, one in a frame, at
 #                     most 128 unanswered a connection. It answers a message once it is in its own queue, in memory,
 #                     and not once the next hop has it: so it promises less than the relay. Its row is the time from the
@@ -41,6 +44,12 @@
 # relay takes of one core in 10 s of it, and how long it takes to forget them once all connections close.
 #
 # Latency: round trips with one connection and one outstanding request of one entry.
+#
+# Ratios, at the end, of what was measured: entries/s of `relay 0 1`, and of `before 0 1`, over those of `least`,
+# `socat` and `before 0 1` in each row, and its processor time over socat's; for 10 connections with one entry in a
+# request also those of the faster of `relay 0 1` and `relay 0 1 8` (`best`), and of `relay 0 4` over `relay 0 1`; and
+# the round trips over those of the direct way. `-` stands where one of the two was not measured, has failed, or took
+# less processor time than the system's clock shows.
 #
 # Spans: requests of 1,000 entries, 200,000 bytes, one outstanding, where a chunk has at most 50,000 bytes: the row
 # fails where one that goes over several chunks is not acknowledged within 10 s.
@@ -64,7 +73,8 @@ fi
 window=${WINDOW:-4}
 limit=${TIMEOUT:-60}
 seconds=${SECONDS_MOST:-5}
-ways=${WAYS:-direct socat relay rsyslog}
+ways=${WAYS:-direct socat least relay rsyslog}
+[ -z "${BEFORE:-}" ] || ways=$(printf '%s\n' $ways | sed 's/^relay$/before relay/')
 minutes=${MINUTES:-0}
 tick=$(getconf CLK_TCK)
 
@@ -80,6 +90,8 @@ tick=$(getconf CLK_TCK)
 ulimit -n "$(ulimit -H -n)"
 
 folder=$(mktemp -d)
+: >"$folder/rows"
+: >"$folder/trips"
 sink='' middle='' generator='' distance=''
 
 # a process and its children
@@ -107,8 +119,9 @@ end_all() {
 trap 'end_all; rm -rf "$folder"' EXIT
 trap 'exit 1' HUP INT PIPE TERM
 
-for program in generator sink relp_generator relp_sink; do
-    cc -O2 -Wall -Wextra -o "$folder/$program" "bench/relay/$program.c" bench/relay/common.c bench/relay/entries.c
+for program in generator sink relp_generator relp_sink least; do
+    cc -O2 -Wall -Wextra -pthread -o "$folder/$program" "bench/relay/$program.c" \
+        bench/relay/common.c bench/relay/entries.c
 done
 
 free_port() {
@@ -185,10 +198,15 @@ start_middle() {
         socat "TCP-LISTEN:$port,bind=127.0.0.1,fork,reuseaddr,nodelay,backlog=1024" \
             "TCP:127.0.0.1:$sink_port,nodelay" &
         ;;
-    relay)
+    least)
+        "$folder/least" "$port" "$sink_port" >"$folder/least.out" &
+        ;;
+    relay | before)
         [ -z "${far_ms:-}" ] || start_distance
         write_settings
-        "$RELAY" run "$folder/relay.toml" >"$folder/relay.out" &
+        program=$RELAY
+        [ "$way" = relay ] || program=$BEFORE
+        "$program" run "$folder/relay.toml" >"$folder/relay.out" &
         ;;
     rsyslog)
         write_rsyslog
@@ -238,30 +256,42 @@ generate() {
     return "$status"
 }
 
-# the processor seconds for a million entries and the memory of what is in the middle
+# sets and prints the processor seconds for a million entries and the memory of what is in the middle
 print_costs() {
     if [ -z "$middle" ]; then
+        cpu=-
         printf ' %8s %8s\n' - -
         return
     fi
     [ "$way" != socat ] || await_children "$middle"
-    cpu_of "$middle" | awk -v count="$1" -v memory="$memory" '{ printf " %8.2f %8.1f\n", $1 / count * 1e6, memory }'
+    cpu=$(cpu_of "$middle" | awk -v count="$1" '{ print $1 / count * 1e6 }')
+    printf ' %8.2f %8.1f\n' "$cpu" "$memory"
+}
+
+# a way with its settings
+full_name() {
+    echo "$way${flush:+ $flush $workers}${chunks:+ $chunks}"
 }
 
 # a row's front: its way, its connections, the entries of a request
 print_front() {
-    printf '%-14s %6d %8d' "$way${flush:+ $flush $workers}${chunks:+ $chunks}" "$1" "$2"
+    printf '%-14s %6d %8d' "$(full_name)" "$1" "$2"
 }
 
 # whether the sink got exactly what was sent
 check_sink() {
     end "$sink"
     sink=''
+    checked=0
     for name in entries bytes; do
         sent=$(field "$name" "$folder/generator.out")
         got=$(field "$name" "$folder/sink.out")
-        [ "$sent" = "$got" ] || fail "$name: sent $sent, at the sink $got"
+        [ "$sent" = "$got" ] || {
+            fail "$name: sent $sent, at the sink $got"
+            checked=1
+        }
     done
+    return "$checked"
 }
 
 # a row of the Forward Protocol: CONNECTIONS ENTRIES_A_REQUEST ENTRIES
@@ -273,7 +303,9 @@ row() {
         --seconds "$seconds" --timeout "$limit" 127.0.0.1 "$port"; then
         printf ' %10s %8s' "$(field entries/s "$folder/generator.out")" "$(field MB/s "$folder/generator.out")"
         print_costs "$(field entries "$folder/generator.out")"
-        check_sink
+        if check_sink; then
+            echo "$1 $2 $(field entries/s "$folder/generator.out") $cpu $(full_name)" >>"$folder/rows"
+        fi
     else
         fail "$(cat "$folder/generator.err")"
     fi
@@ -316,7 +348,7 @@ rows() {
 
 # what the relay takes of one core while 1,000 connections wait, and how long it is busy once they have gone
 idle() {
-    way=relay flush=0
+    way=relay
     start_sink "$folder/sink" --silent
     start_middle
     "$folder/generator" --connections "$idle_conns" --entries 1 --window 100 --hold $((idle_s + 3)) --timeout "$limit" \
@@ -362,7 +394,8 @@ latency() {
         median=$(field median_ms "$folder/generator.out")
         p99=$(field p99_ms "$folder/generator.out")
         : "${direct_median:=$median}" "${direct_p99:=$p99}"
-        echo "$median $p99 $direct_median $direct_p99" | awk -v name="$way${flush:+ $flush $workers}" \
+        echo "$median $p99 $(full_name)" >>"$folder/trips"
+        echo "$median $p99 $direct_median $direct_p99" | awk -v name="$(full_name)" \
             '{ printf "%-14s %8.3f %8.3f %12.3f %8.3f\n", name, $1, $2, $1 - $3, $2 - $4 }'
     else
         fail "$(cat "$folder/generator.err")"
@@ -424,44 +457,108 @@ steady() {
     end_all
 }
 
+# calls a function with each of the settings: flush_interval, workers and, where it is not 1, the window
+each_setting() {
+    called=$1
+    shift
+    for setting; do
+        # shellcheck disable=SC2086
+        set_setting $setting
+        "$called"
+    done
+}
+
+set_setting() {
+    flush=$1 workers=$2 chunks=${3:-}
+}
+
 # calls a function for each of the ways, with all settings of the relay
 each_way() {
     for way in $ways; do
-        flush='' workers=''
-        if [ "$way" = relay ]; then
-            for setting in '0 1' '0 4' '10 1' '10 4' '0 1 8'; do
-                # shellcheck disable=SC2086
-                set -- "$1" $setting
-                flush=$2 workers=$3 chunks=${4:-}
-                "$1"
-            done
-            chunks=''
-        else
-            "$1"
-        fi
+        set_setting '' ''
+        case $way in
+        relay) each_setting "$1" '0 1' '0 4' '10 1' '10 4' '0 1 8' ;;
+        before) each_setting "$1" '0 1' ;;
+        *) "$1" ;;
+        esac
     done
+}
+
+# entries/s and processor time over those of other ways, of all rows that `socat` or `least` has too
+print_ratios() {
+    awk '
+    function over(one, other) {
+        return one > 0 && other > 0 ? sprintf("%.2f", one / other) : "-"
+    }
+    function line(label, name, row) {
+        split(row, at)
+        printf "%-14s %6d %8d %11s %11s %12s %15s\n", label, at[1], at[2], over(rate[name, row], rate["least", row]),
+            over(rate[name, row], rate["socat", row]), over(rate[name, row], rate["before 0 1", row]),
+            over(cpu[name, row], cpu["socat", row])
+    }
+    function lines(name, i) {
+        for (i = 1; i <= count; i++)
+            if ((name, rows[i]) in rate)
+                line(name, name, rows[i])
+    }
+    {
+        name = $0
+        sub(/^[^ ]* [^ ]* [^ ]* [^ ]* /, "", name)
+        row = $1 " " $2
+        rate[name, row] = $3
+        cpu[name, row] = $4
+        if ((name == "socat" || name == "least") && !(row in known))
+            known[row] = rows[++count] = row
+    }
+    END {
+        single = "10 1"
+        lines("relay 0 1")
+        best = rate["relay 0 1 8", single] > rate["relay 0 1", single] ? "0 1 8" : "0 1"
+        if (rate["relay " best, single] > 0)
+            line("best, " best, "relay " best, single)
+        lines("before 0 1")
+        print "entries/s of relay 0 4 over relay 0 1, with 10 connections and 1 entry/r: " \
+            over(rate["relay 0 4", single], rate["relay 0 1", single])
+    }' "$folder/rows"
+}
+
+# the round trips of one worker beside those of the direct way
+print_trips() {
+    awk '
+    $3 == "direct" { median = $1; p99 = $2 }
+    median > 0 && /(relay|before) 0 1$/ {
+        printf "round trip of %s 0 1 over the direct one: median %.2f (%.3f, %.3f ms), 99th %.2f (%.3f, %.3f ms)\n",
+            $3, $1 / median, $1, median, $2 / p99, $2, p99
+    }' "$folder/trips"
 }
 
 echo "cores $(nproc), entries in each row: $entries, unacknowledged requests of a connection $window"
 printf '%-14s %6s %8s %10s %8s %8s %8s\n' way conns entries/r entries/s MB/s 'cpu s/M' MB
 each_way rows
+ratios=$(print_ratios)
 
-workers=1
+set_setting 0 1
 idle
-workers=4
+set_setting 0 4
 idle
 
 echo "round trips in ms: median, 99th percentile, and both less those of the direct way"
 wanted=$ways
 ways=direct
 each_way latency
-ways=$(printf '%s\n' $wanted | grep -E '^(socat|relay)$' || true)
+ways=$(printf '%s\n' $wanted | grep -E '^(socat|least|before|relay)$' || true)
 each_way latency
 
-way=relay flush=0 workers=1
+way=relay
+set_setting 0 1
 pieces
 spans
 far
-[ "$minutes" = 0 ] || { way=relay flush=0 workers=1 limit=60 window=${WINDOW:-4}; steady; }
+[ "$minutes" = 0 ] || { limit=60 window=${WINDOW:-4}; steady; }
+
+printf '%-14s %6s %8s %11s %11s %12s %15s\n' \
+    ratios conns entries/r 'over least' 'over socat' 'over before' 'cpu over socat'
+echo "$ratios"
+print_trips
 
 [ "$failures" = 0 ] || { echo "failed: $failures"; exit 1; }

@@ -1,0 +1,370 @@
+/* The least that a relay of the relay's shape does: the floor beside which the relay is measured.
+ *
+ *     least PORT SINK_PORT
+ *
+ * It listens at a port of 127.0.0.1, prints `port N` (PORT 0 is a free one), sends to the next hop at SINK_PORT, and
+ * ends at SIGTERM. As in the relay, one thread, the loop, owns all sources, and another, the worker, has one session
+ * with the next hop; each entry is checked item by item; its bytes are copied once, from where the socket is read to
+ * the request that keeps them, or not at all; and a source is told of a request only once the next hop has
+ * acknowledged the frame that it went in. What comes while a frame is under way goes in the next one.
+ *
+ * It is no relay: it has no limits, no retries, no settings and no handshake, and nothing of it is proved. It reads
+ * only what generator.c sends: requests in PackedForward mode with the options `size` and `chunk`, and with the same
+ * tag of at most 31 bytes in all of them, so that one list of what waits is enough. At all else, and where a source
+ * does not read its acknowledgements or the next hop goes away, it ends with a message and status 1. A source may
+ * close when it likes: what it sent whole goes on.
+ */
+
+#define _GNU_SOURCE
+#include "common.h"
+
+#include <errno.h>
+#include <pthread.h>
+#include <signal.h>
+#include <stdlib.h>
+#include <string.h>
+#include <sys/epoll.h>
+#include <sys/eventfd.h>
+#include <sys/ioctl.h>
+#include <sys/socket.h>
+#include <sys/uio.h>
+#include <unistd.h>
+
+#define ROOM 65536
+#define HEAD_MOST 64    /* more than the bytes before the packed ones, and more than those behind them */
+#define PARTS_MOST 1024 /* of a writev */
+#define ACK_FRONT "\x81\xa3" "ack" "\xb8"
+#define ACK_LEN (6 + CHUNK_LEN)
+
+/* A request, and its packed entries. */
+struct request {
+    struct request *next;
+    struct conn *conn;
+    size_t len;
+    char chunk[CHUNK_LEN];
+    unsigned char packed[];
+};
+
+/* Requests in order, the bytes of their entries, and how many these are. `last` says nothing where there are none. */
+struct list {
+    struct request *first, *last;
+    size_t len, entries;
+};
+
+/* A source, of which the loop alone knows. It stays until it has closed and none of its requests is on its way. */
+struct conn {
+    int fd;                  /* -1 once it has closed */
+    struct request *request; /* the one whose front has come */
+    size_t filled;           /* so many of its packed bytes are here */
+    unsigned char rest[HEAD_MOST];
+    size_t rest_len; /* so many bytes of a head that is not yet whole are in `rest` */
+    long under_way;  /* its requests of which it is not told yet */
+    struct bytes out;
+    struct conn *next; /* the next one to which acknowledgements are to be sent */
+};
+
+/* What the threads share: what waits for the worker, what waits for the loop, and who sleeps. */
+static pthread_mutex_t lock = PTHREAD_MUTEX_INITIALIZER;
+static pthread_cond_t has_come = PTHREAD_COND_INITIALIZER;
+static struct list open_list, done_list;
+static int worker_sleeps, loop_sleeps;
+
+static int bell;    /* an eventfd that wakes the loop */
+static int session; /* the worker's socket, which blocks */
+static unsigned char room[HEAD_MOST + ROOM];
+static unsigned char tag[32]; /* that of all requests, as a str, once one has come */
+static size_t tag_len;
+
+static void list_add(struct list *list, struct list more) {
+    if (list->first)
+        list->last->next = more.first;
+    else
+        list->first = more.first;
+    list->last = more.last;
+    list->len += more.len;
+    list->entries += more.entries;
+}
+
+/* Puts a list behind another that the threads share: whether the one that takes it sleeps. */
+static int put(struct list *list, struct list more, int *sleeps) {
+    pthread_mutex_lock(&lock);
+    list_add(list, more);
+    int wakes = *sleeps;
+    *sleeps = 0;
+    pthread_mutex_unlock(&lock);
+    return wakes;
+}
+
+/* What the loop has heard: the worker waits until there is something. */
+static struct list take_open(void) {
+    pthread_mutex_lock(&lock);
+    while (!open_list.first) {
+        worker_sleeps = 1;
+        pthread_cond_wait(&has_come, &lock);
+    }
+    worker_sleeps = 0;
+    struct list list = open_list;
+    open_list = (struct list){0};
+    pthread_mutex_unlock(&lock);
+    return list;
+}
+
+/* What the next hop has acknowledged: the loop goes to sleep where there is nothing. */
+static struct list take_done(void) {
+    pthread_mutex_lock(&lock);
+    struct list list = done_list;
+    done_list = (struct list){0};
+    loop_sleeps = !list.first;
+    pthread_mutex_unlock(&lock);
+    return list;
+}
+
+/* Where a value of generator.c ends, which has to be whole. */
+static size_t value_end(const unsigned char *at, size_t place, size_t len) {
+    size_t values = 1;
+    for (; values && place < len; values--) {
+        unsigned char head = at[place++];
+        if (head >= 0xa0 && head < 0xc0) /* a short str */
+            place += head & 31u;
+        else if (head >= 0x80 && head < 0x90) /* a short map */
+            values += 2 * (head & 15u);
+        else if (head >= 0xcc && head < 0xd4) /* an integer, behind its head */
+            place += 1u << (head & 3);
+        else if (head == 0xd9 && place < len) /* a str of at most 255 bytes */
+            place += 1u + at[place];
+        else if (head >= 0x80 && head < 0xe0) /* all others are small integers */
+            die("an item that generator.c does not send");
+    }
+    if (values || place > len)
+        die("an entry that is not whole");
+    return place;
+}
+
+/* How many entries there are, each of which has to be an array of a time and a map. */
+static size_t count_entries(const unsigned char *at, size_t len) {
+    size_t count = 0;
+    for (size_t place = 0; place < len; count++) {
+        if (len - place < 7 || at[place] != 0x92 || at[place + 1] != 0xce || (at[place + 6] & 0xf0) != 0x80)
+            die("an entry that generator.c does not send");
+        place = value_end(at, place + 6, len);
+    }
+    return count;
+}
+
+static void add_number(struct bytes *out, unsigned char head, size_t number) {
+    if (number > UINT32_MAX)
+        die("a frame of %zu bytes or entries", number);
+    bytes_add_byte(out, head);
+    for (int shift = 24; shift >= 0; shift -= 8)
+        bytes_add_byte(out, (unsigned char)(number >> shift));
+}
+
+static void send_parts(const struct iovec *parts, int count) {
+    size_t len = 0;
+    for (int i = 0; i < count; i++)
+        len += parts[i].iov_len;
+    if (writev(session, parts, count) != (ssize_t)len) /* it blocks until it has sent all */
+        die("the next hop has gone");
+}
+
+/* One frame with all of the requests, which are sent from where they are. */
+static void send_frame(struct list list, const char *chunk) {
+    static struct bytes front, option;
+    static struct iovec parts[PARTS_MOST];
+    int count = 1;
+    front.len = option.len = 0;
+    bytes_add_byte(&front, 0x93);
+    bytes_add(&front, tag, tag_len);
+    add_number(&front, 0xc6, list.len);
+    bytes_add(&option, "\x82\xa4" "size", 6);
+    add_number(&option, 0xce, list.entries);
+    bytes_add(&option, "\xa5" "chunk\xb8", 7);
+    bytes_add(&option, chunk, CHUNK_LEN);
+
+    parts[0] = (struct iovec){front.at, front.len};
+    for (struct request *it = list.first; it; it = it->next) {
+        parts[count++] = (struct iovec){it->packed, it->len};
+        if (count == PARTS_MOST) {
+            send_parts(parts, count);
+            count = 0;
+        }
+    }
+    parts[count++] = (struct iovec){option.at, option.len};
+    send_parts(parts, count);
+}
+
+static void *work(void *none) {
+    for (;;) {
+        struct list list = take_open();
+        char ack[ACK_LEN + 1] = ACK_FRONT, *chunk = ack + ACK_LEN - CHUNK_LEN, reply[ACK_LEN];
+        draw_chunk(chunk);
+        send_frame(list, chunk);
+        if (recv(session, reply, ACK_LEN, MSG_WAITALL) != ACK_LEN)
+            die("the next hop has gone");
+        if (memcmp(reply, ack, ACK_LEN))
+            die("the next hop has not acknowledged what it was sent");
+        if (put(&done_list, list, &loop_sleeps) && eventfd_write(bell, 1))
+            die("bell: %s", strerror(errno));
+    }
+    return none;
+}
+
+static void forget_if_done(struct conn *conn) {
+    if (conn->fd < 0 && !conn->under_way) {
+        free(conn->out.at);
+        free(conn);
+    }
+}
+
+static void close_source(struct conn *conn) {
+    if (close(conn->fd))
+        die("close: %s", strerror(errno));
+    conn->fd = -1;
+    free(conn->request);
+    forget_if_done(conn);
+}
+
+/* Tells the sources of requests that are acknowledged, and forgets these. */
+static void tell(struct request *request) {
+    struct conn *told = NULL;
+    for (struct request *next; request; request = next) {
+        next = request->next;
+        struct conn *conn = request->conn;
+        if (conn->fd >= 0 && !conn->out.len) {
+            conn->next = told;
+            told = conn;
+        }
+        bytes_add(&conn->out, ACK_FRONT, ACK_LEN - CHUNK_LEN);
+        bytes_add(&conn->out, request->chunk, CHUNK_LEN);
+        conn->under_way--;
+        forget_if_done(conn);
+        free(request);
+    }
+    for (; told; told = told->next) {
+        if (!send_waiting(told->fd, &told->out) && told->out.len)
+            die("a source does not read its acknowledgements");
+        told->out.len = 0; /* one that has gone is closed where it is read */
+    }
+}
+
+/* This and the next two read a part of a request: how many bytes it has, or 0 where it is not whole. */
+static size_t read_front(struct conn *conn, const unsigned char *at, size_t len) {
+    if (len < 2 || len < 2 + (at[1] & 31u) + 5)
+        return 0;
+    if (!tag_len && (at[1] & 0xe0) == 0xa0) {
+        tag_len = 1 + (at[1] & 31u);
+        memcpy(tag, at + 1, tag_len);
+    }
+    const unsigned char *bin = at + 1 + tag_len;
+    if (at[0] != 0x93 || at[1] != tag[0] || memcmp(at + 1, tag, tag_len) || bin[0] != 0xc6)
+        die("not a request in PackedForward mode with the first one's tag");
+    size_t packed = (size_t)bin[1] << 24 | (size_t)bin[2] << 16 | (size_t)bin[3] << 8 | bin[4];
+    conn->request = malloc(sizeof *conn->request + packed);
+    if (!conn->request)
+        die("memory");
+    *conn->request = (struct request){.conn = conn, .len = packed};
+    conn->filled = 0;
+    return 1 + tag_len + 5;
+}
+
+static size_t read_packed(struct conn *conn, const unsigned char *at, size_t len) {
+    size_t left = conn->request->len - conn->filled, count = left < len ? left : len;
+    memcpy(conn->request->packed + conn->filled, at, count);
+    conn->filled += count;
+    return count;
+}
+
+static size_t read_option(struct conn *conn, const unsigned char *at, size_t len, struct list *heard) {
+    size_t place = len < 7 ? 7 : at[6] < 0x80 ? 7 : 7 + (1u << (at[6] & 3));
+    if (len < place + 7 + CHUNK_LEN)
+        return 0;
+    if (memcmp(at, "\x82\xa4" "size", 6) || memcmp(at + place, "\xa5" "chunk\xb8", 7))
+        die("not the options size and chunk");
+    struct request *request = conn->request;
+    memcpy(request->chunk, at + place + 7, CHUNK_LEN);
+    list_add(heard, (struct list){request, request, request->len, count_entries(request->packed, request->len)});
+    conn->request = NULL;
+    conn->under_way++;
+    return place + 7 + CHUNK_LEN;
+}
+
+/* Reads requests as far as the bytes go, keeps what is left, and hands the requests over. */
+static void read_requests(struct conn *conn, const unsigned char *at, size_t len) {
+    struct list heard = {0};
+    for (size_t count = 1; count; at += count, len -= count) {
+        if (!conn->request)
+            count = read_front(conn, at, len);
+        else if (conn->filled < conn->request->len)
+            count = read_packed(conn, at, len);
+        else
+            count = read_option(conn, at, len, &heard);
+    }
+    memcpy(conn->rest, at, len);
+    conn->rest_len = len;
+    if (heard.first && put(&open_list, heard, &worker_sleeps))
+        pthread_cond_signal(&has_come);
+}
+
+/* Reads once: the packed bytes that are to come go where they stay, and what comes behind them to the room. */
+static void serve(struct conn *conn) {
+    struct request *request = conn->request;
+    size_t left = request ? request->len - conn->filled : 0, rest = conn->rest_len;
+    struct iovec parts[] = {{request ? request->packed + conn->filled : room, left}, {room + rest, ROOM}};
+    ssize_t count = readv(conn->fd, parts, 2);
+    if (count < 0 && (errno == EAGAIN || errno == EINTR))
+        return;
+    if (count <= 0) {
+        close_source(conn);
+        return;
+    }
+    memcpy(room, conn->rest, rest);
+    size_t direct = (size_t)count < left ? (size_t)count : left;
+    conn->filled += direct;
+    read_requests(conn, room, rest + (size_t)count - direct);
+}
+
+/* A source is told of for as long as it has bytes to read, so that one read at a time is enough. */
+static void welcome(int epoll, int listener) {
+    int fd;
+    while ((fd = next_caller(listener)) >= 0) {
+        struct conn *conn = room_for(1, sizeof *conn);
+        conn->fd = fd;
+        struct epoll_event event = {.events = EPOLLIN, .data.ptr = conn};
+        if (epoll_ctl(epoll, EPOLL_CTL_ADD, fd, &event))
+            die("epoll: %s", strerror(errno));
+    }
+}
+
+static void run(int epoll, int listener) {
+    struct epoll_event events[256];
+    while (!is_stopped) {
+        struct list done = take_done();
+        int millis = done.first ? 0 : -1;
+        tell(done.first);
+        int count = wait_unless_stopped(epoll, events, 256, millis);
+        for (int i = 0; i < count; i++) {
+            if (!events[i].data.ptr)
+                welcome(epoll, listener);
+            else if (events[i].data.ptr != &bell)
+                serve(events[i].data.ptr);
+        }
+    }
+}
+
+int main(int argc, char **argv) {
+    if (argc != 3)
+        die("least PORT SINK_PORT");
+    int off = 0, epoll = new_epoll();
+    pthread_t worker;
+    catch_stop();
+    session = dial("127.0.0.1", argv[2]);
+    bell = eventfd(0, EFD_NONBLOCK | EFD_CLOEXEC);
+    if (bell < 0 || ioctl(session, FIONBIO, &off) || signal(SIGPIPE, SIG_IGN) == SIG_ERR ||
+        pthread_create(&worker, NULL, work, NULL))
+        die("start: %s", strerror(errno));
+    watch(epoll, bell, &bell); /* told once for each ring, so that it need not be read */
+    int listener = listen_at(argv[1], 0);
+    watch(epoll, listener, NULL);
+    run(epoll, listener);
+    return 0;
+}
