@@ -13,4 +13,4 @@ mod wire;
 pub use fault::WaitFault;
 pub use link::{TcpHub, TcpLink};
 pub use mailbox::{Mailbox, Notice, Notices, Stop};
-pub use waiting::{SharedWait, WorkerWait, WorkerWaker};
+pub use waiting::{Looking, SharedWait, WorkerWait, WorkerWaker};

@@ -40,7 +40,11 @@ impl Notices {
 #[derive(Drop)]
 pub struct Mailbox {
     notices: Mutex<Notices>,
-    /// Ends the loop's wait.
+    /// Something was told that the loop has not taken.
+    is_told: AtomicBool,
+    /// The loop sleeps, or is about to: it is to be woken.
+    is_asleep: AtomicBool,
+    /// Ends the loop's sleep.
     waker: Waker,
     stop: Stop,
 }
@@ -75,15 +79,38 @@ impl Mailbox {
     pub fn new(alloc: Global, waker: Waker) -> Result<Mailbox, AllocError> {
         Ok(Mailbox {
             notices: Mutex::new(Notices::none(alloc)),
+            is_told: AtomicBool::new(false),
+            is_asleep: AtomicBool::new(false),
             waker,
             stop: Stop::new(alloc)?,
         })
     }
 
-    /// A worker tells something, and wakes the loop.
+    /// A worker tells something, and wakes the loop where that sleeps: only then it costs a call of
+    /// the system.
     pub fn tell<R: Wait>(&self, rt: &R, notice: Notice) {
         self.note(rt, notice);
-        let _ = self.waker.wake();
+        self.is_told.store(true, Ordering::SeqCst);
+        if self.is_asleep.swap(false, Ordering::SeqCst) {
+            let _ = self.waker.wake();
+        }
+    }
+
+    /// Whether something was told that the loop has not taken.
+    pub fn is_told(&self) -> bool {
+        self.is_told.load(Ordering::SeqCst)
+    }
+
+    /// The loop is about to sleep: what is told from now on wakes it. It may sleep where this says
+    /// so; else something was told before.
+    pub fn fall_asleep(&self) -> bool {
+        self.is_asleep.store(true, Ordering::SeqCst);
+        !self.is_told()
+    }
+
+    /// The loop sleeps no more.
+    pub fn awake(&self) {
+        self.is_asleep.store(false, Ordering::SeqCst);
     }
 
     /// Notes what a worker tells.
@@ -97,6 +124,9 @@ impl Mailbox {
 
     /// What workers told since the last call.
     pub fn take<R: Wait>(&self, rt: &R, alloc: Global) -> Notices {
+        if !self.is_told.swap(false, Ordering::SeqCst) {
+            return Notices::none(alloc);
+        }
         let mut guard = self.notices.lock(rt);
         mem::replace(&mut *guard, Notices::none(alloc))
     }

@@ -10,10 +10,14 @@ use crate::waiting::{SharedWait, await_connection};
 use fwd_chunks::{PIECE_LIMIT, Pieces};
 use mio::net::TcpStream;
 use std::alloc::Global;
-use std::io;
 use std::io::{ErrorKind, IoSlice, Read, Write};
 use std::net::{Net, Shutdown, SocketAddr};
 use std::sync::Wait;
+use std::{io, mem};
+
+/// How often a stream is read behind a write before its worker sleeps until the server answers: some
+/// ten microseconds, as one that is at hand takes to answer.
+const READS: u32 = 16;
 
 /// The stream failed.
 #[derive(Clone, Copy)]
@@ -71,6 +75,8 @@ pub(crate) struct Wire {
     is_up: bool,
     /// It was shut for reading, since its worker is to end.
     is_shut: bool,
+    /// Bytes were written since it was last waited for.
+    has_written: bool,
 }
 
 impl Wire {
@@ -94,6 +100,7 @@ impl Wire {
             stream,
             is_up: false,
             is_shut: false,
+            has_written: false,
         };
         wire.look()?;
         if !wire.is_up && !wire.stop.is_told() {
@@ -126,23 +133,47 @@ impl Wire {
 
     /// Reads what is there: how many bytes, 0 where no more comes, and nothing where nothing is
     /// there yet.
-    fn read_once(&mut self, room: &mut [u8]) -> Result<Option<usize>, Broken>
+    fn read_once<R: Wait>(&mut self, rt: &R, room: &mut [u8]) -> Result<Option<usize>, Broken>
         ensures { IfOk result (λ some. IfSome some (λ n. n ≤ length room.new)) }
     {
         if !self.is_up && !self.is_shut {
             return Ok(None);
         }
         match self.stream.read(room) {
-            Ok(count) => Ok(Some(count)),
+            Ok(count) => {
+                if 0 < count && count < room.len() {
+                    self.wait.lock(rt).is_empty_now();
+                }
+                Ok(Some(count))
+            }
             Err(error) => match error.kind() {
-                ErrorKind::WouldBlock | ErrorKind::Interrupted => Ok(None),
+                ErrorKind::WouldBlock => {
+                    self.wait.lock(rt).is_empty_now();
+                    Ok(None)
+                }
+                ErrorKind::Interrupted => Ok(None),
                 _ => Err(Broken),
             },
         }
     }
 
+    /// Reads until something is there, a few times at the most.
+    fn read_soon<R: Wait>(&mut self, rt: &R, room: &mut [u8]) -> Result<Option<usize>, Broken>
+        ensures { IfOk result (λ some. IfSome some (λ n. n ≤ length room.new)) }
+    {
+        for _ in 0..READS {
+            let read = self.read_once(rt, room)?;
+            if read.is_some() {
+                return Ok(read);
+            }
+        }
+        Ok(None)
+    }
+
     /// The same, and waits where nothing is there yet: a while for a server that owes something.
-    /// While the worker looks for a chunk it does not wait here, so that it is not held up.
+    /// While the worker looks for a chunk it does not wait here, so that it is not held up. Where
+    /// the stream told of nothing since it was read empty, a read would find nothing: it is made
+    /// only behind a write, a few times, and then once the stream told of itself.
     ///
     /// Once all workers are to end, the first read reads nothing and says so, for no call failed:
     /// it shuts the stream. A worker that waits for a server does not ask its gate, and would read
@@ -155,12 +186,24 @@ impl Wire {
             self.shut();
             return Ok(None);
         }
-        let read = self.read_once(room)?;
-        if read.is_some() || !self.wait.lock(rt).await_server() {
-            return Ok(read);
+        if self.is_shut || self.wait.lock(rt).is_told() {
+            let read = self.read_once(rt, room)?;
+            if read.is_some() {
+                return Ok(read);
+            }
         }
+        if self.wait.lock(rt).is_idle() {
+            return Ok(None);
+        }
+        if mem::replace(&mut self.has_written, false) {
+            let read = self.read_soon(rt, room)?;
+            if read.is_some() {
+                return Ok(read);
+            }
+        }
+        self.wait.lock(rt).await_server();
         self.look()?;
-        self.read_once(room)
+        self.read_once(rt, room)
     }
 
     /// Writes as far as the stream takes it: how many bytes, none before it is connected.
@@ -170,6 +213,7 @@ impl Wire {
         if !self.is_up {
             return Ok(0);
         }
+        self.has_written = true;
         taken(self.stream.write(bytes))
     }
 
@@ -180,6 +224,7 @@ impl Wire {
         if !self.is_up {
             return Ok(0);
         }
+        self.has_written = true;
         taken(self.stream.write_vectored(&buffers(pieces.as_slice())))
     }
 }

@@ -4,25 +4,25 @@
 //! below.
 #![tactic(auto)]
 
-mod desk;
-mod door;
+mod acceptor;
+mod connections;
+mod event_loop;
 mod fault;
-mod front;
-mod lobby;
+mod flush_timer;
+mod listener;
 mod lost_servers;
-mod member;
 mod monitor_peer;
+mod outlet;
+mod outlets;
 mod output;
-mod output_tickets;
-mod owed;
-mod pace;
-mod peers;
 mod random_streams;
 mod relay_loop;
 mod run_clock;
-mod teams;
+mod ticket_store;
 mod turns;
 mod watch;
+mod worker_pools;
+mod worker_thread;
 
 pub use fault::StartFault;
 pub use fwd_peers::SourceEnd;

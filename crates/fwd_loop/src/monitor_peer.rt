@@ -44,7 +44,7 @@ impl MonitorPeer {
         outputs: &[Output],
         room: &mut [u8],
     ) -> Result<Option<bool>, AllocError> {
-        let (count, visit) = self.stream.fill(room);
+        let (count, visit) = self.stream.fill(room, true);
         if count > 0 && self.sending.is_none() {
             self.take_in(rt, alloc, outputs, &room[..count])?;
         }

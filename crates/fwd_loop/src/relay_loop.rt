@@ -4,16 +4,16 @@ ghost use Rattle.std.specs.Prelude.{◌≡◌, ◌≤◌, length, true, IfOk};
 ghost use Rattle.fwd_settings.specs.Ranges.{in_range};
 ghost use Rattle.fwd_loop.specs.Ends.{AddUp};
 
-use crate::door::Door;
+use crate::acceptor::{Acceptor, SourceSetup};
+use crate::connections::Connections;
+use crate::event_loop::{EventLoop, MONITORS, SOURCES, WAKER};
 use crate::fault::StartFault;
-use crate::front::{Front, MONITORS, SOURCES, WAKER};
-use crate::lobby::{Lobby, SourceSetup};
+use crate::listener::Listener;
 use crate::output::reports_of;
-use crate::peers::Peers;
 use crate::random_streams::RandomStreams;
-use crate::teams::Teams;
 use crate::turns::{Opened, Own, Shared, Turns, WorkerTurns, open};
 use crate::watch::Watch;
+use crate::worker_pools::WorkerPools;
 use fwd_chunks::Report;
 use fwd_config::config_of;
 use fwd_core::{Config, OutputConfig};
@@ -33,6 +33,11 @@ const PIECE: usize = 65_536;
 
 /// How many events a wait tells at once. More are told by the next.
 const EVENTS: usize = 1_024;
+
+/// So many bytes are asked for and given back at the start. The C library gives a larger piece than
+/// any that it was given back before to the system at once, and takes pages for the next one anew,
+/// which costs more than a request itself: from now on only pieces above this one.
+const LARGEST_KEPT: usize = 4 << 20;
 
 /// The relay, with its listeners open, before its first turn. In contracts it is how many outputs
 /// it has.
@@ -72,58 +77,64 @@ fn servers_of(alloc: Global, outputs: &[OutputSettings]) -> Result<Vec<Vec<Socke
 }
 
 /// The outputs with their servers and workers, in a run of these bytes.
-fn teams_of<R: Net>(
+fn pools_of<R: Net>(
     rt: &R,
     alloc: Global,
     random: &RandomStreams,
     run: [u8; 6],
     configs: Vec<OutputConfig>,
     servers: Vec<Vec<SocketAddr>>,
-) -> Result<Teams, StartFault>
+) -> Result<WorkerPools, StartFault>
     requires each { length servers.items ≡ length configs.items }
     requires few { length configs.items ≤ 64 }
-    ensures { IfOk result (λ teams. length teams.outputs.items ≡ length configs.items) }
+    ensures { IfOk result (λ pools. length pools.outputs.items ≡ length configs.items) }
 {
-    let mut teams = Teams::new(alloc);
+    let mut pools = WorkerPools::new(alloc);
     let mut configs = configs.into_iter();
     let mut servers = servers.into_iter();
     while let (Some(config), Some(own)) = (configs.next(), servers.next()) {
-        let number = teams.outputs.len() as u16;
-        teams.add(rt, random, run, number, config, own)?;
+        let number = pools.outputs.len() as u16;
+        pools.add(rt, random, run, number, config, own)?;
     }
-    Ok(teams)
+    Ok(pools)
 }
 
 /// The loop before its first turn, and what workers tell it by.
-fn front_of<R: Net>(
+fn event_loop_of<R: Net>(
     rt: &R,
     alloc: Global,
     address: Address,
     setup: SourceSetup,
-) -> Result<(Front, Mailbox), StartFault> {
+) -> Result<(EventLoop, Mailbox), StartFault> {
     let poll = Poll::new(rt).map_err(|_| StartFault::Poll)?;
     let waker = Waker::new(poll.registry(), WAKER).map_err(|_| StartFault::Poll)?;
-    let sources = Door::open(rt, &poll, address.listen, SOURCES)?;
+    let sources = Listener::open(rt, &poll, address.listen, SOURCES)?;
     let monitors = match address.monitor {
-        Some(monitor) => Some(Door::open(rt, &poll, monitor, MONITORS)?),
+        Some(monitor) => Some(Listener::open(rt, &poll, monitor, MONITORS)?),
         None => None,
     };
-    let lobby = Lobby {
+    let acceptor = Acceptor {
         sources,
         monitors,
         setup,
         next_id: Some(1),
         limit: usize::from(address.connections),
     };
-    let front = Front {
+    let event_loop = EventLoop {
         alloc,
         poll,
         events: Events::with_capacity(alloc, EVENTS)?,
         room: vec![in alloc; 0; PIECE]?,
-        lobby,
-        peers: Peers::new(alloc),
+        acceptor,
+        connections: Connections::new(alloc),
+        was_at_work: false,
     };
-    Ok((front, Mailbox::new(alloc, waker)?))
+    Ok((event_loop, Mailbox::new(alloc, waker)?))
+}
+
+/// Asks for a large piece of memory, and gives it back.
+fn take_large_piece(alloc: Global) {
+    let _ = Vec::<u8>::with_capacity(alloc, LARGEST_KEPT);
 }
 
 impl Loop {
@@ -138,6 +149,7 @@ impl Loop {
         ensures { IfOk result (λ relay. relay ≡ length settings.outputs) }
     {
         let alloc = rt.alloc();
+        take_large_piece(alloc);
         let relay = &settings.relay;
         let address = Address {
             listen: relay.listen,
@@ -162,23 +174,23 @@ impl Loop {
             limits,
             nonces: random.nonces(),
         };
-        let (front, mailbox) = front_of(rt, alloc, address, setup)?;
-        let teams = teams_of(rt, alloc, &random, run, outputs.into_vec(), servers)?;
-        let Teams {
+        let (event_loop, mailbox) = event_loop_of(rt, alloc, address, setup)?;
+        let pools = pools_of(rt, alloc, &random, run, outputs.into_vec(), servers)?;
+        let WorkerPools {
             alloc: _,
             outputs,
-            paces,
-            members,
-        } = teams;
+            timers,
+            workers,
+        } = pools;
         let shared = Shared {
             routes,
             outputs,
             mailbox,
         };
         let own = Own {
-            front,
-            paces,
-            members,
+            event_loop,
+            timers,
+            workers,
         };
         Ok(Loop { alloc, shared, own })
     }

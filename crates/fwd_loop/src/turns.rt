@@ -3,15 +3,15 @@
 ghost use Rattle.std.specs.Prelude.{IfOk};
 ghost use Rattle.fwd_loop.specs.Ends.{AddUp};
 
-use crate::desk::Desk;
+use crate::event_loop::{EventLoop, tell_all};
 use crate::fault::StartFault;
-use crate::front::{Front, tell_all};
+use crate::flush_timer::FlushTimer;
 use crate::lost_servers::LostServers;
-use crate::member::Member;
+use crate::outlets::Outlets;
 use crate::output::{Output, reports_of};
-use crate::pace::Pace;
 use crate::run_clock::RunClock;
 use crate::watch::Watch;
+use crate::worker_thread::WorkerThread;
 use fwd_chunks::Report;
 use fwd_links::Mailbox;
 use fwd_match::Routes;
@@ -32,16 +32,16 @@ pub(crate) struct Shared {
 /// What a relay has beside: the loop's own, and the workers.
 #[derive(Drop)]
 pub(crate) struct Own {
-    pub front: Front,
-    /// The pace of each output's flushes.
-    pub paces: Vec<Pace>,
-    pub members: Vec<Member>,
+    pub event_loop: EventLoop,
+    /// The timer of each output's flushes.
+    pub timers: Vec<FlushTimer>,
+    pub workers: Vec<WorkerThread>,
 }
 
 /// A worker of a relay, which works beside the relay's turns, in a thread of its own.
 #[derive(Drop)]
 pub struct WorkerTurns<'a> {
-    member: &'a mut Member,
+    thread: &'a mut WorkerThread,
     outputs: &'a [Output],
     mailbox: &'a Mailbox,
     start: Option<Instant>,
@@ -51,12 +51,12 @@ impl<'a> WorkerTurns<'a> {
     /// Works for its output in so many turns, or until all workers are to end.
     pub fn work<R: Net + Wait + Clock + AllocGlobal>(self, rt: &R, turns: u64) {
         let WorkerTurns {
-            member,
+            thread,
             outputs,
             mailbox,
             start,
         } = self;
-        member.work(rt, outputs, mailbox, start, turns);
+        thread.work(rt, outputs, mailbox, start, turns);
     }
 }
 
@@ -64,13 +64,13 @@ impl<'a> WorkerTurns<'a> {
 fn workers_of<'a>(
     alloc: Global,
     shared: &'a Shared,
-    members: &'a mut [Member],
+    threads: &'a mut [WorkerThread],
     start: Option<Instant>,
 ) -> Result<Vec<WorkerTurns<'a>>, StartFault> {
-    let mut workers = Vec::with_capacity(alloc, members.len())?;
-    for member in members {
+    let mut workers = Vec::with_capacity(alloc, threads.len())?;
+    for thread in threads {
         workers.push(WorkerTurns {
-            member,
+            thread,
             outputs: &shared.outputs,
             mailbox: &shared.mailbox,
             start,
@@ -84,8 +84,8 @@ pub struct Turns<'a, R: Clock> {
     alloc: Global,
     outputs: &'a [Output],
     mailbox: &'a Mailbox,
-    front: &'a mut Front,
-    desk: Desk<'a>,
+    event_loop: &'a mut EventLoop,
+    outlets: Outlets<'a>,
     lost_servers: LostServers,
     clock: RunClock<'a, R>,
 }
@@ -104,20 +104,20 @@ pub(crate) fn open<'a, R: Wait + Clock>(
     own: &'a mut Own,
 ) -> Result<Opened<'a, R>, StartFault> {
     let Own {
-        front,
-        paces,
-        members,
+        event_loop,
+        timers,
+        workers: threads,
     } = own;
     let start = Instant::now(rt).ok();
     let lost_servers = LostServers::new(alloc, &shared.outputs)?;
-    let workers = workers_of(alloc, shared, members, start)?;
-    let desk = Desk::new(rt, alloc, &shared.routes, &shared.outputs, paces)?;
+    let workers = workers_of(alloc, shared, threads, start)?;
+    let outlets = Outlets::new(rt, alloc, &shared.routes, &shared.outputs, timers)?;
     let turns = Turns {
         alloc,
         outputs: &shared.outputs,
         mailbox: &shared.mailbox,
-        front,
-        desk,
+        event_loop,
+        outlets,
         lost_servers,
         clock: RunClock::new(rt, start),
     };
@@ -125,11 +125,12 @@ pub(crate) fn open<'a, R: Wait + Clock>(
 }
 
 impl<'a, R: Wait + Clock> Turns<'a, R> {
-    /// One turn. It waits until something is ready, at most 100 ms; takes what workers told and
-    /// hands in the tickets of what they settled; visits each connection that is ready or is told
-    /// something: a source is read, at most 65,536 bytes, its whole requests are admitted, and what
-    /// waits for it is written, and a monitor is served; takes the connections that wait; and
-    /// flushes what is due. What is not done yet is done in a later turn.
+    /// One turn, in this order. It waits until something is ready or told, at most 100 ms; hears
+    /// what workers told, collects the receipts of what they settled, and answers the sources of
+    /// those, and writes what is to be sent; reads each connection that is ready, a source at most
+    /// 65,536 bytes, and admits its whole requests, and serves monitors; takes the connections that
+    /// wait; and flushes what is due, and rings workers for it. What is not done yet is done in a
+    /// later turn.
     ///
     /// It fails with `Poll` where the wait failed.
     pub fn turn(&mut self, rt: &R) -> Result<(), StartFault> {
@@ -139,16 +140,17 @@ impl<'a, R: Wait + Clock> Turns<'a, R> {
     /// The same, and a watch is told what the turn comes to.
     pub fn turn_watched<W: Watch>(&mut self, rt: &R, watch: &mut W) -> Result<(), StartFault> {
         let (alloc, outputs) = (self.alloc, self.outputs);
-        let (front, desk) = (&mut *self.front, &mut self.desk);
-        front.wait(desk, self.clock.moment())?;
+        let (event_loop, outlets) = (&mut *self.event_loop, &mut self.outlets);
+        event_loop.wait(self.mailbox, outlets, self.clock.moment())?;
         let now = self.clock.moment();
         let notices = self.mailbox.take(rt, alloc);
         tell_all(&notices, outputs, &mut self.lost_servers, watch);
-        desk.hear(&notices);
-        desk.collect(rt, &mut front.peers, watch);
-        front.visit_all(rt, outputs, desk, watch, now);
-        front.accept(watch);
-        desk.flush(rt, self.clock.moment());
+        outlets.hear(&notices);
+        outlets.collect(rt, &mut event_loop.connections, watch);
+        event_loop.write_all(watch);
+        event_loop.read_all(rt, outputs, outlets, watch, now);
+        event_loop.accept(watch);
+        outlets.flush(rt, self.clock.moment());
         watch.turned();
         Ok(())
     }
@@ -160,7 +162,7 @@ impl<'a, R: Wait + Clock> Turns<'a, R> {
         watch: &mut W,
         turns: u64,
     ) -> Result<(), StartFault> {
-        self.front.lobby.tell(watch);
+        self.event_loop.acceptor.tell(watch);
         for _ in 0..turns {
             self.turn_watched(rt, watch)?;
         }
@@ -192,12 +194,12 @@ impl<'a, R: Wait + Clock> Turns<'a, R> {
             alloc: _,
             outputs: _,
             mailbox: _,
-            front,
-            mut desk,
+            event_loop,
+            mut outlets,
             lost_servers: _,
             clock: _,
         } = self;
-        front.finish(rt, &mut desk, watch);
-        desk.close(rt);
+        event_loop.finish(rt, &mut outlets, watch);
+        outlets.close(rt);
     }
 }

@@ -1,5 +1,5 @@
 -- A visit to a stream, call by call.
-use Rattle.std.proofs.Common.{◌≡◌, ◌≤◌, ◌+◌, ◌-◌, ◌⊎◌, inl, inr, arith, length-append, ℕ, List, [], ◌∷◌, ◌++◌, length, take, drop, Result, Ok, Err, append-nil, refl, ap, sym, ◌∙◌, append_assoc}
+use Rattle.std.proofs.Common.{◌≡◌, ◌≤◌, ◌<◌, ◌+◌, ◌-◌, ◌⊎◌, inl, inr, arith, length-append, ℕ, List, [], ◌∷◌, ◌++◌, length, take, drop, Result, Ok, Err, append-nil, refl, ap, sym, ◌∙◌, append_assoc}
 use Rattle.std.proofs.lemmas.Bool.Decides.{nat_tests}
 use Rattle.std.proofs.Math.Seq.{take-add, take-append-add}
 use Rattle.std.proofs.lemmas.Grind.{flat_map-append}
@@ -11,7 +11,7 @@ use Rattle.std.specs.declared.io.ErrorKind.TheVariants as kind
 use Rattle.std.specs.declared.io.Error.{Error}
 use Rattle.fwd_peers.specs.declared.stream.Visit.{Visit}
 use Rattle.fwd_peers.specs.declared.stream.Visit.TheVariants as visit
-use Rattle.fwd_peers.specs.Streams.{Call, IsCall, IsVisit, after_call, after_error, call_of, ends_after, end_of, front_of, moved_by, moved_in}
+use Rattle.fwd_peers.specs.Streams.{Call, IsCall, IsVisit, StopsShort, after_call, after_error, call_of, ends_after, end_of, front_of, moved_by, moved_in}
 
 -- the visit goes on after these calls: each of them moved bytes, or is made again
 abbrev pub GoesOn : List Call → Type 0
@@ -76,6 +76,31 @@ one_more made before middle after bytes room bytes' count way call all = record 
   going = goes_further way.calls (call_of room call.answer) count way.going (sym call.came);
   enough = omega (arith, way.enough, length-append way.calls (call_of room call.answer ∷ []));
 }
+
+-- what a call moved that was answered so many bytes
+moved_count : (room : List ℕ) (answer : Result ℕ Error) (count : ℕ) → Ok count ≡ after_call answer
+    → count ≤ length room → length (moved_by (call_of room answer)) ≡ count
+moved_count room answer count came within =
+    ap (λ r. length (front_of room r)) (sym came) ∙ length-take-le count room within
+
+-- one call more moved bytes, and did not fill its room
+pub stops_short : (made : ℕ) (before middle after : List Call) (bytes room bytes' : List ℕ) (count : ℕ)
+    → IsUnderWay made before bytes middle → IsCall middle room (Ok count) after
+    → bytes' ≡ bytes ++ take count room → 0 < count → count < length room
+    → StopsShort before bytes' after
+unfolding one_more
+stops_short made before middle after bytes room bytes' count way call all some short =
+    let more = one_more made before middle after bytes room bytes' count way call all in
+    let size = moved_count room call.answer count call.came (omega (arith, short)) in
+    record {
+      calls = way.calls;
+      last = call_of room call.answer;
+      told = more.told;
+      moved = more.moved;
+      going = ap end_of (sym (append-nil more.calls)) ∙ ends_there more.calls more.going [];
+      some = omega (arith, size, some);
+      short = omega (arith, size, short);
+    }
 
 -- one call more ended the visit
 pub ends_so : (most made : ℕ) (before middle after : List Call) (bytes bytes' room : List ℕ) (end : Visit)

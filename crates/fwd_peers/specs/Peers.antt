@@ -20,7 +20,7 @@ use Rattle.fwd_peers.specs.declared.stage.Stage.{Stage}
 use Rattle.fwd_peers.specs.declared.stage.Stage.TheVariants as stage
 use Rattle.fwd_peers.specs.declared.stream.Visit.{Visit}
 use Rattle.fwd_peers.specs.declared.stream.Visit.TheVariants as visit
-use Rattle.fwd_peers.specs.Streams.{Call, IsVisit, is_full}
+use Rattle.fwd_peers.specs.Streams.{Call, IsReading, IsVisit, is_full}
 
 -- what is seen of a source's connection: its id; how far it has come; whether it was left unread
 -- when it was visited last, since too many bytes wait to be sent to it; its live part; how many
@@ -68,12 +68,12 @@ abbrev pub Hears : PeerShown → (bytes : List ℕ) → (end : Visit) → PeerSh
 Hears s bytes end t =
     (come : Stage) × (TakesIn s bytes t.live come × (t.stage ≡ stage_visited come end))
 
--- its stream is visited once, for so many bytes at most; what that gives is heard, and it says
--- whether there may be more
-pub record Reads (most : ℕ) (s : PeerShown) (more : Bool) (t : PeerShown) : Type 0 where
+-- its stream is read in one visit, for so many bytes at most, and to its end where it is to be;
+-- what that gives is heard, and it says whether there may be more
+pub record Reads (to_end : Bool) (most : ℕ) (s : PeerShown) (more : Bool) (t : PeerShown) : Type 0 where
   pub bytes : List ℕ
   pub end : Visit
-  pub visit : IsVisit most s.reads bytes end t.reads
+  pub visit : IsReading to_end most s.reads bytes end t.reads
   pub heard : Hears s bytes end t
   pub again : more ≡ is_full end
   pub rest : t ≡ record s {

@@ -3,6 +3,7 @@ use Rattle.std.specs.Prelude.{
   ◌≡◌,
   ◌==◌,
   ◌≤◌,
+  ◌<◌,
   ◌⊎◌,
   ℕ,
   Bool,
@@ -96,6 +97,25 @@ pub record IsVisit (most : ℕ) (before : List Call) (bytes : List ℕ) (end : V
   pub moved : bytes ≡ moved_in calls
   pub ended : end ≡ end_of calls
   pub whole : end ≡ visit.Full → (length bytes ≡ most) ⊎ (most ≤ length calls)
+
+-- A visit that reads stopped, to wait, behind a read that gave bytes and did not fill its room: no
+-- more were there, and the stream tells of itself once there are. No call ended it.
+pub record StopsShort (before : List Call) (bytes : List ℕ) (after : List Call) : Type 0 where
+  pub calls : List Call
+  pub last : Call
+  pub told : after ≡ before ++ (calls ++ last ∷ [])
+  pub moved : bytes ≡ moved_in (calls ++ last ∷ [])
+  pub going : end_of (calls ++ last ∷ []) ≡ visit.Full
+  pub some : 0 < length (moved_by last)
+  pub short : length (moved_by last) < length last.bytes
+
+-- One visit that reads so many bytes at most: it is made to its end, or it stops short. It does not
+-- where it is to be made to its end.
+abbrev pub IsReading : (to_end : Bool) (most : ℕ) (before : List Call) (bytes : List ℕ)
+    (end : Visit) (after : List Call) → Type 0
+IsReading to_end most before bytes end after =
+    IsVisit most before bytes end after
+    ⊎ ((to_end ≡ false) × (end ≡ visit.Waits) × StopsShort before bytes after)
 
 -- there may be more bytes after a visit that ended so
 abbrev pub is_full : Visit → Bool

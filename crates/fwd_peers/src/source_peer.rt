@@ -20,7 +20,7 @@ ghost use Rattle.std.specs.Prelude.{
 };
 ghost use Rattle.fwd_modes.specs.Acks.{ack_text};
 ghost use Rattle.fwd_source.specs.Live.{source_appends};
-ghost use Rattle.fwd_peers.specs.Streams.{IsVisit};
+ghost use Rattle.fwd_peers.specs.Streams.{IsReading};
 ghost use Rattle.fwd_peers.specs.Peers as peers;
 
 use crate::limits::{ACK_FRONT, UNSENT};
@@ -132,15 +132,16 @@ impl SourcePeer {
         }
     }
 
-    /// Reads what is there, as far as the room goes, and says whether there may be more. A source
-    /// that does not take what is sent to it is not read.
-    pub fn hear(&mut self, alloc: Global, room: &mut [u8]) -> bool
+    /// Reads what is there, as far as the room goes, and to its end where the other side is said to
+    /// have closed; and says whether there may be more. A source that does not take what is sent to
+    /// it is not read.
+    pub fn hear(&mut self, alloc: Global, room: &mut [u8], to_end: bool) -> bool
         ensures closed { self.old.stage ≢ Stage.Open
             → (self.new ≡ self.old) × (result ≡ false) }
         ensures held { self.old.stage ≡ Stage.Open → UNSENT ≤ length self.old.live.unsent
             → (self.new ≡ record self.old { held = true }) × (result ≡ false) }
         ensures read { self.old.stage ≡ Stage.Open → length self.old.live.unsent < UNSENT
-            → peers.Reads (length room.new) self.old result self.new }
+            → peers.Reads to_end (length room.new) self.old result self.new }
     {
         if self.stage != Stage::Open {
             return false;
@@ -149,7 +150,7 @@ impl SourcePeer {
         if self.is_held {
             return false;
         }
-        let (count, visit) = self.read(room);
+        let (count, visit) = self.read(room, to_end);
         self.take_in(alloc, &room[..count]);
         self.visited(visit);
         visit.is_full()
@@ -157,9 +158,9 @@ impl SourcePeer {
 
     /// Its stream gives what it has, as far as the room goes: how many bytes there are, at the
     /// front of the room, and how the visit ended.
-    fn read(&mut self, room: &mut [u8]) -> (usize, Visit)
+    fn read(&mut self, room: &mut [u8], to_end: bool) -> (usize, Visit)
         ensures within { result.0 ≤ length room.new }
-        ensures visit { IsVisit
+        ensures visit { IsReading to_end
             (length room.new)
             self.old.reads
             (take result.0 room.new)
@@ -167,7 +168,7 @@ impl SourcePeer {
             self.new.reads }
         ensures rest { self.new ≡ record self.old { reads = self.new.reads } }
     {
-        self.stream.fill(room)
+        self.stream.fill(room, to_end)
     }
 
     /// Takes in bytes, if there are any.

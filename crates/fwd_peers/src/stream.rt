@@ -1,6 +1,6 @@
 //! Bytes over a stream that does not wait.
 
-ghost use Rattle.std.specs.Prelude.{◌≡◌, ◌≤◌, [], length, take, IfOk};
+ghost use Rattle.std.specs.Prelude.{◌≡◌, ◌≤◌, ◌<◌, [], true, false, length, take, IfOk};
 ghost use Rattle.fwd_peers.specs.Streams as streams;
 
 use crate::calls::Calls;
@@ -46,6 +46,14 @@ fn after_call(call: io::Result<usize>) -> Result<usize, Visit>
             _ => Err(Visit::Ended),
         },
     }
+}
+
+/// Whether a visit stops behind a read that gave so many bytes, into room for so many: it gave some
+/// and did not fill it, and the visit is not to be made to its end.
+fn stops_at(count: usize, room: usize, to_end: bool) -> bool
+    ensures { result ≡ true → (to_end ≡ false) × (0 < count) × (count < room) }
+{
+    !to_end && 0 < count && count < room
 }
 
 /// A stream that does not wait. What it answered is kept for contracts alone, and takes no memory:
@@ -103,10 +111,13 @@ impl PeerStream {
     }
 
     /// Reads until the stream would wait or ended, or the room is full: how many bytes there are,
-    /// at the front of the room, and how the visit ended.
-    pub fn fill(&mut self, room: &mut [u8]) -> (usize, Visit)
+    /// at the front of the room, and how the visit ended. A read that does not fill its room says
+    /// that no more is there: the next one would wait, and is not made. Where the other side is
+    /// said to have closed it is made, to its end: the stream tells of that once, also where bytes
+    /// came with it.
+    pub fn fill(&mut self, room: &mut [u8], to_end: bool) -> (usize, Visit)
         ensures within { result.0 ≤ length room.new }
-        ensures visit { streams.IsVisit
+        ensures visit { streams.IsReading to_end
             (length room.new)
             self.old.reads
             (take result.0 room.new)
@@ -119,8 +130,15 @@ impl PeerStream {
             if count == room.len() {
                 break;
             }
+            let left = room.len() - count;
             match self.read(&mut room[count..]) {
-                Ok(more) => count += more,
+                Ok(more) => {
+                    let is_last = stops_at(more, left, to_end);
+                    count += more;
+                    if is_last {
+                        return (count, Visit::Waits);
+                    }
+                }
                 Err(visit) => return (count, visit),
             }
         }

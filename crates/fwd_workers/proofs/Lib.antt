@@ -1,3 +1,4 @@
+mod Adding
 pub mod Handing
 pub mod Serving
 pub mod Counting

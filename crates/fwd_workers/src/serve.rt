@@ -34,8 +34,14 @@ use fwd_session::{Session, SessionFault, SessionHeard};
 use std::alloc::Global;
 use std::sync::Wait;
 
-/// The most bytes that one turn reads. A server's replies are short.
-const ROOM: usize = 4_096;
+/// The most bytes that a turn by itself reads. A server's replies are short.
+const TURN_ROOM: usize = 4_096;
+
+/// The most bytes that a worker gathers for one write, and that it reads at once.
+pub(crate) const ROOM: usize = 65_536;
+
+/// How many these are where it has no memory for more.
+const SMALL_ROOM: usize = 64;
 
 /// What a turn of a session came to.
 #[derive(Clone, Copy, Debug)]
@@ -59,11 +65,6 @@ pub enum Served {
 /// Pieces of so many bytes or more are offered as they stand, with the ones beside them, where
 /// smaller ones are gathered.
 const LARGE: usize = 16_384;
-
-/// How many bytes are gathered at most where few wait, and where many do.
-const FEW: usize = 4_096;
-
-const MANY: usize = 65_536;
 
 /// What a link is offered of the bytes that wait.
 #[derive(Clone, Copy)]
@@ -90,22 +91,22 @@ fn write_gathered<L: Link, R: Wait>(
 }
 
 /// The link is offered the first of the bytes that wait, in pieces of which one is large, or
-/// gathered: how many it took.
+/// gathered in this room: how many it took.
 fn write_pieces<L: Link, R: Wait>(
     rt: &R,
     link: &mut L,
     session: &Session,
+    room: &mut [u8],
 ) -> Result<usize, LinkFault>
-    requires { 0 < length session.now.waiting }
+    requires room { 0 < length room.old }
+    requires some { 0 < length session.now.waiting }
     ensures { HasOffered session.now.waiting (L.calls link.old) (L.calls link.new) result }
 {
     let pieces = session.pieces();
     if pieces.has_large(LARGE) {
         link.write_pieces(rt, &pieces)
-    } else if session.waiting() <= FEW as u64 {
-        write_gathered(rt, link, session, &mut [0; FEW])
     } else {
-        write_gathered(rt, link, session, &mut [0; MANY])
+        write_gathered(rt, link, session, room)
     }
 }
 
@@ -115,13 +116,15 @@ fn write<L: Link, R: Wait>(
     link: &mut L,
     session: &Session,
     offer: Offer,
+    room: &mut [u8],
 ) -> Result<usize, LinkFault>
-    requires { 0 < length session.now.waiting }
+    requires room { 0 < length room.old }
+    requires some { 0 < length session.now.waiting }
     ensures { HasOffered session.now.waiting (L.calls link.old) (L.calls link.new) result }
 {
     match offer {
         Offer::Piece => link.write(rt, session.out()),
-        Offer::Pieces => write_pieces(rt, link, session),
+        Offer::Pieces => write_pieces(rt, link, session, room),
     }
 }
 
@@ -132,7 +135,9 @@ fn send<L: Link, R: Wait>(
     link: &mut L,
     session: &mut Session,
     offer: Offer,
+    room: &mut [u8],
 ) -> Result<(), LinkFault>
+    requires { 0 < length room.old }
     ensures sent { IfOk result (λ none. (size : ℕ) × (count : ℕ) × IsOffer size session.old.waiting
         × (count ≤ size) × (session.new ≡ session_sends session.old count)
         × (L.calls link.new
@@ -148,7 +153,7 @@ fn send<L: Link, R: Wait>(
     ensures more { takes_more session.new ≡ takes_more session.old }
 {
     if session.waiting() > 0 {
-        let count = write(rt, link, session, offer)?;
+        let count = write(rt, link, session, offer, room)?;
         session.wrote(count);
     }
     Ok(())
@@ -182,16 +187,23 @@ fn hear(alloc: Global, session: &mut Session, bytes: &[u8]) -> Served
     }
 }
 
-/// The link is read once, and the session hears what it gave.
-fn read<L: Link, R: Wait>(rt: &R, alloc: Global, link: &mut L, session: &mut Session) -> Served
-    requires { session.old.down ≡ false }
+/// The link is read once, into this room, and the session hears what it gave.
+fn read<L: Link, R: Wait>(
+    rt: &R,
+    alloc: Global,
+    link: &mut L,
+    session: &mut Session,
+    room: &mut [u8],
+) -> Served
+    requires up { session.old.down ≡ false }
+    requires some { 0 < length room.old }
+    requires within { length room.old ≤ 65536 }
     ensures read { HasRead result session.old session.new (L.calls link.old) (L.calls link.new) }
     ensures chunk { IsFree session.old → IsFree session.new }
     ensures setup { session.new.setup ≡ session.old.setup }
     ensures room { live_room session.new ≡ live_room session.old }
 {
-    let mut room = [0; ROOM];
-    match link.read(rt, &mut room) {
+    match link.read(rt, room) {
         Ok(Read::Bytes(count)) => hear(alloc, session, &room[..count]),
         Ok(Read::Nothing) => Served::Quiet,
         Ok(Read::Closed) => Served::Closed,
@@ -217,21 +229,52 @@ pub fn serve_turn<L: Link, R: Wait>(
     ensures setup { session.new.setup ≡ session.old.setup }
     ensures room { live_room session.new ≡ live_room session.old }
 {
-    if let Err(fault) = send(rt, link, session, Offer::Piece) {
+    let mut room = [0; TURN_ROOM];
+    if let Err(fault) = send(rt, link, session, Offer::Piece, &mut room) {
         return Served::Failed(fault);
     }
-    read(rt, alloc, link, session)
+    read(rt, alloc, link, session, &mut room)
 }
 
 /// The same, where several pieces are offered at once: as they stand where one of them is large, so
-/// that its bytes are not copied, and else gathered, up to 65,536 bytes. Where the link took some,
-/// and more wait or a chunk more may be loaded, it is not read: a read may wait, and the next turn
-/// goes on sending, or loads.
+/// that its bytes are not copied, and else gathered in this room, which is read into, too. Where
+/// the link took some, and more wait or a chunk more may be loaded, it is not read: a read may
+/// wait, and the next turn goes on sending, or loads.
 pub fn serve_gathered<L: Link, R: Wait>(
     rt: &R,
     alloc: Global,
     link: &mut L,
     session: &mut Session,
+    room: &mut [u8],
+) -> Served
+    requires up { session.old.down ≡ false }
+    requires some { 0 < length room.old }
+    requires within { length room.old ≤ 65536 }
+    ensures turn { HasTurned result session.old session.new (L.calls link.old) (L.calls link.new) }
+    ensures served { IsServed result session.old session.new
+        (seen_in (L.calls link.old)) (seen_in (L.calls link.new)) }
+    ensures chunk { IsFree session.old → IsFree session.new }
+    ensures setup { session.new.setup ≡ session.old.setup }
+    ensures room { live_room session.new ≡ live_room session.old }
+{
+    let waiting = session.waiting();
+    if let Err(fault) = send(rt, link, session, Offer::Pieces, room) {
+        return Served::Failed(fault);
+    }
+    let left = session.waiting();
+    if left < waiting && (0 < left || takes_more(session)) {
+        return Served::Quiet;
+    }
+    read(rt, alloc, link, session, room)
+}
+
+/// The same in a worker's room, or in a small one where that is empty.
+pub(crate) fn serve_in_room<L: Link, R: Wait>(
+    rt: &R,
+    alloc: Global,
+    link: &mut L,
+    session: &mut Session,
+    room: &mut Vec<u8>,
 ) -> Served
     requires { session.old.down ≡ false }
     ensures turn { HasTurned result session.old session.new (L.calls link.old) (L.calls link.new) }
@@ -241,13 +284,9 @@ pub fn serve_gathered<L: Link, R: Wait>(
     ensures setup { session.new.setup ≡ session.old.setup }
     ensures room { live_room session.new ≡ live_room session.old }
 {
-    let waiting = session.waiting();
-    if let Err(fault) = send(rt, link, session, Offer::Pieces) {
-        return Served::Failed(fault);
+    if room.is_empty() {
+        return serve_gathered(rt, alloc, link, session, &mut [0; SMALL_ROOM]);
     }
-    let left = session.waiting();
-    if left < waiting && (0 < left || takes_more(session)) {
-        return Served::Quiet;
-    }
-    read(rt, alloc, link, session)
+    let most = room.len().min(ROOM);
+    serve_gathered(rt, alloc, link, session, &mut room[..most])
 }

@@ -10,7 +10,7 @@ ghost use Rattle.fwd_workers.specs.Working.{IsTended};
 use crate::ending::{Ending, loss_in};
 use crate::line::{FreeLine, Line};
 use crate::link::{Link, Loss};
-use crate::serve::serve_gathered;
+use crate::serve::serve_in_room;
 use fwd_session::Session;
 use std::alloc::Global;
 use std::sync::Wait;
@@ -25,10 +25,16 @@ fn lost(why: Option<Loss>) -> Option<Ending>
     }
 }
 
-/// A turn of a line at a moment (milliseconds): it may be late, and else its session is served. A
-/// line that is to end stays as it is.
+/// A turn of a line at a moment (milliseconds): it may be late, and else its session is served, in
+/// this room of its worker. A line that is to end stays as it is.
 #[tactic(auto, unfolding(fwd_session::specs::Live::session_looks))]
-pub(crate) fn serve<L: Link, R: Wait>(rt: &R, alloc: Global, line: Line<L>, now: u64) -> Line<L>
+pub(crate) fn serve<L: Link, R: Wait>(
+    rt: &R,
+    alloc: Global,
+    room: &mut Vec<u8>,
+    line: Line<L>,
+    now: u64,
+) -> Line<L>
     ensures chunk { IsFree line.session → IsFree result.session }
     ensures setup { result.session.setup ≡ line.session.setup }
     ensures room { live_room result.session ≡ live_room line.session }
@@ -55,7 +61,7 @@ pub(crate) fn serve<L: Link, R: Wait>(rt: &R, alloc: Global, line: Line<L>, now:
             ending: Some(Ending::Lost(Loss::Late)),
         };
     };
-    let served = serve_gathered(rt, alloc, &mut link, &mut session);
+    let served = serve_in_room(rt, alloc, &mut link, &mut session, room);
     Line {
         link,
         session,
@@ -67,6 +73,7 @@ pub(crate) fn serve<L: Link, R: Wait>(rt: &R, alloc: Global, line: Line<L>, now:
 pub(crate) fn serve_free<L: Link, R: Wait>(
     rt: &R,
     alloc: Global,
+    room: &mut Vec<u8>,
     free: FreeLine<L>,
     now: u64,
 ) -> FreeLine<L>
@@ -75,7 +82,7 @@ pub(crate) fn serve_free<L: Link, R: Wait>(
     ensures over { is_some free.line.ending ≡ true → result.line.ending ≡ free.line.ending }
 {
     let FreeLine { line } = free;
-    let line = serve(rt, alloc, line, now);
+    let line = serve(rt, alloc, room, line, now);
     FreeLine { line }
 }
 

@@ -29,6 +29,7 @@ use crate::line::{FreeLine, Line, RoomyLine, Stage};
 use crate::link::{Clock, Gate, Hub, Link, Loss, News, Pass, Place};
 use crate::parting::{end_free, end_line, finish, miss, settle_line};
 use crate::round::{Round, World};
+use crate::serve::ROOM;
 use crate::shared::SharedOutput;
 use crate::tally::Tally;
 use crate::tending::{ended, excuse, free_line, serve, serve_free, to_end};
@@ -75,6 +76,9 @@ pub struct Worker {
     login: Arc<Login>,
     acks: AckTerms,
     rng: ChaCha20Rng,
+    /// Where it gathers what it writes, and reads: it is made at the first run, and stays empty
+    /// where memory is refused.
+    room: Vec<u8>,
     /// The server that its last chunk was loaded for, or before the first the one that it tried.
     last: Option<u16>,
     /// What the turn came to, until it is told.
@@ -97,8 +101,18 @@ impl Worker {
             login,
             acks,
             rng,
+            room: Vec::new(alloc),
             last: None,
             news: None,
+        }
+    }
+
+    /// Makes the room for what is written and read, where there is memory.
+    fn make_room(&mut self)
+        ensures { self.new ≡ record self.old { room = self.new.room } }
+    {
+        if self.room.is_empty() {
+            let _ = self.room.resize(ROOM, 0);
         }
     }
 
@@ -124,6 +138,7 @@ impl Worker {
         ensures count { S.count seat ≤ S.count result.0 }
         ensures parts { S.parts result.0 ≡ S.parts seat }
     {
+        self.make_room();
         let mut seat = seat;
         let mut stage: Stage<H::Line> = Stage::Idle;
         for turn in 0..turns {
@@ -414,7 +429,7 @@ impl Worker {
         if round.out.counts(round.rt).held == 0 {
             return Stage::Standing(free);
         }
-        let free = serve_free(round.rt, self.alloc, free, round.now);
+        let free = serve_free(round.rt, self.alloc, &mut self.room, free, round.now);
         if let Some(ending) = free.line.ending {
             self.news = ending.news(free.line.session.server());
             end_free(round, seat, free, None);
@@ -449,7 +464,7 @@ impl Worker {
             (setup_by (arc_value self.old.login) (hex_drawn 0 4 self.old.rng)
             self.old.acks round.entry.now.now) }
     {
-        let free = excuse(serve_free(round.rt, self.alloc, free, round.now));
+        let free = excuse(serve_free(round.rt, self.alloc, &mut self.room, free, round.now));
         if free.line.ending.is_some() || !free.line.session.is_ready() {
             return self.stand(round, seat, free);
         }
@@ -484,7 +499,7 @@ impl Worker {
         ensures gone { HasGone result self.old.last self.new.last self.new.news }
     {
         if free.line.ending.is_some() || !free.line.session.is_ready() {
-            let free = serve_free(round.rt, self.alloc, free, round.now);
+            let free = serve_free(round.rt, self.alloc, &mut self.room, free, round.now);
             return self.wait_for(round, seat, free, chunk);
         }
         let FreeLine { mut line } = free;
@@ -585,7 +600,7 @@ impl Worker {
             return Stage::Settled(line);
         }
         let adds = line.may_add();
-        let line = serve(round.rt, self.alloc, line, round.now);
+        let line = serve(round.rt, self.alloc, &mut self.room, line, round.now);
         if line.session.is_acked() {
             return Stage::Loaded(line);
         }

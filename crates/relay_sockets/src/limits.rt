@@ -1,7 +1,8 @@
 //! A relay that takes two sources at a time, and its monitor's page.
 
 use crate::course::Course;
-use crate::peer::{connect, is_silent, page, told_len};
+use crate::frame::MESSAGE;
+use crate::peer::{connect, is_silent, page, source, told_len};
 use crate::site::Site;
 use anyhow::Result;
 use std::net::{Net, TcpListener, TcpStream};
@@ -22,7 +23,18 @@ fn next_stands<R: Net<Listener = TcpListener, Stream = TcpStream> + AllocGlobal>
     is_silent(&next)
 }
 
-/// Two sources stand, a third is closed, and one that comes once the second is gone stands.
+/// Whether a source that comes once another sent bytes and was gone at once stands: the system
+/// tells of both together, and not again.
+fn stands_behind_a_parting<R: Net<Listener = TcpListener, Stream = TcpStream> + AllocGlobal>(
+    rt: &R,
+    site: Site,
+) -> Result<bool> {
+    drop(source(rt, site, &MESSAGE[..7])?);
+    next_stands(rt, site)
+}
+
+/// Two sources stand, a third is closed, and one that comes once the second is gone stands, also
+/// where that sent something just before.
 fn put_sources<R: Net<Listener = TcpListener, Stream = TcpStream> + AllocGlobal>(
     rt: &R,
     site: Site,
@@ -35,6 +47,7 @@ fn put_sources<R: Net<Listener = TcpListener, Stream = TcpStream> + AllocGlobal>
     course.put_seen("third", told_len(rt, site.sources, b""));
     drop(second);
     course.put_seen("next_stands", next_stands(rt, site));
+    course.put_seen("behind_a_parting", stands_behind_a_parting(rt, site));
     course.end()
 }
 

@@ -21,6 +21,9 @@ const FRAME: &[u8] =
 /// More turns than a byte of the frame at a time takes.
 const MOST_TURNS: u32 = 100;
 
+/// The room that gathered turns are handed.
+const ROOM: usize = 4_096;
+
 /// A link that takes so many bytes in all, and gives an acknowledgement whatever it took.
 #[derive(Drop)]
 struct Hasty {
@@ -123,7 +126,7 @@ fn turns_over<R: Wait>(
         }
         let served = match writing {
             Writing::Pieces => serve_turn(rt, alloc, link, session),
-            Writing::Gathered => serve_gathered(rt, alloc, link, session),
+            Writing::Gathered => serve_gathered(rt, alloc, link, session, &mut [0; ROOM]),
         };
         if matches!(served, Served::Acked) {
             return Ok(turn);
@@ -168,7 +171,7 @@ fn first_answer<R: Wait>(
         if session.is_down() {
             bail!("down");
         }
-        let served = serve_gathered(rt, alloc, link, session);
+        let served = serve_gathered(rt, alloc, link, session, &mut [0; ROOM]);
         if !matches!(served, Served::Quiet) {
             return Ok(served);
         }

@@ -9,5 +9,5 @@ returns-in-Piece g c =
     let after : List Call = g.L.Link.calls c.write.new.self in
     offers-front c.out.result.now c.args.session.now.waiting before after c.write.result
     c.out.ensures.front c.out.ensures.some
-    (offers-all c.out.result.now before after c.write.result (c.out.ensures.some c.requires)
+    (offers-all c.out.result.now before after c.write.result (c.out.ensures.some c.requires.some)
     c.write.ensures.told c.write.ensures.within)

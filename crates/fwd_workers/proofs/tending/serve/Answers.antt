@@ -33,14 +33,14 @@ invariant_of-result-2 g c =
     let own = subst (λ b. ∥ IsOfLink c.args.line.session (seen_in calls) b ∥₁) on c.args.line.of_link in
     let up = up-line c.args.line.session calls own in
     record {
-      of_link = served-line c.serve_gathered-served.result c.args.line.session c.late.new.self
-          c.serve_gathered-served.new.session c.args.now calls
-          (g.L.Link.calls c.serve_gathered-served.new.link) c.lost.result own
+      of_link = served-line c.serve_in_room-served.result c.args.line.session c.late.new.self
+          c.serve_in_room-served.new.session c.args.now calls
+          (g.L.Link.calls c.serve_in_room-served.new.link) c.lost.result own
           (answered (c.in-Ok-false.ensures.late up) c.in-Ok-false.field-0-test)
-          (c.late.ensures.next up) c.serve_gathered-served.ensures.served
+          (c.late.ensures.next up) c.serve_in_room-served.ensures.served
           (c.lost.ensures ∙ ap (λ w. option_map ending.Lost w) c.loss_in.ensures);
-      window = same-window c.args.line.session c.serve_gathered-served.new.session
-          (c.serve_gathered-served.ensures.setup
+      window = same-window c.args.line.session c.serve_in_room-served.new.session
+          (c.serve_in_room-served.ensures.setup
           ∙ ap (λ (x : LiveSession). x.setup) (c.late.ensures.next up)
           ∙ looks-setup c.args.line.session c.args.now) c.args.line.window;
     }
@@ -50,9 +50,9 @@ returns-clause-turn g c none =
     let calls : List Call = g.L.Link.calls c.args.line.link in
     let own = subst (λ o. ∥ IsOfLink c.args.line.session (seen_in calls) (is_some o) ∥₁) none c.args.line.of_link in
     let up = up-line c.args.line.session calls own in
-    served-tended c.serve_gathered-served.result c.args.line.session c.late.new.self
-    c.serve_gathered-served.new.session c.args.now calls
-    (g.L.Link.calls c.serve_gathered-served.new.link) c.lost.result up
+    served-tended c.serve_in_room-served.result c.args.line.session c.late.new.self
+    c.serve_in_room-served.new.session c.args.now calls
+    (g.L.Link.calls c.serve_in_room-served.new.link) c.lost.result up
     (answered (c.in-Ok-false.ensures.late up) c.in-Ok-false.field-0-test)
-    (c.late.ensures.next up) c.serve_gathered-served.ensures.turn c.serve_gathered-served.ensures.served
+    (c.late.ensures.next up) c.serve_in_room-served.ensures.turn c.serve_in_room-served.ensures.served
     (c.lost.ensures ∙ ap (λ w. option_map ending.Lost w) c.loss_in.ensures)

@@ -1,5 +1,7 @@
-use Rattle.std.proofs.Common.{subst, sym}
+use Rattle.std.proofs.Common.{subst, sym, ◌∙◌}
 use Rattle.fwd_workers.specs.Working.{HasLost, IsTended}
+use Rattle.fwd_workers.proofs.Adding.{added-settles}
+use Rattle.fwd_workers.proofs.Keeping.{none-acked}
 use Rattle.fwd_workers.proofs.worker.Worker.settle.Goals as goal
 
 pub returns-in-Some-clause-lost : goal.returns-in-Some-clause-lost
@@ -14,3 +16,9 @@ returns-in-Some-clause-lost g c none =
           c.in-Some.is (c.serve-line.ensures.turn none),
       c.lose.ensures.told,
     )
+
+pub returns-in-None-clause-settled : goal.returns-in-None-clause-settled
+returns-in-None-clause-settled g c =
+    added-settles c.add.result c.serve-line.result.session c.args.line.session c.add.ensures.added
+    (none-acked c.args.line.session (sym c.is_acked.ensures ∙ c.if-is_acked.false))
+    (sym c.may_add-adds.ensures ∙ c.if-adds.true) c.serve-line.ensures.room

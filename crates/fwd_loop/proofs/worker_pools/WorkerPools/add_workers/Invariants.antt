@@ -1,5 +1,5 @@
 use Rattle.std.specs.Prelude.{◌≡◌}
-use Rattle.fwd_loop.proofs.teams.Teams.add_members.Given as goal
+use Rattle.fwd_loop.proofs.worker_pools.WorkerPools.add_workers.Given as goal
 
 -- the outputs stay
 abbrev pub invariant-loop-number : goal.invariant-loop-number

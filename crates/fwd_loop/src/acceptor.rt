@@ -1,8 +1,8 @@
 //! Where connections come in.
 
-use crate::door::Door;
+use crate::connections::{Connection, Connections};
+use crate::listener::Listener;
 use crate::monitor_peer::MonitorPeer;
-use crate::peers::{Peer, Peers};
 use crate::watch::{Caller, Fact, Want, Watch};
 use fwd_handshake::{Nonces, Security};
 use fwd_msgpack::Limits;
@@ -34,9 +34,9 @@ pub(crate) struct SourceSetup {
 
 /// The listeners, and what a source that comes is given.
 #[derive(Drop)]
-pub(crate) struct Lobby {
-    pub sources: Door,
-    pub monitors: Option<Door>,
+pub(crate) struct Acceptor {
+    pub sources: Listener,
+    pub monitors: Option<Listener>,
     pub setup: SourceSetup,
     /// The id of the next source, while there is one: they rise from 1.
     pub next_id: Option<u64>,
@@ -53,10 +53,10 @@ impl SourceSetup {
     }
 }
 
-impl Lobby {
+impl Acceptor {
     /// Whether the next wait is to be short.
     pub fn is_urgent(&self) -> bool {
-        self.sources.is_urgent() || self.monitors.as_ref().is_some_and(|door| door.is_urgent())
+        self.sources.is_urgent() || self.monitors.as_ref().is_some_and(|it| it.is_urgent())
     }
 
     /// Tells where connections come in.
@@ -65,10 +65,10 @@ impl Lobby {
             caller: Caller::Source,
             address: self.sources.address(),
         });
-        if let Some(door) = &self.monitors {
+        if let Some(listener) = &self.monitors {
             watch.see(Fact::Listening {
                 caller: Caller::Monitor,
-                address: door.address(),
+                address: listener.address(),
             });
         }
     }
@@ -78,11 +78,11 @@ impl Lobby {
         &mut self,
         alloc: Global,
         registry: &Registry,
-        peers: &mut Peers,
+        connections: &mut Connections,
         watch: &mut W,
     ) {
-        self.accept_sources(alloc, registry, peers, watch);
-        self.accept_monitors(alloc, registry, peers, watch);
+        self.accept_sources(alloc, registry, connections, watch);
+        self.accept_monitors(alloc, registry, connections, watch);
     }
 
     /// Takes the sources that wait.
@@ -90,17 +90,20 @@ impl Lobby {
         &mut self,
         alloc: Global,
         registry: &Registry,
-        peers: &mut Peers,
+        connections: &mut Connections,
         watch: &mut W,
     ) {
         for _ in 0..ACCEPTS {
             let Some((stream, peer)) = self.sources.next() else {
                 return;
             };
-            if peers.sources() >= self.limit {
+            if connections.sources() >= self.limit {
                 let caller = Caller::Source;
                 watch.see(Fact::OverLimit { caller, peer });
-            } else if self.begin(alloc, registry, peers, stream, peer).is_err() {
+            } else if self
+                .begin(alloc, registry, connections, stream, peer)
+                .is_err()
+            {
                 watch.see(Fact::Memory(Want::Source(peer)));
             }
         }
@@ -112,7 +115,7 @@ impl Lobby {
         &mut self,
         alloc: Global,
         registry: &Registry,
-        peers: &mut Peers,
+        connections: &mut Connections,
         stream: TcpStream,
         peer: SocketAddr,
     ) -> Result<(), AllocError> {
@@ -122,7 +125,7 @@ impl Lobby {
         self.next_id = id.checked_add(1);
         let source = self.setup.source(alloc, id)?;
         let source = SourcePeer::new(id, stream, peer, source);
-        peers.add(registry, Peer::Source(source))
+        connections.add(registry, Connection::Source(source))
     }
 
     /// Takes the monitors that wait.
@@ -130,22 +133,22 @@ impl Lobby {
         &mut self,
         alloc: Global,
         registry: &Registry,
-        peers: &mut Peers,
+        connections: &mut Connections,
         watch: &mut W,
     ) {
-        let Some(door) = &mut self.monitors else {
+        let Some(listener) = &mut self.monitors else {
             return;
         };
         for _ in 0..ACCEPTS {
-            let Some((stream, peer)) = door.next() else {
+            let Some((stream, peer)) = listener.next() else {
                 return;
             };
-            if peers.monitors() >= MONITORS {
+            if connections.monitors() >= MONITORS {
                 let caller = Caller::Monitor;
                 watch.see(Fact::OverLimit { caller, peer });
             } else {
-                let monitor = Peer::Monitor(MonitorPeer::new(alloc, stream));
-                if peers.add(registry, monitor).is_err() {
+                let monitor = Connection::Monitor(MonitorPeer::new(alloc, stream));
+                if connections.add(registry, monitor).is_err() {
                     watch.see(Fact::Memory(Want::Monitor));
                 }
             }

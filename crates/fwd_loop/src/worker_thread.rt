@@ -3,7 +3,7 @@
 use crate::fault::StartFault;
 use crate::output::Output;
 use crate::run_clock::RunClock;
-use fwd_links::{Mailbox, Notice, SharedWait, TcpHub, WorkerWait, WorkerWaker};
+use fwd_links::{Looking, Mailbox, Notice, SharedWait, TcpHub, WorkerWait, WorkerWaker};
 use fwd_workers::{Gate, News, Pass, Place, Worker};
 use std::alloc::Global;
 use std::net::Net;
@@ -11,28 +11,62 @@ use std::rt::Clock;
 use std::sync::Wait;
 use std::time::Instant;
 
+/// How a worker is to look for its next chunk.
+#[derive(Clone, Copy)]
+enum Next {
+    /// At once: it had a chunk, and may find another.
+    AtOnce,
+    /// It found none when it looked at once, or was rung: soon.
+    Soon,
+    /// It found none for longer.
+    Later,
+}
+
 /// Lets a worker wait for chunks, and stops it where all are to end.
 #[derive(Drop)]
 struct WorkerGate<'a> {
     mailbox: &'a Mailbox,
-    output: u16,
+    number: u16,
+    output: &'a Output,
     wait: &'a SharedWait,
-    /// The worker had a chunk, and may find another: it looks before it waits.
-    is_eager: bool,
+    next: Next,
 }
 
 impl<'a> WorkerGate<'a> {
     /// The worker comes to a place, and waits there where it found no chunk before.
     fn come_to<R: Wait>(&mut self, rt: &R, place: Place) {
-        let mut wait = self.wait.lock(rt);
-        if place != Place::BeforeTake {
-            wait.work();
-        } else if self.is_eager || self.mailbox.is_stopped() {
-            wait.look();
+        if place == Place::BeforeTake {
+            self.look(rt);
         } else {
-            wait.look_later();
+            self.work(rt);
         }
-        self.is_eager = place != Place::BeforeTake;
+    }
+
+    /// The worker looks for a chunk.
+    fn look<R: Wait>(&mut self, rt: &R) {
+        let looking = match self.next {
+            Next::AtOnce => {
+                self.wait.lock(rt).look();
+                self.next = Next::Soon;
+                return;
+            }
+            _ if self.mailbox.is_stopped() => return,
+            Next::Soon => Looking::Soon,
+            Next::Later if self.output.is_empty(rt) => Looking::Idle,
+            Next::Later => Looking::Later,
+        };
+        let was_rung = self.wait.lock(rt).look_later(looking);
+        self.next = if was_rung { Next::Soon } else { Next::Later };
+    }
+
+    /// The worker has a chunk. Where it was rung meanwhile another worker is: the ring may be for
+    /// another chunk.
+    fn work<R: Wait>(&mut self, rt: &R) {
+        self.next = Next::AtOnce;
+        let was_rung = self.wait.lock(rt).work();
+        if was_rung {
+            self.output.ring(1);
+        }
     }
 }
 
@@ -48,7 +82,7 @@ impl<'a> Gate for WorkerGate<'a> {
 
     fn hear<R: Wait>(&mut self, rt: &R, worker: u16, news: News) {
         let notice = Notice {
-            output: self.output,
+            output: self.number,
             worker,
             news,
         };
@@ -58,27 +92,27 @@ impl<'a> Gate for WorkerGate<'a> {
 
 /// A worker before its thread runs.
 #[derive(Drop)]
-pub(crate) struct Member {
+pub(crate) struct WorkerThread {
     output: u16,
     worker: Worker,
     wait: SharedWait,
 }
 
-impl Member {
-    /// A worker of the output of this number, and what calls it.
+impl WorkerThread {
+    /// A worker of the output of this number, and what rings it.
     pub fn new<R: Net>(
         rt: &R,
         alloc: Global,
         output: u16,
         worker: Worker,
-    ) -> Result<(Member, WorkerWaker), StartFault> {
+    ) -> Result<(WorkerThread, WorkerWaker), StartFault> {
         let (wait, waker) = WorkerWait::new(rt, alloc)?;
-        let member = Member {
+        let thread = WorkerThread {
             output,
             worker,
             wait,
         };
-        Ok((member, waker))
+        Ok((thread, waker))
     }
 
     /// Works for its output in so many turns, or until all are to end.
@@ -98,9 +132,10 @@ impl Member {
         let mut hub = TcpHub::new(rt, rt.alloc(), mailbox, wait, &own.servers);
         let mut gate = WorkerGate {
             mailbox,
-            output,
+            number: output,
+            output: own,
             wait,
-            is_eager: false,
+            next: Next::Later,
         };
         let mut clock = RunClock::new(rt, start);
         self.worker.run(rt, &own.shared, (), &mut hub, &mut gate, &mut clock, turns);

@@ -1,6 +1,6 @@
 use Rattle.std.proofs.Common.{◌≡◌, ◌∙◌, length, sym, ap, arith}
 use Rattle.std.specs.Vec.Iter.{into_iter_len}
-use Rattle.fwd_loop.proofs.relay_loop.teams_of.Goals as goal
+use Rattle.fwd_loop.proofs.relay_loop.pools_of.Goals as goal
 
 pub loop-config-init : goal.loop-config-init
 loop-config-init g c =
@@ -8,5 +8,5 @@ loop-config-init g c =
     c.into_iter-configs.ensures.len ∙ c.args.configs.ok.0 in
     let servers : into_iter_len c.into_iter-servers.result ≡ length c.args.servers.items =
     c.into_iter-servers.ensures.len ∙ c.args.servers.ok.0 in
-    let none : length c.new-teams.result.outputs.items ≡ 0 = ap length c.new-teams.ensures in
+    let none : length c.new-pools.result.outputs.items ≡ 0 = ap length c.new-pools.ensures in
     (servers ∙ c.requires.each ∙ sym configs, omega (arith, configs, none))

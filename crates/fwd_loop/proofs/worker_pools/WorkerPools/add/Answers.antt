@@ -1,7 +1,7 @@
 use Rattle.std.proofs.Common.{sym, subst, false}
 use Rattle.std.specs.Prelude.{Contains}
 use Rattle.fwd_core.proofs.OpeningLemmas.{has-false}
-use Rattle.fwd_loop.proofs.teams.Teams.add.Goals as goal
+use Rattle.fwd_loop.proofs.worker_pools.WorkerPools.add.Goals as goal
 
 pub new-requires-clause-has_primary : goal.new-requires-clause-has_primary
 new-requires-clause-has_primary g c =

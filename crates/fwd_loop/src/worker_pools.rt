@@ -3,10 +3,10 @@
 ghost use Rattle.std.specs.Prelude.{◌≡◌, ◌+◌, [], length, OnOk};
 
 use crate::fault::StartFault;
-use crate::member::Member;
+use crate::flush_timer::FlushTimer;
 use crate::output::Output;
-use crate::pace::Pace;
 use crate::random_streams::RandomStreams;
+use crate::worker_thread::WorkerThread;
 use fwd_core::{AckTerms, OutputConfig, OutputState};
 use fwd_handshake::Login;
 use fwd_links::WorkerWaker;
@@ -15,18 +15,18 @@ use std::alloc::Global;
 use std::net::{Net, SocketAddr};
 use std::sync::Arc;
 
-/// The outputs, the paces of their flushes, and all workers.
+/// The outputs, the timers of their flushes, and all workers.
 #[derive(Drop)]
-pub(crate) struct Teams {
+pub(crate) struct WorkerPools {
     pub alloc: Global,
     pub outputs: Vec<Output>,
-    pub paces: Vec<Pace>,
-    pub members: Vec<Member>,
+    pub timers: Vec<FlushTimer>,
+    pub workers: Vec<WorkerThread>,
 }
 
 /// What an output's workers share.
 #[derive(Drop)]
-struct Team<'a> {
+struct Pool<'a> {
     random: &'a RandomStreams,
     number: u16,
     workers: u16,
@@ -34,16 +34,16 @@ struct Team<'a> {
     acks: AckTerms,
 }
 
-impl Teams {
+impl WorkerPools {
     /// None.
-    pub fn new(alloc: Global) -> Teams
+    pub fn new(alloc: Global) -> WorkerPools
         ensures { result.outputs.items ≡ [] }
     {
-        Teams {
+        WorkerPools {
             alloc,
             outputs: Vec::new(alloc),
-            paces: Vec::new(alloc),
-            members: Vec::new(alloc),
+            timers: Vec::new(alloc),
+            workers: Vec::new(alloc),
         }
     }
 
@@ -70,34 +70,38 @@ impl Teams {
         let state = OutputState::new(self.alloc, limits, run, number, standby.as_slice())?;
         let shared = SharedOutput::new(Locked::new(state, Plain::new(0), Plain::new(0)));
         let login = Arc::new(self.alloc, login)?;
-        let team = Team {
+        let pool = Pool {
             random,
             number,
             workers,
             login,
             acks,
         };
-        let wakers = self.add_members(rt, &team)?;
-        self.outputs.push(Output { shared, servers })?;
-        self.paces.push(Pace::new(limits.interval, wakers))?;
+        let wakers = self.add_workers(rt, &pool)?;
+        self.outputs.push(Output {
+            shared,
+            servers,
+            wakers,
+        })?;
+        self.timers.push(FlushTimer::new(limits.interval))?;
         Ok(())
     }
 
     /// The workers of an output, and what calls them.
-    fn add_members<R: Net>(
+    fn add_workers<R: Net>(
         &mut self,
         rt: &R,
-        team: &Team<'_>,
+        pool: &Pool<'_>,
     ) -> Result<Vec<WorkerWaker>, StartFault>
         ensures { self.new.outputs ≡ self.old.outputs }
     {
         let mut wakers = Vec::new(self.alloc);
-        for number in 0..team.workers {
-            let login = Arc::try_clone(&team.login)?;
-            let salts = team.random.salts(team.number, number);
-            let worker = Worker::new(self.alloc, number, login, team.acks, salts);
-            let (member, waker) = Member::new(rt, self.alloc, team.number, worker)?;
-            self.members.push(member)?;
+        for number in 0..pool.workers {
+            let login = Arc::try_clone(&pool.login)?;
+            let salts = pool.random.salts(pool.number, number);
+            let worker = Worker::new(self.alloc, number, login, pool.acks, salts);
+            let (thread, waker) = WorkerThread::new(rt, self.alloc, pool.number, worker)?;
+            self.workers.push(thread)?;
             wakers.push(waker)?;
         }
         Ok(wakers)

@@ -20,23 +20,23 @@ enum Calling {
 
 /// A listener.
 #[derive(Drop)]
-pub(crate) struct Door {
+pub(crate) struct Listener {
     listener: TcpListener,
     /// Where it listens.
     address: SocketAddr,
     calling: Calling,
 }
 
-impl Door {
+impl Listener {
     /// Listens at an address, and has the wait tell of it by this token.
     pub fn open<R: Net>(
         rt: &R,
         poll: &Poll,
         address: SocketAddr,
         token: Token,
-    ) -> Result<Door, StartFault> {
-        match Door::listen(rt, poll, address, token) {
-            Ok(listener) => Ok(Door {
+    ) -> Result<Listener, StartFault> {
+        match Listener::listen(rt, poll, address, token) {
+            Ok(listener) => Ok(Listener {
                 listener,
                 address,
                 calling: Calling::Quiet,

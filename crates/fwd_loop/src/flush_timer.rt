@@ -1,14 +1,12 @@
-//! When an output's open chunks are closed, and who is told.
-
-use fwd_links::WorkerWaker;
+//! When an output's open chunks are closed.
 
 /// How long after a flush an output's next one is due, in milliseconds, while chunks may be open:
 /// it is due sooner where all of them are old enough sooner.
 const STEP: u64 = 5;
 
-/// When an output is flushed next, and what calls its workers. Moments are in milliseconds.
+/// When an output is flushed next. Moments are in milliseconds.
 #[derive(Drop)]
-pub(crate) struct Pace {
+pub(crate) struct FlushTimer {
     /// How long a chunk waits for more entries.
     interval: u64,
     /// Requests were admitted since the last look at the clock.
@@ -17,19 +15,16 @@ pub(crate) struct Pace {
     latest: u64,
     /// When the next flush is due: never while no chunk can be open.
     due: Option<u64>,
-    wakers: Vec<WorkerWaker>,
 }
 
-impl Pace {
-    /// The pace of an output without entries, whose chunks wait so long, and whose workers these
-    /// call.
-    pub fn new(interval: u64, wakers: Vec<WorkerWaker>) -> Pace {
-        Pace {
+impl FlushTimer {
+    /// The timer of an output without entries, whose chunks wait so long.
+    pub fn new(interval: u64) -> FlushTimer {
+        FlushTimer {
             interval,
             is_fresh: false,
             latest: 0,
             due: None,
-            wakers,
         }
     }
 
@@ -64,17 +59,5 @@ impl Pace {
         } else {
             Some(last.min(now.saturating_add(STEP)))
         };
-    }
-
-    /// Whether one of the output's workers looks for a chunk.
-    pub fn is_awaited(&self) -> bool {
-        self.wakers.iter().any(|waker| waker.is_awaited())
-    }
-
-    /// Calls the output's workers that look for a chunk.
-    pub fn call(&self) {
-        for waker in &self.wakers {
-            waker.wake();
-        }
     }
 }

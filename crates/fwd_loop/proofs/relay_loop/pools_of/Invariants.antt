@@ -1,6 +1,6 @@
 use Rattle.std.specs.Prelude.{◌≡◌, ◌+◌, length}
 use Rattle.std.specs.Vec.Iter.{into_iter_len}
-use Rattle.fwd_loop.proofs.relay_loop.teams_of.Given as goal
+use Rattle.fwd_loop.proofs.relay_loop.pools_of.Given as goal
 
 abbrev pub decreases-loop-config : goal.decreases-loop-config
 decreases-loop-config g l = into_iter_len l.configs
@@ -9,4 +9,4 @@ decreases-loop-config g l = into_iter_len l.configs
 abbrev pub invariant-loop-config : goal.invariant-loop-config
 invariant-loop-config g l =
     (into_iter_len l.servers ≡ into_iter_len l.configs)
-    × (length l.teams.outputs.items + into_iter_len l.configs ≡ length l.fn.configs.items)
+    × (length l.pools.outputs.items + into_iter_len l.configs ≡ length l.fn.configs.items)

@@ -1,0 +1,246 @@
+//! What the loop waits for, reads and writes.
+
+use crate::acceptor::Acceptor;
+use crate::connections::{Connection, Connections, Ready};
+use crate::fault::StartFault;
+use crate::lost_servers::LostServers;
+use crate::outlets::Outlets;
+use crate::output::Output;
+use crate::watch::{Fact, Want, Watch};
+use fwd_links::{Mailbox, Notices};
+use fwd_peers::SourcePeer;
+use mio::event::Event;
+use mio::{Events, Poll, Token};
+use std::alloc::Global;
+use std::sync::Wait;
+use std::time::Duration;
+
+/// What tells that sources wait at the listener.
+pub(crate) const SOURCES: Token = Token(usize::MAX);
+
+/// What tells that monitors wait at theirs.
+pub(crate) const MONITORS: Token = Token(usize::MAX - 1);
+
+/// What tells that a worker told something.
+pub(crate) const WAKER: Token = Token(usize::MAX - 2);
+
+/// The longest wait of a turn, in milliseconds.
+const LONGEST: u64 = 100;
+
+/// How often a loop that was at work in its last turn looks for more before it sleeps: some ten
+/// microseconds.
+const LOOKS: u32 = 24;
+
+/// Waits for connections, and reads and writes those that are ready.
+#[derive(Drop)]
+pub(crate) struct EventLoop {
+    pub alloc: Global,
+    pub poll: Poll,
+    pub events: Events,
+    /// What a visit reads: as many bytes as a connection may send in a turn.
+    pub room: Vec<u8>,
+    pub acceptor: Acceptor,
+    pub connections: Connections,
+    /// Something was ready or told in the last turn.
+    pub was_at_work: bool,
+}
+
+impl EventLoop {
+    /// Takes the connections that wait.
+    pub fn accept<W: Watch>(&mut self, watch: &mut W) {
+        let registry = self.poll.registry();
+        self.acceptor
+            .accept(self.alloc, registry, &mut self.connections, watch);
+    }
+
+    /// Hands in all tickets, and writes what that has sources told.
+    pub fn finish<R: Wait, W: Watch>(&mut self, rt: &R, outlets: &mut Outlets<'_>, watch: &mut W) {
+        outlets.settle_all();
+        outlets.collect(rt, &mut self.connections, watch);
+        self.write_all(watch);
+    }
+
+    /// Waits from a moment on (milliseconds) until something is ready or told, and notes what is
+    /// ready.
+    pub fn wait(
+        &mut self,
+        mailbox: &Mailbox,
+        outlets: &Outlets<'_>,
+        now: u64,
+    ) -> Result<(), StartFault> {
+        let connections = &self.connections;
+        let is_left = connections.ready() > 0 || connections.told() > 0;
+        let longest = if is_left || self.acceptor.is_urgent() {
+            0
+        } else {
+            outlets.patience(now, LONGEST)
+        };
+        if longest == 0 {
+            self.look(0)?;
+        } else if !self.was_at_work || !self.finds_more(mailbox)? {
+            self.sleep(mailbox, longest)?;
+        }
+        self.was_at_work = !self.events.is_empty() || mailbox.is_told();
+        self.note_all();
+        Ok(())
+    }
+
+    /// Looks what is ready, and waits for it so long at the most (milliseconds).
+    fn look(&mut self, longest: u64) -> Result<(), StartFault> {
+        let longest = Duration::from_millis(longest);
+        let looked = self.poll.poll(&mut self.events, Some(longest));
+        looked.map_err(|_| StartFault::Poll)
+    }
+
+    /// Whether something is ready or told soon: it is looked for a few times.
+    fn finds_more(&mut self, mailbox: &Mailbox) -> Result<bool, StartFault> {
+        for _ in 0..LOOKS {
+            self.look(0)?;
+            if !self.events.is_empty() || mailbox.is_told() {
+                return Ok(true);
+            }
+        }
+        Ok(false)
+    }
+
+    /// Sleeps until something is ready or told, so long at the most (milliseconds).
+    fn sleep(&mut self, mailbox: &Mailbox, longest: u64) -> Result<(), StartFault> {
+        let longest = if mailbox.fall_asleep() { longest } else { 0 };
+        let looked = self.look(longest);
+        mailbox.awake();
+        looked
+    }
+
+    /// Notes what is ready.
+    fn note_all(&mut self) {
+        for event in self.events.iter() {
+            match event.token() {
+                WAKER => {}
+                SOURCES => self.acceptor.sources.called(),
+                MONITORS => {
+                    if let Some(listener) = &mut self.acceptor.monitors {
+                        listener.called();
+                    }
+                }
+                Token(key) => note(&mut self.connections, key, event),
+            }
+        }
+    }
+
+    /// Writes what waits to be sent to each connection that is told.
+    pub fn write_all<W: Watch>(&mut self, watch: &mut W) {
+        for _ in 0..self.connections.told() {
+            self.write_next(watch);
+        }
+    }
+
+    /// Writes what waits to be sent to the next connection that is told.
+    fn write_next<W: Watch>(&mut self, watch: &mut W) {
+        let Some((key, connection)) = self.connections.next_told() else {
+            return;
+        };
+        match connection {
+            Connection::Source(source) => {
+                tell_end(source, watch);
+                let stands = source.write();
+                let is_free = source.is_free();
+                if !stands {
+                    self.connections.remove(key);
+                } else if is_free {
+                    self.connections.note_ready(key, false);
+                }
+            }
+            Connection::Monitor(_) => self.connections.note_ready(key, false),
+        }
+    }
+
+    /// Reads each connection that is ready, once, and has what it asks for admitted.
+    pub fn read_all<R: Wait, W: Watch>(
+        &mut self,
+        rt: &R,
+        outputs: &[Output],
+        outlets: &mut Outlets<'_>,
+        watch: &mut W,
+        now: u64,
+    ) {
+        for _ in 0..self.connections.ready() {
+            self.read_next(rt, outputs, outlets, watch, now);
+        }
+    }
+
+    /// Reads the next connection that is ready, at a moment (milliseconds).
+    fn read_next<R: Wait, W: Watch>(
+        &mut self,
+        rt: &R,
+        outputs: &[Output],
+        outlets: &mut Outlets<'_>,
+        watch: &mut W,
+        now: u64,
+    ) {
+        let Some(ready) = self.connections.next_ready() else {
+            return;
+        };
+        let Ready {
+            key,
+            to_end,
+            connection,
+        } = ready;
+        let again = match connection {
+            Connection::Source(source) => {
+                let again = source.hear(self.alloc, &mut self.room, to_end);
+                outlets.admit_all(rt, source, now);
+                tell_end(source, watch);
+                let stands = source.write();
+                let again = again || source.is_free();
+                if stands { Some(again) } else { None }
+            }
+            Connection::Monitor(monitor) => {
+                let served = monitor.serve(rt, self.alloc, outputs, &mut self.room);
+                if served.is_err() {
+                    watch.see(Fact::Memory(Want::Monitor));
+                }
+                served.unwrap_or(None)
+            }
+        };
+        match again {
+            Some(true) => self.connections.note_ready(key, false),
+            Some(false) => {}
+            None => self.connections.remove(key),
+        }
+    }
+}
+
+/// Notes a connection of which the system told. Where it tells only that the connection takes bytes
+/// again, there is nothing to be read.
+fn note(connections: &mut Connections, key: usize, event: &Event) {
+    let is_closing = event.is_read_closed() || event.is_error();
+    if event.is_readable() || is_closing {
+        connections.note_ready(key, is_closing);
+    } else {
+        connections.note_told(key);
+    }
+}
+
+/// A watch is told why the relay ends a source, where it does and that was not told yet.
+fn tell_end<W: Watch>(source: &mut SourcePeer, watch: &mut W) {
+    if let Some(end) = source.why_ended() {
+        watch.see(Fact::of_source(source.peer(), end));
+    }
+}
+
+/// A watch is told what workers told.
+pub(crate) fn tell_all<W: Watch>(
+    notices: &Notices,
+    outputs: &[Output],
+    lost_servers: &mut LostServers,
+    watch: &mut W,
+) {
+    if notices.missed {
+        watch.see(Fact::Memory(Want::News));
+    }
+    for notice in &notices.all {
+        if let Some(fact) = lost_servers.hear(outputs, notice) {
+            watch.see(fact);
+        }
+    }
+}

@@ -1,0 +1,163 @@
+//! The outputs as the loop sees them, and which tags go to which.
+
+use crate::connections::Connections;
+use crate::flush_timer::FlushTimer;
+use crate::outlet::Outlet;
+use crate::output::Output;
+use crate::watch::{Fact, Want, Watch};
+use fwd_book::Receipt;
+use fwd_links::Notices;
+use fwd_match::Routes;
+use fwd_peers::{SourceEnd, SourcePeer};
+use fwd_workers::{AdmitRefusal, News};
+use std::alloc::{AllocError, AllocFailed, Global};
+use std::sync::Wait;
+
+/// The outputs, in the settings' order, and which tags go to which. They must be spent: by `close`.
+pub(crate) struct Outlets<'a> {
+    routes: &'a Routes,
+    all: Vec<Outlet<'a>>,
+}
+
+/// The outputs' tickets are abandoned.
+fn close_all<R: Wait>(rt: &R, outlets: Vec<Outlet<'_>>) {
+    let mut rest = outlets.into_iter();
+    while let Some(outlet) = rest.next() {
+        outlet.close(rt);
+    }
+    rest.destroy_empty();
+}
+
+impl<'a> Outlets<'a> {
+    /// The outputs, and the timer of each, where no ticket is out. The only error is out of memory.
+    pub fn new<R: Wait>(
+        rt: &R,
+        alloc: Global,
+        routes: &'a Routes,
+        outputs: &'a [Output],
+        timers: &'a mut [FlushTimer],
+    ) -> Result<Outlets<'a>, AllocError> {
+        let mut all = Vec::new(alloc);
+        for (output, timer) in outputs.iter().zip(timers) {
+            let outlet = Outlet::new(alloc, output, timer);
+            if let Err(AllocFailed { value: outlet }) = all.push(outlet) {
+                outlet.close(rt);
+                close_all(rt, all);
+                return Err(AllocError);
+            }
+        }
+        Ok(Outlets { routes, all })
+    }
+
+    /// Admits the requests that wait at a source at a moment (milliseconds). A request that is not
+    /// admitted ends the source, and what waits behind it is not looked at.
+    pub fn admit_all<R: Wait>(&mut self, rt: &R, source: &mut SourcePeer, now: u64) {
+        for _ in 0..source.waiting() {
+            if let Err(why) = self.admit(rt, source, now) {
+                source.refuse(why);
+                return;
+            }
+        }
+    }
+
+    /// Admits the first request that waits, at the first output whose pattern matches its tag.
+    fn admit<R: Wait>(
+        &mut self,
+        rt: &R,
+        source: &mut SourcePeer,
+        now: u64,
+    ) -> Result<(), SourceEnd> {
+        let output = source.route(self.routes).ok_or(SourceEnd::NoRoute)?;
+        let outlet = self.all.get_mut(output as usize);
+        let outlet = outlet.ok_or(SourceEnd::NoRoute)?;
+        let refused = SourceEnd::Refused(AdmitRefusal::Memory);
+        let (origin, batch) = source.next().ok_or(refused)?;
+        match outlet.admit(rt, origin, batch, now) {
+            Ok(()) => Ok(()),
+            Err(refusal) => Err(SourceEnd::Refused(refusal)),
+        }
+    }
+
+    /// How long the loop may wait from a moment on, at most so long: until the next flush (all in
+    /// milliseconds).
+    pub fn patience(&self, now: u64, longest: u64) -> u64 {
+        let mut wait = longest;
+        for outlet in &self.all {
+            if outlet.tickets.is_due() {
+                return 0;
+            }
+            if let Some(due) = outlet.timer.due() {
+                wait = wait.min(due.saturating_sub(now));
+            }
+        }
+        wait
+    }
+
+    /// Closes the chunks that are due at a moment (milliseconds) after all admissions.
+    pub fn flush<R: Wait>(&mut self, rt: &R, now: u64) {
+        for outlet in &mut self.all {
+            outlet.flush(rt, now);
+        }
+    }
+
+    /// Workers settled chunks: the tickets that waited for those are to be handed in.
+    pub fn hear(&mut self, notices: &Notices) {
+        if notices.missed {
+            self.settle_all();
+        }
+        for notice in &notices.all {
+            if let News::Settled { number, server: _ } = notice.news {
+                if let Some(outlet) = self.all.get_mut(notice.output as usize) {
+                    outlet.tickets.settle(number);
+                }
+            }
+        }
+    }
+
+    /// All tickets are to be handed in.
+    pub fn settle_all(&mut self) {
+        for outlet in &mut self.all {
+            outlet.tickets.settle_all();
+        }
+    }
+
+    /// Hands in the tickets that are due, each at its output, and answers the sources of their
+    /// receipts.
+    pub fn collect<R: Wait, W: Watch>(
+        &mut self,
+        rt: &R,
+        connections: &mut Connections,
+        watch: &mut W,
+    ) {
+        for (number, outlet) in (0..u16::MAX).zip(&mut self.all) {
+            if outlet.tickets.is_due() {
+                match outlet.collect(rt) {
+                    Ok(receipts) => answer_all(&receipts, connections),
+                    Err(_) => watch.see(Fact::Memory(Want::Output(number))),
+                }
+            }
+        }
+    }
+
+    /// The tickets that are left are abandoned.
+    pub fn close<R: Wait>(self, rt: &R) {
+        let Outlets { routes: _, all } = self;
+        close_all(rt, all);
+    }
+}
+
+/// Answers sources: each receipt to the source whose request it is of.
+fn answer_all(receipts: &[Receipt], connections: &mut Connections) {
+    for receipt in receipts {
+        answer(receipt, connections);
+    }
+}
+
+/// Answers a receipt's source, where that still stands and asked to be told.
+fn answer(receipt: &Receipt, connections: &mut Connections) {
+    let Some((key, source)) = connections.source(receipt.origin().conn) else {
+        return;
+    };
+    source.answer(receipt);
+    connections.note_told(key);
+}
