@@ -10,8 +10,9 @@
 #
 # MINUTES (10 where none are given) are for the built program under `run`. Four sources send requests in three modes, each with
 # a `chunk`, for two outputs, one with two workers, a window of four, two primaries and a standby. Its reads, writes, connects
-# and accepts fail: ECONNRESET, EINTR, EAGAIN, EMFILE, ECONNREFUSED, ECONNABORTED, and one byte at a time. A source whose
-# connection ends sends again what it was not told of. Servers note what they got, and then acknowledge it. In each minute:
+# and accepts fail: ECONNRESET, EINTR, EAGAIN, EMFILE, ECONNREFUSED, ECONNABORTED, and one byte at a time; and so does now and
+# then a request for memory. A source whose connection ends sends again what it was not told of. Servers note what they got, and
+# then acknowledge it. In each minute:
 #
 # - nothing wrong is acknowledged: a source is told only of what it sent over that connection, once, and when all entries of it
 #   were noted by a server; and no server gets anything but what was sent, byte by byte, under its tag;

@@ -24,7 +24,7 @@ SEED = 1
 # The words of the shim's board, in its order.
 WORDS = """on calls short-read short-write wait-read wait-write cut-read cut-write reset-read reset-write
 connect-refused no-port no-socket no-accept aborted cut-accept cut-wait requests no-memory""".split()
-FAILURES = WORDS[2:-2]
+FAILURES = [word for word in WORDS[2:] if word != "requests"]
 TAGS = [b"a.one", b"a.two", b"b"]
 SOURCES = 4
 PACE = 0.02  # seconds between two requests of a source
@@ -86,22 +86,29 @@ class Server(threading.Thread):
                     continue
                 data = data[end:]
                 self.take(stream, frame)
+        except LookupError:
+            self.notes.fail(f"a server got no value: {data!r:.200}")
         except OSError:
-            return
+            pass
         finally:
             stream.close()
 
     def take(self, stream, frame):
-        tag, packed, option = frame
-        entries = list(forward.pieces(packed))
+        try:
+            tag, packed, option = frame
+            entries = list(forward.pieces(packed))
+            name = option[b"chunk"]
+            is_whole = entries and option[b"size"] == len(entries)
+        except (forward.Short, LookupError, TypeError, ValueError):
+            self.notes.fail(f"a server got no frame: {frame!r:.200}")
+            return
         time.sleep(self.random.random() * 0.02)
         with self.notes.lock:
             strange = [piece for piece in entries if self.notes.tags.get(piece) != tag]
             self.notes.had.update(entries)
             self.notes.frames += 1
-        if strange or not entries or option[b"size"] != len(entries):
-            self.notes.fail(f"a server got {frame!r}")
-        name = option[b"chunk"]
+        if strange or not is_whole:
+            self.notes.fail(f"a server got {frame!r:.200}")
         stream.sendall(b"\x81\xa3ack" + forward.text(name))
 
 
@@ -195,7 +202,7 @@ class Source(threading.Thread):
             data = data[end:]
             chunk = told.get(b"ack") if isinstance(told, dict) else None
             if chunk not in here or len(told) != 1:
-                self.notes.fail(f"a source is told {told!r}")
+                self.notes.fail(f"a source is told {told!r:.200}")
                 continue
             here.remove(chunk)
             entries = self.owed.pop(chunk).entries

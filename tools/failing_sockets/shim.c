@@ -17,13 +17,12 @@
  * - socket: EMFILE. connect: ECONNREFUSED or EADDRNOTAVAIL, and nothing was begun.
  * - epoll_wait: EINTR, and no event is taken.
  *
- * No other descriptor is touched. The numbers behind it are drawn from FAILING_SEED, so that the nth draw is the same each
- * time; which thread draws it is not.
+ * Now and then a request for memory fails too; FAILING_MEMORY=N has the Nth one fail. No other descriptor is touched, and but
+ * for the Nth request for memory no call fails before the board says so. What fails is drawn from FAILING_SEED, so that the nth
+ * draw is the same each time; which thread draws it is not.
  *
  * FAILING_BOARD names a file of 4,096 bytes that the script makes: 64-bit words, of which the first one says whether calls
- * fail (the script sets it), and each other one counts calls, or a kind of failure.
- *
- * FAILING_MEMORY=N has the Nth request for memory fail, and no other one. */
+ * fail (the script sets it), and each other one counts calls, or a kind of failure. */
 #define _GNU_SOURCE
 #include <dlfcn.h>
 #include <errno.h>
@@ -53,7 +52,8 @@ enum {
     CONNECT = 8000,
     SOCKET = 4000,
     EPOLL = 2000,
-    THIN = 4096
+    THIN = 4096,
+    MEMORY = 20
 };
 
 #define MOST 4096
@@ -297,7 +297,7 @@ ssize_t writev(int fd, const struct iovec *from, int count) {
 /* Whether a request for memory is refused. */
 static int is_refused(void) {
     count(REQUESTS);
-    if (atomic_fetch_add(&requests, 1) + 1 != refused_request) return 0;
+    if (atomic_fetch_add(&requests, 1) + 1 != refused_request && !comes(MEMORY)) return 0;
     count(NO_MEMORY);
     errno = ENOMEM;
     return 1;

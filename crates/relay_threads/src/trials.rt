@@ -16,7 +16,7 @@ use fwd_workers::{
 };
 use rand_chacha::ChaCha20Rng;
 use rand_core::SeedableRng;
-use std::alloc::Global;
+use std::alloc::{AllocError, Global};
 use std::marker::Brand;
 use std::sync::Wait;
 use std::sync::ledger::{Blank, Ledger};
@@ -58,6 +58,23 @@ pub const CALM: Trial = Trial {
     wrong: None,
     stop: None,
 };
+
+/// What is seen of a worker: what it told, and what its servers got.
+#[derive(Drop)]
+pub struct Witness {
+    record: Record,
+    got: Got,
+}
+
+impl Witness {
+    /// Nothing. The only error is out of memory.
+    pub fn new(alloc: Global) -> Result<Witness, AllocError> {
+        Ok(Witness {
+            record: Record::new(alloc)?,
+            got: Got::new(),
+        })
+    }
+}
 
 /// A gate that notes what its worker tells, but for servers that cannot be had. It stops the worker
 /// at a place, and before it looks for a chunk where all are settled.
@@ -112,13 +129,11 @@ impl Trial {
         alloc: Global,
         out: &SharedOutput<A, S>,
         seat: S::Seat,
-        record: &Record,
-        got: &Got,
+        witness: &Witness,
     ) -> S::Seat
         ensures { S.parts result ≡ S.parts seat }
     {
-        let (Ok(login), Ok(shared)) = (login(alloc), record.share()) else {
-            record.note(rt, ", no worker");
+        let (Ok(login), Ok(record)) = (login(alloc), witness.record.share()) else {
             return seat;
         };
         let mut hub = FaultyHub {
@@ -126,11 +141,11 @@ impl Trial {
             refused: self.refused,
             wrong: self.wrong,
             gone: None,
-            got,
+            got: &witness.got,
         };
         let mut gate = Teller {
             alloc,
-            record: shared,
+            record,
             stop: self.stop,
             owed: self.chunks,
         };
@@ -139,64 +154,61 @@ impl Trial {
         let mut worker = Worker::new(alloc, 0, login, terms(self.window), rng);
         let (seat, ended) = worker.run(rt, out, seat, &mut hub, &mut gate, &mut clock, TURNS);
         if ended == Ended::TurnsSpent {
-            record.note(rt, ", turns spent");
+            witness.record.note(rt, ", turns spent");
         }
         seat
     }
 }
 
-/// What an output comes to by a trial, by two ledgers of one part each.
-fn closing_by<L: Ledger, M: Ledger, R: Wait>(
+/// What a trial came to.
+#[derive(Drop)]
+struct Tried {
+    closing: Closing,
+    witness: Witness,
+}
+
+/// A trial, by two ledgers of one part each.
+fn tried_by<L: Ledger, M: Ledger, R: Wait>(
     rt: &R,
     alloc: Global,
-    blanks: (Blank, Blank),
+    admitting: Blank,
+    working: Blank,
     trial: Trial,
-    record: &Record,
-    got: &Got,
-) -> Result<Closing>
-    requires admitting { (blanks.0.name ≡ L.name) × (blanks.0.parts ≡ L.parts) × (L.parts ≡ 1) }
-    requires working { (blanks.1.name ≡ M.name) × (blanks.1.parts ≡ M.parts) × (M.parts ≡ 1) }
-    ensures { IfOk result (λ closing. closing.accepted ≡ closing.settled + closing.left) }
+) -> Result<Tried>
+    requires admitting { (admitting.name ≡ L.name) × (admitting.parts ≡ L.parts) × (L.parts ≡ 1) }
+    requires working { (working.name ≡ M.name) × (working.parts ≡ M.parts) × (M.parts ≡ 1) }
+    ensures { IfOk result (λ tried.
+        tried.closing.accepted ≡ tried.closing.settled + tried.closing.left) }
 {
-    let (admitting, working) = blanks;
     let (accepted, admit_seat) = open::<L>(admitting);
     let (settled, work_seat) = open::<M>(working);
+    let witness = Witness::new(alloc)?;
     let state = output(alloc, 3, 100_000)?;
     let out = SharedOutput::new(Locked::new(state, accepted, settled));
     let (admit_seat, tickets) = admits(rt, alloc, &out, admit_seat, 1, trial.chunks);
     abandon_all(rt, &out, tickets);
     out.flush(rt, 0, FlushKind::All);
-    let work_seat = trial.work(rt, alloc, &out, work_seat, record, got);
+    let work_seat = trial.work(rt, alloc, &out, work_seat, &witness);
     let admit_seats = vec![in alloc; admit_seat]?;
     let work_seats = vec![in alloc; work_seat]?;
-    Ok(out.close(admit_seats, work_seats))
+    Ok(Tried {
+        closing: out.close(admit_seats, work_seats),
+        witness,
+    })
 }
 
-/// What an output comes to by a trial.
-fn closing_of<R: Wait>(
-    rt: &R,
-    alloc: Global,
-    trial: Trial,
-    record: &Record,
-    got: &Got,
-) -> Result<Closing>
-    ensures { IfOk result (λ closing. closing.accepted ≡ closing.settled + closing.left) }
+/// A trial.
+fn tried_out<R: Wait>(rt: &R, alloc: Global, trial: Trial) -> Result<Tried>
+    ensures { IfOk result (λ tried.
+        tried.closing.accepted ≡ tried.closing.settled + tried.closing.left) }
 {
-    closing_by::<Brand, Brand, R>(
-        rt,
-        alloc,
-        (Blank::new(1), Blank::new(1)),
-        trial,
-        record,
-        got,
-    )
+    tried_by::<Brand, Brand, R>(rt, alloc, Blank::new(1), Blank::new(1), trial)
 }
 
 /// Tells a trial by what its worker told, and by what the output came to.
 fn tell<R: Wait + Print>(rt: &R, alloc: Global, name: &str, trial: Trial) -> Result<()> {
-    let record = Record::new(alloc)?;
-    let closing = closing_of(rt, alloc, trial, &record, &Got::new())?;
-    let told = record.text(rt)?;
+    let Tried { closing, witness } = tried_out(rt, alloc, trial)?;
+    let told = witness.record.text(rt)?;
     print_closing(rt, &format!(in alloc; "{name}{told}")?, closing)
 }
 
@@ -215,10 +227,8 @@ fn tell_failing<R: Wait + Print>(rt: &R, alloc: Global, refused: u64) -> Result<
     let (mut accepted, mut settled, mut others) = (0u64, 0u64, 0u64);
     let mut frames = Vec::new(alloc);
     for call in 1..=CALLS {
-        let got = Got::new();
-        let record = Record::new(alloc)?;
-        let closing = closing_of(rt, alloc, failing(refused, call), &record, &got)?;
-        let (first, other) = got.counts();
+        let Tried { closing, witness } = tried_out(rt, alloc, failing(refused, call))?;
+        let (first, other) = witness.got.counts();
         accepted = accepted.saturating_add(closing.accepted);
         settled = settled.saturating_add(closing.settled);
         others = others.saturating_add(other);
