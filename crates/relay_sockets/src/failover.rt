@@ -2,9 +2,9 @@
 //! that closes each connection, and where a connection is not answered.
 
 use crate::course::Course;
-use crate::frame::MESSAGE;
+use crate::frame::{MESSAGE, TOLD};
 use crate::heard::Heard;
-use crate::peer::{connect, rest_len, round, send, serve_text, source, value_text};
+use crate::peer::{connect, rest_len, round, send, serve_text, source, value, value_text};
 use crate::server::{Server, Servers};
 use crate::site::{SEED, Site, put_relay, put_servers};
 use anyhow::{Result, anyhow};
@@ -27,7 +27,7 @@ const CONNECTS: u64 = 10_000;
 /// How long is waited until an idle worker has taken what there is, and far more, in milliseconds.
 const LOOKS: u64 = 1_000;
 
-/// How many requests are sent while a worker waits for its server.
+/// How many further requests are sent while a worker waits for its server.
 const ROUNDS: u32 = 3;
 
 /// How long they take at most, on a busy machine too, in milliseconds: less than the worker waits.
@@ -220,24 +220,26 @@ fn play_silent<R: Net<Listener = TcpListener, Stream = TcpStream> + Clock + Allo
     course.end()
 }
 
-/// A source sends requests, one behind the other, which a server acknowledges over this connection:
-/// whether it is told of all, and soon.
+/// A server acknowledges a source's first request over this connection, and those of another one,
+/// one behind the other: whether both are told of all, and soon.
 fn go_on<R: Net<Listener = TcpListener, Stream = TcpStream> + Clock + AllocGlobal>(
     rt: &R,
     site: Site,
+    source: &TcpStream,
     link: &TcpStream,
 ) -> Result<bool> {
     let start = Instant::now(rt)?;
-    let source = connect(rt, site.sources)?;
-    let mut is_told = true;
+    serve_text(rt.alloc(), link)?;
+    let mut is_told = value(rt.alloc(), source)?.as_slice() == TOLD;
+    let other = connect(rt, site.sources)?;
     for _ in 0..ROUNDS {
-        is_told = is_told && round(rt.alloc(), &source, link)?;
+        is_told = is_told && round(rt.alloc(), &other, link)?;
     }
     Ok(is_told && start.elapsed(rt)? < Duration::from_millis(SOON))
 }
 
-/// Two chunks, one for each worker: one worker waits with its chunk for its primary's answer, and the
-/// other one goes on with its own meanwhile.
+/// Two chunks, one for each worker: one waits with its chunk for its primary's answer, and the
+/// other one goes on meanwhile.
 fn play_beside<R: Net<Listener = TcpListener, Stream = TcpStream> + Clock + AllocGlobal>(
     rt: &R,
     site: Site,
@@ -249,10 +251,8 @@ fn play_beside<R: Net<Listener = TcpListener, Stream = TcpStream> + Clock + Allo
     send(&source, MESSAGE)?;
     let link = servers.second.accept(rt)?;
     let _slept = thread::sleep(rt, Duration::from_millis(LOOKS));
-    serve_text(rt.alloc(), &link)?;
     course.begin("Goes");
-    course.put_value("told", &source);
-    course.put_seen("beside", go_on(rt, site, &link));
+    course.put_seen("beside", go_on(rt, site, &source, &link));
     course.end()
 }
 

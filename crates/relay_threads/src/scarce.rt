@@ -1,7 +1,7 @@
-//! What is played where memory may be refused once: two threads that admit and one worker, and turns
-//! by pieces. By the argument `memory` the program plays nothing else, so that a script can refuse
-//! the first request for memory, the second, and so on. Each part has a second try, since memory may
-//! be refused where it begins.
+//! What is played where memory may be refused once: two threads that admit and one worker, and
+//! turns by pieces. By the argument `memory` the program plays nothing else, so that a script can
+//! refuse the first request for memory, the second, and so on. Each part has a second try, since
+//! memory may be refused where it begins.
 
 ghost use Rattle.std.specs.Prelude.{◌≡◌, ◌+◌, IfOk};
 

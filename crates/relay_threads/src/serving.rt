@@ -195,8 +195,8 @@ fn serve_first<R: Wait>(
     served
 }
 
-/// The first answer of turns by pieces that is not quiet. Each has to be `Failed` just where its own
-/// calls of the link failed.
+/// The first answer of turns by pieces that is not quiet. Each has to be `Failed` just where its
+/// own calls of the link failed.
 fn turns_until<R: Wait>(
     rt: &R,
     alloc: Global,
