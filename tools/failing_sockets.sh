@@ -26,7 +26,7 @@
 # With `memory` the Nth request for memory fails, for N from 1 on, until none is refused, in crates/relay_threads with the
 # argument `memory`: two threads admit 200 requests and one worker sends them, and a session has its turns by pieces over a
 # link. Each run ends: what is accepted is settled, and a session that ended for want of memory is followed by one whose chunk
-# is acknowledged. It takes some minutes.
+# is acknowledged. It takes about a minute.
 #
 # RELAY and RELAY_THREADS may name built programs. Where they do not, it proves and builds them.
 set -eu
