@@ -30,8 +30,9 @@ const LOOKS: u64 = 1_000;
 /// How many further requests are sent while a worker waits for its server.
 const ROUNDS: u32 = 3;
 
-/// How long they take at most, on a busy machine too, in milliseconds: less than the worker waits.
-const SOON: u64 = 3_000;
+/// How long all that takes at most, on a busy machine too, in milliseconds: less than the worker
+/// waits.
+const SOON: u64 = 4_000;
 
 /// How long a primary that could not be had waits at most, and far more, in milliseconds: its
 /// losses double the wait at each try.
@@ -221,21 +222,20 @@ fn play_silent<R: Net<Listener = TcpListener, Stream = TcpStream> + Clock + Allo
 }
 
 /// A server acknowledges a source's first request over this connection, and those of another one,
-/// one behind the other: whether both are told of all, and soon.
+/// one behind the other: whether both are told of all.
 fn go_on<R: Net<Listener = TcpListener, Stream = TcpStream> + Clock + AllocGlobal>(
     rt: &R,
     site: Site,
     source: &TcpStream,
     link: &TcpStream,
 ) -> Result<bool> {
-    let start = Instant::now(rt)?;
     serve_text(rt.alloc(), link)?;
     let mut is_told = value(rt.alloc(), source)?.as_slice() == TOLD;
     let other = connect(rt, site.sources)?;
     for _ in 0..ROUNDS {
         is_told = is_told && round(rt.alloc(), &other, link)?;
     }
-    Ok(is_told && start.elapsed(rt)? < Duration::from_millis(SOON))
+    Ok(is_told)
 }
 
 /// Two chunks, one for each worker: one waits with its chunk for its primary's answer, and the
@@ -247,12 +247,15 @@ fn play_beside<R: Net<Listener = TcpListener, Stream = TcpStream> + Clock + Allo
     course: &mut Course,
 ) -> Result<()> {
     let _crowd = crowd(rt, &servers.first)?;
+    let start = Instant::now(rt)?;
     let source = source(rt, site, MESSAGE)?;
     send(&source, MESSAGE)?;
     let link = servers.second.accept(rt)?;
     let _slept = thread::sleep(rt, Duration::from_millis(LOOKS));
     course.begin("Goes");
-    course.put_seen("beside", go_on(rt, site, &source, &link));
+    let is_told = go_on(rt, site, &source, &link)?;
+    let is_soon = start.elapsed(rt)? < Duration::from_millis(SOON);
+    course.put("beside", &(is_told && is_soon));
     course.end()
 }
 
