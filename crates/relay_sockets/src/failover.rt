@@ -2,9 +2,9 @@
 //! that closes each connection, and where a connection is not answered.
 
 use crate::course::Course;
-use crate::frame::MESSAGE;
+use crate::frame::{MESSAGE, TOLD};
 use crate::heard::Heard;
-use crate::peer::{rest_len, source, value_text};
+use crate::peer::{connect, rest_len, round, send, serve_text, source, value, value_text};
 use crate::server::{Server, Servers};
 use crate::site::{SEED, Site, put_relay, put_servers};
 use anyhow::{Result, anyhow};
@@ -12,13 +12,27 @@ use std::alloc::AllocError;
 use std::net::{Net, TcpListener, TcpStream};
 use std::rt::Clock;
 use std::thread;
-use std::time::Duration;
+use std::time::{Duration, Instant};
 
 /// How many connections a listener that accepts none takes at most, and some more.
 const CROWD: usize = 140;
 
 /// How long a connection that is not answered is waited for, in milliseconds.
 const PATIENCE: u64 = 300;
+
+/// How long a worker waits for a server that does not answer at most, and as long again for a busy
+/// machine, in milliseconds.
+const CONNECTS: u64 = 10_000;
+
+/// How long is waited until an idle worker has taken what there is, and far more, in milliseconds.
+const LOOKS: u64 = 1_000;
+
+/// How many further requests are sent while a worker waits for its server.
+const ROUNDS: u32 = 3;
+
+/// How long all that takes at most, on a busy machine too, in milliseconds: less than the worker
+/// waits.
+const SOON: u64 = 4_000;
 
 /// How long a primary that could not be had waits at most, and far more, in milliseconds: its
 /// losses double the wait at each try.
@@ -37,6 +51,8 @@ pub enum Failover {
     Parting,
     /// The primary does not answer.
     Silent,
+    /// One of two primaries does not answer, and there are two workers.
+    SilentTwo,
 }
 
 impl Failover {
@@ -48,6 +64,7 @@ impl Failover {
             Failover::Returning => "a primary that comes back",
             Failover::Parting => "a server that closes behind each acknowledgement",
             Failover::Silent => "a primary that does not answer",
+            Failover::SilentTwo => "a primary that does not answer beside a good one, two workers",
         }
     }
 
@@ -59,6 +76,7 @@ impl Failover {
             Failover::Returning => 23,
             Failover::Parting => 24,
             Failover::Silent => 25,
+            Failover::SilentTwo => 40,
         }
     }
 
@@ -68,13 +86,21 @@ impl Failover {
         match self {
             Failover::Closing | Failover::ClosingTwo => 200,
             Failover::Returning => 1,
-            Failover::Parting | Failover::Silent => 60_000,
+            Failover::Parting | Failover::Silent | Failover::SilentTwo => 60_000,
         }
     }
 
     /// How many workers there are.
     fn workers(self) -> u16 {
-        if self == Failover::ClosingTwo { 2 } else { 1 }
+        match self {
+            Failover::ClosingTwo | Failover::SilentTwo => 2,
+            _ => 1,
+        }
+    }
+
+    /// How many of the first two servers are primaries.
+    fn primaries(self) -> usize {
+        if self == Failover::SilentTwo { 2 } else { 1 }
     }
 
     /// Appends the settings of its relay. Each entry is alone in its chunk.
@@ -87,7 +113,7 @@ impl Failover {
             "[[output]]\nmatch = \"**\"\nflush_interval = 0\nchunk_limit = 2\n\
             ack_wait = 60000\nretry_wait = {retry_wait}\nworkers = {workers}\n"
         )?;
-        put_servers(text, &site.servers[..2], 1)
+        put_servers(text, &site.servers[..2], self.primaries())
     }
 
     /// What its source and servers do and see.
@@ -98,15 +124,17 @@ impl Failover {
         servers: &mut Servers,
         course: &mut Course,
     ) -> Result<()> {
-        if self == Failover::Silent {
-            return play_silent(rt, site, servers, course);
+        match self {
+            Failover::Silent => return play_silent(rt, site, servers, course),
+            Failover::SilentTwo => return play_beside(rt, site, servers, course),
+            _ => {}
         }
         let source = source(rt, site, MESSAGE)?;
         match self {
             Failover::Closing => play_closing(rt, &source, servers, course),
             Failover::ClosingTwo => play_once(rt, &source, servers, course),
             Failover::Returning => play_returning(rt, &source, servers, course),
-            Failover::Parting | Failover::Silent => play_parting(rt, &source, servers, course),
+            _ => play_parting(rt, &source, servers, course),
         }
     }
 
@@ -181,10 +209,53 @@ fn play_silent<R: Net<Listener = TcpListener, Stream = TcpStream> + Clock + Allo
     course: &mut Course,
 ) -> Result<()> {
     let _crowd = crowd(rt, &servers.first)?;
+    let start = Instant::now(rt)?;
     let source = source(rt, site, MESSAGE)?;
     course.begin("Waits");
     course.put_seen("standby", servers.second.serve(rt));
     course.put_seen("told", value_text(rt.alloc(), &source));
+    course.put(
+        "in_time",
+        &(start.elapsed(rt)? < Duration::from_millis(CONNECTS)),
+    );
+    course.end()
+}
+
+/// A server acknowledges a source's first request over this connection, and those of another one,
+/// one behind the other: whether both are told of all.
+fn go_on<R: Net<Listener = TcpListener, Stream = TcpStream> + Clock + AllocGlobal>(
+    rt: &R,
+    site: Site,
+    source: &TcpStream,
+    link: &TcpStream,
+) -> Result<bool> {
+    serve_text(rt.alloc(), link)?;
+    let mut is_told = value(rt.alloc(), source)?.as_slice() == TOLD;
+    let other = connect(rt, site.sources)?;
+    for _ in 0..ROUNDS {
+        is_told = is_told && round(rt.alloc(), &other, link)?;
+    }
+    Ok(is_told)
+}
+
+/// Two chunks, one for each worker: one waits with its chunk for its primary's answer, and the
+/// other one goes on meanwhile.
+fn play_beside<R: Net<Listener = TcpListener, Stream = TcpStream> + Clock + AllocGlobal>(
+    rt: &R,
+    site: Site,
+    servers: &Servers,
+    course: &mut Course,
+) -> Result<()> {
+    let _crowd = crowd(rt, &servers.first)?;
+    let start = Instant::now(rt)?;
+    let source = source(rt, site, MESSAGE)?;
+    send(&source, MESSAGE)?;
+    let link = servers.second.accept(rt)?;
+    let _slept = thread::sleep(rt, Duration::from_millis(LOOKS));
+    course.begin("Goes");
+    let is_told = go_on(rt, site, &source, &link)?;
+    let is_soon = start.elapsed(rt)? < Duration::from_millis(SOON);
+    course.put("beside", &(is_told && is_soon));
     course.end()
 }
 

@@ -71,12 +71,13 @@ pub static SCENES: [Scene; 16] = [
 ];
 
 /// Scenes of servers that are lost, and come back.
-pub static LOSSES: [Scene; 15] = [
+pub static LOSSES: [Scene; 16] = [
     Scene::Failover(Failover::Closing),
     Scene::Failover(Failover::ClosingTwo),
     Scene::Failover(Failover::Returning),
     Scene::Failover(Failover::Parting),
     Scene::Failover(Failover::Silent),
+    Scene::Failover(Failover::SilentTwo),
     Scene::Primaries(Primaries(Kind::BothClose, 1)),
     Scene::Primaries(Primaries(Kind::BothClose, 2)),
     Scene::Primaries(Primaries(Kind::ToStandby, 1)),
@@ -108,7 +109,7 @@ impl Scene {
             Scene::Standby => "a standby",
             Scene::Late => "a server that comes late",
             Scene::Liar => "a server that lies",
-            Scene::Torn => "a torn request",
+            Scene::Torn => "a torn request and a torn frame",
             Scene::Fault => "a fault behind a good request",
             Scene::Limits => "two sources at a time",
             Scene::Monitors => "sixteen monitors at a time",

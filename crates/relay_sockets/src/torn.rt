@@ -1,4 +1,5 @@
-//! A source closes in the middle of a request, while another goes on in pieces.
+//! A source closes in the middle of a request, while another goes on in pieces; and a server closes
+//! in the middle of a frame, and takes a second connection.
 
 use crate::course::Course;
 use crate::frame::MESSAGE;
@@ -6,6 +7,7 @@ use crate::peer::source;
 use crate::server::Server;
 use crate::site::Site;
 use anyhow::Result;
+use std::io::Read;
 use std::net::{Net, TcpListener, TcpStream};
 use std::rt::Clock;
 
@@ -16,6 +18,12 @@ fn second_source<R: Net<Listener = TcpListener, Stream = TcpStream>>(
 ) -> Result<TcpStream> {
     let _torn = source(rt, site, &MESSAGE[..7])?;
     source(rt, site, &MESSAGE[..5])
+}
+
+/// A server reads the front of a frame, and closes.
+fn tear(link: TcpStream) -> Result<()> {
+    let mut reader = &link;
+    Ok(reader.read_exact(&mut [0; 9])?)
 }
 
 /// Two sources and the server.
@@ -30,5 +38,9 @@ pub fn play<R: Net<Listener = TcpListener, Stream = TcpStream> + Clock>(
     let link = course.accept(rt, server)?;
     course.begin("Onward");
     course.put_round(&whole, &link);
+    course.send(&whole, MESSAGE);
+    course.put_seen("torn", tear(link));
+    let next = course.accept(rt, server)?;
+    course.put_round(&whole, &next);
     course.end()
 }

@@ -25,7 +25,7 @@ pub struct Day {
 }
 
 /// Two threads admit, each from its seat.
-fn admit_both<L: Ledger + Send + Sync, M: Ledger + Send + Sync, R: Threads + Wait + Sync>(
+pub fn admit_both<L: Ledger + Send + Sync, M: Ledger + Send + Sync, R: Threads + Wait + Sync>(
     rt: &R,
     alloc: Global,
     out: &SharedOutput<Ledgered<L>, Ledgered<M>>,

@@ -6,6 +6,7 @@ mod acts;
 mod batches;
 mod calls;
 mod day;
+mod faulty;
 mod gates;
 mod hand;
 mod life;
@@ -14,8 +15,10 @@ mod memory;
 mod mirror;
 mod played;
 mod record;
+mod scarce;
 mod seats;
 mod serving;
+mod trials;
 mod turns;
 mod watched;
 
@@ -119,11 +122,26 @@ fn tell_stories<R: Wait + Print>(rt: &R, alloc: Global) -> Result<()> {
     Ok(())
 }
 
+/// What turns by pieces come to over a link that fails at its call from 1 to 10.
+fn tell_failures<R: Wait + Print>(rt: &R, alloc: Global) -> Result<()> {
+    let mut all = Vec::new(alloc);
+    for call in 1..=10 {
+        all.push(serving::failed_at(rt, alloc, call)?)?;
+    }
+    println!(rt; "a link that fails at its call from 1 to 10: {all:?}")?;
+    Ok(())
+}
+
 fn main(rt: HostRuntime) -> Result<()> {
     let alloc = rt.alloc();
+    if scarce::is_asked(&rt)? {
+        return scarce::tell(&rt, alloc);
+    }
     tell_worker(&rt, alloc)?;
     tell_stories(&rt, alloc)?;
     lives::tell_all(&rt, alloc)?;
+    trials::tell_all(&rt, alloc)?;
+    tell_failures(&rt, alloc)?;
     let served = serving::served(&rt, alloc, 45)?;
     println!(rt; "a link that takes 45 bytes: {served:?}")?;
     let served = serving::served(&rt, alloc, 46)?;
@@ -138,5 +156,6 @@ fn main(rt: HostRuntime) -> Result<()> {
     tell_day(&rt, alloc, 1)?;
     tell_day(&rt, alloc, 8)?;
     tell_seats(&rt, alloc)?;
-    tell_gates(&rt, alloc)
+    tell_gates(&rt, alloc)?;
+    scarce::tell(&rt, alloc)
 }

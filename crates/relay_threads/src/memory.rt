@@ -56,13 +56,24 @@ impl Wire {
         self.taken.as_slice() == bytes
     }
 
-    /// The end of the first frame that is not acknowledged, if it is there whole.
-    fn frame_end(&self) -> Option<usize> {
-        let rest = self.taken.get(self.answered..)?;
+    /// How many bytes it took.
+    pub fn count(&self) -> usize {
+        self.taken.len()
+    }
+
+    /// The frame that begins behind so many bytes, if it is there whole.
+    pub fn frame_from(&self, from: usize) -> Option<&[u8]> {
+        let rest = self.taken.get(from..)?;
         match cut(rest, Limits::WIDEST) {
-            Cut::Whole(value, _) => self.answered.checked_add(value.bytes().len()),
+            Cut::Whole(value, _) => Some(value.bytes()),
             _ => None,
         }
+    }
+
+    /// The end of the first frame that is not acknowledged, if it is there whole.
+    fn frame_end(&self) -> Option<usize> {
+        let frame = self.frame_from(self.answered)?;
+        self.answered.checked_add(frame.len())
     }
 
     /// The acknowledgement of the frame that ends here.
@@ -78,7 +89,7 @@ impl Wire {
     }
 
     /// Gives the acknowledgement of the next frame, if that is there whole.
-    fn answer(&mut self, room: &mut [u8]) -> Read
+    pub fn answer(&mut self, room: &mut [u8]) -> Read
         ensures given { count_read (Ok result) ≤ length room.new }
         ensures calls { self.new.calls ≡ self.old.calls }
     {
@@ -93,7 +104,7 @@ impl Wire {
     }
 
     /// Takes of these bytes what it takes at once, if there is memory for it.
-    fn keep(&mut self, bytes: &[u8]) -> usize
+    pub fn keep(&mut self, bytes: &[u8]) -> usize
         ensures taken { result ≤ length bytes.now }
         ensures calls { self.new.calls ≡ self.old.calls }
     {

@@ -4,6 +4,7 @@ ghost use Rattle.std.specs.Prelude.{◌≡◌, ◌≤◌, ◌<◌, false, length
 ghost use Rattle.fwd_session.specs.Live.{live_room};
 
 use crate::batches::{ACK, MESSAGE, batch, drop_chunk, drop_session, login, output, terms};
+use crate::faulty::{Faulty, Got, Wrong};
 use crate::memory::{Wire, give};
 use anyhow::{Result, bail};
 use fwd_base::Bytes;
@@ -195,4 +196,52 @@ fn serve_first<R: Wait>(
     let served = first_answer(rt, alloc, &mut link, &mut session);
     drop_session(alloc, session);
     served
+}
+
+/// The first answer of turns by pieces that is not quiet. Each has to be `Failed` just where its
+/// own calls of the link failed.
+fn turns_until<R: Wait>(
+    rt: &R,
+    alloc: Global,
+    link: &mut Faulty<'_>,
+    session: &mut Session,
+) -> Result<Served> {
+    for _ in 0..MOST_TURNS {
+        if session.is_down() {
+            bail!("down");
+        }
+        let before = link.failed();
+        let served = serve_turn(rt, alloc, link, session);
+        if matches!(served, Served::Failed(_)) != (link.failed() > before) {
+            bail!("failed, and the link did not");
+        }
+        if !matches!(served, Served::Quiet) {
+            return Ok(served);
+        }
+    }
+    bail!("quiet")
+}
+
+/// The same with a session that is loaded with a Message's chunk.
+fn turns_over_faulty<R: Wait>(rt: &R, alloc: Global, wrong: Option<Wrong>) -> Result<Served> {
+    let mut state = closed_output(alloc)?;
+    let mut session = loaded_session(alloc, &mut state)?;
+    let got = Got::new();
+    let mut link = Faulty::new(alloc, wrong, &got);
+    let served = turns_until(rt, alloc, &mut link, &mut session);
+    drop_session(alloc, session);
+    served
+}
+
+/// What turns by pieces come to over a link that fails at its call of this number.
+pub fn failed_at<R: Wait>(rt: &R, alloc: Global, call: u64) -> Result<Served> {
+    turns_over_faulty(rt, alloc, Some(Wrong::Fails(call)))
+}
+
+/// What they come to over a good link, if there is memory to begin with.
+pub fn well<R: Wait>(rt: &R, alloc: Global) -> Option<Served> {
+    match turns_over_faulty(rt, alloc, None) {
+        Ok(served) => Some(served),
+        Err(_) => None,
+    }
 }

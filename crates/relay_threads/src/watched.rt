@@ -45,7 +45,7 @@ pub struct Watched {
 }
 
 /// What a place is called.
-fn place_name(place: Place) -> &'static str {
+pub fn place_name(place: Place) -> &'static str {
     match place {
         Place::BeforeTake => "before take",
         Place::BeforeLoad => "before load",
@@ -78,7 +78,7 @@ fn loss_text(alloc: Global, why: Loss) -> Result<String, AllocError> {
 }
 
 /// What a worker tells.
-fn news_text(alloc: Global, worker: u16, news: News) -> Result<String, AllocError> {
+pub fn news_text(alloc: Global, worker: u16, news: News) -> Result<String, AllocError> {
     match news {
         News::Settled { number, server } => {
             format!(in alloc; ", worker {worker} tells chunk {number} settled by server {server}")

@@ -1,0 +1,7 @@
+use Rattle.relay_threads.proofs.scarce.alone.Given as goal
+
+abbrev pub ghosts-alone_by-L-Ledger : goal.ghosts-alone_by-L-Ledger
+ghosts-alone_by-L-Ledger g a = record { name = a.admitting.name; parts = a.admitting.parts }
+
+abbrev pub ghosts-alone_by-M-Ledger : goal.ghosts-alone_by-M-Ledger
+ghosts-alone_by-M-Ledger g a = record { name = a.working.name; parts = a.working.parts }

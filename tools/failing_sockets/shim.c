@@ -1,0 +1,310 @@
+/* Calls of the C library that fail, or fall short, now and then (LD_PRELOAD): those on TCP sockets, and requests for memory.
+ * tools/failing_sockets.sh builds it and says how it is used.
+ *
+ * It does only what a kernel can do, as far as the program can tell.
+ *
+ * The program waits by edge-triggered epoll: it reads or writes on until EAGAIN, and then waits for an event. Where a socket
+ * is ready, and the shim says EAGAIN or moves fewer bytes than it could, no event would come for what is left, and the program
+ * would wait for ever by the shim's own fault. So behind both the shim has epoll look at the socket anew (EPOLL_CTL_MOD with the
+ * same interest): the event comes as it does where bytes, or room for bytes, come a moment later.
+ *
+ * - A short transfer moves one byte, or some. Over one connection in sixteen each transfer moves one.
+ * - EINTR moves nothing, and no event comes behind it: who is told so calls again.
+ * - ECONNRESET resets the connection first (a connect to AF_UNSPEC does), and the call is made then: its peer is told, and
+ *   what the program does with the socket behind that is answered by the kernel.
+ * - accept: EMFILE leaves the connection where it is, and no event comes for it, as the kernel does it. ECONNABORTED takes it
+ *   and resets it. EINTR leaves it.
+ * - socket: EMFILE. connect: ECONNREFUSED or EADDRNOTAVAIL, and nothing was begun.
+ * - epoll_wait: EINTR, and no event is taken.
+ *
+ * Now and then a request for memory fails too; FAILING_MEMORY=N has the Nth one fail. No other descriptor is touched, and but
+ * for the Nth request for memory no call fails before the board says so. What fails is drawn from FAILING_SEED, so that the nth
+ * draw is the same each time; which thread draws it is not.
+ *
+ * FAILING_BOARD names a file of 4,096 bytes that the script makes: 64-bit words, of which the first one says whether calls
+ * fail (the script sets it), and each other one counts calls, or a kind of failure. */
+#define _GNU_SOURCE
+#include <dlfcn.h>
+#include <errno.h>
+#include <fcntl.h>
+#include <netinet/in.h>
+#include <stdatomic.h>
+#include <stdint.h>
+#include <stdlib.h>
+#include <string.h>
+#include <sys/epoll.h>
+#include <sys/mman.h>
+#include <sys/socket.h>
+#include <sys/uio.h>
+#include <unistd.h>
+
+/* Words of the board; the script has their names in this order. */
+enum word { ON, CALLS, SHORT_READ, SHORT_WRITE, WAIT_READ, WAIT_WRITE, CUT_READ, CUT_WRITE, RESET_READ, RESET_WRITE, REFUSED,
+    NO_PORT, NO_SOCKET, NO_ACCEPT, ABORTED, CUT_ACCEPT, CUT_WAIT, REQUESTS, NO_MEMORY, WORDS };
+
+/* How often of 65,536 draws. */
+enum {
+    SHORT = 12000,
+    WAIT = 3000,
+    CUT = 1000,
+    RESET = 150,
+    ACCEPT = 16000,
+    CONNECT = 8000,
+    SOCKET = 4000,
+    EPOLL = 2000,
+    THIN = 4096,
+    MEMORY = 20
+};
+
+#define MOST 4096
+
+/* What is known of a descriptor. */
+static struct {
+    atomic_int is_stream, is_thin, poll;
+    struct epoll_event event;
+} known[MOST];
+
+static _Atomic uint64_t none[WORDS];
+static _Atomic uint64_t *board = none;
+static _Atomic uint64_t draws;
+static uint64_t seed;
+static _Atomic uint64_t requests;
+static uint64_t refused_request;
+
+#define REAL(name) \
+    static __typeof__(name) *real; \
+    if (!real) real = (__typeof__(name) *)dlsym(RTLD_NEXT, #name)
+
+__attribute__((constructor)) static void begin(void) {
+    const char *text = getenv("FAILING_SEED"), *path = getenv("FAILING_BOARD"), *request = getenv("FAILING_MEMORY");
+    seed = text ? strtoull(text, 0, 10) : 1;
+    for (int fd = 0; fd < MOST; fd++) known[fd].poll = -1;
+    int file = path ? open(path, O_RDWR) : -1;
+    if (file >= 0) {
+        void *at = mmap(0, 4096, PROT_READ | PROT_WRITE, MAP_SHARED, file, 0);
+        if (at != MAP_FAILED) board = at;
+        close(file);
+    }
+    refused_request = request ? strtoull(request, 0, 10) : 0;
+    atomic_store(&requests, 0);
+}
+
+static void count(enum word word) { atomic_fetch_add(&board[word], 1); }
+
+/* The next number (splitmix64). */
+static uint64_t draw(void) {
+    uint64_t x = seed * 0xd1342543de82ef95u + (atomic_fetch_add(&draws, 1) + 1) * 0x9e3779b97f4a7c15u;
+    x = (x ^ (x >> 30)) * 0xbf58476d1ce4e5b9u;
+    x = (x ^ (x >> 27)) * 0x94d049bb133111ebu;
+    return x ^ (x >> 31);
+}
+
+/* Whether something comes that comes so often of 65,536 draws. */
+static int comes(unsigned often) { return atomic_load(&board[ON]) && (draw() & 65535) < often; }
+
+static int is_stream(int fd) { return fd >= 0 && fd < MOST && atomic_load(&known[fd].is_stream); }
+
+static void know(int fd) {
+    if (fd < 0 || fd >= MOST) return;
+    atomic_store(&known[fd].poll, -1);
+    atomic_store(&known[fd].is_thin, comes(THIN));
+    atomic_store(&known[fd].is_stream, 1);
+}
+
+static int fail(int why, enum word word) {
+    count(word);
+    errno = why;
+    return -1;
+}
+
+int epoll_ctl(int poll, int op, int fd, struct epoll_event *event) {
+    REAL(epoll_ctl);
+    if (is_stream(fd)) {
+        if (op == EPOLL_CTL_DEL) {
+            atomic_store(&known[fd].poll, -1);
+        } else {
+            known[fd].event = *event;
+            atomic_store(&known[fd].poll, poll);
+        }
+    }
+    return real(poll, op, fd, event);
+}
+
+/* Epoll looks anew whether a socket is ready. */
+static void look_again(int fd) {
+    REAL(epoll_ctl);
+    int poll = atomic_load(&known[fd].poll), was = errno;
+    struct epoll_event event = known[fd].event;
+    if (poll >= 0) real(poll, EPOLL_CTL_MOD, fd, &event);
+    errno = was;
+}
+
+int epoll_wait(int poll, struct epoll_event *events, int most, int longest) {
+    REAL(epoll_wait);
+    if (comes(EPOLL)) return fail(EINTR, CUT_WAIT);
+    return real(poll, events, most, longest);
+}
+
+int socket(int domain, int type, int protocol) {
+    REAL(socket);
+    int is_tcp = (domain == AF_INET || domain == AF_INET6) && (type & 15) == SOCK_STREAM;
+    if (is_tcp && comes(SOCKET)) return fail(EMFILE, NO_SOCKET);
+    int fd = real(domain, type, protocol);
+    if (is_tcp) know(fd);
+    return fd;
+}
+
+int connect(int fd, const struct sockaddr *to, socklen_t length) {
+    REAL(connect);
+    if (is_stream(fd) && comes(CONNECT)) return draw() & 1 ? fail(ECONNREFUSED, REFUSED) : fail(EADDRNOTAVAIL, NO_PORT);
+    return real(fd, to, length);
+}
+
+/* A reset instead of a close. */
+static void reset(int fd) {
+    REAL(connect);
+    struct sockaddr nobody = {.sa_family = AF_UNSPEC};
+    real(fd, &nobody, sizeof nobody);
+}
+
+int accept4(int fd, struct sockaddr *from, socklen_t *length, int flags) {
+    REAL(accept4);
+    if (is_stream(fd) && comes(ACCEPT)) {
+        switch (draw() & 3) {
+        case 0: {
+            int taken = real(fd, 0, 0, flags);
+            if (taken < 0) return taken;
+            reset(taken);
+            close(taken);
+            return fail(ECONNABORTED, ABORTED);
+        }
+        case 1: return fail(EINTR, CUT_ACCEPT);
+        default: return fail(EMFILE, NO_ACCEPT);
+        }
+    }
+    int taken = real(fd, from, length, flags);
+    know(taken);
+    return taken;
+}
+
+int close(int fd) {
+    REAL(close);
+    if (is_stream(fd)) {
+        atomic_store(&known[fd].is_stream, 0);
+        atomic_store(&known[fd].poll, -1);
+    }
+    return real(fd);
+}
+
+/* How many bytes a transfer moves of so many; where it moves none, 0, and errno says why. */
+static size_t most_of(int fd, size_t length, int is_write) {
+    count(CALLS);
+    if (comes(RESET)) {
+        count(is_write ? RESET_WRITE : RESET_READ);
+        reset(fd);
+        return length;
+    }
+    if (comes(WAIT)) {
+        fail(EAGAIN, is_write ? WAIT_WRITE : WAIT_READ);
+        look_again(fd);
+        return 0;
+    }
+    if (comes(CUT)) {
+        fail(EINTR, is_write ? CUT_WRITE : CUT_READ);
+        return 0;
+    }
+    int is_thin = atomic_load(&board[ON]) && atomic_load(&known[fd].is_thin);
+    if (length < 2 || (!is_thin && !comes(SHORT))) return length;
+    size_t most = is_thin || draw() & 1 ? 1 : 1 + draw() % (length - 1);
+    count(is_write ? SHORT_WRITE : SHORT_READ);
+    return most;
+}
+
+/* What a transfer came to that was to move so many bytes and moved at most so many. */
+static ssize_t moved(int fd, size_t most, size_t length, ssize_t result) {
+    if (most < length && result > 0) look_again(fd);
+    return result;
+}
+
+ssize_t recv(int fd, void *to, size_t length, int flags) {
+    REAL(recv);
+    if (!is_stream(fd) || !length || flags & MSG_PEEK) return real(fd, to, length, flags);
+    size_t most = most_of(fd, length, 0);
+    return most ? moved(fd, most, length, real(fd, to, most, flags)) : -1;
+}
+
+ssize_t read(int fd, void *to, size_t length) {
+    REAL(read);
+    if (!is_stream(fd) || !length) return real(fd, to, length);
+    size_t most = most_of(fd, length, 0);
+    return most ? moved(fd, most, length, real(fd, to, most)) : -1;
+}
+
+ssize_t send(int fd, const void *from, size_t length, int flags) {
+    REAL(send);
+    if (!is_stream(fd) || !length) return real(fd, from, length, flags);
+    size_t most = most_of(fd, length, 1);
+    return most ? moved(fd, most, length, real(fd, from, most, flags)) : -1;
+}
+
+ssize_t write(int fd, const void *from, size_t length) {
+    REAL(write);
+    if (!is_stream(fd) || !length) return real(fd, from, length);
+    size_t most = most_of(fd, length, 1);
+    return most ? moved(fd, most, length, real(fd, from, most)) : -1;
+}
+
+/* The first so many bytes of these pieces: how many pieces they are. */
+static size_t front(const struct iovec *pieces, size_t count, size_t most, struct iovec *to) {
+    size_t at = 0;
+    for (; at < count && most; at++) {
+        to[at] = pieces[at];
+        if (to[at].iov_len > most) to[at].iov_len = most;
+        most -= to[at].iov_len;
+    }
+    return at;
+}
+
+static size_t length_of(const struct iovec *pieces, size_t count) {
+    size_t length = 0;
+    for (size_t at = 0; at < count; at++) length += pieces[at].iov_len;
+    return length;
+}
+
+ssize_t sendmsg(int fd, const struct msghdr *message, int flags) {
+    REAL(sendmsg);
+    struct iovec pieces[64];
+    size_t length = length_of(message->msg_iov, message->msg_iovlen);
+    if (!is_stream(fd) || !length || message->msg_iovlen > 64) return real(fd, message, flags);
+    size_t most = most_of(fd, length, 1);
+    if (!most) return -1;
+    struct msghdr part = *message;
+    part.msg_iovlen = front(message->msg_iov, message->msg_iovlen, most, pieces);
+    part.msg_iov = pieces;
+    return moved(fd, most, length, real(fd, &part, flags));
+}
+
+ssize_t writev(int fd, const struct iovec *from, int count) {
+    REAL(writev);
+    struct iovec pieces[64];
+    size_t length = count > 0 ? length_of(from, count) : 0;
+    if (!is_stream(fd) || !length || count > 64) return real(fd, from, count);
+    size_t most = most_of(fd, length, 1);
+    if (!most) return -1;
+    return moved(fd, most, length, real(fd, pieces, (int)front(from, count, most, pieces)));
+}
+
+/* Whether a request for memory is refused. */
+static int is_refused(void) {
+    count(REQUESTS);
+    if (atomic_fetch_add(&requests, 1) + 1 != refused_request && !comes(MEMORY)) return 0;
+    count(NO_MEMORY);
+    errno = ENOMEM;
+    return 1;
+}
+
+extern void *__libc_malloc(size_t), *__libc_realloc(void *, size_t);
+
+void *malloc(size_t size) { return is_refused() ? 0 : __libc_malloc(size); }
+
+void *realloc(void *old, size_t size) { return is_refused() ? 0 : __libc_realloc(old, size); }
