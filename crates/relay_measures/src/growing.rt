@@ -57,6 +57,9 @@ macro_rules! again {
     };
 }
 
+pub(crate) use again;
+pub(crate) use made;
+
 const LIMITS: Limits = Limits {
     bytes: 16_777_216,
     depth: 64,

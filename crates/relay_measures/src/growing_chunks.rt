@@ -2,7 +2,7 @@
 
 ghost use Rattle.std.specs.Prelude.{◌≡◌, []};
 
-use crate::growing::login;
+use crate::growing::{again, login, made};
 use crate::outputs::{drop_chunk, drop_session};
 use crate::requests::batch_of;
 use anyhow::{Context, Result, bail};
@@ -15,34 +15,6 @@ use fwd_session::{AckTerms, LoadFailed, OwnedSalt, Session, SessionHeard};
 use std::alloc::Global;
 use std::rt::Runtime;
 use std::sync::Arc;
-
-/// What a call gives, at the second try where the first one was refused memory, which is printed.
-/// So is where the value that is read off before and after a refusal is another one.
-macro_rules! made {
-    ($rt:expr, $name:literal, $value:expr, $call:expr) => {{
-        let before = $value;
-        match $call {
-            Ok(given) => given,
-            Err(_) => {
-                if $value != before {
-                    println!($rt; "{}: changed", $name)?;
-                }
-                println!($rt; "{}: memory", $name)?;
-                $call?
-            }
-        }
-    }};
-}
-
-/// The same of a call that is none of the list.
-macro_rules! again {
-    ($call:expr) => {
-        match $call {
-            Ok(given) => given,
-            Err(_) => $call?,
-        }
-    };
-}
 
 /// Two entries of three bytes fit a chunk.
 const LIMITS: BufferLimits = BufferLimits {
@@ -159,6 +131,7 @@ fn call_heard<R: Print + AllocGlobal>(rt: &R, session: &mut Session, bytes: &[u8
 
 /// A session: HELO and PONG, a chunk, and its acknowledgement in two pieces.
 fn call_talk<R: Print + AllocGlobal>(rt: &R, session: &mut Session) -> Result<()> {
+    println!(rt; "session up: {} bytes wait", session.waiting())?;
     call_heard(rt, session, HELO)?;
     session.wrote(session.waiting() as usize);
     call_heard(rt, session, PONG)?;
@@ -193,7 +166,6 @@ fn call_session<R: Print + AllocGlobal>(rt: &R) -> Result<()> {
     );
     let told = call_talk(rt, &mut session);
     drop_session(rt.alloc(), session);
-    println!(rt; "session up: done")?;
     told
 }
 
