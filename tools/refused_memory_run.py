@@ -13,7 +13,8 @@ traffic, started again where it ends with 4 at its start. Judged is:
 
 - no request is acknowledged before the server has all its entries, and each is once the sources sent nothing new;
 - what the server gets are entries as they were sent, under their tag, and chunks that count them;
-- the relay goes on to the end, and says no other lines than docs/FORMATS.md has for refused memory;
+- the relay goes on to the end, answers or closes each connection, keeps no file open of those that it closed, and says no
+  other lines than docs/FORMATS.md has for refused memory;
 - on each page of the monitor accepted = settled + held, the tags' counts make up the output's, and nothing counted is lost;
   in the end nothing is held, and no more is settled than came to the server.
 
@@ -38,8 +39,9 @@ sys.path.insert(0, str(pathlib.Path(__file__).resolve().parent / "refused_memory
 from refusing import Refusals, build, environment
 
 SOURCES = 4
+WORKERS = 2
 UNDER_WAY = 8  # requests of a source that are not acknowledged yet
-SILENCE = 10  # seconds without an acknowledgement, after which a source connects anew
+SILENCE = 15  # seconds without an acknowledgement, after which a source connects anew
 KEY = "a secret of both sides"
 USER, PASSWORD = "alice", "a password of hers"
 START_TEXTS = re.compile(r"memory|listen: [0-9.:]+|start: (poll|seed|thread)")
@@ -57,7 +59,7 @@ listen = "127.0.0.1:{listen}"
 monitor = "127.0.0.1:{monitor}"
 {relay_key}[[output]]
 match = "**"
-workers = 2
+workers = {workers}
 window = {window}
 chunk_limit = 2000
 flush_interval = 10
@@ -275,7 +277,7 @@ class Site:
         secret = f'shared_key = "{KEY}"\n'
         parts = {"relay_key": secret + user, "output_key": secret} if key else {"relay_key": "", "output_key": ""}
         ports = {"listen": self.listen, "monitor": self.monitor, "server": self.server.port}
-        self.path.write_text(SETTINGS.format(window=3 if key else 1, **parts, **ports))
+        self.path.write_text(SETTINGS.format(workers=WORKERS, window=3 if key else 1, **parts, **ports))
         self.counts, self.unanswered = (0, 0, 0), 0
         self.sources, self.lines = [], {}
 
@@ -351,8 +353,13 @@ class Site:
 
     # -- traffic
 
+    def files(self):
+        """How many files the relay has open."""
+        return len(list(pathlib.Path(f"/proc/{self.child.pid}/fd").iterdir()))
+
     def run(self, seconds, one_in, seed, started):
         ends = self.start(one_in, seed)
+        files = self.files()
         self.sources = [Source(number, self) for number in range(SOURCES)]
         for source in self.sources:
             source.start()
@@ -365,12 +372,12 @@ class Site:
                 said += 60
                 self.say(started)
         self.stopping.set()
-        self.finish()
+        self.finish(files + WORKERS)
         self.say(started)
         print(f"  ends at its start {ends}, pages not given {self.unanswered}, lines {self.lines}", flush=True)
 
-    def finish(self):
-        """Everything is acknowledged, and then nothing is held."""
+    def finish(self, files):
+        """Everything is acknowledged, then nothing is held, and no more files are open than the workers' links need."""
         for source in self.sources:
             source.join(timeout=120)
         waiting = sum(len(source.waiting) for source in self.sources)
@@ -386,7 +393,14 @@ class Site:
         self.verdict.judge(len(self.server.had) <= settled <= self.server.came, f"settled {settled}")
         asked = sum(source.told for source in self.sources)
         self.verdict.judge(asked == sum(source.made for source in self.sources) > 0, "requests made and told")
-        self.verdict.judge(self.child.poll() is None, f"the relay ended: {self.child.returncode}")
+        silences = sum(source.silences for source in self.sources)
+        self.verdict.judge(silences == 0, f"{silences} connections were silent for {SILENCE} s")
+        if self.verdict.judge(self.child.poll() is None, f"the relay ended: {self.child.returncode}"):
+            for _ in range(50):
+                if self.files() <= files:
+                    break
+                time.sleep(0.1)
+            self.verdict.judge(self.files() <= files, f"{self.files()} files are open, not {files}")
         self.verdict.judge(self.refusals.count() > 0, "no memory was refused")
         self.child.kill()
         self.child.wait()
