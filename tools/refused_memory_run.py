@@ -49,7 +49,7 @@ STAMP = r"\d{4}-\d\d-\d\dT\d\d:\d\d:\d\d\.\d{3}Z "
 PEER = r"127\.0\.0\.1:\d+"
 LINES = re.compile(
     STAMP
-    + rf"(listening: (sources|monitors) at {PEER}|source closed: {PEER} Memory|server lost: output 0 {PEER} Memory"
+    + rf"(listening: (sources|monitors) at {PEER}|source closed: {PEER} Memory|server lost: output 0 {PEER} (Memory|Connect)"
     + rf"|server back: output 0 {PEER}|server changed: output 0 worker \d+ {PEER}"
     + rf"|memory: (source {PEER}|monitor|output 0|news of workers)|[a-z ]+: \d+ left out)"
 )
