@@ -13,8 +13,8 @@ traffic, started again where it ends with 4 at its start. Judged is:
 
 - no request is acknowledged before the server has all its entries, and each is once the sources sent nothing new;
 - what the server gets are entries as they were sent, under their tag, and chunks that count them;
-- the relay goes on to the end, answers or closes each connection, keeps no file open of those that it closed, and says no
-  other lines than docs/FORMATS.md has for refused memory;
+- the relay goes on to the end, acknowledges a request within three seconds or closes its connection, keeps no file open of
+  those that it closed, and says no other lines than docs/FORMATS.md has for refused memory;
 - on each page of the monitor accepted = settled + held, the tags' counts make up the output's, and nothing counted is lost;
   in the end nothing is held, and no more is settled than came to the server.
 
@@ -41,6 +41,7 @@ from refusing import Refusals, build, environment
 SOURCES = 4
 WORKERS = 2
 UNDER_WAY = 8  # requests of a source that are not acknowledged yet
+LONGEST = 3  # seconds that a request may wait for its acknowledgement on a connection that stands
 SILENCE = 15  # seconds without an acknowledgement, after which a source connects anew
 KEY = "a secret of both sides"
 USER, PASSWORD = "alice", "a password of hers"
@@ -214,8 +215,8 @@ class Source(threading.Thread):
     def __init__(self, number, site):
         super().__init__(daemon=True)
         self.number, self.site, self.draw = number, site, random.Random(number)
-        self.waiting = {}  # by its name, a request's bytes and the numbers of its entries
-        self.made = self.told = self.connections = self.silences = 0
+        self.waiting = {}  # by its name, a request's bytes, the numbers of its entries, and when it was sent last
+        self.made = self.told = self.connections = self.silences = self.longest = 0
 
     def run(self):
         while not self.is_done():
@@ -234,11 +235,11 @@ class Source(threading.Thread):
     def serve(self, stream):
         if self.site.key and not log_in(stream):
             return self.site.verdict.wrong("a PONG that is not by the key")
-        for bytes_, _ in list(self.waiting.values()):
-            stream.link.sendall(bytes_)
+        for name in list(self.waiting):
+            self.send(stream, name)
         while not self.is_done():
             while len(self.waiting) < UNDER_WAY and not self.site.stopping.is_set():
-                stream.link.sendall(self.new_request())
+                self.send(stream, self.new_request())
             if self.waiting:
                 self.hear(stream.value())
 
@@ -248,16 +249,23 @@ class Source(threading.Thread):
         numbers = range(first, first + 5 * self.draw.choice([1, 1, 2, 3, 8]), 5)
         name = f"{self.number}-{self.made}"
         self.made += 1
-        self.waiting[name] = request(numbers, name, self.draw), numbers
-        return self.waiting[name][0]
+        self.waiting[name] = request(numbers, name, self.draw), numbers, 0
+        return name
+
+    def send(self, stream, name):
+        bytes_, numbers, _ = self.waiting[name]
+        self.waiting[name] = bytes_, numbers, time.monotonic()
+        stream.link.sendall(bytes_)
 
     def hear(self, value):
         known = self.waiting.pop(value.get("ack"), None) if isinstance(value, dict) else None
         if known is None:
             return self.site.verdict.wrong(f"an answer {value!r} to source {self.number}")
+        _, numbers, sent = known
         self.told += 1
+        self.longest = max(self.longest, time.monotonic() - sent)
         with self.site.server.lock:
-            missing = [n for n in known[1] if n not in self.site.server.had]
+            missing = [n for n in numbers if n not in self.site.server.had]
         if missing:
             self.site.verdict.wrong(f"{value} came before the server had {missing}")
 
@@ -395,6 +403,8 @@ class Site:
         self.verdict.judge(asked == sum(source.made for source in self.sources) > 0, "requests made and told")
         silences = sum(source.silences for source in self.sources)
         self.verdict.judge(silences == 0, f"{silences} connections were silent for {SILENCE} s")
+        longest = max(source.longest for source in self.sources)
+        self.verdict.judge(longest < LONGEST, f"a request waited {longest:.1f} s")
         if self.verdict.judge(self.child.poll() is None, f"the relay ended: {self.child.returncode}"):
             for _ in range(50):
                 if self.files() <= files:
@@ -409,11 +419,12 @@ class Site:
         told = sum(source.told for source in self.sources)
         connections = sum(source.connections for source in self.sources)
         silences = sum(source.silences for source in self.sources)
+        longest = max(source.longest for source in self.sources)
         seconds = int(time.monotonic() - started)
         print(
             f"{seconds} s, {'a key' if self.key else 'no key'}: refused {self.refusals.count()}, requests acknowledged {told}, "
             f"entries at the server {len(self.server.had)} in {self.server.came}, accepted {self.counts[0]}, "
-            f"settled {self.counts[1]}, connections of sources {connections}, silent {silences}",
+            f"settled {self.counts[1]}, connections of sources {connections}, silent {silences}, longest wait {longest:.1f} s",
             flush=True,
         )
 
