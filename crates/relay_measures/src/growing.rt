@@ -23,7 +23,7 @@ use fwd_modes::{
 use fwd_monitor::{Reply, answer, page};
 use fwd_msgpack::{Cut, Head, Limits, Value, cut, write_head};
 use fwd_script::{print_answer, read_config, read_event};
-use fwd_settings::read_settings;
+use fwd_settings::{Settings, read_settings};
 use fwd_source::{Piece, Source};
 use std::alloc::{AllocError, Global};
 use std::rt::Runtime;
@@ -82,9 +82,6 @@ const PING: &[u8] = b"\x96\xa4PING\xa5brown\xaaThe quick \xd9\x80\
 /// The request that asks for an acknowledgement with the text `x`.
 const ASKING: &[u8] = b"\x94\xa1a\x01\x80\x81\xa5chunk\xa1x";
 
-/// The kept entry `[1, {}]`.
-const ENTRY: &[u8] = b"\x92\x01\x80";
-
 /// Settings of one output.
 const SETTINGS: &[u8] =
     b"[[output]]\nmatch = \"a.*\"\n[[output.server]]\naddress = \"127.0.0.1:1\"\n";
@@ -117,7 +114,7 @@ fn call_frames<R: Print + AllocGlobal>(rt: &R) -> Result<()> {
         rt,
         "write_chunk",
         0,
-        write_chunk(alloc, b"a", ENTRY, 1, &name)
+        write_chunk(alloc, b"a", b"\x92\x01\x80", 1, &name)
     );
     println!(rt; "write_chunk: {}", Hex(&frame))?;
     let ack = made!(rt, "write_ack", 0, write_ack(alloc, b"\xa1x"));
@@ -261,10 +258,14 @@ fn call_source<R: Print + AllocGlobal>(rt: &R) -> Result<()> {
     call_answers(rt, &mut source)
 }
 
+/// A pattern of two words, the first with two spellings.
+fn pattern(alloc: Global) -> Result<Pattern, AllocError> {
+    Pattern::read(alloc, "{a,b}.c x").map_err(|_| AllocError)
+}
+
 /// Patterns and servers.
 fn call_patterns<R: Print + AllocGlobal>(rt: &R) -> Result<()> {
-    let read = || Pattern::read(rt.alloc(), "{a,b}.c x").map_err(|_| AllocError);
-    let pattern = made!(rt, "pattern read", 0, read());
+    let pattern = made!(rt, "pattern read", 0, pattern(rt.alloc()));
     println!(rt;
         "pattern read: {} {}",
         pattern.matches(b"b.c"),
@@ -312,10 +313,14 @@ fn call_monitor<R: Print + AllocGlobal>(rt: &R) -> Result<()> {
     Ok(())
 }
 
+/// The settings.
+fn settings(alloc: Global) -> Result<Settings, AllocError> {
+    read_settings(alloc, SETTINGS).map_err(|_| AllocError)
+}
+
 /// Settings, and the lines of scripts.
 fn call_script<R: Print + AllocGlobal>(rt: &R) -> Result<()> {
-    let read = || read_settings(rt.alloc(), SETTINGS).map_err(|_| AllocError);
-    let settings = made!(rt, "read_settings", 0, read());
+    let settings = made!(rt, "read_settings", 0, settings(rt.alloc()));
     println!(rt; "read_settings: {} outputs", settings.outputs.len())?;
     let event = made!(
         rt,

@@ -79,7 +79,10 @@ fn carried(alloc: Global) -> Result<Carried> {
     let mut buffer = Buffer::new(alloc, LIMITS, [0; 6], 0);
     buffer.admit(alloc, ORIGIN, &batch, 0)?;
     buffer.flush(0, FlushKind::All);
-    buffer.take(alloc, 0, 0)?.context("no chunk")
+    match buffer.take(alloc, 0, 0)? {
+        None => bail!("no chunk"),
+        Some(chunk) => Ok(chunk),
+    }
 }
 
 /// Loads a chunk: it comes back where it is not loaded.
@@ -169,15 +172,25 @@ fn call_session<R: Print + AllocGlobal>(rt: &R) -> Result<()> {
     told
 }
 
-/// A request without entries is entered, once there is room for it.
-fn enter(alloc: Global, book: &mut Book, batch: &Batch) -> bool
+/// A book that a request without entries is entered in.
+fn entered(alloc: Global, batch: &Batch) -> Option<Book>
     requires { batch.now.entries ≡ [] }
 {
-    if book.holds(ORIGIN) || book.prepare(batch).is_err() {
-        return false;
+    let mut book = Book::new(alloc, [0; 6], 0);
+    if book.prepare(batch).is_err() {
+        return None;
     }
     book.enter(ORIGIN, Vec::new(alloc));
-    true
+    Some(book)
+}
+
+/// The receipts of a book that holds a request which is due.
+fn call_receipts<R: Print + AllocGlobal>(rt: &R, book: &Book) -> Result<()> {
+    let due = made!(rt, "book due", 0, book.due(rt.alloc(), 1));
+    println!(rt; "book due: {}", due.len())?;
+    let receipts = made!(rt, "book gather", 0, book.gather(rt.alloc(), &[ORIGIN]));
+    println!(rt; "book gather: {}", receipts.len())?;
+    Ok(())
 }
 
 /// A book: the room for a request, and its receipt.
@@ -188,12 +201,14 @@ fn call_book<R: Print + AllocGlobal>(rt: &R) -> Result<()> {
     }
     let mut book = Book::new(rt.alloc(), [0; 6], 0);
     made!(rt, "book prepare", book.holds(ORIGIN), book.prepare(&batch));
-    println!(rt; "book prepare: {}", enter(rt.alloc(), &mut book, &batch))?;
-    let due = made!(rt, "book due", 0, book.due(rt.alloc(), 1));
-    println!(rt; "book due: {}", due.len())?;
-    let receipts = made!(rt, "book gather", 0, book.gather(rt.alloc(), &[ORIGIN]));
-    println!(rt; "book gather: {}", receipts.len())?;
-    Ok(())
+    println!(rt; "book prepare: {}", book.holds(ORIGIN))?;
+    match entered(rt.alloc(), &batch) {
+        Some(book) => call_receipts(rt, &book),
+        None => match entered(rt.alloc(), &batch) {
+            Some(book) => call_receipts(rt, &book),
+            None => bail!("no room"),
+        },
+    }
 }
 
 /// Makes each call.

@@ -53,7 +53,7 @@ struct Tally {
 
 /// A place in the bytes, if they have any.
 fn place(rng: &mut ChaCha20Rng, bytes: &Vec<u8>) -> usize {
-    below(rng, bytes.len() as u32) as usize
+    below(rng, u32::try_from(bytes.len()).unwrap_or(0)) as usize
 }
 
 /// A bit is flipped, the rest is cut off, the rest is there twice, or two bytes are swapped.

@@ -3,11 +3,12 @@
 //!
 //! The answers of the steps are printed, and behind `== run` those of one run over all events; an
 //! event that such a run answers `memory` is not had again. Behind `== kept` come the answers of a
-//! run over the events that were not answered so.
+//! run over the events that were not answered so. Each has a relay of its own.
 
+use crate::answers::lines_of;
 use fwd_core::Relay;
 use fwd_model::{Answer, Event};
-use fwd_script::{next_line, print_answer, read_config, read_event, split_script};
+use fwd_script::{print_answer, read_config, read_event, split_script};
 use std::alloc::{AllocError, Global};
 use std::{fs, io};
 
@@ -38,13 +39,11 @@ fn open(alloc: Global, settings: &[u8]) -> Option<Relay> {
 /// The events of a text's lines, up to the first line that is none.
 fn events_of(alloc: Global, text: &[u8]) -> Result<Vec<Event>, AllocError> {
     let mut events = Vec::new(alloc);
-    let mut rest = text;
-    while let Some((line, after)) = next_line(rest) {
-        let Some(event) = read_event(alloc, line)? else {
+    for line in &lines_of(alloc, text)? {
+        let Some(event) = read_event(alloc, *line)? else {
             break;
         };
         events.push(event)?;
-        rest = after;
     }
     Ok(events)
 }
@@ -64,7 +63,7 @@ fn print_all<R: Print + AllocGlobal>(rt: &R, answers: &Vec<Answer>) -> io::Resul
 }
 
 /// Steps each event, and again where it is answered `memory`.
-fn print_steps<R: Print + AllocGlobal>(
+fn step_all<R: Print + AllocGlobal>(
     rt: &R,
     relay: &mut Relay,
     events: &Vec<Event>,
@@ -79,13 +78,31 @@ fn print_steps<R: Print + AllocGlobal>(
     Ok(())
 }
 
-/// The answers of one run.
+/// Prints the answers of the steps, where the settings are good.
+fn print_steps<R: Print + AllocGlobal>(
+    rt: &R,
+    settings: &[u8],
+    events: &Vec<Event>,
+) -> io::Result<()> {
+    match open(rt.alloc(), settings) {
+        Some(mut relay) => step_all(rt, &mut relay, events),
+        None => Ok(()),
+    }
+}
+
+/// The answers of one run, and none where the settings are bad.
 fn answers_of(
     alloc: Global,
-    relay: &mut Relay,
+    settings: &[u8],
     events: &Vec<Event>,
 ) -> Result<Vec<Answer>, AllocError> {
-    Ok(again!(relay.run(alloc, events)))
+    let Some(mut relay) = open(alloc, settings) else {
+        return Ok(Vec::new(alloc));
+    };
+    match relay.run(alloc, events) {
+        Ok(answers) => Ok(answers),
+        Err(_) => relay.run(alloc, events),
+    }
 }
 
 /// The events that were not answered `memory`.
@@ -105,34 +122,22 @@ fn kept(
     Ok(kept)
 }
 
-/// Prints what three relays answer to the events of this text.
-fn print_three<R: Print + AllocGlobal>(
-    rt: &R,
-    relays: [&mut Relay; 3],
-    text: &[u8],
-) -> io::Result<()> {
-    let [first, second, third] = relays;
+/// Prints the answers to the events of this text, by relays of these settings.
+fn print_parts<R: Print + AllocGlobal>(rt: &R, settings: &[u8], text: &[u8]) -> io::Result<()> {
     let alloc = rt.alloc();
     let events = again!(events_of(alloc, text));
-    print_steps(rt, first, &events)?;
+    print_steps(rt, settings, &events)?;
     println!(rt; "== run")?;
-    let answers = answers_of(alloc, second, &events)?;
+    let answers = answers_of(alloc, settings, &events)?;
     print_all(rt, &answers)?;
     println!(rt; "== kept")?;
     let kept = kept(alloc, events, &answers)?;
-    print_all(rt, &answers_of(alloc, third, &kept)?)
+    print_all(rt, &answers_of(alloc, settings, &kept)?)
 }
 
-/// Prints them for the script in a file. Nothing is printed where its settings are bad.
+/// Prints the answers to the script in a file.
 pub fn print_refused(rt: &HostRuntime, path: &str) -> io::Result<()> {
     let text = again!(fs::read(rt, path));
     let script = split_script(&text);
-    let (Some(mut first), Some(mut second), Some(mut third)) = (
-        open(rt.alloc(), script.settings),
-        open(rt.alloc(), script.settings),
-        open(rt.alloc(), script.settings),
-    ) else {
-        return Ok(());
-    };
-    print_three(rt, [&mut first, &mut second, &mut third], script.events)
+    print_parts(rt, script.settings, script.events)
 }
