@@ -111,7 +111,7 @@ fn kept(
     events: Vec<Event>,
     answers: &Vec<Answer>,
 ) -> Result<Vec<Event>, AllocError> {
-    let mut kept = again!(Vec::with_capacity(alloc, answers.len()));
+    let mut kept = again!(Vec::with_capacity(alloc, events.len()));
     let mut place: usize = 0;
     for event in events {
         if !matches!(answers.get(place), Some(Answer::Memory)) {
