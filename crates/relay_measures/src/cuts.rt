@@ -30,7 +30,7 @@ const HEADS: &[u8] = b"\x80\x81\x82\x90\x91\x92\x93\xa0\xa1\xa3\xc0\xc1\xc3\xc4\
 
 /// What bytes begin with.
 #[derive(Clone, Copy, PartialEq, Eq)]
-enum Verdict {
+pub enum Verdict {
     /// A value of so many bytes.
     Whole(usize),
     Short,
@@ -48,7 +48,7 @@ struct Tally {
 }
 
 /// A number below another.
-fn below(rng: &mut ChaCha20Rng, most: u32) -> u32 {
+pub fn below(rng: &mut ChaCha20Rng, most: u32) -> u32 {
     rng.next_u32().checked_rem(most).unwrap_or(0)
 }
 
@@ -75,7 +75,7 @@ fn random_limits(rng: &mut ChaCha20Rng) -> Limits {
 }
 
 /// What bytes begin with.
-fn judge_whole(bytes: &[u8], limits: Limits) -> Verdict {
+pub fn judge_whole(bytes: &[u8], limits: Limits) -> Verdict {
     match cut(bytes, limits) {
         Cut::Whole(_, used) => Verdict::Whole(used),
         Cut::Short => Verdict::Short,
@@ -84,7 +84,7 @@ fn judge_whole(bytes: &[u8], limits: Limits) -> Verdict {
 }
 
 /// The same, in random pieces.
-fn judge_pieces(rng: &mut ChaCha20Rng, bytes: &[u8], limits: Limits) -> Verdict {
+pub fn judge_pieces(rng: &mut ChaCha20Rng, bytes: &[u8], limits: Limits) -> Verdict {
     let mut scanner = Scanner::new(limits);
     let mut rest = bytes;
     for _ in 0..u64::MAX {

@@ -2,18 +2,24 @@
 //!
 //!     values count|speed cut|requests|feed:BYTES|hear:BYTES TURNS FILE
 //!     cuts COUNT
+//!     mutants COUNT
+//!     calls
 //!     joins
 //!     buffers requests|count|speed|output|reports ENTRIES TAGS SIZE REQUEST TURNS
 //!
 //! `values` goes over the values of a stream of MessagePack, `cuts` judges random bytes whole and
-//! in pieces, `joins` joins entries beside a plain table, and `buffers` admits requests to a buffer
+//! in pieces, `mutants` good requests that are changed, `calls` makes each call that takes memory, `joins` joins entries beside a plain table, and `buffers` admits requests to a buffer
 //! and settles them.
 #![tactic(auto)]
 
 mod buffers;
 mod cuts;
+mod growing;
+mod growing_chunks;
+mod hex;
 mod joins;
 mod load;
+mod mutants;
 mod outputs;
 mod pairs;
 mod pieces;
@@ -35,8 +41,10 @@ fn do_task<R: Runtime + AllocGlobal>(rt: &R, words: &mut Args, task: &str) -> Re
         "values" => streams::measure(rt, words),
         "joins" => joins::count(rt),
         "cuts" => cuts::count(rt, words),
+        "mutants" => mutants::count(rt, words),
+        "calls" => growing::call_all(rt),
         "buffers" => buffers::measure(rt, words),
-        _ => bail!("values, cuts, joins or buffers?"),
+        _ => bail!("values, cuts, mutants, calls, joins or buffers?"),
     }
 }
 
@@ -52,7 +60,10 @@ fn do_tasks<R: Runtime + AllocGlobal>(rt: &R, words: &mut Args) -> Result<()> {
 }
 
 fn main(rt: HostRuntime) -> Result<()> {
-    let mut words = env::args(&rt)?;
+    let mut words = match env::args(&rt) {
+        Ok(words) => words,
+        Err(_) => env::args(&rt)?,
+    };
     let _program = words.next();
     do_tasks(&rt, &mut words)
 }

@@ -30,7 +30,7 @@ pub struct OutputTimes {
 }
 
 /// The chunk is no more: a buffer that did not give it only spends it.
-fn drop_chunk(alloc: Global, chunk: Carried) {
+pub fn drop_chunk(alloc: Global, chunk: Carried) {
     let mut buffer = Buffer::new(alloc, LIMITS, [0; 6], 0);
     buffer.free(chunk, None);
 }
@@ -45,7 +45,7 @@ fn drop_chunks(alloc: Global, chunks: Vec<Carried>) {
 }
 
 /// The session is no more, and neither are its chunks.
-fn drop_session(alloc: Global, session: Session) {
+pub fn drop_session(alloc: Global, session: Session) {
     let mut session = session;
     while let Some((_, chunk)) = session.acked() {
         drop_chunk(alloc, chunk);

@@ -11,7 +11,8 @@ use fwd_source::Source;
 use std::alloc::{AllocError, Global};
 use std::sync::Arc;
 
-const NONCES: Nonces = Nonces {
+/// What a connection without a handshake has no use for.
+pub const NONCES: Nonces = Nonces {
     nonce: [0; 16],
     auth: [0; 16],
 };
@@ -48,15 +49,19 @@ pub fn feed_pieces(stream: &[u8], size: usize) -> Found {
     found
 }
 
-/// A connection of a relay without a shared key.
-fn open_source(alloc: Global) -> Result<Source, AllocError> {
+/// The side of a relay without a shared key.
+pub fn security(alloc: Global) -> Result<Arc<Security>, AllocError> {
     let security = Security {
         hostname: Bytes::from_slice(alloc, b"relay")?,
         shared_key: None,
         users: Seq::new(alloc),
     };
-    let security = Arc::new(alloc, security)?;
-    Ok(Source::new(alloc, 1, security, NONCES, LIMITS)?)
+    Ok(Arc::new(alloc, security)?)
+}
+
+/// A connection of a relay without a shared key.
+fn open_source(alloc: Global) -> Result<Source, AllocError> {
+    Ok(Source::new(alloc, 1, security(alloc)?, NONCES, LIMITS)?)
 }
 
 /// A connection hears a piece, and its requests are made and dropped.

@@ -9,6 +9,9 @@
 //!
 //! Each file of settings that the words behind the folder name is checked, and of each line on
 //! standard input is told whether it is an event's.
+//!
+//! With the words `steps FILE` it does what `tools/refused_memory.py` asks of a script instead: see
+//! `steps`.
 #![tactic(auto)]
 
 mod answers;
@@ -17,22 +20,31 @@ mod events;
 mod lines;
 mod scripts;
 mod settings;
+mod steps;
 
 use crate::lines::print_lines;
 use crate::scripts::judge_scripts;
 use crate::settings::print_settings;
+use crate::steps::print_refused;
 use std::process::ExitCode;
 use std::{env, io};
 
 /// Judges the scripts, and where all have their answers, prints the two tables. The status is 0
 /// only where there are any scripts and all have their answers.
 fn main(rt: HostRuntime) -> io::Result<ExitCode> {
-    let mut words = env::args(&rt)?;
+    let mut words = match env::args(&rt) {
+        Ok(words) => words,
+        Err(_) => env::args(&rt)?,
+    };
     let _name = words.next();
     let Some(folder) = words.next() else {
         println!(rt; "no folder")?;
         return Ok(ExitCode::FAILURE);
     };
+    if let ("steps", Some(file)) = (folder.as_str(), words.next()) {
+        print_refused(&rt, file.as_str())?;
+        return Ok(ExitCode::SUCCESS);
+    }
     if !judge_scripts(&rt, folder.as_str())? {
         return Ok(ExitCode::FAILURE);
     }

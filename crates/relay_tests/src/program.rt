@@ -408,3 +408,91 @@ fn want_of_memory_ends_a_run(rt: HostRuntime) {
     assert_eq!(rt; out.as_slice(), b"closed 0\nclosed 1\n".as_slice());
     assert_eq!(rt; relay.count, 2);
 }
+
+/// The worked script: a request, and its way to the server and back.
+const WORKED: &str = "---\n\
+    accept 1 00000000000000000000000000000000 00000000000000000000000000000000\n\
+    piece 1 94a161018081a56368756e6ba178\nadmit 1 0 0\nflush 0 0 all\nup 0 0 0 - 0\n\
+    take 0 0 0\nload 0 0 0\nwrote 0 0 46\n\
+    heard 0 0 81a361636bb8414141414141414141414141414141414141414141513d3d\ncollect 1 0\n\
+    settle 0 0\ncollect 1 0\ncollect 1 0\n";
+
+/// The front of its answers.
+const WORKED_FRONT: &[u8] = b"ac";
+
+/// A stream in memory that moves a byte a call, and fails once so many calls were good.
+#[derive(Drop)]
+struct Failing<'a> {
+    left: &'a [u8],
+    taken: Vec<u8>,
+    good: usize,
+}
+
+impl Failing<'_> {
+    /// One of the good calls is made, or it fails.
+    fn call(&mut self) -> io::Result<()> {
+        match self.good.checked_sub(1) {
+            Some(good) => {
+                self.good = good;
+                Ok(())
+            }
+            None => Err(io::Error::from(ErrorKind::Other)),
+        }
+    }
+}
+
+impl Read for Failing<'_> {
+    fn read(&mut self, buf: &mut [u8]) -> io::Result<usize> {
+        self.call()?;
+        match self.left {
+            [first, rest @ ..] if !buf.is_empty() => {
+                buf[0] = *first;
+                self.left = rest;
+                Ok(1)
+            }
+            _ => Ok(0),
+        }
+    }
+}
+
+impl Write for Failing<'_> {
+    fn write(&mut self, buf: &[u8]) -> io::Result<usize> {
+        self.call()?;
+        let count = buf.len().min(1);
+        self.taken.extend_from_slice(&buf[..count])?;
+        Ok(count)
+    }
+
+    fn flush(&mut self) -> io::Result<()> {
+        Ok(())
+    }
+}
+
+/// What a replay of the worked script comes to over such streams, of which so many reads and writes
+/// are good.
+fn replayed_over(alloc: Global, reads: usize, writes: usize) -> Outcome {
+    let mut reader = Failing {
+        left: WORKED.as_bytes(),
+        taken: Vec::new(alloc),
+        good: reads,
+    };
+    let mut writer = Failing {
+        left: b"",
+        taken: Vec::new(alloc),
+        good: writes,
+    };
+    let status = replay(alloc, &mut reader, &mut writer);
+    let Failing { taken: out, .. } = writer;
+    unread(alloc, out, &End::Ran(status))
+}
+
+/// A read or a write that fails at once, or behind one or two good ones, is told.
+#[test]
+fn a_stream_of_bytes_that_fails_is_told(rt: HostRuntime) {
+    for good in 0..3 {
+        let read = replayed_over(rt.alloc(), good, usize::MAX);
+        assert!(rt; read.is(5, b"", "input\n"), "{good}");
+        let written = replayed_over(rt.alloc(), usize::MAX, good);
+        assert!(rt; written.is(5, &WORKED_FRONT[..good], "output\n"), "{good}");
+    }
+}
