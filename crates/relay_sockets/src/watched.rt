@@ -16,7 +16,7 @@ use std::thread::Threads;
 use std::time::Duration;
 
 /// The most turns.
-const TURNS: u64 = 600;
+const TURNS: u64 = 300;
 
 /// How long a worker has to tell that its server is back, in milliseconds.
 const SOON: u64 = 100;
