@@ -152,7 +152,7 @@ def sessions(program, folder, workers=16):
             stream.sendall(request(b"app.%06d" % number, 1))
         for _ in range(workers):
             site.streams.append(listener.accept()[0])
-        row(f"a worker with a session and a chunk of 1 entry ({workers})", site.grown(workers), SIZE)
+        row(f"the session of a worker, with a chunk of 1 entry ({workers})", site.grown(workers), SIZE)
         return (site.files() - before - 1) / workers
 
 
