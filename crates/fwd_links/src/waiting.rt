@@ -147,10 +147,10 @@ impl WorkerWait {
         }
     }
 
-    /// Whether the stream told of itself since it was last read empty, so that a read may give
-    /// bytes.
-    pub fn is_told(&self) -> bool {
-        self.is_told
+    /// Whether the stream is to be read: it told of itself since it was last read empty, or the
+    /// worker looks for a chunk, and is to see first whether its server closed.
+    pub fn is_to_be_read(&self) -> bool {
+        self.is_told || self.is_idle
     }
 
     /// A read found nothing, or did not fill its room: the stream will tell of what comes.

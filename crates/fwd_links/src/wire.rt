@@ -171,9 +171,9 @@ impl Wire {
     }
 
     /// The same, and waits where nothing is there yet: a while for a server that owes something.
-    /// While the worker looks for a chunk it does not wait here, so that it is not held up. Where
-    /// the stream told of nothing since it was read empty, a read would find nothing: it is made
-    /// only behind a write, a few times, and then once the stream told of itself.
+    /// While the worker looks for a chunk it does not wait here, so that it is not held up. Else,
+    /// where the stream told of nothing since it was read empty, a read would find nothing: it is
+    /// made only behind a write, a few times, and then once the stream told of itself.
     ///
     /// Once all workers are to end, the first read reads nothing and says so, for no call failed:
     /// it shuts the stream. A worker that waits for a server does not ask its gate, and would read
@@ -186,7 +186,7 @@ impl Wire {
             self.shut();
             return Ok(None);
         }
-        if self.is_shut || self.wait.lock(rt).is_told() {
+        if self.is_shut || self.wait.lock(rt).is_to_be_read() {
             let read = self.read_once(rt, room)?;
             if read.is_some() {
                 return Ok(read);
