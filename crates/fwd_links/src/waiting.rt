@@ -12,8 +12,8 @@ use std::sync::atomic::{AtomicBool, Ordering};
 use std::sync::{Arc, Mutex};
 use std::time::Duration;
 
-/// How long a worker that looks for a chunk sleeps before it looks again, in milliseconds, where its
-/// output has entries: one that was lost is free again at some moment, of which nobody tells.
+/// How long a worker that looks for a chunk sleeps before it looks again, in milliseconds, where
+/// its output has entries: one that was lost is free again at some moment, of which nobody tells.
 const PAUSE: u64 = 10;
 
 /// The same where its output has none: it is rung once a chunk is closed.

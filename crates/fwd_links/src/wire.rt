@@ -15,8 +15,8 @@ use std::net::{Net, Shutdown, SocketAddr};
 use std::sync::Wait;
 use std::{io, mem};
 
-/// How often a stream is read behind a write before its worker sleeps until the server answers: some
-/// ten microseconds, as one that is at hand takes to answer.
+/// How often a stream is read behind a write before its worker sleeps until the server answers:
+/// some ten microseconds, as one that is at hand takes to answer.
 const READS: u32 = 16;
 
 /// The stream failed.

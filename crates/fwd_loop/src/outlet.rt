@@ -94,8 +94,9 @@ impl<'a> Outlet<'a> {
         }
     }
 
-    /// Hands in the tickets that are due, and answers what receipts there are: each is right for the
-    /// request of a ticket of this output. The others come back. The only error is out of memory, and then all are to be handed in again.
+    /// Hands in the tickets that are due, and answers what receipts there are: each is right for
+    /// the request of a ticket of this output. The others come back. The only error is out of
+    /// memory, and then all are to be handed in again.
     pub fn collect<R: Wait>(&mut self, rt: &R) -> Result<Vec<Receipt>, AllocError>
         ensures right { IfOk result (λ receipts. (setting : BookSetting)
             × All (λ r. IsRight r (ticket_of setting r)) receipts.items) }

@@ -70,7 +70,8 @@ Hears s bytes end t =
 
 -- its stream is read in one visit, for so many bytes at most, and to its end where it is to be;
 -- what that gives is heard, and it says whether there may be more
-pub record Reads (to_end : Bool) (most : ℕ) (s : PeerShown) (more : Bool) (t : PeerShown) : Type 0 where
+pub record Reads (to_end : Bool) (most : ℕ) (s : PeerShown) (more : Bool) (t : PeerShown)
+    : Type 0 where
   pub bytes : List ℕ
   pub end : Visit
   pub visit : IsReading to_end most s.reads bytes end t.reads
