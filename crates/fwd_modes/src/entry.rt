@@ -22,6 +22,7 @@ impl<'a> Entry<'a> {
     ghost use Rattle.fwd_modes.specs.Readings.{kept};
 
     /// A time and fields, if they are a time and a map.
+    #[inline(always)]
     pub(crate) fn new(time: Value<'a>, fields: Value<'a>) -> Option<Entry<'a>>
         requires { 1 + length (bytes_of time) + length (bytes_of fields) < 2 ^ 32 }
         ensures value { option_map kept result
@@ -41,6 +42,7 @@ impl<'a> Entry<'a> {
 
     /// The entry that a value is: an array of exactly two, a time and a map.
     #[tactic(auto, unfolding(crate::specs::Entries::entry_of))]
+    #[inline(always)]
     pub(crate) fn read(value: Value<'a>) -> Option<Entry<'a>>
         ensures value { option_map kept result ≡ entry_of (bytes_of value.entry) }
         ensures fits { IfSome result (λ e.
@@ -57,6 +59,7 @@ impl<'a> Entry<'a> {
 }
 
 /// Whether a value is an entry that is spelled as it is kept.
+#[inline(always)]
 pub(crate) fn is_kept(value: Value<'_>) -> bool
     ensures { result ≡ true → entry_of (bytes_of value.entry) ≡ Some (bytes_of value.entry) }
 {

@@ -7,6 +7,7 @@ ghost use Rattle.fwd_modes.specs.Kinds.{is_map, text_within};
 
 use fwd_msgpack::{Head, Value};
 
+#[inline(always)]
 pub(crate) fn is_map(value: Value<'_>) -> bool
     ensures { result ≡ is_map (bytes_of value.entry) }
 {

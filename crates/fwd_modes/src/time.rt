@@ -5,7 +5,7 @@ ghost use Rattle.std.specs.Int.{w32, from_be_bytes};
 ghost use Rattle.fwd_msgpack.specs.Values.{bytes_of};
 ghost use Rattle.fwd_modes.specs.Times.{event_time_of, is_time};
 
-use fwd_msgpack::Value;
+use fwd_msgpack::{Head, Value};
 use std::marker::Model;
 
 /// A time with nanoseconds: an extension of type 0 with 8 bytes, however its head is spelled.
@@ -36,6 +36,7 @@ fn u32_of(bytes: &[u8]) -> u32
 impl EventTime {
     /// The time that a value is, or nothing where it is no
     /// EventTime. Any number of nanoseconds is taken.
+    #[inline(always)]
     pub fn read(value: Value<'_>) -> Option<EventTime>
         ensures { result ≡ event_time_of (bytes_of value.entry) }
     {
@@ -66,8 +67,13 @@ impl EventTime {
 }
 
 /// Whether a value is a time: an integer or an EventTime.
+#[inline(always)]
 pub(crate) fn is_time(value: Value<'_>) -> bool
     ensures { result ≡ is_time (bytes_of value.entry) }
 {
-    value.int().is_some() || EventTime::read(value).is_some()
+    match value.head() {
+        Head::Int { .. } => true,
+        Head::Ext { .. } => EventTime::read(value).is_some(),
+        _ => false,
+    }
 }

@@ -1,4 +1,5 @@
 pub mod Complete
+pub mod Counts
 mod Examples
 pub mod Faults
 pub mod Fillings

@@ -1,6 +1,7 @@
 //! MessagePack values as bytes: heads, whole values, and the first fault of a stream.
 #![tactic(auto)]
 
+mod counting;
 mod cutting;
 mod fault;
 mod front;

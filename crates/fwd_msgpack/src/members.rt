@@ -40,6 +40,7 @@ impl<'a> Iterator for Members<'a> {
 
     ghost remaining = { item_count members_left };
 
+    #[inline(always)]
     fn next(&mut self) -> Option<Value<'a>> {
         if self.left == 0 {
             return None;

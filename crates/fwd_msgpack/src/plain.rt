@@ -41,7 +41,7 @@ const SIZES: [u8; 256] = [
 /// computed, though that of a short one stands in the table too: that takes
 /// less time than to look it up.
 #[inline(always)]
-fn plain_size(bytes: &[u8], at: usize) -> Option<usize>
+pub fn plain_size(bytes: &[u8], at: usize) -> Option<usize>
     requires { at < length bytes.now }
     ensures plain { IfSome result (λ size. at + size ≤ length bytes.now
         → plain_len (reading_of (drop at bytes.now)) ≡ Some size) }

@@ -4,6 +4,7 @@ ghost use Rattle.std.specs.Prelude.{◌≡◌, ◌+◌, ◌≤◌, ◌<◌, ◌^
 ghost use Rattle.fwd_msgpack.specs.Scans.{first_of, fault_at};
 ghost use Rattle.fwd_msgpack.specs.Extents.{verdict_shown, scan_behind, stopped, StopsWithin};
 
+use crate::counting::counted_len;
 use crate::fault::ScanFault;
 use crate::head::{Head, HeadRead, read_head};
 use crate::limits::Limits;
@@ -35,7 +36,19 @@ pub enum Stop {
 }
 
 /// What stands at the front of the bytes.
+#[inline(always)]
 pub fn extent_of(bytes: &[u8], limits: Limits) -> Extent
+    ensures { verdict_shown result ≡ first_of limits.bytes limits.depth bytes.now }
+{
+    match counted_len(bytes, limits) {
+        Some(used) => Extent::Whole(used),
+        None => scanned_extent(bytes, limits),
+    }
+}
+
+/// The same, with a list of the containers that are open.
+#[inline(never)]
+fn scanned_extent(bytes: &[u8], limits: Limits) -> Extent
     ensures { verdict_shown result ≡ first_of limits.bytes limits.depth bytes.now }
 {
     let mut stack = Stack::new();

@@ -62,6 +62,7 @@ impl<'a> Value<'a> {
     }
 
     /// The members of an array, or nothing for another kind.
+    #[inline(always)]
     pub fn items(self) -> Option<Members<'a>>
         ensures value { option_map members_left result ≡ elements_of (bytes_of self.entry) }
         ensures within { IfSome result (λ m.
@@ -115,6 +116,7 @@ impl<'a> Value<'a> {
     }
 
     /// The type and the payload of an extension, or nothing for another kind.
+    #[inline(always)]
     pub fn ext(self) -> Option<(i8, &'a [u8])>
         ensures { ext_shown result ≡ ext_of (bytes_of self.entry) }
     {
@@ -125,6 +127,7 @@ impl<'a> Value<'a> {
     }
 
     /// Whether an integer is below zero, and how far it is from zero; nothing for another kind.
+    #[inline(always)]
     pub fn int(self) -> Option<(bool, u64)>
         ensures { result ≡ integer_of (bytes_of self.entry) }
     {

@@ -3,7 +3,7 @@ use Rattle.fwd_msgpack.specs.declared.scan.Stop.{Stop}
 use Rattle.fwd_msgpack.specs.Extents.{stopped}
 use Rattle.fwd_msgpack.specs.Scans.{verdict_of}
 use Rattle.fwd_msgpack.proofs.Turns.{first_stopped}
-use Rattle.fwd_msgpack.proofs.scan.extent_of.Goals as goal
+use Rattle.fwd_msgpack.proofs.scan.scanned_extent.Goals as goal
 
 pub returns-in-Whole : goal.returns-in-Whole
 returns-in-Whole c = first_stopped _ _ c.args.bytes.now c.new-stack.result _ c.new-stack.ensures c.in-Whole.ensures.state
