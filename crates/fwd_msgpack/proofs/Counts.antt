@@ -2,10 +2,12 @@
 use Rattle.std.proofs.Common.{◌≡◌, ℕ, zero, suc, ◌+◌, ◌-◌, ◌<◌, ◌≤◌, Bool, true, false, ltb, subst, List, [], ◌∷◌, length, sum, drop, Option, Some, None, refl, sym, ap, ◌∙◌, arith}
 use Rattle.std.proofs.lemmas.Bool.{lt-ltb, le-ltb, ltb-true, ltb-false}
 use Rattle.std.proofs.lemmas.List.{drop-drop, length-drop}
+use Rattle.std.proofs.lemmas.Option.{same_Some}
 use Rattle.fwd_msgpack.specs.declared.head.Head.{Head}
+use Rattle.fwd_msgpack.specs.declared.head.HeadRead.{HeadRead}
 use Rattle.fwd_msgpack.specs.declared.head.HeadRead.TheVariants as read
 use Rattle.fwd_msgpack.specs.Heads.{reading_of, payload, members, opens}
-use Rattle.fwd_msgpack.specs.Plain.{plain_len}
+use Rattle.fwd_msgpack.specs.Plain.{plain_len, item_size}
 use Rattle.fwd_msgpack.specs.Scans.{Whole, State, Going, InHead, after_value, goes_on, payload_ended, start, verdict_of, first_of}
 use Rattle.fwd_msgpack.proofs.Fronts.{scanned, scanned-Ended, item_scanned, ended_shut, ended_opened}
 use Rattle.fwd_msgpack.proofs.Places.{sum-cons}
@@ -160,6 +162,31 @@ stands_plain limit deep bytes used left deeper size s some plain inside fits =
     let at : used + p.n + payload p.head ≡ used + size = omega (arith, len) in
     subst (λ (k : ℕ). Stands limit deep bytes k (left - 1) deeper) at
     (stands_shut limit deep bytes used left deeper p.head p.n s some (sym p.reads) p.shut (omega (arith, len)) (omega (arith, len)))
+
+-- behind an item of this size that opens so many values
+item_by : (limit deep : ℕ) (bytes : List ℕ) (used left deeper size count : ℕ) (r : HeadRead)
+    → r ≡ reading_of (drop used bytes) → item_size r ≡ Some (size, count)
+    → Stands limit deep bytes used left deeper → 0 < left → 0 < deeper
+    → used + size ≤ length bytes → used + size + (left + count - 1) ≤ limit
+    → Stands limit deep bytes (used + size) (left + count - 1) (deeper - 1)
+item_by limit deep bytes used left deeper size count read.Short e is s some room inside fits = absurd cc
+item_by limit deep bytes used left deeper size count read.Reserved e is s some room inside fits = absurd cc
+item_by limit deep bytes used left deeper size count (read.Whole head n) e is s some room inside fits =
+    let both = same_Some (n + payload head, members head) (size, count) is in
+    let len : n + payload head ≡ size = ap (λ (p : ℕ × ℕ). p.0) both in
+    let all : members head ≡ count = ap (λ (p : ℕ × ℕ). p.1) both in
+    let at : used + n + payload head ≡ used + size = omega (arith, len) in
+    subst (λ (k : ℕ). Stands limit deep bytes k (left + count - 1) (deeper - 1)) at
+    (subst (λ (k : ℕ). Stands limit deep bytes (used + n + payload head) (left + k - 1) (deeper - 1)) all
+    (stands_head limit deep bytes used left deeper head n s some room (sym e) (omega (arith, len)) (omega (arith, len, all))))
+
+pub stands_item : (limit deep : ℕ) (bytes : List ℕ) (used left deeper size count : ℕ)
+    → Stands limit deep bytes used left deeper → 0 < left → 0 < deeper
+    → item_size (reading_of (drop used bytes)) ≡ Some (size, count)
+    → used + size ≤ length bytes → used + size + (left + count - 1) ≤ limit
+    → Stands limit deep bytes (used + size) (left + count - 1) (deeper - 1)
+stands_item limit deep bytes used left deeper size count s some room is inside fits =
+    item_by limit deep bytes used left deeper size count (reading_of (drop used bytes)) refl is s some room inside fits
 
 -- where nothing is owed the value has ended
 ended_by : (limit deep : ℕ) (bytes : List ℕ) (used : ℕ) (next : Option (List ℕ))

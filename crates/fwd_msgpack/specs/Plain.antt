@@ -12,6 +12,13 @@ plain_len (Whole head used) = if opens head then None else Some (used + payload 
 plain_len Short = None
 plain_len Reserved = None
 
+-- How many bytes the item takes that begins with what was read, its head and its payload, and how
+-- many values it opens.
+abbrev pub item_size : HeadRead → Option (ℕ × ℕ)
+item_size (Whole head used) = Some (used + payload head, members head)
+item_size Short = None
+item_size Reserved = None
+
 -- The first bytes are so many items that open nothing: a scan of a container that lacks as many,
 -- and is within the limit behind them, goes over them, and each is one member.
 abbrev pub AreMembers : List ℕ → (items used : ℕ) → Type 0

@@ -1,12 +1,45 @@
 //! How far a value reaches, found by a count of the values that are owed and no list of the
 //! containers that are open.
 
-ghost use Rattle.std.specs.Prelude.{◌≡◌, IfSome};
+ghost use Rattle.std.specs.Prelude.{◌≡◌, ◌<◌, ◌+◌, ◌^◌, IfSome, Some, drop, length};
+ghost use Rattle.fwd_msgpack.specs.Heads.{reading_of};
+ghost use Rattle.fwd_msgpack.specs.Plain.{item_size};
 ghost use Rattle.fwd_msgpack.specs.Scans.{Whole, first_of};
 
 use crate::head::{HeadRead, read_head};
 use crate::limits::Limits;
-use crate::plain::plain_size;
+use crate::plain::{plain_size, small_members};
+
+/// How many bytes the item at a place takes, its head and its payload, and how many values it
+/// opens.
+#[inline(always)]
+fn item_at(bytes: &[u8], at: usize) -> Option<(usize, u64)>
+    requires { at < length bytes.now }
+    ensures item { IfSome result (λ item.
+        item_size (reading_of (drop at bytes.now)) ≡ Some (item.0, item.1)) }
+    ensures some { IfSome result (λ item. 0 < item.0) }
+    ensures small { IfSome result (λ item. item.0 < length bytes.now + 2 ^ 32) }
+{
+    let members = small_members(bytes[at]);
+    if members > 0 {
+        return Some((1, u64::from(members)));
+    }
+    headed_item(&bytes[at..])
+}
+
+/// The same of the item at the front, whose head is read in full.
+#[inline(never)]
+fn headed_item(bytes: &[u8]) -> Option<(usize, u64)>
+    ensures item { IfSome result (λ item.
+        item_size (reading_of bytes.now) ≡ Some (item.0, item.1)) }
+    ensures some { IfSome result (λ item. 0 < item.0) }
+    ensures small { IfSome result (λ item. item.0 < length bytes.now + 2 ^ 32) }
+{
+    match read_head(bytes) {
+        HeadRead::Whole(head, len) => Some((len + head.payload() as usize, head.members())),
+        _ => None,
+    }
+}
 
 /// How many bytes the first value takes, where no more of its items have heads that must be read
 /// in full, as those of containers, than containers may stand one in another. Otherwise nothing,
@@ -21,29 +54,26 @@ pub fn counted_len(bytes: &[u8], limits: Limits) -> Option<usize>
         return None;
     }
     let mut used = 0;
-    let mut left = 1;
+    // where the bytes end but for one of each value that is still to come
+    let mut most = end - 1;
     let mut heads = limits.depth;
-    while left > 0 {
+    while most < end {
         if let Some(size) = plain_size(bytes, used) {
             used += size;
-            left -= 1;
-            if used + left > end {
+            most += 1;
+            if used > most {
                 return None;
             }
             continue;
         }
-        let HeadRead::Whole(head, len) = read_head(&bytes[used..]) else {
-            return None;
-        };
-        if heads == 0 {
+        let (size, members) = item_at(bytes, used)?;
+        if heads == 0 || members > most as u64 {
             return None;
         }
         heads -= 1;
-        used += len;
-        used += head.payload() as usize;
-        left += head.members() as usize;
-        left -= 1;
-        if used + left > end {
+        used += size;
+        most = most + 1 - members as usize;
+        if used > most {
             return None;
         }
     }
