@@ -24,18 +24,7 @@ fn item_at(bytes: &[u8], at: usize) -> Option<(usize, u64)>
     if members > 0 {
         return Some((1, u64::from(members)));
     }
-    headed_item(&bytes[at..])
-}
-
-/// The same of the item at the front, whose head is read in full.
-#[inline(never)]
-fn headed_item(bytes: &[u8]) -> Option<(usize, u64)>
-    ensures item { IfSome result (λ item.
-        item_size (reading_of bytes.now) ≡ Some (item.0, item.1)) }
-    ensures some { IfSome result (λ item. 0 < item.0) }
-    ensures small { IfSome result (λ item. item.0 < length bytes.now + 2 ^ 32) }
-{
-    match read_head(bytes) {
+    match read_head(&bytes[at..]) {
         HeadRead::Whole(head, len) => Some((len + head.payload() as usize, head.members())),
         _ => None,
     }

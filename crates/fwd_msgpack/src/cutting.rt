@@ -10,6 +10,7 @@ use crate::value::{Cut, Value};
 
 /// The value at the front of the bytes, or the first fault
 /// (MessagePack specification, "Formats"). It takes no memory.
+#[inline(always)]
 pub fn cut(bytes: &[u8], limits: Limits) -> Cut<'_>
     ensures verdict { seen result ≡ first_of limits.bytes limits.depth bytes.now }
     ensures front { IsFront bytes.now result }

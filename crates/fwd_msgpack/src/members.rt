@@ -68,6 +68,16 @@ fn first_len(row: &[u8], values: u64) -> usize
     if let Some(size) = plain_item(row, row.len().min(u32::MAX as usize)) {
         return size;
     }
+    cut_len(row)
+}
+
+/// The same, where the first value may be a container.
+#[inline(never)]
+fn cut_len(row: &[u8]) -> usize
+    requires row { IsRow row.now }
+    requires some { 0 < length (row_of_values row.now) }
+    ensures { first_of most_bytes most_deep row.now ≡ Whole result }
+{
     match cut(row, Limits::WIDEST) {
         Cut::Whole(_, used) => used,
         _ => unreachable!(),

@@ -1,17 +1,8 @@
-use Rattle.std.proofs.Common.{arith, ◌∙◌}
-use Rattle.fwd_msgpack.proofs.Parts.{last_first, some_row}
-use Rattle.fwd_msgpack.proofs.Rows.{row_starts}
+use Rattle.std.proofs.Common.{arith}
+use Rattle.fwd_msgpack.proofs.Parts.{last_first}
 use Rattle.fwd_msgpack.specs.Scans.{most_bytes, most_deep}
 use Rattle.fwd_msgpack.proofs.Turns.{plain_first}
-use Rattle.fwd_msgpack.proofs.Seen.{seen_whole}
 use Rattle.fwd_msgpack.proofs.members.first_len.Goals as goal
-
-pub unreachable-requires : goal.unreachable-requires
-unreachable-requires c =
-    let row = c.args.row.now in
-    let starts = row_starts row c.requires.row (some_row row (omega (arith, c.requires.count, c.requires.some))) in
-    let whole = seen_whole c.cut.result starts.0 (c.cut.ensures.verdict ∙ starts.1) in
-    c.in_default-cut.not-Whole whole.0 whole.1.0 whole.1.1
 
 pub returns-then-values-eq1 : goal.returns-then-values-eq1
 returns-then-values-eq1 c = last_first c.args.row.now c.requires.row (omega (arith, c.requires.count, c.if-values-eq1.true))
