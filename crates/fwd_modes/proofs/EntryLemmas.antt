@@ -56,6 +56,13 @@ cut_joined place (e ∷ entries) =
     let long : (place + length e) - place ≡ length e = omega arith in
     rw (long, take_at e (concat entries) (length e) refl, drop_at e (concat entries) (length e) refl) (ap (λ es. e ∷ es) (cut_joined (place + length e) entries))
 
+-- entries with the same bytes and the same ends are the same
+pub same_entries : (left right : List (List ℕ)) → concat left ≡ concat right
+    → ends_from 0 left ≡ ends_from 0 right → left ≡ right
+same_entries left right bytes ends =
+    sym (cut_joined 0 left) ∙ ap (λ ns. cut_at 0 ns (concat left)) ends
+    ∙ ap (cut_at 0 (ends_from 0 right)) bytes ∙ cut_joined 0 right
+
 -- entries one after the other are cut at their ends
 pub cut_whole : (entries : List (List ℕ)) → AreCut 0 (ends_from 0 entries) (concat entries)
 cut_whole entries = record { joined = ap concat (cut_joined 0 entries); ending = ap (ends_from 0) (cut_joined 0 entries) }

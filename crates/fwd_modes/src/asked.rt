@@ -12,3 +12,13 @@ pub(crate) struct Asked<'a> {
     ghost tag_fits: { length tag.now ≤ TAG_LIMIT },
     ghost chunk_fits: { ForSome chunk (λ bytes. length bytes.now ≤ CHUNK_LIMIT + 5) },
 }
+
+impl<'a> Asked<'a> {
+    /// How many bytes the tag and the chunk have.
+    pub(crate) fn size(&self) -> usize {
+        match self.chunk {
+            Some(chunk) => self.tag.len().saturating_add(chunk.len()),
+            None => self.tag.len(),
+        }
+    }
+}

@@ -55,7 +55,7 @@ impl Batch {
             b
             ≡ record { tag = tag.now; entries = entries; chunk = option_copied chunk.entry }) }
     {
-        let contents = Contents::new(alloc, tag, entries, chunk)?;
+        let contents = Contents::new(tag, entries, chunk)?;
         match Arc::new(alloc, contents) {
             Ok(contents) => Ok(Batch { contents }),
             Err(_) => Err(AllocError),
@@ -93,21 +93,21 @@ impl Batch {
         ensures bound { length (concat self.now.entries) < 2 ^ 32 }
         ensures full { AreFull self.now.entries }
     {
-        self.contents.entries().bytes()
+        self.contents.entries()
     }
 
     /// Where each entry ends, in bytes from the front of the first.
     pub fn ends(&self) -> &[u32]
         ensures { result.now ≡ ends_of self.now.entries }
     {
-        self.contents.entries().ends()
+        self.contents.ends()
     }
 
     /// The entries one by one, in order.
     pub fn iter(&self) -> Entries<'_>
         ensures { entries_left result ≡ self.now.entries }
     {
-        self.contents.entries().iter()
+        self.contents.iter()
     }
 
     /// How many entries there are. Together they have less than 2^32 bytes.
@@ -116,8 +116,8 @@ impl Batch {
         ensures value { result ≡ length self.now.entries }
         ensures bound { length (concat self.now.entries) < 2 ^ 32 }
     {
-        let entries = self.contents.entries();
-        entries.ends().len()
+        let _entries = self.contents.entries();
+        self.contents.ends().len()
     }
 
     /// Whether there is no entry.
@@ -125,7 +125,7 @@ impl Batch {
     pub fn is_empty(&self) -> bool
         ensures { result ≡ (length self.now.entries == 0) }
     {
-        self.contents.entries().ends().is_empty()
+        self.contents.ends().is_empty()
     }
 
     /// The bytes of the option's `chunk` value, head included, if there is one: at most 5

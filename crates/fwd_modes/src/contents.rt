@@ -14,42 +14,53 @@ ghost use Rattle.std.specs.Prelude.{
 };
 ghost use Rattle.std.specs.List.{concat};
 ghost use Rattle.std.specs.Option.{option_copied, ForSome};
+ghost use Rattle.fwd_modes.specs.Entries.{AreFull, ends_of};
+ghost use Rattle.fwd_modes.specs.Readings.{entries_left};
 
+use crate::entries::Entries;
 use crate::kept::KeptEntries;
 use crate::limits::{CHUNK_LIMIT, TAG_LIMIT};
 use smallvec::SmallVec;
 use std::alloc::{AllocError, Global};
 use std::marker::Model;
 
-/// What a request has, in one piece of memory but for its entries' bytes, a long tag and a long
-/// chunk.
+/// What a request has. Its bytes lie in one piece of memory: the entries, the tag behind them, and
+/// the chunk behind the tag, if there is one.
 #[derive(Drop)]
 pub(crate) struct Contents {
-    tag: SmallVec<u8, 32>,
-    entries: KeptEntries,
-    chunk: Option<SmallVec<u8, 32>>,
+    bytes: Vec<u8>,
+    /// Where each entry ends.
+    ends: SmallVec<u32, 2>,
+    /// How many bytes the entries have.
+    size: u32,
+    /// How many bytes the tag has.
+    tag: u16,
+    has_chunk: bool,
 }
 
 impl Model for Contents {
+    ghost use Rattle.std.specs.Prelude.{Some, None, take, drop, if◌then◌else◌};
+    ghost use Rattle.fwd_modes.specs.Entries.{cut_at};
     ghost use Rattle.fwd_modes.specs.Requests.{Request};
-    ghost use Rattle.std.specs.Option.{ForSome, option_map};
 
     ghost Value = { Request };
 
-    ghost view = { λ b. record {
-      tag = b.tag.items;
-      entries = b.entries;
-      chunk = option_map (λ c. c.items) b.chunk;
+    ghost view = { λ c. record {
+      tag = take c.tag (drop c.size c.bytes.items);
+      entries = cut_at 0 c.ends.items (take c.size c.bytes.items);
+      chunk = if c.has_chunk then Some (drop c.tag (drop c.size c.bytes.items)) else None;
     } };
 
-    ghost use Rattle.std.specs.Prelude.{◌<◌, ◌≤◌, ◌^◌, ◌+◌, length};
-    ghost use Rattle.std.specs.List.{concat};
+    ghost use Rattle.std.specs.Prelude.{◌≤◌, ◌+◌, length};
+    ghost use Rattle.fwd_modes.specs.Entries.{AreCut, AreFull};
     ghost use Rattle.fwd_modes.specs.declared.limits.TheConstants.{CHUNK_LIMIT, TAG_LIMIT};
 
-    ghost invariant = { λ b.
-        (length b.tag.items ≤ TAG_LIMIT)
-        × (length (concat b.entries) < 2 ^ 32)
-        × ForSome b.chunk (λ chunk. length chunk.items ≤ CHUNK_LIMIT + 5) };
+    ghost invariant = { λ c.
+        AreCut 0 c.ends.items (take c.size c.bytes.items)
+        × AreFull (cut_at 0 c.ends.items (take c.size c.bytes.items))
+        × (c.tag ≤ TAG_LIMIT)
+        × (c.size + c.tag ≤ length c.bytes.items)
+        × (length c.bytes.items ≤ c.size + c.tag + (CHUNK_LIMIT + 5)) };
 }
 
 /// Whether bytes are the same, or there are none on either side.
@@ -63,10 +74,17 @@ fn is_same(left: Option<&[u8]>, right: Option<&[u8]>) -> bool
     }
 }
 
+/// Whether entries are the same: they have the same bytes, and end at the same places.
+fn are_same(left: &Contents, right: &Contents) -> bool
+    ensures { IsTrue result ↔ (left.now.entries ≡ right.now.entries) }
+{
+    left.entries() == right.entries() && left.ends() == right.ends()
+}
+
 impl Contents {
-    /// What a request of these entries has.
+    /// What a request of these entries has. It takes no memory where there is room for the tag and
+    /// the chunk behind the entries.
     pub(crate) fn new(
-        alloc: Global,
         tag: &[u8],
         entries: KeptEntries,
         chunk: Option<&[u8]>,
@@ -77,14 +95,16 @@ impl Contents {
             c
             ≡ record { tag = tag.now; entries = entries; chunk = option_copied chunk.entry }) }
     {
-        let chunk = match chunk {
-            Some(bytes) => Some(SmallVec::from_slice(alloc, bytes)?),
-            None => None,
-        };
+        let (mut bytes, ends) = entries.into_parts();
+        let size = bytes.len() as u32;
+        bytes.extend_from_slice(tag)?;
+        bytes.extend_from_slice(chunk.unwrap_or(&[]))?;
         Ok(Contents {
-            tag: SmallVec::from_slice(alloc, tag)?,
-            entries,
-            chunk,
+            bytes,
+            ends,
+            size,
+            tag: tag.len() as u16,
+            has_chunk: chunk.is_some(),
         })
     }
 
@@ -92,9 +112,7 @@ impl Contents {
     pub(crate) fn is(&self, other: &Contents) -> bool
         ensures { IsTrue result ↔ (self.now ≡ other.now) }
     {
-        self.tag() == other.tag()
-            && self.entries.is(&other.entries)
-            && is_same(self.chunk(), other.chunk())
+        self.tag() == other.tag() && are_same(self, other) && is_same(self.chunk(), other.chunk())
     }
 
     /// The tag's bytes.
@@ -102,15 +120,31 @@ impl Contents {
         ensures value { result.now ≡ self.now.tag }
         ensures bound { length result.now ≤ TAG_LIMIT }
     {
-        self.tag.as_slice()
+        let (_, behind) = self.bytes.split_at(self.size as usize);
+        behind.split_at(usize::from(self.tag)).0
     }
 
-    /// The entries.
-    pub(crate) fn entries(&self) -> &KeptEntries
-        ensures value { result.now ≡ self.now.entries }
+    /// The entries, one after the other. Each has a byte.
+    pub(crate) fn entries(&self) -> &[u8]
+        ensures value { result.now ≡ concat self.now.entries }
         ensures bound { length (concat self.now.entries) < 2 ^ 32 }
+        ensures full { AreFull self.now.entries }
     {
-        &self.entries
+        self.bytes.split_at(self.size as usize).0
+    }
+
+    /// Where each entry ends.
+    pub(crate) fn ends(&self) -> &[u32]
+        ensures { result.now ≡ ends_of self.now.entries }
+    {
+        self.ends.as_slice()
+    }
+
+    /// The entries one by one.
+    pub(crate) fn iter(&self) -> Entries<'_>
+        ensures { entries_left result ≡ self.now.entries }
+    {
+        Entries::new(self.entries(), self.ends.as_slice())
     }
 
     /// The bytes of the option's `chunk` value, if there is one.
@@ -118,9 +152,10 @@ impl Contents {
         ensures value { option_copied result ≡ self.now.chunk }
         ensures bound { IfSome result (λ chunk. length chunk.now ≤ CHUNK_LIMIT + 5) }
     {
-        match &self.chunk {
-            Some(chunk) => Some(chunk.as_slice()),
-            None => None,
+        if !self.has_chunk {
+            return None;
         }
+        let (_, behind) = self.bytes.split_at(self.size as usize);
+        Some(behind.split_at(usize::from(self.tag)).1)
     }
 }

@@ -40,6 +40,13 @@ impl<'a> Entry<'a> {
         })
     }
 
+    /// How many bytes it has as it is kept.
+    pub(crate) fn size(&self) -> usize
+        ensures { result ≡ length (kept self.now) }
+    {
+        1 + self.time.len() + self.fields.len()
+    }
+
     /// The entry that a value is: an array of exactly two, a time and a map.
     #[tactic(auto, unfolding(crate::specs::Entries::entry_of))]
     #[inline(always)]

@@ -5,8 +5,6 @@ ghost use Rattle.std.specs.Prelude.{
   ◌+◌,
   ◌<◌,
   ◌^◌,
-  ◌↔◌,
-  IsTrue,
   [],
   ◌∷◌,
   ◌++◌,
@@ -18,9 +16,8 @@ ghost use Rattle.std.specs.Prelude.{
 };
 ghost use Rattle.std.specs.List.{concat};
 ghost use Rattle.fwd_modes.specs.Entries.{AreCut, AreFull, cut_at, kept_entry, ends_of};
-ghost use Rattle.fwd_modes.specs.Readings.{entries_left, kept};
+ghost use Rattle.fwd_modes.specs.Readings.{kept};
 
-use crate::entries::Entries;
 use crate::entry::Entry;
 use smallvec::SmallVec;
 use std::alloc::{AllocError, Global};
@@ -64,23 +61,22 @@ fn append_all(bytes: &mut Vec<u8>, entry: Entry<'_>) -> Result<(), AllocError>
     ensures ok { OnOk result (bytes.new.items ≡ bytes.old.items ++ kept entry.entry) }
     ensures front { take (length bytes.old.items) bytes.new.items ≡ bytes.old.items }
 {
-    bytes.reserve(1 + entry.time.len() + entry.fields.len())?;
+    bytes.reserve(entry.size())?;
     bytes.push(0x92)?;
     bytes.extend_from_slice(entry.time)?;
     bytes.extend_from_slice(entry.fields)
 }
 
-impl KeptEntries {
-    /// No entries.
-    pub(crate) fn new(alloc: Global) -> Self
-        ensures { result ≡ [] }
-    {
-        KeptEntries {
-            bytes: Vec::new(alloc),
-            ends: SmallVec::new(alloc),
-        }
-    }
+/// A copy of bytes, and room behind it for so many more.
+pub(crate) fn copied(alloc: Global, bytes: &[u8], more: usize) -> Result<Vec<u8>, AllocError>
+    ensures { IfOk result (λ copy. copy.items ≡ bytes.now) }
+{
+    let mut copy = Vec::with_capacity(alloc, bytes.len().saturating_add(more))?;
+    copy.extend_from_slice(bytes)?;
+    Ok(copy)
+}
 
+impl KeptEntries {
     /// No entries, and room for so many bytes.
     pub(crate) fn with_room(alloc: Global, bytes: usize) -> Result<Self, AllocError>
         ensures { IfOk result (λ kept. kept ≡ []) }
@@ -113,33 +109,14 @@ impl KeptEntries {
         Ok(())
     }
 
-    /// The entries, one after the other. Each has a byte.
-    pub(crate) fn bytes(&self) -> &[u8]
-        ensures value { result.now ≡ concat self.now }
-        ensures bound { length (concat self.now) < 2 ^ 32 }
-        ensures full { AreFull self.now }
+    /// The entries, one after the other, and where each of them ends.
+    pub(crate) fn into_parts(self) -> (Vec<u8>, SmallVec<u32, 2>)
+        ensures bytes { result.0.items ≡ concat self }
+        ensures ends { result.1.items ≡ ends_of self }
+        ensures bound { length (concat self) < 2 ^ 32 }
+        ensures full { AreFull self }
     {
-        &self.bytes
-    }
-
-    /// Where each entry ends.
-    pub(crate) fn ends(&self) -> &[u32]
-        ensures { result.now ≡ ends_of self.now }
-    {
-        self.ends.as_slice()
-    }
-
-    /// Whether the entries are the same.
-    pub(crate) fn is(&self, other: &KeptEntries) -> bool
-        ensures { IsTrue result ↔ (self.now ≡ other.now) }
-    {
-        self.bytes == other.bytes && self.ends.as_slice() == other.ends.as_slice()
-    }
-
-    /// The entries one by one.
-    pub(crate) fn iter(&self) -> Entries<'_>
-        ensures { entries_left result ≡ self.now }
-    {
-        Entries::new(&self.bytes, self.ends.as_slice())
+        let KeptEntries { bytes, ends } = self;
+        (bytes, ends)
     }
 }

@@ -7,7 +7,7 @@ ghost use Rattle.fwd_msgpack.specs.Values.{bytes_of, members_left};
 ghost use Rattle.fwd_modes.specs.Entries.{AreCut, cut_at, ends_of, entries_of, listed_entries, packed_entries};
 
 use crate::entry::{Entry, is_kept};
-use crate::kept::KeptEntries;
+use crate::kept::{KeptEntries, copied};
 use fwd_msgpack::{Cut, Limits, Members, Value, cut};
 use smallvec::SmallVec;
 use std::alloc::{AllocError, Global};
@@ -35,13 +35,13 @@ fn ends_listed(alloc: Global, members: Members<'_>) -> Result<Option<SmallVec<u3
 
 /// The same, entry by entry: where some are not spelled as they are kept.
 #[tactic(auto, unfolding(crate::specs::Entries::listed_entries))]
-fn list_each(alloc: Global, list: Value<'_>) -> Result<Option<KeptEntries>, AllocError>
+fn list_each(alloc: Global, list: Value<'_>, more: usize) -> Result<Option<KeptEntries>, AllocError>
     ensures { IfOk result (λ kept. kept ≡ listed_entries (bytes_of list.entry)) }
 {
     let Some(members) = list.items() else {
         return Ok(None);
     };
-    let mut kept = KeptEntries::with_room(alloc, list.bytes().len())?;
+    let mut kept = KeptEntries::with_room(alloc, list.bytes().len().saturating_add(more))?;
     for member in members {
         let Some(entry) = Entry::read(member) else {
             return Ok(None);
@@ -52,18 +52,22 @@ fn list_each(alloc: Global, list: Value<'_>) -> Result<Option<KeptEntries>, Allo
 }
 
 /// The members of an array, if each is an entry. Where all are spelled as they are kept, their
-/// bytes are copied in one.
+/// bytes are copied in one. Behind them is room for so many bytes more.
 #[tactic(auto, unfolding(crate::specs::Entries::listed_entries))]
-pub(crate) fn read_list(alloc: Global, list: Value<'_>) -> Result<Option<KeptEntries>, AllocError>
+pub(crate) fn read_list(
+    alloc: Global,
+    list: Value<'_>,
+    more: usize,
+) -> Result<Option<KeptEntries>, AllocError>
     ensures { IfOk result (λ kept. kept ≡ listed_entries (bytes_of list.entry)) }
 {
     let Some(members) = list.items() else {
         return Ok(None);
     };
     let Some(ends) = ends_listed(alloc, members)? else {
-        return list_each(alloc, list);
+        return list_each(alloc, list, more);
     };
-    let bytes = Vec::from_slice(alloc, members.bytes())?;
+    let bytes = copied(alloc, members.bytes(), more)?;
     Ok(Some(KeptEntries::of(bytes, ends)))
 }
 
@@ -100,7 +104,12 @@ fn ends_of_kept(
 }
 
 /// The same, entry by entry: where some are not spelled as they are kept.
-fn read_each(alloc: Global, packed: &[u8], depth: u8) -> Result<Option<KeptEntries>, AllocError>
+fn read_each(
+    alloc: Global,
+    packed: &[u8],
+    depth: u8,
+    more: usize,
+) -> Result<Option<KeptEntries>, AllocError>
     requires shallow { depth ≤ 128 }
     requires fits { length packed.now < 2 ^ 32 }
     ensures { IfOk result (λ kept. kept ≡ packed_entries depth packed.now) }
@@ -109,7 +118,7 @@ fn read_each(alloc: Global, packed: &[u8], depth: u8) -> Result<Option<KeptEntri
         bytes: u32::MAX,
         depth,
     };
-    let mut kept = KeptEntries::with_room(alloc, packed.len())?;
+    let mut kept = KeptEntries::with_room(alloc, packed.len().saturating_add(more))?;
     let mut rest = packed;
     'entries: while !rest.is_empty() {
         let Cut::Whole(value, used) = cut(rest, limits) else {
@@ -125,11 +134,13 @@ fn read_each(alloc: Global, packed: &[u8], depth: u8) -> Result<Option<KeptEntri
 }
 
 /// The entries that stand one after the other to the last byte, each at most so deep. Where all
-/// are spelled as they are kept, their bytes are copied in one.
+/// are spelled as they are kept, their bytes are copied in one. Behind them is room for so many
+/// bytes more.
 pub(crate) fn read_packed(
     alloc: Global,
     packed: &[u8],
     depth: u8,
+    more: usize,
 ) -> Result<Option<KeptEntries>, AllocError>
     requires shallow { depth ≤ 128 }
     requires fits { length packed.now < 2 ^ 32 }
@@ -137,9 +148,9 @@ pub(crate) fn read_packed(
 {
     match ends_of_kept(alloc, packed, depth)? {
         Some(ends) => {
-            let bytes = Vec::from_slice(alloc, packed)?;
+            let bytes = copied(alloc, packed, more)?;
             Ok(Some(KeptEntries::of(bytes, ends)))
         }
-        None => read_each(alloc, packed, depth),
+        None => read_each(alloc, packed, depth, more),
     }
 }

@@ -51,32 +51,37 @@ fn judge(parts: Parts<'_>) -> Result<Asked<'_>, InputFault>
     })
 }
 
-/// One entry, if it is one.
-fn read_one(alloc: Global, entry: Option<Entry<'_>>) -> Result<Option<KeptEntries>, AllocError>
+/// One entry, if it is one, and room behind it for so many bytes more.
+fn read_one(
+    alloc: Global,
+    entry: Option<Entry<'_>>,
+    more: usize,
+) -> Result<Option<KeptEntries>, AllocError>
     ensures { IfOk result (λ kept. kept ≡ one_entry (option_map kept_of entry.entry)) }
 {
     let Some(entry) = entry else {
         return Ok(None);
     };
-    let mut kept = KeptEntries::new(alloc);
+    let mut kept = KeptEntries::with_room(alloc, entry.size().saturating_add(more))?;
     kept.push(entry)?;
     Ok(Some(kept))
 }
 
-/// The entries, if each is one.
+/// The entries, if each is one, and room behind them for so many bytes more.
 fn read_entries(
     alloc: Global,
     given: Given<'_>,
     depth: u8,
+    more: usize,
 ) -> Result<Option<KeptEntries>, AllocError>
     requires { depth ≤ 128 }
     ensures { IfOk result (λ kept. kept ≡ entries_given depth given.entry) }
 {
     match given {
-        Given::One(entry) => read_one(alloc, entry),
-        Given::List(list) => read_list(alloc, list),
+        Given::One(entry) => read_one(alloc, entry, more),
+        Given::List(list) => read_list(alloc, list, more),
         Given::Packed(value) => match value.text() {
-            Some(packed) => read_packed(alloc, packed, depth),
+            Some(packed) => read_packed(alloc, packed, depth, more),
             None => Ok(None),
         },
     }
@@ -93,7 +98,7 @@ fn read_asked(
     ensures { IfOk result (λ r.
         shown r ≡ judged (entries_given depth given.entry) (Ok asked.entry)) }
 {
-    match read_entries(alloc, given, depth)? {
+    match read_entries(alloc, given, depth, asked.size())? {
         Some(kept) => Ok(Reading::Asks(Batch::new(alloc, asked.tag, kept, asked.chunk)?)),
         None => Ok(Reading::Fails(InputFault::BadEntry)),
     }

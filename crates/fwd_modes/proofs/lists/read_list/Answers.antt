@@ -10,7 +10,7 @@ pub of-requires-clause-cut : goal.of-requires-clause-cut
 of-requires-clause-cut c =
     let all = members_left c.in-Some.members in
     let ends : c.in-Some-2.ends.items ≡ ends_of all = subst (λ f. IfSome f (λ ends. ends.items ≡ ends_of all)) c.in-Some-2.is c.in_ok-ends.ensures.ends in
-    let bytes : c.in_ok-bytes.bytes.items ≡ concat all = c.in_ok-bytes.ensures.items ∙ c.bytes.ensures in
+    let bytes : c.in_ok-bytes.bytes.items ≡ concat all = c.in_ok-bytes.ensures ∙ c.bytes.ensures in
     subst (λ xs. AreCut 0 xs c.in_ok-bytes.bytes.items) (sym ends) (subst (AreCut 0 (ends_of all)) (sym bytes) (cut_whole all))
 
 pub of-requires-clause-full : goal.of-requires-clause-full
@@ -18,7 +18,7 @@ of-requires-clause-full c =
     let all = members_left c.in-Some.members in
     let ends : c.in-Some-2.ends.items ≡ ends_of all = subst (λ f. IfSome f (λ ends. ends.items ≡ ends_of all)) c.in-Some-2.is c.in_ok-ends.ensures.ends in
     let kept : entries_of all ≡ Some all = subst (λ f. IfSome f (λ ends. entries_of all ≡ Some all)) c.in-Some-2.is c.in_ok-ends.ensures.entries in
-    let bytes : c.in_ok-bytes.bytes.items ≡ concat all = c.in_ok-bytes.ensures.items ∙ c.bytes.ensures in
+    let bytes : c.in_ok-bytes.bytes.items ≡ concat all = c.in_ok-bytes.ensures ∙ c.bytes.ensures in
     subst AreFull (sym (cut_joined 0 all) ∙ (λ i. cut_at 0 (sym ends i) (sym bytes i))) (full_entries all all kept)
 
 pub returns : goal.returns
@@ -27,6 +27,6 @@ returns c =
     let all = members_left c.in-Some.members in
     let ends : c.in-Some-2.ends.items ≡ ends_of all = subst (λ f. IfSome f (λ ends. ends.items ≡ ends_of all)) c.in-Some-2.is c.in_ok-ends.ensures.ends in
     let kept : entries_of all ≡ Some all = subst (λ f. IfSome f (λ ends. entries_of all ≡ Some all)) c.in-Some-2.is c.in_ok-ends.ensures.entries in
-    let bytes : c.in_ok-bytes.bytes.items ≡ concat all = c.in_ok-bytes.ensures.items ∙ c.bytes.ensures in
+    let bytes : c.in_ok-bytes.bytes.items ≡ concat all = c.in_ok-bytes.ensures ∙ c.bytes.ensures in
     ap Some (c.of.ensures ∙ (λ i. cut_at 0 (ends i) (bytes i)) ∙ cut_joined 0 all)
     ∙ sym kept ∙ ap (option_and_then entries_of) c.in-Some.ensures.value
