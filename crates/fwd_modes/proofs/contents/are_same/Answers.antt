@@ -10,8 +10,7 @@ returns-then-eq c =
     let left = c.args.left.now.entries in
     let right = c.args.right.now.entries in
     let bytes : concat left ≡ concat right = sym c.entries.ensures.value ∙ (bytes_decides c.entries.result.now c.entries-2.result.now).0 (sym c.if-eq.ensures) ∙ c.entries-2.ensures.value in
-    let decides = bytes_decides c.ends.result.now c.ends-then-eq.result.now in
-    (
+    let decides = bytes_decides c.ends.result.now c.ends-then-eq.result.now in (
       (λ yes. same_entries left right bytes (sym c.ends.ensures ∙ decides.0 (sym c.eq-then-eq.ensures ∙ yes) ∙ c.ends-then-eq.ensures)),
-      (λ same. c.eq-then-eq.ensures ∙ decides.1 (c.ends.ensures ∙ ap ends_of same ∙ sym c.ends-then-eq.ensures))
+      (λ same. c.eq-then-eq.ensures ∙ decides.1 (c.ends.ensures ∙ ap ends_of same ∙ sym c.ends-then-eq.ensures)),
     )
