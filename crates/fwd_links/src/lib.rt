@@ -4,12 +4,14 @@
 //! took and gave goes on by just what it answers.
 #![tactic(auto)]
 
+mod descriptors;
 mod fault;
 mod link;
 mod mailbox;
 mod waiting;
 mod wire;
 
+pub use descriptors::lacks_descriptors;
 pub use fault::WaitFault;
 pub use link::{TcpHub, TcpLink};
 pub use mailbox::{Mailbox, Notice, Notices, Stop};

@@ -2,6 +2,7 @@
 
 ghost use Rattle.std.specs.Prelude.{◌≡◌, [], IfOk};
 
+use crate::descriptors::lacks_descriptors;
 use crate::mailbox::{Mailbox, Stop};
 use crate::waiting::SharedWait;
 use crate::wire::Wire;
@@ -133,6 +134,7 @@ impl<'a, N: Net> Hub for TcpHub<'a, N> {
         };
         match TcpLink::begin(self.net, rt, self.alloc, stop, wait, *addr) {
             Ok(link) => Ok(link),
+            Err(error) if lacks_descriptors(&error) => Err(LinkFault::Descriptors),
             Err(_) => Err(LinkFault::Connect),
         }
     }

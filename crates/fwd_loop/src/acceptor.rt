@@ -1,7 +1,7 @@
 //! Where connections come in.
 
 use crate::connections::{Connection, Connections};
-use crate::listener::Listener;
+use crate::listener::{Arrival, Listener};
 use crate::monitor_peer::MonitorPeer;
 use crate::watch::{Caller, Fact, Want, Watch};
 use fwd_handshake::{Nonces, Security};
@@ -19,7 +19,7 @@ use std::sync::Arc;
 const ACCEPTS: u16 = 1_024;
 
 /// The most monitors at a time.
-const MONITORS: usize = 16;
+pub(crate) const MONITORS: usize = 16;
 
 /// What a source that comes is given.
 #[derive(Drop)]
@@ -42,6 +42,26 @@ pub(crate) struct Acceptor {
     pub next_id: Option<u64>,
     /// The most sources at a time.
     pub limit: usize,
+    /// How many files the process may have open, where that leaves fewer sources than are set.
+    pub few_files: Option<u64>,
+}
+
+/// Where connections go that come at a moment.
+#[derive(Drop)]
+pub(crate) struct NewComers<'a> {
+    pub alloc: Global,
+    pub registry: &'a Registry,
+    pub connections: &'a mut Connections,
+    /// In milliseconds.
+    pub now: u64,
+}
+
+impl<'a> NewComers<'a> {
+    /// A connection comes. Where the system or memory refuses it, which is the only error, it is
+    /// dropped.
+    fn add(&mut self, connection: Connection) -> Result<(), AllocError> {
+        self.connections.add(self.registry, connection, self.now)
+    }
 }
 
 impl SourceSetup {
@@ -59,8 +79,12 @@ impl Acceptor {
         self.sources.is_urgent() || self.monitors.as_ref().is_some_and(|it| it.is_urgent())
     }
 
-    /// Tells where connections come in.
+    /// Tells where connections come in, and where fewer than are set are taken.
     pub fn tell<W: Watch>(&self, watch: &mut W) {
+        if let Some(files) = self.few_files {
+            let sources = self.limit;
+            watch.see(Fact::FewFiles { files, sources });
+        }
         watch.see(Fact::Listening {
             caller: Caller::Source,
             address: self.sources.address(),
@@ -74,36 +98,23 @@ impl Acceptor {
     }
 
     /// Takes the connections that wait. One too many is closed at once.
-    pub fn accept<W: Watch>(
-        &mut self,
-        alloc: Global,
-        registry: &Registry,
-        connections: &mut Connections,
-        watch: &mut W,
-    ) {
-        self.accept_sources(alloc, registry, connections, watch);
-        self.accept_monitors(alloc, registry, connections, watch);
+    pub fn accept<W: Watch>(&mut self, comers: &mut NewComers<'_>, watch: &mut W) {
+        self.accept_sources(comers, watch);
+        self.accept_monitors(comers, watch);
     }
 
     /// Takes the sources that wait.
-    fn accept_sources<W: Watch>(
-        &mut self,
-        alloc: Global,
-        registry: &Registry,
-        connections: &mut Connections,
-        watch: &mut W,
-    ) {
+    fn accept_sources<W: Watch>(&mut self, comers: &mut NewComers<'_>, watch: &mut W) {
         for _ in 0..ACCEPTS {
-            let Some((stream, peer)) = self.sources.next() else {
-                return;
+            let (stream, peer) = match self.sources.next() {
+                Arrival::Came(stream, peer) => (stream, peer),
+                Arrival::Starved => return watch.see(Fact::Descriptors(Caller::Source)),
+                Arrival::None => return,
             };
-            if connections.sources() >= self.limit {
+            if comers.connections.sources() >= self.limit {
                 let caller = Caller::Source;
                 watch.see(Fact::OverLimit { caller, peer });
-            } else if self
-                .begin(alloc, registry, connections, stream, peer)
-                .is_err()
-            {
+            } else if self.begin(comers, stream, peer).is_err() {
                 watch.see(Fact::Memory(Want::Source(peer)));
             }
         }
@@ -113,9 +124,7 @@ impl Acceptor {
     /// system refuses it.
     fn begin(
         &mut self,
-        alloc: Global,
-        registry: &Registry,
-        connections: &mut Connections,
+        comers: &mut NewComers<'_>,
         stream: TcpStream,
         peer: SocketAddr,
     ) -> Result<(), AllocError> {
@@ -123,32 +132,27 @@ impl Acceptor {
             return Ok(());
         };
         self.next_id = id.checked_add(1);
-        let source = self.setup.source(alloc, id)?;
-        let source = SourcePeer::new(id, stream, peer, source);
-        connections.add(registry, Connection::Source(source))
+        let source = self.setup.source(comers.alloc, id)?;
+        comers.add(Connection::Source(SourcePeer::new(id, stream, peer, source)))
     }
 
     /// Takes the monitors that wait.
-    fn accept_monitors<W: Watch>(
-        &mut self,
-        alloc: Global,
-        registry: &Registry,
-        connections: &mut Connections,
-        watch: &mut W,
-    ) {
+    fn accept_monitors<W: Watch>(&mut self, comers: &mut NewComers<'_>, watch: &mut W) {
         let Some(listener) = &mut self.monitors else {
             return;
         };
         for _ in 0..ACCEPTS {
-            let Some((stream, peer)) = listener.next() else {
-                return;
+            let (stream, peer) = match listener.next() {
+                Arrival::Came(stream, peer) => (stream, peer),
+                Arrival::Starved => return watch.see(Fact::Descriptors(Caller::Monitor)),
+                Arrival::None => return,
             };
-            if connections.monitors() >= MONITORS {
+            if comers.connections.monitors() >= MONITORS {
                 let caller = Caller::Monitor;
                 watch.see(Fact::OverLimit { caller, peer });
             } else {
-                let monitor = Connection::Monitor(MonitorPeer::new(alloc, stream));
-                if connections.add(registry, monitor).is_err() {
+                let monitor = MonitorPeer::new(comers.alloc, stream);
+                if comers.add(Connection::Monitor(monitor)).is_err() {
                     watch.see(Fact::Memory(Want::Monitor));
                 }
             }

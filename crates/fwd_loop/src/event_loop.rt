@@ -1,17 +1,19 @@
 //! What the loop waits for, reads and writes.
 
-use crate::acceptor::Acceptor;
+use crate::acceptor::{Acceptor, NewComers};
 use crate::connections::{Connection, Connections, Ready};
 use crate::fault::StartFault;
 use crate::lost_servers::LostServers;
 use crate::outlets::Outlets;
 use crate::output::Output;
+use crate::run_clock::RunClock;
 use crate::watch::{Fact, Want, Watch};
 use fwd_links::{Mailbox, Notices};
-use fwd_peers::SourcePeer;
+use fwd_peers::{GREETING, SourceEnd, SourcePeer};
 use mio::event::Event;
 use mio::{Events, Poll, Token};
 use std::alloc::Global;
+use std::rt::Clock;
 use std::sync::Wait;
 use std::time::Duration;
 
@@ -26,6 +28,9 @@ pub(crate) const WAKER: Token = Token(usize::MAX - 2);
 
 /// The longest wait of a turn, in milliseconds.
 const LONGEST: u64 = 100;
+
+/// How long connections are read in a turn, in milliseconds, but for the one that is read then.
+const READING: u64 = 8;
 
 /// How often a loop that was at work in its last turn looks for more before it sleeps: some ten
 /// microseconds.
@@ -46,18 +51,37 @@ pub(crate) struct EventLoop {
 }
 
 impl EventLoop {
-    /// Takes the connections that wait.
-    pub fn accept<W: Watch>(&mut self, watch: &mut W) {
+    /// Takes the connections that wait, at a moment (milliseconds).
+    pub fn accept<W: Watch>(&mut self, watch: &mut W, now: u64) {
         let registry = self.poll.registry();
-        self.acceptor
-            .accept(self.alloc, registry, &mut self.connections, watch);
+        let mut gate = NewComers {
+            alloc: self.alloc,
+            registry,
+            connections: &mut self.connections,
+            now,
+        };
+        self.acceptor.accept(&mut gate, watch);
     }
 
     /// Hands in all tickets, and writes what that has sources told.
     pub fn finish<R: Wait, W: Watch>(&mut self, rt: &R, outlets: &mut Outlets<'_>, watch: &mut W) {
-        outlets.settle_all();
-        outlets.collect(rt, &mut self.connections, watch);
+        outlets.collect_all(rt, &mut self.connections, watch);
         self.write_all(watch);
+    }
+
+    /// Closes the connections that had their time at a moment (milliseconds), and have not shown
+    /// what they are.
+    pub fn close_late<W: Watch>(&mut self, watch: &mut W, now: u64) {
+        for _ in 0..u32::MAX {
+            let Some(key) = self.connections.next_late(now) else {
+                return;
+            };
+            if let Some(Connection::Source(source)) = self.connections.at(key) {
+                source.refuse(SourceEnd::NoLogin);
+                tell_end(source, watch);
+            }
+            self.connections.remove(key);
+        }
     }
 
     /// Waits from a moment on (milliseconds) until something is ready or told, and notes what is
@@ -154,16 +178,22 @@ impl EventLoop {
         }
     }
 
-    /// Reads each connection that is ready, once, and has what it asks for admitted.
-    pub fn read_all<R: Wait, W: Watch>(
+    /// Reads each connection that is ready, once, and has what it asks for admitted: for some
+    /// milliseconds, and those that are left in a later turn.
+    pub fn read_all<R: Wait + Clock, W: Watch>(
         &mut self,
         rt: &R,
         outputs: &[Output],
         outlets: &mut Outlets<'_>,
         watch: &mut W,
-        now: u64,
+        clock: &mut RunClock<'_, R>,
     ) {
+        let start = clock.moment();
         for _ in 0..self.connections.ready() {
+            let now = clock.moment();
+            if now.saturating_sub(start) >= READING {
+                return;
+            }
             self.read_next(rt, outputs, outlets, watch, now);
         }
     }
@@ -187,7 +217,7 @@ impl EventLoop {
         } = ready;
         let again = match connection {
             Connection::Source(source) => {
-                let again = source.hear(self.alloc, &mut self.room, to_end);
+                let again = hear(source, self.alloc, &mut self.room, to_end);
                 outlets.admit_all(rt, source, now);
                 tell_end(source, watch);
                 let stands = source.write();
@@ -219,6 +249,21 @@ fn note(connections: &mut Connections, key: usize, event: &Event) {
     } else {
         connections.note_told(key);
     }
+}
+
+/// Reads a source, and says whether there may be more. One that is still to log in is read no more
+/// than a PING may have in a turn, and ends where it sent more than that.
+fn hear(source: &mut SourcePeer, alloc: Global, room: &mut [u8], to_end: bool) -> bool {
+    let most = if source.awaits_login() {
+        room.len().min(GREETING)
+    } else {
+        room.len()
+    };
+    let again = source.hear(alloc, &mut room[..most], to_end);
+    if source.is_too_long() {
+        source.refuse(SourceEnd::NoLogin);
+    }
+    again
 }
 
 /// A watch is told why the relay ends a source, where it does and that was not told yet.

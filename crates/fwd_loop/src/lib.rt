@@ -1,12 +1,15 @@
 //! The relay over sockets: a loop over its sources and monitors, and its workers, each in a thread
-//! of its own, over TCP. What is proved here is that the code is safe, that its loops end, and that
-//! a run counts each output once and so that it adds up: all other meaning stands in the crates
-//! below.
+//! of its own, over TCP. What is proved here is that the code is safe; that its loops end; that a
+//! request goes to the output that the routes name first for its tag, and a ticket that shows it is
+//! kept there; that sources are told of receipts of such tickets alone, and of each; and that a run
+//! counts each output once and so that it adds up. All other meaning stands in the crates below.
 #![tactic(auto)]
 
 mod acceptor;
 mod connections;
+mod deadlines;
 mod event_loop;
+mod files;
 mod fault;
 mod flush_timer;
 mod listener;
@@ -18,7 +21,6 @@ mod output;
 mod random_streams;
 mod relay_loop;
 mod run_clock;
-mod ticket_store;
 mod turns;
 mod watch;
 mod worker_pools;

@@ -1,6 +1,7 @@
 //! A listener, and whether connections wait there.
 
 use crate::fault::StartFault;
+use fwd_links::lacks_descriptors;
 use mio::net::{TcpListener, TcpStream};
 use mio::{Interest, Poll, Token};
 use std::io;
@@ -16,6 +17,17 @@ enum Calling {
     Now,
     /// There may be some, and the system could not give the last one.
     Later,
+}
+
+/// What comes of asking for the next connection.
+#[derive(Drop)]
+pub(crate) enum Arrival {
+    /// It came, from this address.
+    Came(TcpStream, SocketAddr),
+    /// One waits, and no descriptor is left for it.
+    Starved,
+    /// None waits, or the system cannot give it.
+    None,
 }
 
 /// A listener.
@@ -74,25 +86,32 @@ impl Listener {
         self.calling == Calling::Now
     }
 
-    /// The next connection that waits, and whose it is, if there is one. Where the system cannot
-    /// give it, as for want of descriptors, it is tried again after the next wait.
-    pub fn next(&mut self) -> Option<(TcpStream, SocketAddr)> {
+    /// The next connection that waits, if there is one. Where the system cannot give it, as for
+    /// want of descriptors, it is tried again after the next wait.
+    pub fn next(&mut self) -> Arrival {
         if self.calling == Calling::Quiet {
-            return None;
+            return Arrival::None;
         }
         match self.listener.accept() {
-            Ok(caller) => {
+            Ok((stream, peer)) => {
                 self.calling = Calling::Now;
-                Some(caller)
+                Arrival::Came(stream, peer)
             }
-            Err(error) => {
-                self.calling = match error.kind() {
-                    ErrorKind::WouldBlock => Calling::Quiet,
-                    ErrorKind::Interrupted | ErrorKind::ConnectionAborted => Calling::Now,
-                    _ => Calling::Later,
-                };
-                None
-            }
+            Err(error) => self.refused(&error),
+        }
+    }
+
+    /// The system did not give a connection.
+    fn refused(&mut self, error: &io::Error) -> Arrival {
+        self.calling = match error.kind() {
+            ErrorKind::WouldBlock => Calling::Quiet,
+            ErrorKind::Interrupted | ErrorKind::ConnectionAborted => Calling::Now,
+            _ => Calling::Later,
+        };
+        if lacks_descriptors(error) {
+            Arrival::Starved
+        } else {
+            Arrival::None
         }
     }
 }

@@ -35,6 +35,11 @@ impl MonitorPeer {
         }
     }
 
+    /// Whether its request's head has not come yet.
+    pub fn awaits_head(&self) -> bool {
+        self.sending.is_none()
+    }
+
     /// Reads what is there, and writes the reply once there is one. It says whether the connection
     /// is to be looked at again, where it stands. The only error is out of memory.
     pub fn serve<R: Wait>(

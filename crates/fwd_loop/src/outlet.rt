@@ -1,18 +1,27 @@
 //! An output as the loop sees it.
 
-ghost use Rattle.std.specs.Prelude.{All, IfOk};
-ghost use Rattle.fwd_book.specs.History.{BookSetting};
-ghost use Rattle.fwd_workers.specs.Tickets.{IsRight, ticket_of};
+ghost use Rattle.std.specs.Prelude.{◌≡◌, IfOk, OnOk, OnErr};
+ghost use Rattle.fwd_tickets.specs.Stores.{IsSame};
+ghost use Rattle.fwd_loop.specs.Admissions.{KeepsTicketOf};
+ghost use Rattle.fwd_loop.specs.Standings.{sources_in};
+ghost use Rattle.fwd_loop.specs.Collections.{ComeBack, IsHandedIn, TellsRight};
 
+use crate::connections::Connections;
 use crate::flush_timer::FlushTimer;
 use crate::output::Output;
-use crate::ticket_store::{TicketStore, abandon_all};
 use fwd_book::Receipt;
 use fwd_chunks::FlushKind;
 use fwd_modes::{Batch, Origin};
+use fwd_tickets::{TicketStore, abandon_all};
 use fwd_workers::{AdmitRefusal, Ticket};
 use std::alloc::{AllocError, Global};
 use std::sync::Wait;
+
+/// How many receipts of an output are told in a turn, but for those of a block more.
+const RECEIPTS: usize = 4_096;
+
+/// The most blocks of tickets that are handed in to an output in a turn.
+const BLOCKS: u16 = 1_024;
 
 /// An output, the tickets that it gave, and when it is flushed. It must be spent: by `close`.
 pub(crate) struct Outlet<'a> {
@@ -44,7 +53,11 @@ impl<'a> Outlet<'a> {
         origin: Origin,
         batch: Batch,
         now: u64,
-    ) -> Result<(), AdmitRefusal> {
+    ) -> Result<(), AdmitRefusal>
+        ensures kept { OnOk result
+            (KeepsTicketOf self.old.tickets (origin, batch) self.new.tickets) }
+        ensures same { OnErr result (IsSame self.old.tickets self.new.tickets) }
+    {
         let shared = &self.output.shared;
         let ticket = match shared.admit(rt, self.alloc, &mut (), origin, batch, now) {
             Ok(ticket) => ticket,
@@ -64,7 +77,9 @@ impl<'a> Outlet<'a> {
     /// Rings a worker where a request may have closed a chunk by its size. That happens only where
     /// the next chunk of a tag is opened, which has a greater number than all before it. So has the
     /// first chunk of a tag, which closes none: each chunk rings at most once here.
-    fn ring_for(&mut self, ticket: &Ticket) {
+    fn ring_for(&mut self, ticket: &Ticket)
+        ensures { self.new.tickets ≡ self.old.tickets }
+    {
         let Some(last) = ticket.spans().last() else {
             return;
         };
@@ -94,12 +109,34 @@ impl<'a> Outlet<'a> {
         }
     }
 
-    /// Hands in the tickets that are due, and answers what receipts there are: each is right for
-    /// the request of a ticket of this output. The others come back. The only error is out of
-    /// memory, and then all are to be handed in again.
-    pub fn collect<R: Wait>(&mut self, rt: &R) -> Result<Vec<Receipt>, AllocError>
-        ensures right { IfOk result (λ receipts. (setting : BookSetting)
-            × All (λ r. IsRight r (ticket_of setting r)) receipts.items) }
+    /// Hands in tickets that are due, block by block, and tells the sources of their receipts: some
+    /// thousands, the others later. The only error is out of memory, and then all tickets are to be
+    /// handed in again.
+    pub fn collect<R: Wait>(
+        &mut self,
+        rt: &R,
+        connections: &mut Connections,
+    ) -> Result<(), AllocError>
+        ensures { TellsRight (sources_in connections.old) (sources_in connections.new) }
+    {
+        let mut told: usize = 0;
+        for _ in 0..BLOCKS {
+            if told >= RECEIPTS || !self.tickets.is_due() {
+                break;
+            }
+            let receipts = self.hand_in(rt)?;
+            connections.tell_all(&receipts);
+            told = told.saturating_add(receipts.len());
+        }
+        Ok(())
+    }
+
+    /// Hands in a block of the tickets that are due, and answers what receipts there are: each is
+    /// right for the request of one of these tickets. The others come back. The only error is out
+    /// of memory, and then all are to be handed in again.
+    fn hand_in<R: Wait>(&mut self, rt: &R) -> Result<Vec<Receipt>, AllocError>
+        ensures { IfOk result (λ receipts.
+            IsHandedIn self.old.tickets receipts.items self.new.tickets) }
     {
         let due = self.tickets.take_due();
         match self.output.shared.collect(rt, self.alloc, due) {
@@ -116,7 +153,9 @@ impl<'a> Outlet<'a> {
     }
 
     /// Tickets came back. When out of memory they are abandoned: their sources are not told.
-    fn put_back<R: Wait>(&mut self, rt: &R, tickets: Vec<Ticket>) {
+    fn put_back<R: Wait>(&mut self, rt: &R, tickets: Vec<Ticket>)
+        ensures { ComeBack self.old.tickets tickets.items self.new.tickets }
+    {
         if let Err(tickets) = self.tickets.put_back(tickets) {
             abandon_all(rt, &self.output.shared, tickets);
         }

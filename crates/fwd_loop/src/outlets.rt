@@ -1,17 +1,25 @@
 //! The outputs as the loop sees them, and which tags go to which.
 
+ghost use Rattle.std.specs.Prelude.{OnOk};
+ghost use Rattle.fwd_loop.specs.Admissions.{Admits};
+ghost use Rattle.fwd_loop.specs.Standings.{sources_in};
+ghost use Rattle.fwd_loop.specs.Collections.{TellsRight};
+ghost use Rattle.fwd_loop.specs.Outlets.{stores_of};
+
 use crate::connections::Connections;
 use crate::flush_timer::FlushTimer;
 use crate::outlet::Outlet;
 use crate::output::Output;
 use crate::watch::{Fact, Want, Watch};
-use fwd_book::Receipt;
 use fwd_links::Notices;
 use fwd_match::Routes;
 use fwd_peers::{SourceEnd, SourcePeer};
 use fwd_workers::{AdmitRefusal, News};
 use std::alloc::{AllocError, AllocFailed, Global};
 use std::sync::Wait;
+
+/// The most rounds of collecting at the end of a run.
+const ROUNDS: u32 = 1 << 20;
 
 /// The outputs, in the settings' order, and which tags go to which. They must be spent: by `close`.
 pub(crate) struct Outlets<'a> {
@@ -66,7 +74,11 @@ impl<'a> Outlets<'a> {
         rt: &R,
         source: &mut SourcePeer,
         now: u64,
-    ) -> Result<(), SourceEnd> {
+    ) -> Result<(), SourceEnd>
+        ensures { OnOk result (Admits self.old.routes.now
+            (stores_of self.old.all.items) source.old
+            (stores_of self.new.all.items) source.new) }
+    {
         let output = source.route(self.routes).ok_or(SourceEnd::NoRoute)?;
         let outlet = self.all.get_mut(output as usize);
         let outlet = outlet.ok_or(SourceEnd::NoRoute)?;
@@ -121,22 +133,42 @@ impl<'a> Outlets<'a> {
         }
     }
 
-    /// Hands in the tickets that are due, each at its output, and answers the sources of their
-    /// receipts.
+    /// Hands in tickets that are due, each at its output, and tells the sources of their receipts:
+    /// of each output some thousands, the others later.
     pub fn collect<R: Wait, W: Watch>(
         &mut self,
         rt: &R,
         connections: &mut Connections,
         watch: &mut W,
-    ) {
+    )
+        ensures { TellsRight (sources_in connections.old) (sources_in connections.new) }
+    {
         for (number, outlet) in (0..u16::MAX).zip(&mut self.all) {
-            if outlet.tickets.is_due() {
-                match outlet.collect(rt) {
-                    Ok(receipts) => answer_all(&receipts, connections),
-                    Err(_) => watch.see(Fact::Memory(Want::Output(number))),
-                }
+            if outlet.collect(rt, connections).is_err() {
+                watch.see(Fact::Memory(Want::Output(number)));
             }
         }
+    }
+
+    /// Hands in all tickets, and tells the sources of their receipts.
+    pub fn collect_all<R: Wait, W: Watch>(
+        &mut self,
+        rt: &R,
+        connections: &mut Connections,
+        watch: &mut W,
+    ) {
+        self.settle_all();
+        for _ in 0..ROUNDS {
+            if !self.is_due() {
+                return;
+            }
+            self.collect(rt, connections, watch);
+        }
+    }
+
+    /// Whether there are tickets to be handed in.
+    fn is_due(&self) -> bool {
+        self.all.iter().any(|outlet| outlet.tickets.is_due())
     }
 
     /// The tickets that are left are abandoned.
@@ -144,20 +176,4 @@ impl<'a> Outlets<'a> {
         let Outlets { routes: _, all } = self;
         close_all(rt, all);
     }
-}
-
-/// Answers sources: each receipt to the source whose request it is of.
-fn answer_all(receipts: &[Receipt], connections: &mut Connections) {
-    for receipt in receipts {
-        answer(receipt, connections);
-    }
-}
-
-/// Answers a receipt's source, where that still stands and asked to be told.
-fn answer(receipt: &Receipt, connections: &mut Connections) {
-    let Some((key, source)) = connections.source(receipt.origin().conn) else {
-        return;
-    };
-    source.answer(receipt);
-    connections.note_told(key);
 }

@@ -8,6 +8,7 @@ use crate::acceptor::{Acceptor, SourceSetup};
 use crate::connections::Connections;
 use crate::event_loop::{EventLoop, MONITORS, SOURCES, WAKER};
 use crate::fault::StartFault;
+use crate::files::{most_files, sources_within};
 use crate::listener::Listener;
 use crate::output::reports_of;
 use crate::random_streams::RandomStreams;
@@ -61,7 +62,27 @@ impl Model for Loop {
 struct Address {
     listen: SocketAddr,
     monitor: Option<SocketAddr>,
-    connections: u16,
+    connections: u64,
+    /// How many files the process may have open, where that leaves fewer than are set.
+    few_files: Option<u64>,
+}
+
+/// Where a relay of these settings listens, and how many sources it takes: as many as are set, or
+/// as many as the process may have files open for.
+fn address_of<R: Files + AllocGlobal>(rt: &R, settings: &Settings) -> Address {
+    let relay = &settings.relay;
+    let asked = u64::from(relay.connections);
+    let files = most_files(rt);
+    let most = match files {
+        Some(files) => sources_within(files, settings.outputs.as_slice()),
+        None => asked,
+    };
+    Address {
+        listen: relay.listen,
+        monitor: relay.monitor,
+        connections: asked.min(most),
+        few_files: if most < asked { files } else { None },
+    }
 }
 
 /// Where the servers of each output are reached.
@@ -118,7 +139,8 @@ fn event_loop_of<R: Net>(
         monitors,
         setup,
         next_id: Some(1),
-        limit: usize::from(address.connections),
+        limit: address.connections as usize,
+        few_files: address.few_files,
     };
     let event_loop = EventLoop {
         alloc,
@@ -150,14 +172,9 @@ impl Loop {
     {
         let alloc = rt.alloc();
         take_large_piece(alloc);
-        let relay = &settings.relay;
-        let address = Address {
-            listen: relay.listen,
-            monitor: relay.monitor,
-            connections: relay.connections,
-        };
-        let random = RandomStreams::new(rt, relay.seed)?;
-        let run = match relay.run_id {
+        let address = address_of(rt, &settings);
+        let random = RandomStreams::new(rt, settings.relay.seed)?;
+        let run = match settings.relay.run_id {
             Some(run) => run,
             None => random.run_id(),
         };

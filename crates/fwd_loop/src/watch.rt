@@ -61,6 +61,14 @@ pub enum Fact {
     },
     /// Memory was refused.
     Memory(Want),
+    /// The process may have so many files open, which leaves room for so many sources at a time,
+    /// fewer than are set.
+    FewFiles {
+        files: u64,
+        sources: usize,
+    },
+    /// A connection waits for which no descriptor is left: it is tried again.
+    Descriptors(Caller),
 }
 
 impl Fact {

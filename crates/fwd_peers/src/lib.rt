@@ -9,6 +9,7 @@ mod source_peer;
 mod stage;
 mod stream;
 
+pub use limits::GREETING;
 pub use source_end::{PeerEnd, SourceEnd};
 pub use source_peer::SourcePeer;
 pub use stage::Stage;

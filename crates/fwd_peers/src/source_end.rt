@@ -12,6 +12,8 @@ pub enum SourceEnd {
     Refused(AdmitRefusal),
     /// No output takes its request's tag.
     NoRoute,
+    /// It has not logged in: not in time, or not within 4,096 bytes.
+    NoLogin,
 }
 
 /// Why a source's connection ends by the relay's doing.

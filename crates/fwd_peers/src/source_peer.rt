@@ -23,7 +23,7 @@ ghost use Rattle.fwd_source.specs.Live.{source_appends};
 ghost use Rattle.fwd_peers.specs.Streams.{IsReading};
 ghost use Rattle.fwd_peers.specs.Peers as peers;
 
-use crate::limits::{ACK_FRONT, UNSENT};
+use crate::limits::{ACK_FRONT, GREETING, UNSENT};
 use crate::source_end::{PeerEnd, SourceEnd};
 use crate::stage::Stage;
 use crate::stream::{PeerStream, Visit};
@@ -232,6 +232,20 @@ impl SourcePeer {
     /// Where it comes from.
     pub fn peer(&self) -> SocketAddr {
         self.peer
+    }
+
+    /// Whether it is still to log in: a shared key is set, and its PING has not come yet.
+    pub fn awaits_login(&self) -> bool
+        ensures { result ≡ self.now.live.awaits }
+    {
+        self.source.awaits_login()
+    }
+
+    /// Whether it is still to log in, and more bytes of it wait than a PING may have.
+    pub fn is_too_long(&self) -> bool
+        ensures { result ≡ self.now.live.awaits && nat_lt GREETING (length self.now.live.rest) }
+    {
+        self.source.awaits_login() && self.source.unfinished() > GREETING
     }
 
     /// How many requests wait to be admitted.

@@ -15,14 +15,16 @@ pub enum Kind {
     ServerChanged = 4,
     OverLimit = 5,
     Memory = 6,
+    FewFiles = 7,
+    Descriptors = 8,
 }
 
 impl Kind {
     /// How many kinds there are.
-    pub const COUNT: usize = 7;
+    pub const COUNT: usize = 9;
 
     /// Each kind once.
-    pub const ALL: [Kind; 7] = [
+    pub const ALL: [Kind; 9] = [
         Kind::Listening,
         Kind::SourceClosed,
         Kind::ServerLost,
@@ -30,6 +32,8 @@ impl Kind {
         Kind::ServerChanged,
         Kind::OverLimit,
         Kind::Memory,
+        Kind::FewFiles,
+        Kind::Descriptors,
     ];
 
     /// The kind of a fact.
@@ -42,6 +46,8 @@ impl Kind {
             Fact::ServerChanged { .. } => Kind::ServerChanged,
             Fact::OverLimit { .. } => Kind::OverLimit,
             Fact::Memory(_) => Kind::Memory,
+            Fact::FewFiles { .. } => Kind::FewFiles,
+            Fact::Descriptors(_) => Kind::Descriptors,
         }
     }
 }
@@ -57,6 +63,8 @@ impl fmt::Display for Kind {
             Kind::ServerChanged => "server changed",
             Kind::OverLimit => "over the limit",
             Kind::Memory => "memory",
+            Kind::FewFiles => "few files",
+            Kind::Descriptors => "no descriptor",
         })
     }
 }
@@ -99,6 +107,8 @@ impl fmt::Display for Telling {
                 write!(f, "{caller} {peer}")
             }
             Fact::Memory(want) => tell_want(f, want),
+            Fact::FewFiles { files, sources } => write!(f, "{files} open at most, {sources} sources"),
+            Fact::Descriptors(caller) => f.write_str(caller_name(caller)),
         }
     }
 }
@@ -127,6 +137,7 @@ fn source_end_name(why: SourceEnd) -> &'static str {
         SourceEnd::Fault(fault) => source_fault_name(fault),
         SourceEnd::Refused(refusal) => admit_refusal_name(refusal),
         SourceEnd::NoRoute => "NoRoute",
+        SourceEnd::NoLogin => "NoLogin",
     }
 }
 
@@ -146,6 +157,7 @@ fn loss_name(why: Loss) -> &'static str {
         Loss::Link(LinkFault::Connect) => "Connect",
         Loss::Link(LinkFault::Read) => "Read",
         Loss::Link(LinkFault::Write) => "Write",
+        Loss::Link(LinkFault::Descriptors) => "Descriptors",
         Loss::Closed => "Closed",
         Loss::Fault(fault) => session_fault_name(fault),
         Loss::Late => "Late",

@@ -236,6 +236,20 @@ impl Source {
         self.shut
     }
 
+    /// Whether a shared key is set, and its PING has not come yet.
+    pub fn awaits_login(&self) -> bool
+        ensures { result ≡ self.now.live.awaits }
+    {
+        self.awaits
+    }
+
+    /// How many bytes of an unfinished value it holds.
+    pub fn unfinished(&self) -> usize
+        ensures { result ≡ length self.now.live.rest }
+    {
+        self.rest.len()
+    }
+
     /// Makes room for answers of so many bytes in all. The only
     /// error is out of memory, and then nothing has changed.
     pub fn reserve(&mut self, bytes: usize) -> Result<(), AllocError>

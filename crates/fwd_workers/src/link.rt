@@ -40,6 +40,8 @@ pub enum LinkFault {
     Read = 2,
     /// It could not be written.
     Write = 3,
+    /// It could not be had, since no descriptor is left for it.
+    Descriptors = 4,
 }
 
 /// A link to a server, which tells its calls.

@@ -12,7 +12,7 @@ use std::io;
 use std::net::{Ipv4Addr, Ipv6Addr, SocketAddr};
 
 /// Why sources are closed.
-const ENDS: [SourceEnd; 15] = [
+const ENDS: [SourceEnd; 16] = [
     SourceEnd::Fault(SourceFault::Scan(ScanFault::Reserved)),
     SourceEnd::Fault(SourceFault::Scan(ScanFault::TooDeep)),
     SourceEnd::Fault(SourceFault::Scan(ScanFault::TooLong)),
@@ -28,13 +28,15 @@ const ENDS: [SourceEnd; 15] = [
     SourceEnd::Refused(AdmitRefusal::Full),
     SourceEnd::Refused(AdmitRefusal::NumbersSpent),
     SourceEnd::NoRoute,
+    SourceEnd::NoLogin,
 ];
 
 /// Why servers are lost.
-const LOSSES: [Loss; 12] = [
+const LOSSES: [Loss; 13] = [
     Loss::Link(LinkFault::Connect),
     Loss::Link(LinkFault::Read),
     Loss::Link(LinkFault::Write),
+    Loss::Link(LinkFault::Descriptors),
     Loss::Closed,
     Loss::Fault(SessionFault::BadReply),
     Loss::Fault(SessionFault::WrongAck),
@@ -103,4 +105,7 @@ pub fn say_each(rt: &impl Print) {
     ] {
         teller.tell(Fact::Memory(want));
     }
+    let (files, sources) = (256, 92);
+    teller.tell(Fact::FewFiles { files, sources });
+    teller.tell(Fact::Descriptors(Caller::Source));
 }

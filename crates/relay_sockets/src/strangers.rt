@@ -17,10 +17,8 @@ const ENDLESS: &[u8] = b"\x96\xa4PING\xdb\x00\xff\xff\xf1";
 /// The same of one byte more, so that no continuation is a value.
 const TOO_LONG: &[u8] = b"\x96\xa4PING\xdb\x00\xff\xff\xf2";
 
-/// How many bytes of its hostname a source sends at a time, and how often.
-const PIECE: usize = 4_096;
-
-const PIECES: u32 = 64;
+/// The most bytes that may wait of a source that has not logged in.
+const GREETING: usize = 4_096;
 
 /// A connection that was told HELO, and sends these bytes.
 fn stranger<R: Net<Listener = TcpListener, Stream = TcpStream> + AllocGlobal>(
@@ -44,13 +42,18 @@ fn told_bytes<R: Net<Listener = TcpListener, Stream = TcpStream> + AllocGlobal>(
     rest(rt.alloc(), &stranger)
 }
 
-/// A stranger sends a part of its hostname. The relay keeps what came of an unfinished value, which
-/// is bounded by the limit of a value: 16,777,216 bytes.
+/// A stranger sends so much of its hostname that as many bytes of it wait as may.
 fn dawdle(stranger: &TcpStream) -> Result<()> {
-    for _ in 0..PIECES {
-        send(stranger, &[b'a'; PIECE])?;
-    }
-    Ok(())
+    send(stranger, &[b'a'; GREETING - ENDLESS.len()])
+}
+
+/// How many bytes a stranger is told before it is closed that sends one byte more than may wait.
+fn overdone_len<R: Net<Listener = TcpListener, Stream = TcpStream> + AllocGlobal>(
+    rt: &R,
+    stranger: &TcpStream,
+) -> Result<usize> {
+    send(stranger, b"a")?;
+    Ok(rest(rt.alloc(), stranger)?.len())
 }
 
 /// What one without the key is told before it is closed, in hexadecimal digits.
@@ -72,7 +75,7 @@ fn too_long_len<R: Net<Listener = TcpListener, Stream = TcpStream> + AllocGlobal
 }
 
 /// What strangers see. Beside one whose PING does not end, which is neither told anything nor
-/// closed, a source is told.
+/// closed until it sent more than may wait, a source is told.
 fn look<R: Net<Listener = TcpListener, Stream = TcpStream> + AllocGlobal>(
     rt: &R,
     site: Site,
@@ -88,6 +91,7 @@ fn look<R: Net<Listener = TcpListener, Stream = TcpStream> + AllocGlobal>(
     let beside = round(rt.alloc(), source, link);
     turned.put_silence("endless_waits", &endless);
     turned.put_seen("beside", beside);
+    turned.put_seen("endless", overdone_len(rt, &endless));
     turned.end()
 }
 

@@ -63,7 +63,10 @@ impl Watch for Heard {
                 why: _,
             } => self.lost = self.lost.or(Some((output, server))),
             Fact::ServerBack { .. } => self.back = self.back.saturating_add(1),
-            Fact::ServerChanged { .. } | Fact::Memory(_) => {
+            Fact::ServerChanged { .. }
+            | Fact::Memory(_)
+            | Fact::FewFiles { .. }
+            | Fact::Descriptors(_) => {
                 self.others = self.others.saturating_add(1);
             }
         }

@@ -60,6 +60,7 @@ fn fault_name(fault: LinkFault) -> &'static str {
         LinkFault::Connect => "connect",
         LinkFault::Read => "read",
         LinkFault::Write => "write",
+        LinkFault::Descriptors => "descriptors",
     }
 }
 

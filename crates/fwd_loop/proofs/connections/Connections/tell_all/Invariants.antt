@@ -1,0 +1,6 @@
+use Rattle.fwd_loop.specs.Standings.{sources_in}
+use Rattle.fwd_loop.specs.Tellings.{Sources, AreTold}
+use Rattle.fwd_loop.proofs.connections.Connections.tell_all.Given as goal
+
+abbrev pub invariant-loop-receipt : goal.invariant-loop-receipt
+invariant-loop-receipt l = ?

@@ -1,0 +1,25 @@
+-- Who is told of receipts: each source of those of its own requests, and of each of them.
+use Rattle.std.specs.Prelude.{◌≡◌, ℕ, List, [], ◌∷◌, Option, Some, None}
+use Rattle.fwd_book.specs.Receipts.{Receipt}
+use Rattle.fwd_peers.specs.Peers.{PeerShown, IsTold, told_by}
+
+-- the sources that stand, by their ids
+abbrev pub Sources : Type 0
+Sources = ℕ → Option PeerShown
+
+-- what becomes of the source of an id by a receipt: where it stands it is told of it, if it is of
+-- one of its own requests, and otherwise stays as it is
+abbrev pub IsToldAt : (id : ℕ) → Receipt → Option PeerShown → Option PeerShown → Type 0
+IsToldAt id receipt None after = after ≡ None
+IsToldAt id receipt (Some s) after =
+    (t : PeerShown) × ((after ≡ Some t) × IsTold s (told_by receipt id) t)
+
+-- a receipt is told, and to nobody else
+abbrev pub IsToldOf : Sources → Receipt → Sources → Type 0
+IsToldOf s receipt t = (id : ℕ) → IsToldAt id receipt (s id) (t id)
+
+-- receipts are told one after the other, each of them
+abbrev pub AreTold : Sources → List Receipt → Sources → Type 0
+AreTold s [] t = t ≡ s
+AreTold s (receipt ∷ receipts) t =
+    (u : Sources) × (IsToldOf s receipt u × AreTold u receipts t)

@@ -1,0 +1,49 @@
+//! How long connections may take to show what they are.
+
+use std::alloc::{AllocError, AllocFailed, Global};
+use std::collections::VecDeque;
+
+/// A connection that came a while ago, and has yet to show what it is.
+#[derive(Clone, Copy)]
+pub(crate) struct Young {
+    /// Its key.
+    pub key: usize,
+    /// When it came, in milliseconds.
+    pub came: u64,
+}
+
+/// Connections that have so long to show what they are, in the order in which they came.
+#[derive(Drop)]
+pub(crate) struct Deadlines {
+    /// In milliseconds.
+    limit: u64,
+    young: VecDeque<Young>,
+}
+
+impl Deadlines {
+    /// No connections, which will have so long (milliseconds).
+    pub fn new(alloc: Global, limit: u64) -> Deadlines {
+        Deadlines {
+            limit,
+            young: VecDeque::new(alloc),
+        }
+    }
+
+    /// A connection came. The only error is out of memory.
+    pub fn add(&mut self, young: Young) -> Result<(), AllocError> {
+        match self.young.push_back(young) {
+            Ok(()) => Ok(()),
+            Err(AllocFailed { value: _ }) => Err(AllocError),
+        }
+    }
+
+    /// The next connection whose time is over at a moment (milliseconds), if there is one. It may
+    /// be gone, or have shown what it is.
+    pub fn next(&mut self, now: u64) -> Option<Young> {
+        let first = *self.young.front()?;
+        if first.came.saturating_add(self.limit) > now {
+            return None;
+        }
+        self.young.pop_front()
+    }
+}

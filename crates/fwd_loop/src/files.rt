@@ -1,0 +1,45 @@
+//! How many files the process may have open, and how many sources that leaves room for.
+
+use crate::acceptor::MONITORS;
+use fwd_settings::OutputSettings;
+use std::alloc::Global;
+use std::fs;
+use std::rt::Files;
+use std::str;
+
+/// Where Linux tells a process's limits (proc_pid_limits(5)).
+const LIMITS: &str = "/proc/self/limits";
+
+/// What the line begins with that tells how many files it may have open.
+const NAME: &str = "Max open files";
+
+/// The files that a relay has open beside its sources, monitors and workers: the standard streams,
+/// the listeners, what it waits with, and some to spare.
+const OWN: u64 = 16;
+
+/// The files of a worker at most: two that it waits with, its link, and two more while it connects
+/// to another server.
+const WORKER: u64 = 5;
+
+/// How many files the process may have open, where the system tells and there is a limit.
+pub(crate) fn most_files<R: Files + AllocGlobal>(rt: &R) -> Option<u64> {
+    let text = fs::read(rt, LIMITS).ok()?;
+    limit_in(str::from_utf8(&text).ok()?)
+}
+
+/// The limit that a process's limits tell: the first number behind the line's name.
+fn limit_in(text: &str) -> Option<u64> {
+    let line = text.lines().find(|line| line.starts_with(NAME))?;
+    let soft = line.split_ascii_whitespace().nth(3)?;
+    soft.parse().ok()
+}
+
+/// How many sources at most so many files leave room for, beside the workers of these outputs: one
+/// at least.
+pub(crate) fn sources_within(files: u64, outputs: &[OutputSettings]) -> u64 {
+    let mut own = OWN + MONITORS as u64;
+    for output in outputs {
+        own = own.saturating_add(WORKER * u64::from(output.workers));
+    }
+    files.saturating_sub(own).max(1)
+}

@@ -1,0 +1,50 @@
+-- What a store's calls make of what it holds, from what they make of its parts.
+use Rattle.std.proofs.Common.{◌≡◌, ◌++◌, [], ◌∷◌, ℕ, List, Option, Some, None, Result, Ok, Err, OnOk, refl, sym, subst}
+use Rattle.fwd_workers.specs.Tickets.{Ticket}
+use Rattle.fwd_tickets.specs.Stores.{
+  AreHeld,
+  Finds,
+  HandsOver,
+  IsKept,
+  Stored,
+  held_in,
+  last_chunk,
+  waiting_in,
+  waits_with,
+  with_ticket,
+}
+
+-- what a call did where it is Ok, from what else it did
+pub on_ok : {X Y : Type 0} {A B : Type 0} (r : Result X Y) → (A → B) → OnOk r A → OnOk r B
+on_ok (Ok x) f a = f a
+on_ok (Err e) f a = a
+
+-- a ticket of a request that has a last chunk waits for that
+pub kept_at : (s t : Stored) (ticket : Ticket) (chunk : ℕ)
+    → last_chunk ticket.spans ≡ Some chunk
+    → ((k : ℕ) → waiting_in t.lists k
+      ≡ waits_with (waiting_in s.lists) chunk (waiting_in s.lists chunk ++ ticket ∷ []) k)
+    → t.due ≡ s.due → t.late ≡ s.late → t.stirred ≡ s.stirred → t.all_due ≡ s.all_due
+    → IsKept s ticket t
+kept_at s t ticket chunk last waits due late stirred all = record {
+  held = subst (λ o. AreHeld (with_ticket (held_in s) ticket o) (held_in t)) (sym last)
+    (record { waits = waits; due = due; late = late });
+  stirred = stirred;
+  all_due = all;
+}
+
+-- what is taken off the front of those that are due is handed over
+pub handed : (s m t : Stored) (taken : List Ticket)
+    → Finds (held_in s) (held_in m) → m.due ≡ taken ++ t.due → t.lists ≡ m.lists
+    → t.late ≡ m.late → (taken ≡ [] → t.due ≡ []) → HandsOver s taken t
+handed s m t taken finds first lists late some = record {
+  found = held_in m;
+  finds = finds;
+  first = first;
+  rest = record {
+    waits = λ chunk. subst (λ l. waiting_in l chunk ≡ waiting_in m.lists chunk) (sym lists) refl;
+    due = refl;
+    late = late;
+  };
+  some = some;
+}

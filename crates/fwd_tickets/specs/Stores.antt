@@ -1,0 +1,130 @@
+-- What a store of tickets holds: who waits for which chunk, and who is due.
+use Rattle.std.specs.Prelude.{
+  ◌≡◌,
+  ◌≢◌,
+  ◌⊎◌,
+  ℕ,
+  Bool,
+  true,
+  false,
+  List,
+  [],
+  ◌∷◌,
+  ◌++◌,
+  ◌-◌,
+  length,
+  Option,
+  Some,
+  None,
+  if◌then◌else◌,
+}
+use Rattle.std.specs.List.{slice_get}
+use Rattle.std.specs.Option.{option_map}
+use Rattle.std.specs.Ordering.{is_eq, nat_cmp}
+use Rattle.std.specs.Map.{lookup}
+use Rattle.std.specs.BTreeMap.{is_at}
+use Rattle.fwd_chunks.specs.declared.span.Span.{Span}
+use Rattle.fwd_workers.specs.Tickets.{Ticket}
+
+-- what a store holds: lists of tickets, each with the number of the chunk that they wait for; those
+-- that are to be handed in, in their order; those that were handed in and came back; whether a chunk
+-- was settled since; and whether all are to be handed in
+pub record Stored : Type 0 where
+  pub lists : List (ℕ × List Ticket)
+  pub due : List Ticket
+  pub late : List Ticket
+  pub stirred : Bool
+  pub all_due : Bool
+
+-- which tickets it holds: who waits for a chunk, by its number; who is due; and who came back
+pub record Held : Type 0 where
+  pub waits : ℕ → List Ticket
+  pub due : List Ticket
+  pub late : List Ticket
+
+-- the tickets of a list, if there is one
+abbrev pub tickets_of : Option (List Ticket) → List Ticket
+tickets_of None = []
+tickets_of (Some list) = list
+
+-- who waits for a chunk, by these lists: the tickets of its list
+abbrev pub waiting_in : List (ℕ × List Ticket) → (chunk : ℕ) → List Ticket
+waiting_in lists chunk = tickets_of (lookup (is_at (nat_cmp chunk)) lists)
+
+-- which tickets a store holds
+abbrev pub held_in : Stored → Held
+held_in s = record { waits = waiting_in s.lists; due = s.due; late = s.late }
+
+-- the chunk of the last of these runs, if there is one
+abbrev pub last_chunk : List Span → Option ℕ
+last_chunk spans = option_map (λ span. span.number) (slice_get spans (length spans - 1))
+
+-- the same tickets are held
+pub record AreHeld (s : Held) (t : Held) : Type 0 where
+  pub waits : (chunk : ℕ) → t.waits chunk ≡ s.waits chunk
+  pub due : t.due ≡ s.due
+  pub late : t.late ≡ s.late
+
+-- two stores are the same
+pub record IsSame (s : Stored) (t : Stored) : Type 0 where
+  pub held : AreHeld (held_in s) (held_in t)
+  pub stirred : t.stirred ≡ s.stirred
+  pub all_due : t.all_due ≡ s.all_due
+
+-- a store that holds none, and of which nothing is to be handed in
+abbrev pub none_kept : Stored
+none_kept = record { lists = []; due = []; late = []; stirred = false; all_due = false }
+
+-- what waits, but that these tickets wait for this chunk
+abbrev pub waits_with : (ℕ → List Ticket) → (chunk : ℕ) → List Ticket → ℕ → List Ticket
+waits_with waits chunk tickets other =
+    if is_eq (nat_cmp chunk other) then tickets else waits other
+
+-- a ticket more waits for this chunk, behind all that do; or it is due, behind all that are
+abbrev pub with_ticket : Held → Ticket → Option ℕ → Held
+with_ticket s ticket None = record s { due = s.due ++ ticket ∷ [] }
+with_ticket s ticket (Some chunk) = record s {
+  waits = waits_with s.waits chunk (s.waits chunk ++ ticket ∷ []);
+}
+
+-- a ticket is kept: it waits for the last chunk of its request, or is due where that has none
+pub record IsKept (s : Stored) (ticket : Ticket) (t : Stored) : Type 0 where
+  pub held : AreHeld (with_ticket (held_in s) ticket (last_chunk ticket.spans)) (held_in t)
+  pub stirred : t.stirred ≡ s.stirred
+  pub all_due : t.all_due ≡ s.all_due
+
+-- nothing is to be handed in: none is due, and none came back before a chunk was settled
+pub record IsQuiet (s : Stored) : Type 0 where
+  pub due : s.due ≡ []
+  pub late : s.stirred ≡ true → s.late ≡ []
+  pub not_all : s.all_due ≡ false
+
+-- who waits for a chunk is due, behind all that are, and waits no more
+abbrev pub with_due : Held → (chunk : ℕ) → Held
+with_due s chunk = record s {
+  waits = waits_with s.waits chunk [];
+  due = s.due ++ s.waits chunk;
+}
+
+-- A chunk is settled. Who waits for it is due; or memory was refused for that, and all are to be
+-- handed in. Those that came back are to be handed in again.
+pub record IsSettled (s : Stored) (chunk : ℕ) (t : Stored) : Type 0 where
+  pub moved : AreHeld (with_due (held_in s) chunk) (held_in t)
+      ⊎ (AreHeld (held_in s) (held_in t) × (t.all_due ≡ true))
+  pub all_stay : s.all_due ≡ true → t.all_due ≡ true
+  pub again : s.late ≢ [] → t.stirred ≡ true
+
+-- Where none is due, some are looked for: those that came back, or those that wait for a chunk.
+abbrev pub Finds : Held → Held → Type 0
+Finds s t =
+    AreHeld s t
+    ⊎ ((s.due ≡ []) × AreHeld (record s { due = s.late; late = [] }) t)
+    ⊎ ((s.due ≡ []) × ((chunk : ℕ) × AreHeld (with_due s chunk) t))
+
+-- The first of the tickets that are due are handed over: none only where none is due then.
+pub record HandsOver (s : Stored) (taken : List Ticket) (t : Stored) : Type 0 where
+  pub found : Held
+  pub finds : Finds (held_in s) found
+  pub first : found.due ≡ taken ++ t.due
+  pub rest : AreHeld (record found { due = t.due }) (held_in t)
+  pub some : taken ≡ [] → t.due ≡ []
