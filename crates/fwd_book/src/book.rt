@@ -77,7 +77,7 @@ use crate::laws::receipts_are_right;
 use crate::numbers::Numbers;
 use crate::receipt::Receipt;
 use crate::requests::Requests;
-use fwd_chunks::Span;
+use fwd_chunks::{Span, Spans};
 use fwd_modes::{Batch, Origin};
 use fwd_session::Acked;
 use indexmap::IndexSet;
@@ -240,19 +240,19 @@ impl Book {
     }
 
     /// The request that room was made for is entered, under the runs that its entries took.
-    pub fn enter(&mut self, origin: Origin, spans: Vec<Span>)
+    pub fn enter(&mut self, origin: Origin, spans: Spans)
         requires ready { IsSome self.old.ready }
         requires alone { request_at self.old.live.requests origin ≡ None }
-        requires cut { IfSome self.old.ready (λ r. AreCutBy spans.items r.entries) }
-        requires rising { AreRising (map (λ s. s.number) spans.items) }
-        requires fresh { are_fresh self.old.live.settled spans.items ≡ true }
-        ensures { self.new ≡ ready_enters self.old origin spans.items }
+        requires cut { IfSome self.old.ready (λ r. AreCutBy spans r.entries) }
+        requires rising { AreRising (map (λ s. s.number) spans) }
+        requires fresh { are_fresh self.old.live.settled spans ≡ true }
+        ensures { self.new ≡ ready_enters self.old origin spans }
     {
         let Some(request) = self.ready.take() else {
             unreachable!();
         };
         self.requests.are_few();
-        use_all(&mut self.numbers, &spans);
+        use_all(&mut self.numbers, spans.as_slice());
         self.requests
             .push(EnteredRequest::new(origin, request, spans));
     }

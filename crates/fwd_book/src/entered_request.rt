@@ -3,7 +3,7 @@
 ghost use Rattle.std.specs.Prelude.{◌≡◌, ◌≢◌, true, false};
 ghost use Rattle.fwd_book.specs.History.{entered_as};
 
-use fwd_chunks::Span;
+use fwd_chunks::{Span, Spans};
 use fwd_modes::{Batch, Origin};
 use std::marker::Model;
 
@@ -12,7 +12,7 @@ use std::marker::Model;
 pub(crate) struct EnteredRequest {
     origin: Origin,
     request: Batch,
-    spans: Vec<Span>,
+    spans: Spans,
 }
 
 impl Model for EnteredRequest {
@@ -20,7 +20,7 @@ impl Model for EnteredRequest {
 
     ghost Value = { Entered };
 
-    ghost view = { λ k. entered_as k.request k.origin k.spans.items };
+    ghost view = { λ k. entered_as k.request k.origin k.spans };
 }
 
 /// Whether runs are alike.
@@ -33,8 +33,8 @@ fn are_same(left: &[Span], right: &[Span]) -> bool
 
 impl EnteredRequest {
     /// A request that is entered.
-    pub(crate) fn new(origin: Origin, request: Batch, spans: Vec<Span>) -> Self
-        ensures { result ≡ entered_as request origin spans.items }
+    pub(crate) fn new(origin: Origin, request: Batch, spans: Spans) -> Self
+        ensures { result ≡ entered_as request origin spans }
     {
         EnteredRequest {
             origin,
@@ -61,7 +61,7 @@ impl EnteredRequest {
     pub(crate) fn spans(&self) -> &[Span]
         ensures { result.now ≡ self.now.spans }
     {
-        &self.spans
+        self.spans.as_slice()
     }
 
     /// Whether it is this request, under these runs.
@@ -73,6 +73,6 @@ impl EnteredRequest {
         if !self.request.is(batch) {
             return false;
         }
-        are_same(&self.spans, spans)
+        are_same(self.spans.as_slice(), spans)
     }
 }

@@ -14,7 +14,7 @@ pub mod Parts
 pub mod Pieces
 pub mod Lending
 pub mod Endings
--- These nine only describe how the code keeps chunks and fills them. No public clause speaks of
+-- These ten only describe how the code keeps chunks and fills them. No public clause speaks of
 -- them.
 pub mod Earliest
 pub mod Levels
@@ -25,6 +25,7 @@ pub mod Listing
 pub mod Stored
 pub mod Filling
 pub mod Plans
+pub mod Runs
 -- Of the crates below, for those above.
 pub use Rattle.fwd_counts.specs.declared.counts.Counts
 pub use Rattle.fwd_counts.specs.declared.report.Report

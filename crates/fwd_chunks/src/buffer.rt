@@ -65,10 +65,9 @@ use crate::part::Part;
 use crate::plan::Plan;
 use crate::slots::Slots;
 use crate::snapshot::Snapshot;
-use crate::span::Span;
+use crate::spans::Spans;
 use crate::stage::Stage;
 use crate::tags::Tags;
-use fwd_base::Seq;
 use fwd_counts::{Counts, Report};
 use fwd_modes::{Batch, Origin, TAG_LIMIT, chunk_name};
 use fwd_retry::Retry;
@@ -298,7 +297,7 @@ impl Buffer {
         batch: &Batch,
         plan: Plan<'_>,
         now: u64,
-    ) -> Result<Seq<Span>, AllocError>
+    ) -> Result<Spans, AllocError>
         requires planned { IsPlan self.old batch.now plan }
         requires fits { live_refusal self.old batch.now now ≡ None }
         ensures ok { OnOk result (self.new ≡ live_enters self.old batch.now now) }
@@ -337,7 +336,7 @@ impl Buffer {
         _origin: Origin,
         batch: &Batch,
         now: u64,
-    ) -> Result<Seq<Span>, AdmitError>
+    ) -> Result<Spans, AdmitError>
         ensures refused { IfSome (live_refusal self.old batch.now now) (λ fault.
             result ≡ Err fault) }
         ensures ok { OnOk result (self.new ≡ live_enters self.old batch.now now) }

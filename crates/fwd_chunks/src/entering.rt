@@ -9,6 +9,9 @@ ghost use Rattle.std.specs.Prelude.{
   ◌^◌,
   ◌==◌,
   ◌++◌,
+  ◌∷◌,
+  [],
+  IfSome,
   ℕ,
   length,
   map,
@@ -42,6 +45,7 @@ use crate::part::Part;
 use crate::plan::Plan;
 use crate::slots::Slots;
 use crate::span::Span;
+use crate::spans::Spans;
 use crate::stage::stage_of;
 use fwd_base::{Bytes, Seq};
 use std::alloc::{AllocError, Global};
@@ -129,27 +133,49 @@ pub(crate) fn joined_span(chunk: Option<&Chunk>, front: Part<'_>) -> Option<Span
     })
 }
 
+/// The run that is a whole chunk.
+fn span_of(chunk: &Chunk) -> Span
+    ensures { result ≡ span_of chunk.now }
+{
+    Span {
+        number: chunk.number,
+        from: 0,
+        count: chunk.entries.len() as u64,
+    }
+}
+
+/// The run of a request's entries, if it is one.
+fn only_span(joined: Option<Span>, fresh: &[Chunk]) -> Option<Span>
+    ensures { IfSome result (λ span.
+        option_to_list joined ++ map span_of fresh.now ≡ span ∷ []) }
+{
+    match (joined, fresh.split_first()) {
+        (Some(span), None) => Some(span),
+        (None, Some((chunk, others))) if others.is_empty() => Some(span_of(chunk)),
+        _ => None,
+    }
+}
+
 /// The runs of a request's entries: one in the open chunk, if there is one, and one for each new
-/// chunk.
+/// chunk. The only error is out of memory, and one run alone takes none.
 pub(crate) fn spans_of(
     alloc: Global,
     joined: Option<Span>,
     fresh: &[Chunk],
-) -> Result<Seq<Span>, AllocError>
+) -> Result<Spans, AllocError>
     ensures { IfOk result (λ spans. spans ≡ option_to_list joined ++ map span_of fresh.now) }
 {
-    let mut spans = Seq::new(alloc);
+    if let Some(span) = only_span(joined, fresh) {
+        return Ok(Spans::one(span));
+    }
+    let mut spans = Seq::with_capacity(alloc, fresh.len().saturating_add(1))?;
     if let Some(span) = joined {
         spans.push(span)?;
     }
     for chunk in fresh {
-        spans.push(Span {
-            number: chunk.number,
-            from: 0,
-            count: chunk.entries.len() as u64,
-        })?;
+        spans.push(span_of(chunk))?;
     }
-    Ok(spans)
+    Ok(Spans::of(spans.into_vec()))
 }
 
 /// Entries go to the open chunk of a number, if there is one, and new chunks come behind all, into

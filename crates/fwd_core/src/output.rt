@@ -3,6 +3,7 @@
 
 ghost use Rattle.std.specs.Prelude.{
   ◌≡◌,
+  ◌<◌,
   ◌≤◌,
   ◌⊎◌,
   ◌++◌,
@@ -83,10 +84,9 @@ ghost use Rattle.fwd_model.specs.Outputs.{
 ghost use Rattle.fwd_core.specs.Coupling.{IsCoupled};
 ghost use Rattle.fwd_core.specs.Lanes.{AreHere, IsHandedBack, chunk_at, kept_back, lost_back};
 
-use fwd_base::Seq;
 use fwd_book::{Book, Receipt};
 use fwd_chunks::{
-    AdmitError, Buffer, BufferLimits, Carried, Counts, FlushKind, Report, Snapshot, Span,
+    AdmitError, Buffer, BufferLimits, Carried, Counts, FlushKind, Report, Snapshot, Span, Spans,
 };
 use fwd_failover::Servers;
 use fwd_model::Origin;
@@ -179,18 +179,16 @@ fn lose(servers: &mut Servers, server: Option<u16>, moment: u64)
     }
 }
 
-/// Runs, in room that was made for them. Room that is left over is given back.
-fn copied_into(room: Vec<Span>, spans: &[Span]) -> Vec<Span>
-    requires empty { room.items ≡ [] }
-    requires fits { length spans.now ≤ vec_capacity room }
-    ensures { result.items ≡ spans.now }
+/// Room for the runs of a request, of which one alone needs none.
+fn span_room(alloc: Global, batch: &Batch) -> Result<Vec<Span>, AllocError>
+    ensures empty { IfOk result (λ room. room.items ≡ []) }
+    ensures fits { IfOk result (λ room. 1 < length batch.now.entries
+        → length batch.now.entries ≤ vec_capacity room) }
 {
-    let mut copy = room;
-    for span in spans {
-        copy.push_reserved(*span);
+    if batch.len() < 2 {
+        return Ok(Vec::new(alloc));
     }
-    copy.shrink_to_fit();
-    copy
+    Vec::with_capacity(alloc, batch.len())
 }
 
 /// The requests of these receipts leave.
@@ -278,7 +276,7 @@ impl OutputState {
         origin: Origin,
         batch: &Batch,
         now: u64,
-    ) -> Result<Seq<Span>, AdmitError>
+    ) -> Result<Spans, AdmitError>
         requires { request_at self.old.book.requests origin ≡ None }
         ensures refused { IfSome (live_refusal self.old.buffer batch.now now) (λ fault.
             result ≡ Err fault) }
@@ -292,13 +290,13 @@ impl OutputState {
         let Ok(()) = self.book.prepare(batch) else {
             return Err(self.buffer.fault(batch).unwrap_or(AdmitError::Memory));
         };
-        let Ok(room) = Vec::with_capacity(alloc, batch.len()) else {
+        let Ok(room) = span_room(alloc, batch) else {
             return Err(self.buffer.fault(batch).unwrap_or(AdmitError::Memory));
         };
         let spans = self.buffer.admit(alloc, origin, batch, now)?;
-        let copy = copied_into(room, spans.as_slice());
-        self.book.enter(origin, spans.into_vec());
-        Ok(Seq::from_vec(copy))
+        let copy = spans.copied_into(room);
+        self.book.enter(origin, spans);
+        Ok(copy)
     }
 
     /// Closes the open chunks that a flush closes at a moment (milliseconds), and answers how many.

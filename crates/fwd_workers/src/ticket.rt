@@ -2,8 +2,7 @@
 
 ghost use Rattle.std.specs.Prelude.{◌≡◌};
 
-use fwd_base::Seq;
-use fwd_chunks::Span;
+use fwd_chunks::{Span, Spans};
 use fwd_modes::{Batch, Origin};
 use std::marker::Model;
 
@@ -14,7 +13,7 @@ pub struct Ticket {
     output: u16,
     origin: Origin,
     batch: Batch,
-    spans: Seq<Span>,
+    spans: Spans,
 }
 
 impl Model for Ticket {
@@ -37,7 +36,7 @@ impl Ticket {
         output: u16,
         origin: Origin,
         batch: Batch,
-        spans: Seq<Span>,
+        spans: Spans,
     ) -> Self
         ensures { result ≡ record {
           setting = record { run = run; output = output };

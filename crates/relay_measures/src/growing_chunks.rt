@@ -8,7 +8,7 @@ use crate::requests::batch_of;
 use anyhow::{Context, Result, bail};
 use fwd_base::Bytes;
 use fwd_book::Book;
-use fwd_chunks::{Buffer, BufferLimits, Carried, FlushKind};
+use fwd_chunks::{Buffer, BufferLimits, Carried, FlushKind, Spans};
 use fwd_handshake::Login;
 use fwd_modes::{Batch, Origin};
 use fwd_session::{AckTerms, LoadFailed, OwnedSalt, Session, SessionHeard};
@@ -180,7 +180,7 @@ fn entered(alloc: Global, batch: &Batch) -> Option<Book>
     if book.prepare(batch).is_err() {
         return None;
     }
-    book.enter(ORIGIN, Vec::new(alloc));
+    book.enter(ORIGIN, Spans::new(alloc));
     Some(book)
 }
 

@@ -4,6 +4,7 @@ ghost use Rattle.std.specs.Prelude.{◌≡◌, []};
 
 use crate::request::batch;
 use fwd_book::{Book, Receipt};
+use fwd_chunks::Spans;
 use fwd_modes::{Batch, Origin};
 use std::alloc::Global;
 use std::test::Fail;
@@ -52,7 +53,7 @@ fn told(alloc: Global, batch: &Batch) -> Option<(usize, usize)>
     let mut book = Book::new(alloc, [0; 6], 0);
     let mut told = None;
     if book.prepare(batch).is_ok() {
-        book.enter(ORIGIN, Vec::new(alloc));
+        book.enter(ORIGIN, Spans::new(alloc));
         told = given_and_left(alloc, &mut book);
     }
     told
@@ -85,7 +86,7 @@ fn tells_what_is_due(alloc: Global, batch: &Batch) -> bool
     if book.prepare(batch).is_err() {
         return false;
     }
-    book.enter(ORIGIN, Vec::new(alloc));
+    book.enter(ORIGIN, Spans::new(alloc));
     let own = due(alloc, &book, 1).is_some_and(|due| due.0.as_slice() == [ORIGIN].as_slice()
         && due.1 == 0);
     let other = due(alloc, &book, 2).is_some_and(|due| due.0.is_empty() && due.1 == 0);

@@ -15,10 +15,10 @@ pub use_all-requires-clause-room : goal.use_all-requires-clause-room
 use_all-requires-clause-room c =
     let ready : c.self.inside.ready ≡ Some c.in-Some.request = sym c.take.ensures.value ∙ c.in-Some.is in
     let now : c.args.self.now.ready ≡ Some c.in-Some.request = ap (λ (s : BookState). s.ready) (sym c.self.view_is) ∙ ready in
-    let cut : AreCutBy c.args.spans.items c.in-Some.request.entries = subst (λ o. IfSome o (λ r. AreCutBy c.args.spans.items r.entries)) now c.requires.cut in
+    let cut : AreCutBy c.args.spans c.in-Some.request.entries = subst (λ o. IfSome o (λ r. AreCutBy c.args.spans r.entries)) now c.requires.cut in
     let room : length c.in-Some.request.entries ≤ c.self.inside.numbers.room = (subst (λ o. HasRoom o c.self.inside.requests.room c.self.inside.numbers.room) ready c.self.invariant.2).1 in
-    let few : length c.args.spans.items ≤ length c.in-Some.request.entries = cut-few c.args.spans.items c.in-Some.request.entries cut in
-    let same : length c.deref.result.now ≡ length c.args.spans.items = ap length c.deref.ensures.value in
+    let few : length c.args.spans ≤ length c.in-Some.request.entries = cut-few c.args.spans c.in-Some.request.entries cut in
+    let same : length c.as_slice.result.now ≡ length c.args.spans = ap length c.as_slice.ensures in
     omega (arith, room, few, same)
 
 pub use_all-requires-clause-few : goal.use_all-requires-clause-few
@@ -32,7 +32,7 @@ invariant_of-self c =
     let notes : List (ℕ × Note) = c.self.inside.numbers.notes in
     let new : List (ℕ × Note) = c.use_all.new.numbers.notes in
     let qs : List Entered = c.self.inside.requests.items in
-    let spans : List Span = c.args.spans.items in
+    let spans : List Span = c.args.spans in
     let setting : BookSetting = record { run = c.self.inside.run; output = c.self.inside.output } in
     let q : Entered = entered_as c.in-Some.request c.args.origin spans in
     let ready : c.self.inside.ready ≡ Some c.in-Some.request = sym c.take.ensures.value ∙ c.in-Some.is in
@@ -41,7 +41,7 @@ invariant_of-self c =
     let alone : request_at qs c.args.origin ≡ None = ap (λ (s : BookState). request_at s.live.requests c.args.origin) c.self.view_is ∙ c.requires.alone in
     let fresh : are_fresh (found_for (found_at notes) qs) spans ≡ true = ap (λ (s : BookState). are_fresh s.live.settled spans) c.self.view_is ∙ c.requires.fresh in
     let more : (n : ℕ) → note_at n new ≡ cond (list_any (λ s. s.number == n) spans) (Some (used_more (note_at n notes))) (note_at n notes) =
-    λ n. c.use_all.ensures n ∙ ap (λ ss. cond (list_any (λ s. s.number == n) ss) (Some (used_more (note_at n notes))) (note_at n notes)) c.deref.ensures.value in
+    λ n. c.use_all.ensures n ∙ ap (λ ss. cond (list_any (λ s. s.number == n) ss) (Some (used_more (note_at n notes))) (note_at n notes)) c.as_slice.ensures in
     let items : c.push.new.self.items ≡ qs ++ q ∷ [] = c.push.ensures ∙ ap (λ x. qs ++ x ∷ []) c.new.ensures in
     let shown : found_for (found_at new) (qs ++ q ∷ []) ≡ found_for (found_at notes) qs = more-shown notes new qs q c.self.invariant.0 more fresh in
     let sound : IsSound (live_enters (live_of setting qs notes) q) = sound-enters (live_of setting qs notes) q c.self.invariant.1 alone cut c.requires.rising fresh in
@@ -57,13 +57,13 @@ returns c =
     let notes : List (ℕ × Note) = c.self.inside.numbers.notes in
     let new : List (ℕ × Note) = c.use_all.new.numbers.notes in
     let qs : List Entered = c.self.inside.requests.items in
-    let spans : List Span = c.args.spans.items in
+    let spans : List Span = c.args.spans in
     let setting : BookSetting = record { run = c.self.inside.run; output = c.self.inside.output } in
     let q : Entered = entered_as c.in-Some.request c.args.origin spans in
     let ready : c.self.inside.ready ≡ Some c.in-Some.request = sym c.take.ensures.value ∙ c.in-Some.is in
     let fresh : are_fresh (found_for (found_at notes) qs) spans ≡ true = ap (λ (s : BookState). are_fresh s.live.settled spans) c.self.view_is ∙ c.requires.fresh in
     let more : (n : ℕ) → note_at n new ≡ cond (list_any (λ s. s.number == n) spans) (Some (used_more (note_at n notes))) (note_at n notes) =
-    λ n. c.use_all.ensures n ∙ ap (λ ss. cond (list_any (λ s. s.number == n) ss) (Some (used_more (note_at n notes))) (note_at n notes)) c.deref.ensures.value in
+    λ n. c.use_all.ensures n ∙ ap (λ ss. cond (list_any (λ s. s.number == n) ss) (Some (used_more (note_at n notes))) (note_at n notes)) c.as_slice.ensures in
     let items : c.push.new.self.items ≡ qs ++ q ∷ [] = c.push.ensures ∙ ap (λ x. qs ++ x ∷ []) c.new.ensures in
     let shown : found_for (found_at new) (qs ++ q ∷ []) ≡ found_for (found_at notes) qs = more-shown notes new qs q c.self.invariant.0 more fresh in
     let whole : live_of setting c.push.new.self.items new ≡ live_enters (live_of setting qs notes) q = (λ i. record { setting = setting; requests = items i; settled = (ap (found_for (found_at new)) items ∙ shown) i }) in
