@@ -23,12 +23,12 @@ on_ok (Err e) f a = a
 pub kept_at : (s t : Stored) (ticket : Ticket) (chunk : ℕ)
     → last_chunk ticket.spans ≡ Some chunk
     → ((k : ℕ) → waiting_in t.lists k
-      ≡ waits_with (waiting_in s.lists) chunk (waiting_in s.lists chunk ++ ticket ∷ []) k)
+    ≡ waits_with (waiting_in s.lists) chunk (waiting_in s.lists chunk ++ ticket ∷ []) k)
     → t.due ≡ s.due → t.late ≡ s.late → t.stirred ≡ s.stirred → t.all_due ≡ s.all_due
     → IsKept s ticket t
 kept_at s t ticket chunk last waits due late stirred all = record {
   held = subst (λ o. AreHeld (with_ticket (held_in s) ticket o) (held_in t)) (sym last)
-    (record { waits = waits; due = due; late = late });
+      (record { waits = waits; due = due; late = late });
   stirred = stirred;
   all_due = all;
 }

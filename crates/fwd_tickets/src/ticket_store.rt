@@ -204,7 +204,7 @@ fn keep_at(
 ) -> Result<(), Ticket>
     ensures added { OnOk result ((k : ℕ) → waiting_in waiting.new.entries k
         ≡ waits_with (waiting_in waiting.old.entries) chunk
-            (waiting_in waiting.old.entries chunk ++ ticket ∷ []) k) }
+        (waiting_in waiting.old.entries chunk ++ ticket ∷ []) k) }
     ensures back { IfErr result (λ t. t ≡ ticket) }
     ensures same { OnErr result ((k : ℕ) →
         waiting_in waiting.new.entries k ≡ waiting_in waiting.old.entries k) }

@@ -31,13 +31,7 @@ impl Model for Ticket {
 
 impl Ticket {
     /// The ticket of a request that the output of this run and number admitted.
-    pub(crate) fn new(
-        run: [u8; 6],
-        output: u16,
-        origin: Origin,
-        batch: Batch,
-        spans: Spans,
-    ) -> Self
+    pub(crate) fn new(run: [u8; 6], output: u16, origin: Origin, batch: Batch, spans: Spans) -> Self
         ensures { result ≡ record {
           setting = record { run = run; output = output };
           origin = origin;
