@@ -5,8 +5,8 @@
 
 The script has 62 requests of a megabyte each, which are heard and admitted. The program runs it with ample memory, and then
 with less and less (RLIMIT_AS). Each run has to end with 0 and all answers, or with 4 and `memory` behind a front of them, and
-some runs have to end between a piece and its admission: there it is the relay that wants memory for the request, since the
-line itself is short. It prints a line a run, and ends with 1 where one was otherwise.
+some have to end at the pieces of different requests: an admission copies no entry, so it is a piece that wants a megabyte. It
+prints a line a run, and ends with 1 where one was otherwise.
 """
 
 import resource
@@ -56,17 +56,18 @@ def main(program):
     text = script()
     want = answers()
     good = True
-    admissions = 0
+    places = set()
     for megabytes in MEGABYTES:
         ran = replay(program, text, megabytes)
         got = ran.stdout.decode().splitlines()
         ended = (ran.returncode, ran.stderr)
         fits = got == want and ended == (0, b"") or got == want[: len(got)] and ended == (4, b"memory\n")
-        admissions += ran.returncode == 4 and bool(got) and got[-1].startswith("requests")
+        if ran.returncode == 4 and got and not got[-1].startswith("requests"):
+            places.add(len(got))
         good = good and fits
         print(f"{megabytes} MB: status {ran.returncode}, {len(got)} of {len(want)} answers{'' if fits else ', WRONG'}")
-    print(f"runs that an admission ended: {admissions}")
-    sys.exit(0 if good and admissions else 1)
+    print(f"requests whose piece ended a run: {len(places)}")
+    sys.exit(0 if good and len(places) > 1 else 1)
 
 
 if __name__ == "__main__":

@@ -191,7 +191,7 @@ impl Buffer {
     pub fn report(&self, alloc: Global) -> Result<Report, AllocError>
         ensures { IfOk result (λ report. report ≡ live_report self.now) }
     {
-        self.snapshot(alloc)?.report(alloc)
+        Ok(self.snapshot(alloc)?.report(alloc)?)
     }
 
     /// Whether the bytes that are held, with a request's, are more than the total limit.

@@ -1,12 +1,12 @@
 //! What a buffer had to do with at a moment.
 
-ghost use Rattle.std.specs.Prelude.{◌≡◌, IfOk};
+ghost use Rattle.std.specs.Prelude.{◌≡◌, IfOk, IfErr};
 ghost use Rattle.fwd_chunks.specs.Live.{LiveBuffer};
 ghost use Rattle.fwd_chunks.specs.TagCounts.{live_report, IsSnapshot};
 
 use crate::tag_list::TagList;
 use fwd_counts::{Counts, Report};
-use std::alloc::{AllocError, Global};
+use std::alloc::{AllocFailed, Global};
 use std::marker::Model;
 
 /// What a buffer had to do with at a moment, in all and of each tag, the tags in no order. It is
@@ -26,15 +26,19 @@ impl Model for Snapshot {
 }
 
 impl Snapshot {
-    /// The same with the tags by rising bytes. The only error is out of memory.
-    pub fn report(self, alloc: Global) -> Result<Report, AllocError>
-        ensures { (b : LiveBuffer) → IsSnapshot b self
+    /// The same with the tags by rising bytes. The only error is out of memory, and then the
+    /// snapshot comes back.
+    pub fn report(self, alloc: Global) -> Result<Report, AllocFailed<Snapshot>>
+        ensures ok { (b : LiveBuffer) → IsSnapshot b self
             → IfOk result (λ report. report ≡ live_report b) }
+        ensures err { IfErr result (λ failed. failed.value ≡ self) }
     {
         let Snapshot { counts, tags } = self;
-        Ok(Report {
-            counts,
-            tags: tags.sorted(alloc)?,
-        })
+        match tags.sorted(alloc) {
+            Ok(tags) => Ok(Report { counts, tags }),
+            Err(_) => Err(AllocFailed {
+                value: Snapshot { counts, tags },
+            }),
+        }
     }
 }

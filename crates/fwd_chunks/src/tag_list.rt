@@ -94,8 +94,8 @@ impl TagList {
     }
 
     /// The tags by rising bytes. The only error is out of memory.
-    pub(crate) fn sorted(self, alloc: Global) -> Result<Seq<TagCount>, AllocError>
-        ensures { (held : List Tagged) → AreTagCounts held self
+    pub(crate) fn sorted(&self, alloc: Global) -> Result<Seq<TagCount>, AllocError>
+        ensures { (held : List Tagged) → AreTagCounts held self.now
             → IfOk result (λ tags. tags ≡ tag_counts held) }
     {
         let mut counts = self.unpacked(alloc)?;

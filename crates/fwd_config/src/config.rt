@@ -1,6 +1,19 @@
 //! What settings set the relay to.
 
-ghost use Rattle.std.specs.Prelude.{◌≡◌, ◌≤◌, ◌^◌, ◌<◌, true, map, length, vec_len, IfOk};
+ghost use Rattle.std.specs.Prelude.{
+  ◌≡◌,
+  ◌≤◌,
+  ◌^◌,
+  ◌<◌,
+  true,
+  [],
+  map,
+  length,
+  vec_len,
+  vec_capacity,
+  IfOk,
+  IfErr,
+};
 ghost use Rattle.std.specs.List.{list_all};
 ghost use Rattle.fwd_settings.specs.Ranges.{in_range, output_in_range, relay_in_range};
 ghost use Rattle.fwd_config.specs.Configs.{parts_known, parts_set, user_of, IsConfig};
@@ -11,7 +24,7 @@ use fwd_match::{Pattern, Routes};
 use fwd_model::{AckTerms, BufferLimits, Config, OutputConfig};
 use fwd_msgpack::Limits;
 use fwd_settings::{OutputSettings, RelaySettings, ServerSettings, Settings, UserSettings};
-use std::alloc::{AllocError, Global};
+use std::alloc::{AllocError, AllocFailed, Global};
 
 /// Which servers are standbys.
 fn standbys_of(alloc: Global, servers: &[ServerSettings]) -> Result<Vec<bool>, AllocError>
@@ -80,18 +93,19 @@ fn configs_of(alloc: Global, outputs: &[OutputSettings]) -> Result<Vec<OutputCon
     Ok(configs)
 }
 
-/// The pattern of each output.
-fn patterns_of(alloc: Global, mut outputs: Vec<OutputSettings>) -> Result<Vec<Pattern>, AllocError>
-    ensures items { IfOk result (λ patterns.
-        patterns.items ≡ map (λ o. o.pattern) outputs.items) }
-    ensures len { IfOk result (λ patterns. vec_len patterns ≡ length outputs.items) }
+/// The pattern of each output, in room that was made for them.
+fn patterns_of(room: Vec<Pattern>, mut outputs: Vec<OutputSettings>) -> Vec<Pattern>
+    requires empty { room.items ≡ [] }
+    requires fits { length outputs.items ≤ vec_capacity room }
+    ensures items { result.items ≡ map (λ o. o.pattern) outputs.items }
+    ensures len { vec_len result ≡ length outputs.items }
 {
-    let mut patterns = Vec::new(alloc);
+    let mut patterns = room;
     while !outputs.is_empty() {
         let output = outputs.remove(0);
-        patterns.push(output.pattern)?;
+        patterns.push_reserved(output.pattern);
     }
-    Ok(patterns)
+    patterns
 }
 
 /// A text as bytes.
@@ -149,24 +163,58 @@ fn security_of(alloc: Global, relay: &RelaySettings) -> Result<Security, AllocEr
     })
 }
 
-/// What settings set the relay to. Without a run id it is zeros. The only error is out of memory.
-pub fn config_of(alloc: Global, settings: Settings) -> Result<Config, AllocError>
+/// What is made of settings before their patterns are moved.
+#[derive(Drop)]
+struct Made {
+    security: Security,
+    outputs: Vec<OutputConfig>,
+    /// Room for the patterns.
+    room: Vec<Pattern>,
+}
+
+/// What is made of settings before their patterns are moved: all that takes memory.
+fn made_of(alloc: Global, settings: &Settings) -> Result<Made, AllocError>
+    requires { in_range settings.now ≡ true }
+    ensures hostname { IfOk result (λ m. m.security.hostname ≡ settings.now.relay.hostname) }
+    ensures key { IfOk result (λ m. m.security.shared_key ≡ settings.now.relay.shared_key) }
+    ensures users { IfOk result (λ m. m.security.users ≡ map user_of settings.now.relay.users) }
+    ensures parts { IfOk result (λ m.
+        map parts_known m.outputs.items ≡ map parts_set settings.now.outputs) }
+    ensures count { IfOk result (λ m. length m.outputs.items ≡ length settings.now.outputs) }
+    ensures empty { IfOk result (λ m. m.room.items ≡ []) }
+    ensures fits { IfOk result (λ m. vec_capacity m.room ≡ length settings.now.outputs) }
+{
+    let security = security_of(alloc, &settings.relay)?;
+    let outputs = configs_of(alloc, settings.outputs.as_slice())?;
+    let room = Vec::with_capacity(alloc, settings.outputs.len())?;
+    Ok(Made {
+        security,
+        outputs,
+        room,
+    })
+}
+
+/// What settings set the relay to. Without a run id it is zeros. The only error is out of memory,
+/// and then the settings come back.
+pub fn config_of(alloc: Global, settings: Settings) -> Result<Config, AllocFailed<Settings>>
     requires { in_range settings ≡ true }
-    ensures { IfOk result (λ config. IsConfig settings config) }
+    ensures ok { IfOk result (λ config. IsConfig settings config) }
+    ensures err { IfErr result (λ failed. failed.value ≡ settings) }
 {
     let run = settings.relay.run_id.unwrap_or([0; 6]);
-    let security = security_of(alloc, &settings.relay)?;
     let limits = Limits {
         bytes: settings.relay.message_limit,
         depth: settings.relay.depth,
     };
-    let outputs = configs_of(alloc, settings.outputs.as_slice())?;
-    let patterns = patterns_of(alloc, settings.outputs.into_vec())?;
+    let Ok(made) = made_of(alloc, &settings) else {
+        return Err(AllocFailed { value: settings });
+    };
+    let patterns = patterns_of(made.room, settings.outputs.into_vec());
     Ok(Config {
         run,
         routes: Routes::new(patterns),
-        security,
+        security: made.security,
         limits,
-        outputs: Seq::from_vec(outputs),
+        outputs: Seq::from_vec(made.outputs),
     })
 }

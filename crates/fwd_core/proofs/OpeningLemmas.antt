@@ -1,5 +1,5 @@
 -- The live part of the opening state: outputs with no entries, and workers that have nothing.
-use Rattle.std.proofs.Common.{◌≡◌, Bool, true, false, ℕ, zero, suc, List, [], ◌∷◌, ◌++◌, length, None, refl, ap, replicate}
+use Rattle.std.proofs.Common.{◌≡◌, Bool, true, false, ℕ, zero, suc, List, [], ◌∷◌, ◌++◌, ◌+◌, length, None, refl, ap, replicate, arith}
 use Rattle.std.specs.Prelude.{map, not, Contains}
 use Rattle.std.specs.List.{list_any}
 use Rattle.std.proofs.lemmas.Map.Views.{Contains-from_any}
@@ -65,17 +65,17 @@ has-false bs e = Contains-from_any same-is false bs e
 
 -- ---- one output after the other
 
--- one more stands before those that are left, wherever they begin
-behind : {X : Type 0} (xs : List X) (x : X) (f : ℕ → List X)
-    → xs ++ (x ∷ f (suc (length xs))) ≡ (xs ++ x ∷ []) ++ f (length (xs ++ x ∷ []))
-behind [] x f = refl
-behind (y ∷ xs) x f = ap (λ zs. y ∷ zs) (behind xs x (λ n. f (suc n)))
+-- as many outputs as settings
+pub new_lanes-length : (run : List ℕ) (o : ℕ) (cs : List OutputConfig)
+    → length (new_live_lanes run o cs) ≡ length cs
+new_lanes-length run o [] = refl
+new_lanes-length run o (c ∷ cs) = ap suc (new_lanes-length run (suc o) cs)
 
--- one output more
-pub new_lanes-more : (run : List ℕ) (ls : List LiveLane) (c : OutputConfig)
-    (cs : List OutputConfig)
-    → ls ++ new_live_lanes run (length ls) (c ∷ cs)
-    ≡ (ls ++ new_live_lane run (length ls) c ∷ [])
-    ++ new_live_lanes run (length (ls ++ new_live_lane run (length ls) c ∷ [])) cs
-new_lanes-more run ls c cs =
-    behind ls (new_live_lane run (length ls) c) (λ n. new_live_lanes run n cs)
+-- one output more, behind the others
+pub new_lanes-more : (run : List ℕ) (o n : ℕ) (cs : List OutputConfig) (c : OutputConfig)
+    → n ≡ o + length cs
+    → new_live_lanes run o (cs ++ c ∷ [])
+    ≡ new_live_lanes run o cs ++ new_live_lane run n c ∷ []
+new_lanes-more run o n [] c e = ap (λ k. new_live_lane run k c ∷ []) (omega (arith, e))
+new_lanes-more run o n (d ∷ cs) c e =
+    ap (λ ls. new_live_lane run o d ∷ ls) (new_lanes-more run (suc o) n cs c (omega (arith, e)))

@@ -111,9 +111,9 @@ impl Lane {
         alloc: Global,
         run: [u8; 6],
         output: u16,
-        config: OutputConfig,
+        config: &OutputConfig,
     ) -> Result<Self, AllocError>
-        ensures { IfOk result (λ l. l ≡ new_live_lane run output config) }
+        ensures { IfOk result (λ l. l ≡ new_live_lane run output config.now) }
     {
         let config = LaneConfig::new(alloc, config)?;
         let standby = config.standby.as_slice();

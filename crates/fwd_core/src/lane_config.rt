@@ -5,7 +5,7 @@ ghost use Rattle.std.specs.List.{list_any};
 ghost use Rattle.fwd_session.specs.Live.{session_begins};
 ghost use Rattle.fwd_model.specs.Setups.{session_setup};
 
-use fwd_base::Seq;
+use fwd_base::{Bytes, Seq};
 use fwd_chunks::BufferLimits;
 use fwd_handshake::Login;
 use fwd_model::{OutputConfig, OwnedSalt};
@@ -43,24 +43,45 @@ impl Model for LaneConfig {
     } };
 }
 
+/// A copy of a key, if there is one.
+fn key_of(alloc: Global, key: &Option<Bytes>) -> Result<Option<Bytes>, AllocError>
+    ensures { IfOk result (λ copy. copy ≡ key.now) }
+{
+    match key {
+        Some(key) => Ok(Some(key.to_owned(alloc)?)),
+        None => Ok(None),
+    }
+}
+
+/// A copy of a login.
+fn login_of(alloc: Global, login: &Login) -> Result<Login, AllocError>
+    ensures { IfOk result (λ copy. copy ≡ login.now) }
+{
+    let hostname = login.hostname.to_owned(alloc)?;
+    let shared_key = key_of(alloc, &login.shared_key)?;
+    let username = login.username.to_owned(alloc)?;
+    let password = login.password.to_owned(alloc)?;
+    Ok(Login {
+        hostname,
+        shared_key,
+        username,
+        password,
+    })
+}
+
 impl LaneConfig {
-    /// The same settings, with a login that is shared. The only error is out of memory.
-    pub fn new(alloc: Global, config: OutputConfig) -> Result<Self, AllocError>
-        ensures { IfOk result (λ c. c ≡ config) }
+    /// A copy of the settings, with a login that is shared. The only error is out of memory.
+    pub fn new(alloc: Global, config: &OutputConfig) -> Result<Self, AllocError>
+        ensures { IfOk result (λ c. c ≡ config.now) }
     {
-        let OutputConfig {
-            workers,
-            standby,
-            limits,
-            acks,
-            login,
-        } = config;
+        let standby = config.standby.to_owned(alloc)?;
+        let login = login_of(alloc, &config.login)?;
         let login = Arc::new(alloc, login)?;
         Ok(LaneConfig {
-            workers,
+            workers: config.workers,
             standby,
-            limits,
-            acks,
+            limits: config.limits,
+            acks: config.acks,
             login,
         })
     }
@@ -86,6 +107,6 @@ impl LaneConfig {
     {
         let login = Arc::try_clone(&self.login)?;
         let salt = salt.try_clone(alloc)?;
-        Session::up(alloc, server, login, salt, self.acks, now)
+        Ok(Session::up(alloc, server, login, salt, self.acks, now)?)
     }
 }

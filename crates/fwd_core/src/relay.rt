@@ -8,6 +8,7 @@ ghost use Rattle.std.specs.Prelude.{
   List,
   true,
   IfOk,
+  IfErr,
   OnErr,
   length,
 };
@@ -33,7 +34,7 @@ use fwd_model::{
     Answer, Config, Event, live_follows, live_run_follows, refusal_changes_nothing,
     told_among_is_delivered, waiting_is_new,
 };
-use std::alloc::{AllocError, Global};
+use std::alloc::{AllocError, AllocFailed, Global};
 use std::marker::Model;
 
 /// A relay that one thread owns. What it shows is always the live part of a history that a run
@@ -55,9 +56,11 @@ impl Model for Relay {
 }
 
 impl Relay {
-    /// A relay before its first event.
-    pub fn new(alloc: Global, config: Config) -> Result<Self, AllocError>
-        ensures { IfOk result (λ r. r ≡ live (opening config)) }
+    /// A relay before its first event. The only error is out of memory, and then the configuration
+    /// comes back.
+    pub fn new(alloc: Global, config: Config) -> Result<Self, AllocFailed<Config>>
+        ensures ok { IfOk result (λ r. r ≡ live (opening config)) }
+        ensures err { IfErr result (λ failed. failed.value ≡ config) }
     {
         let state = State::new(alloc, config)?;
         Ok(Relay { state })

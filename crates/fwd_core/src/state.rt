@@ -9,6 +9,7 @@ ghost use Rattle.std.specs.Prelude.{
   [],
   map,
   IfOk,
+  IfErr,
   IsOk,
   OnOk,
   OnErr,
@@ -39,7 +40,7 @@ use fwd_model::{
 };
 use fwd_msgpack::Limits;
 use fwd_source::Source;
-use std::alloc::{AllocError, Global};
+use std::alloc::{AllocError, AllocFailed, Global};
 use std::marker::Model;
 use std::sync::Arc;
 
@@ -87,9 +88,27 @@ impl Model for State {
 }
 
 impl State {
-    /// A relay before its first event.
-    pub fn new(alloc: Global, config: Config) -> Result<Self, AllocError>
-        ensures { IfOk result (λ r. r ≡ live (opening config)) }
+    /// A relay before its first event. On an error the configuration comes back.
+    pub fn new(alloc: Global, config: Config) -> Result<Self, AllocFailed<Config>>
+        ensures ok { IfOk result (λ r. r ≡ live (opening config)) }
+        ensures err { IfErr result (λ failed. failed.value ≡ config) }
+    {
+        match lanes_of(alloc, config.run, config.outputs.as_slice()) {
+            Ok(lanes) => State::with_lanes(alloc, config, lanes),
+            Err(_) => Err(AllocFailed { value: config }),
+        }
+    }
+
+    /// A relay before its first event, whose outputs are made. On an error the configuration comes
+    /// back.
+    fn with_lanes(
+        alloc: Global,
+        config: Config,
+        lanes: Vec<Lane>,
+    ) -> Result<Self, AllocFailed<Config>>
+        requires { lanes.items ≡ new_live_lanes config.run 0 config.outputs }
+        ensures ok { IfOk result (λ r. r ≡ live (opening config)) }
+        ensures err { IfErr result (λ failed. failed.value ≡ config) }
     {
         let Config {
             run,
@@ -98,18 +117,26 @@ impl State {
             limits,
             outputs,
         } = config;
-        let lanes = lanes_of(alloc, run, outputs)?;
-        let security = Arc::new(alloc, security)?;
-        let connections = Vec::new(alloc);
-        Ok(State {
-            run,
-            routes,
-            security,
-            limits,
-            last: None,
-            connections,
-            lanes,
-        })
+        match Arc::new(alloc, security) {
+            Ok(security) => Ok(State {
+                run,
+                routes,
+                security,
+                limits,
+                last: None,
+                connections: Vec::new(alloc),
+                lanes,
+            }),
+            Err(AllocFailed { value: security }) => Err(AllocFailed {
+                value: Config {
+                    run,
+                    routes,
+                    security,
+                    limits,
+                    outputs,
+                },
+            }),
+        }
     }
 
     /// The entries accepted, settled and held, with the bytes held and the chunks that hold them,
@@ -534,16 +561,12 @@ fn reports_of(alloc: Global, lanes: &[Lane]) -> Result<Vec<Report>, AllocError>
 }
 
 /// The outputs, none of which has an entry.
-fn lanes_of(
-    alloc: Global,
-    run: [u8; 6],
-    configs: Seq<OutputConfig>,
-) -> Result<Vec<Lane>, AllocError>
-    requires { length configs ≤ 2 ^ 16 }
-    ensures { IfOk result (λ lanes. lanes.items ≡ new_live_lanes run 0 configs) }
+fn lanes_of(alloc: Global, run: [u8; 6], configs: &[OutputConfig]) -> Result<Vec<Lane>, AllocError>
+    requires { length configs.now ≤ 2 ^ 16 }
+    ensures { IfOk result (λ lanes. lanes.items ≡ new_live_lanes run 0 configs.now) }
 {
     let mut lanes = Vec::new(alloc);
-    for config in configs.into_vec() {
+    for config in configs {
         let place = lanes.len() as u16;
         lanes.push(Lane::new(alloc, run, place, config)?)?;
     }

@@ -6,7 +6,7 @@ use crate::input::InputError;
 use crate::reading::ReadFailed;
 use crate::writing::WriteFailed;
 use fwd_settings::SettingsFault;
-use std::alloc::AllocError;
+use std::alloc::{AllocError, AllocFailed};
 use std::fmt;
 
 /// How a replay ended.
@@ -58,6 +58,14 @@ impl From<AllocError> for Status {
     ghost from_gives = { λ _ status. status ≡ statuses.Memory };
 
     fn from(_error: AllocError) -> Status {
+        Status::Memory
+    }
+}
+
+impl<T: Drop> From<AllocFailed<T>> for Status {
+    ghost from_gives = { λ _ status. status ≡ statuses.Memory };
+
+    fn from(_error: AllocFailed<T>) -> Status {
         Status::Memory
     }
 }

@@ -60,7 +60,7 @@ use crate::terms::AckTerms;
 use crate::written::Written;
 use fwd_chunks::{Carried, Pieces};
 use fwd_handshake::Login;
-use std::alloc::{AllocError, Global};
+use std::alloc::{AllocFailed, Global};
 use std::collections::VecDeque;
 use std::marker::Model;
 use std::sync::Arc;
@@ -123,7 +123,8 @@ impl Model for Session {
 
 impl Session {
     /// A session that begins: where the login has a shared key, HELO is awaited. It has room for
-    /// its chunks from now on. The only error is out of memory.
+    /// its chunks from now on. The only error is out of memory, and then the share of the login
+    /// and the salt come back.
     pub fn up(
         alloc: Global,
         server: u16,
@@ -131,8 +132,8 @@ impl Session {
         salt: OwnedSalt,
         terms: AckTerms,
         now: u64,
-    ) -> Result<Session, AllocError>
-        ensures { IfOk result (λ session. session ≡ session_begins (record {
+    ) -> Result<Session, AllocFailed<(Arc<Login>, OwnedSalt)>>
+        ensures ok { IfOk result (λ session. session ≡ session_begins (record {
           server = server;
           login = arc_value login;
           salt = salt;
@@ -140,11 +141,18 @@ impl Session {
           window = terms.window;
           start = now;
         })) }
+        ensures err { IfErr result (λ failed. failed.value ≡ (login, salt)) }
     {
-        let accepted = VecDeque::with_capacity(alloc, WINDOW_LIMIT)?;
+        let Ok(accepted) = VecDeque::with_capacity(alloc, WINDOW_LIMIT) else {
+            return Err(AllocFailed {
+                value: (login, salt),
+            });
+        };
         let Ok(carried) = InFlight::new(alloc) else {
             accepted.destroy_empty();
-            return Err(AllocError);
+            return Err(AllocFailed {
+                value: (login, salt),
+            });
         };
         let handshake = Handshake::first(&login);
         Ok(Session {

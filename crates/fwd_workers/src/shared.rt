@@ -64,7 +64,7 @@ impl<A: Tally, S: Tally> SharedOutput<A, S> {
     {
         tags_add_up();
         let snapshot = self.snapshot(rt, alloc)?;
-        snapshot.report(alloc)
+        Ok(snapshot.report(alloc)?)
     }
 
     /// What the output has to do with, the tags in no order.

@@ -373,7 +373,7 @@ impl Worker {
     {
         let login = Arc::try_clone(&self.login)?;
         let salt = self.draw_salt()?;
-        Session::up(self.alloc, server, login, salt, self.acks, now)
+        Ok(Session::up(self.alloc, server, login, salt, self.acks, now)?)
     }
 
     /// The salt of the next login: 32 hexadecimal digits. The only error is out of memory.

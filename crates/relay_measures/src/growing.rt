@@ -341,7 +341,7 @@ fn call_script<R: Print + AllocGlobal>(rt: &R) -> Result<()> {
 /// A relay by the settings that an empty text stands for.
 fn relay(alloc: Global) -> Result<Relay, AllocError> {
     let config = read_config(alloc, b"").map_err(|_| AllocError)?;
-    Relay::new(alloc, config)
+    Ok(Relay::new(alloc, config)?)
 }
 
 /// What a relay counts and reports.
