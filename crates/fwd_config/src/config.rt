@@ -1,6 +1,19 @@
 //! What settings set the relay to.
 
-ghost use Rattle.std.specs.Prelude.{◌≡◌, ◌≤◌, ◌^◌, ◌<◌, true, [], map, length, vec_len, vec_capacity, IfOk, IfErr};
+ghost use Rattle.std.specs.Prelude.{
+  ◌≡◌,
+  ◌≤◌,
+  ◌^◌,
+  ◌<◌,
+  true,
+  [],
+  map,
+  length,
+  vec_len,
+  vec_capacity,
+  IfOk,
+  IfErr,
+};
 ghost use Rattle.std.specs.List.{list_all};
 ghost use Rattle.fwd_settings.specs.Ranges.{in_range, output_in_range, relay_in_range};
 ghost use Rattle.fwd_config.specs.Configs.{parts_known, parts_set, user_of, IsConfig};

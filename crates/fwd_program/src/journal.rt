@@ -37,7 +37,8 @@ pub fn asked_log<R: Env + AllocGlobal>(rt: &R) -> Log {
 
 /// Says facts, each on a line behind the time in UTC: of one kind at most ten in a second of the
 /// clock, and in a later one how many were left out. It takes no memory. A line that cannot be
-/// written is lost, and where the clock cannot be read it stands, at first at 1970.
+/// written is left out, and told as that as soon as a line can be written. Where the clock cannot
+/// be read it stands, at first at 1970.
 #[derive(Drop)]
 pub struct Journal<'a, R: Clock, E: Write> {
     clock: &'a R,
@@ -45,6 +46,10 @@ pub struct Journal<'a, R: Clock, E: Write> {
     now: Timestamp,
     /// By kinds.
     limits: [LineLimit; Kind::COUNT],
+    /// How many lines could not be written since that was told last.
+    unwritten: u64,
+    /// The second in which writing was tried last.
+    tried: i64,
 }
 
 impl<'a, R: Clock, E: Write> Journal<'a, R, E> {
@@ -55,6 +60,8 @@ impl<'a, R: Clock, E: Write> Journal<'a, R, E> {
             errors,
             now: Timestamp::UNIX_EPOCH,
             limits: [LineLimit::NONE; Kind::COUNT],
+            unwritten: 0,
+            tried: 0,
         }
     }
 
@@ -65,12 +72,28 @@ impl<'a, R: Clock, E: Write> Journal<'a, R, E> {
         }
     }
 
-    /// Writes a line.
-    fn write<T: fmt::Display>(&mut self, text: &T) {
+    /// Writes a line: whether it could be.
+    fn write<T: fmt::Display>(&mut self, text: &T) -> bool {
         let mut line: ArrayString<LINE> = ArrayString::new();
         let now = self.now;
-        if write!(line, "{now:.3} {text}\n").is_ok() {
-            let _ = self.errors.write_all(line.as_str().as_bytes());
+        self.tried = now.as_second();
+        write!(line, "{now:.3} {text}\n").is_ok()
+            && self.errors.write_all(line.as_str().as_bytes()).is_ok()
+    }
+
+    /// Tells how many lines could not be written, if any: whether none is left to tell of.
+    fn settle_unwritten(&mut self) -> bool {
+        let count = self.unwritten;
+        if count > 0 && self.write(&Unwritten { count }) {
+            self.unwritten = 0;
+        }
+        self.unwritten == 0
+    }
+
+    /// Says a line that stands for so many, behind how many could not be written before it.
+    fn say<T: fmt::Display>(&mut self, text: &T, lines: u64) {
+        if !self.settle_unwritten() || !self.write(text) {
+            self.unwritten = self.unwritten.saturating_add(lines);
         }
     }
 
@@ -79,7 +102,7 @@ impl<'a, R: Clock, E: Write> Journal<'a, R, E> {
         let second = self.now.as_second();
         if let Some(limit) = self.limits.get_mut(kind as usize) {
             if let Some(count) = limit.owes(second) {
-                self.write(&LeftOut { kind, count });
+                self.say(&LeftOut { kind, count }, count);
             }
         }
     }
@@ -90,10 +113,11 @@ impl<'a, R: Clock, E: Write> Journal<'a, R, E> {
         for kind in Kind::ALL {
             if let Some(limit) = self.limits.get_mut(kind as usize) {
                 if let Some(count) = limit.take_left_out() {
-                    self.write(&LeftOut { kind, count });
+                    self.say(&LeftOut { kind, count }, count);
                 }
             }
         }
+        self.settle_unwritten();
     }
 }
 
@@ -105,19 +129,35 @@ impl<'a, R: Clock, E: Write> Watch for Journal<'a, R, E> {
         let second = self.now.as_second();
         if let Some(limit) = self.limits.get_mut(kind as usize) {
             if limit.takes(second) {
-                self.write(&Telling { fact });
+                self.say(&Telling { fact }, 1);
             }
         }
     }
 
     fn turned(&mut self) {
-        if self.limits.iter().all(|limit| limit.is_clear()) {
+        if self.unwritten == 0 && self.limits.iter().all(|limit| limit.is_clear()) {
             return;
         }
         self.look();
         for kind in Kind::ALL {
             self.settle(kind);
         }
+        if self.tried != self.now.as_second() {
+            self.settle_unwritten();
+        }
+    }
+}
+
+/// How many lines could not be written.
+#[derive(Clone, Copy)]
+struct Unwritten {
+    count: u64,
+}
+
+impl fmt::Display for Unwritten {
+    fn fmt<W: fmt::Write>(&self, f: &mut fmt::Formatter<W>) -> fmt::Result {
+        let Unwritten { count } = self;
+        write!(f, "journal: {count} left out")
     }
 }
 

@@ -11,6 +11,7 @@ ghost use Rattle.fwd_program.specs.Ends.{Runs, run_code};
 ghost use Rattle.fwd_program.specs.declared.ending.RunEnd.{RunEnd as TheEnd};
 
 use crate::asked::asked_run;
+use crate::cautions::say_of_check;
 use crate::ending::RunEnd;
 use crate::journal::Log;
 use crate::running::run_file;
@@ -59,7 +60,12 @@ fn run_words<
             let _told = tell(errors, &end);
             end.exit_code()
         }
-        None => run_program(rt.alloc(), rt, Ok(words), input, output, errors),
+        None => {
+            if let Log::Info = log {
+                say_of_check(rt, words.as_slice(), errors);
+            }
+            run_program(rt.alloc(), rt, Ok(words), input, output, errors)
+        }
     }
 }
 

@@ -8,6 +8,7 @@ ghost use Rattle.fwd_program.specs.Ends.{Found, Runs};
 ghost use Rattle.fwd_program.specs.declared.ending.RunEnd.TheVariants as ends;
 
 use crate::asked::Run;
+use crate::causes::{say_refused, say_unheard};
 use crate::ending::RunEnd;
 use crate::journal::{Journal, Log};
 use fwd_loop::{Loop, Watch};
@@ -23,7 +24,11 @@ use std::sync::Wait;
 use std::thread::Threads;
 
 /// The settings in a file. A file that cannot be opened is `Unreadable`.
-fn settings_at<F: Files>(alloc: Global, files: &F, path: &str) -> Result<Settings, SettingsFault>
+pub(crate) fn settings_at<F: Files>(
+    alloc: Global,
+    files: &F,
+    path: &str,
+) -> Result<Settings, SettingsFault>
     ensures range { IfOk result (λ settings. in_range settings ≡ true) }
     ensures found { (text : List ℕ) × Found result text }
 {
@@ -95,9 +100,13 @@ fn run_logged<
     match log {
         Log::Off => ended(run_found(rt, found, run.turns, &mut (), output)),
         Log::Info => {
+            if let Err(fault) = &found {
+                say_refused(rt, run.path, fault, errors);
+            }
             let mut journal = Journal::new(rt, errors);
             let ran = run_found(rt, found, run.turns, &mut journal, output);
             journal.close();
+            say_unheard(rt, &ran, errors);
             ended(ran)
         }
     }

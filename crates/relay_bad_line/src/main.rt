@@ -1,17 +1,21 @@
 //! The program, for the tests: a script with a bad line.
 #![tactic(auto)]
 
-use fwd_program::{asked_log, run_all};
+use fwd_program::{Errors, asked_log, run_all};
 use fwd_script::{buffered, words};
 use std::process::ExitCode;
 
 fn main(rt: HostRuntime) -> ExitCode {
-    ExitCode::from(run_all(
+    let log = asked_log(&rt);
+    let mut errors = Errors::new(rt.alloc(), rt, rt.stderr(), log);
+    let status = run_all(
         &rt,
         words(&rt),
-        asked_log(&rt),
+        log,
         &mut rt.reader(),
         &mut buffered(&rt),
-        &mut rt.stderr(),
-    ))
+        &mut errors,
+    );
+    errors.close();
+    ExitCode::from(status)
 }

@@ -79,6 +79,8 @@ fn main(rt: HostRuntime) -> Result<()> {
     println!(rt; "--")?;
     pacing::say_many(&rt);
     println!(rt; "--")?;
+    pacing::say_unwritten(&rt);
+    println!(rt; "--")?;
     asking::say_asked(&rt)?;
     println!(rt; "--")?;
     ends::say_ends(&rt)?;

@@ -1,9 +1,11 @@
-//! Many facts of one kind in a second.
+//! Many facts of one kind in a second, and facts that cannot be written.
 
 use crate::hand::{Hand, START};
 use fwd_loop::{Fact, Want, Watch};
 use fwd_program::Journal;
+use std::cell::Cell;
 use std::io;
+use std::io::{ErrorKind, Write};
 
 /// So many outputs want memory.
 fn see_outputs<W: Watch>(journal: &mut W, count: u16) {
@@ -35,5 +37,51 @@ pub fn say_many(rt: &impl Print) {
     clock.set(None);
     see_outputs(&mut journal, 1);
     journal.close();
+    journal.close();
+}
+
+/// A writer that takes nothing while it is full.
+#[derive(Drop)]
+struct Tap<'a, W: Write> {
+    out: W,
+    is_full: &'a Cell<bool>,
+}
+
+impl<W: Write> Write for Tap<'_, W> {
+    fn write(&mut self, buf: &[u8]) -> io::Result<usize> {
+        if self.is_full.get() {
+            return Err(io::Error::from(ErrorKind::WouldBlock));
+        }
+        self.out.write(buf)
+    }
+
+    fn flush(&mut self) -> io::Result<()> {
+        self.out.flush()
+    }
+}
+
+/// Says how many lines could not be written: before the next line, in the next second, and at the
+/// end.
+pub fn say_unwritten(rt: &impl Print) {
+    let clock = Hand::new(Some(START));
+    let is_full = Cell::new(true);
+    let mut out = Tap {
+        out: io::writer(rt),
+        is_full: &is_full,
+    };
+    let mut journal = Journal::new(&clock, &mut out);
+    see_outputs(&mut journal, 3);
+    is_full.set(false);
+    see_outputs(&mut journal, 1);
+    is_full.set(true);
+    see_outputs(&mut journal, 2);
+    is_full.set(false);
+    // The same second is not over.
+    journal.turned();
+    clock.set(Some(START + 877));
+    journal.turned();
+    is_full.set(true);
+    see_outputs(&mut journal, 12);
+    is_full.set(false);
     journal.close();
 }
