@@ -14,7 +14,8 @@
 #   answered, and the page is had, within 50 ms. 1c2: the same where the source closes, and its requests are settled then.
 # - 1d: a request of 80,000 entries, each in a chunk of its own, costs at most 2.6 times what one of 40,000 costs.
 # - 2: with 256 files, 1,024 connections allowed and 1,000 clients the relay says how many sources it takes, closes the others,
-#   has sixteen monitors all the same, and reaches a server that was started again.
+#   has sixteen monitors all the same, and reaches a server that was started again. 2b: where no file is left for a source and
+#   for a server it says so, and goes on once there is.
 # - 3a: a held request of one small entry takes at most 350 bytes beside its entry. 3b: behind three rounds of 1,000,000, each
 #   settled, it has at most 1.5 times the memory of before. 3c: 100,000 tags of 1,024 bytes take at most 1.5 times their bytes.
 # - 3d: its address space is limited to 400 MB beyond its need, and the next hop is away until memory was refused, for large

@@ -1,7 +1,9 @@
 """Descriptors run short."""
 
 import contextlib
+import os
 import re
+import resource
 import socket
 import time
 
@@ -100,3 +102,42 @@ def reached_again(line, early):
         line.ask(False, f"no acknowledgement behind the restart of the server: {type(error).__name__}")
     else:
         line.say(f"behind the restart of the server acknowledged in {time.monotonic() - start:.2f} s")
+
+
+def limit_files(relay, files):
+    """From now on the relay may have files below this number: what it could have before."""
+    _, most = resource.prlimit(relay.process.pid, resource.RLIMIT_NOFILE)
+    before, _ = resource.prlimit(relay.process.pid, resource.RLIMIT_NOFILE, (files, most))
+    return before
+
+
+def says(relay, word):
+    """The first line of the journal with a word that speaks of descriptors, without its time."""
+    for text in relay.journal().splitlines():
+        if word in text and re.search("descriptor|files", text.split(" ", 1)[1].replace("few files", ""), re.I):
+            return text.split(" ", 1)[1]
+    return None
+
+
+def no_file(run, line):
+    """No file is left, for a source and for a server, and then there is again."""
+    port = parts.free_ports(1)[0]
+    with (
+        parts.Sink(port),
+        parts.Relay(run, {}, [{"flush_interval": 0, "server": port}]) as relay,
+        source.connect(relay.port, 5) as early,
+    ):
+        time.sleep(0.5)
+        before = limit_files(relay, 1 + max(map(int, os.listdir(f"/proc/{relay.process.pid}/fd"))))
+        with source.connect(relay.port, 10) as late:
+            early.sendall(source.request(b"app", b"early"))
+            for word in ("source", "server lost"):
+                is_said = parts.waits_for(lambda: says(relay, word), 3)
+                line.ask(is_said, f"no line says that none is left for a {word.split()[0]}")
+                if is_said:
+                    line.say(f"`{says(relay, word)}`")
+            limit_files(relay, before)
+            start = time.monotonic()
+            source.await_ack(early, b"early")
+            source.ask(late, b"app", b"late")
+            line.within("with files again both are acknowledged after", time.monotonic() - start, 2, " s")

@@ -132,8 +132,8 @@ def many_settled(run, settling, closing):
         ):
             first = Owed(relay.port, MANY)
             hold_all(relay, sink, first, 0)
-            for probe in (asks, looks):
-                probe.since()
+            told, seen = asks.since(), looks.since()
+            settling.say(f"while they come others wait {told['own']:.0f} ms, the page {seen['own']:.0f} ms")
             told_within(settling, relay, sink, first)
             settling.waits("others wait", asks.since(), 50)
             settling.waits("the page", looks.since(), 50)

@@ -7,6 +7,7 @@ tools/weather.sh calls it, and says what the cases are.
 
 import os
 import pathlib
+import re
 import signal
 import subprocess
 import sys
@@ -31,6 +32,7 @@ CASES = [
     ),
     (turn_cases.many_chunks, {"1d": "a request over very many chunks"}),
     (file_cases.few_files, {"2": "a thousand sources, and 256 files"}),
+    (file_cases.no_file, {"2b": "no file is left for a while"}),
     (memory_cases.many_held, {"3a": "requests that are held", "3b": "and given back"}),
     (memory_cases.long_tags, {"3c": "long tags"}),
     (memory_cases.refused, {"3d": "no memory while the next hop is away"}),
@@ -86,8 +88,11 @@ def blocked(run):
     env = {**os.environ, "RELAY": run.program}
     done = subprocess.run(["sh", BLOCKED], env=env, stdout=subprocess.PIPE, text=True)
     line = Line("5", "a journal that nobody reads")
-    line.say((done.stdout.splitlines() or [""])[-1])
-    line.ask(done.returncode == 0, f"{BLOCKED} ended with {done.returncode}: {done.stdout[-500:]!r}")
+    told = done.stdout.splitlines() or [""]
+    line.say(f"{BLOCKED} says `{told[-1]}`")
+    if done.returncode != 0:
+        wrong = [text for text in told if re.search("wrong|failed", text, re.I)]
+        line.ask(False, f"its status is {done.returncode}: {' / '.join(wrong or told[-3:])}")
     return line
 
 
