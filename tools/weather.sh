@@ -5,7 +5,7 @@
 #
 # Run at the top of the repository, best on a quiet machine. It needs python3 and sh alone, and a hard limit of 4,096 open
 # files; all that it starts listens at free ports of 127.0.0.1, and ends with its case. Without names it plays all cases, in
-# two to three minutes, and ends with `N passed, 0 failed`, or with 1 where something is not as it has to be. The gate does not
+# three to four minutes, and ends with `N passed, 0 failed`, or with 1 where something is not as it has to be. The gate does not
 # run it.
 #
 # - 1a: a source sends an array of 16,777,200 values up to 16 MB, and then single bytes; meanwhile requests of others are
