@@ -19,7 +19,8 @@
 # - 3a: a held request of one small entry takes at most 350 bytes beside its entry. 3b: behind three rounds of 1,000,000, each
 #   settled, it has at most 1.5 times the memory of before. 3c: 100,000 tags of 1,024 bytes take at most 1.5 times their bytes.
 # - 3d: its address space is limited to 400 MB beyond its need, and the next hop is away until memory was refused, for large
-#   requests, small ones and both: then all that was held is delivered, its source is told, and another one is taken.
+#   requests, small ones and both: then all that was held is delivered, its source is told, and another one is taken. 3e: the
+#   same where sources with unfinished requests stay, and hold what was left.
 # - 4a: a monitor without a head is closed after 10 s, and sixteen of them shut nobody out for longer (4b). 4c: a source that
 #   does not log in is closed after 30 s, with a line in the journal; 4d: one that did may be silent.
 # - 5: a journal that nobody reads, by tools/journal_blocked.sh, where that is.

@@ -12,6 +12,7 @@ WARM = 10_000
 TAGS = 100_000
 TAG = 1_024
 SPARE = 400  # megabytes
+UNFINISHED = b"\x92\xa1a\xc6\x00\xf0\x00\x00"  # the front of a request of 15 MB
 
 
 def round_of(relay, sink, count, before):
@@ -105,27 +106,57 @@ def fill_both(relay):
     fill_small(relay)
 
 
-def refused(run, line):
-    """Memory is refused, with the next hop away, and then it comes back."""
+def stays(relay, stack, size):
+    """Whether a source with so many bytes of an unfinished request is not closed; then it stays until the stack ends."""
+    try:
+        stream = stack.enter_context(source.connect(relay.port, 3))
+        stream.sendall(UNFINISHED + bytes(size))
+        return not source.is_closed(stream, 0.005)
+    except OSError:
+        return False
+
+
+def hold_rest(relay, stack):
+    """Sources that stay, with unfinished requests, until no more are taken: how many."""
+    count = 0
+    for size in (1_000_000, 100_000, 10_000, 1_000):
+        refusals = 0
+        while refusals < 5 and count < 800:
+            is_in = stays(relay, stack, size)
+            count += is_in
+            refusals += not is_in
+    return count
+
+
+def refused(run, line, beside):
+    """Memory is refused, with the next hop away, and then it comes back; and the same while sources hold what is left."""
     for what, fill in (("large", fill_large), ("small", fill_small), ("both", fill_both)):
-        refused_by(run, line, what, fill)
+        with filled(run, line, what, fill) as (relay, port, early), parts.Sink(port) as sink:
+            delivered(line, what, relay, sink, early)
+    for _ in range(3):
+        with filled(run, beside, "small", fill_small) as (relay, port, early), contextlib.ExitStack() as stack:
+            beside.say(f"{hold_rest(relay, stack)} sources stay")
+            delivered(beside, "small", relay, stack.enter_context(parts.Sink(port)), early)
+        if not beside.is_good():
+            return
 
 
-def refused_by(run, line, what, fill):
+@contextlib.contextmanager
+def filled(run, line, what, fill):
+    """A relay that refused memory, the port of its next hop, and a source that it owes something."""
     port = parts.free_ports(1)[0]
     output = {"server": port, "total_limit": 1_000_000_000_000, "flush_interval": 500, "chunk_limit": 16_000_000}
     environment = {"MALLOC_ARENA_MAX": "1"}
     space = needed(run, [output], environment) + SPARE * 1_000_000
     under = parts.limited(f"-v {space // 1024}")
-    with parts.Relay(run, {}, [output], under, environment) as relay:
+    with parts.Relay(run, {"connections": 1024}, [output], under, environment) as relay:
         early = Owed(relay.port, WARM)
         early.send(b"early")
         relay.await_accepted(WARM)
         fill(relay)
         refusals = relay.lines("memory: ") + relay.journal().count(" Memory\n")
         line.ask(refusals > 0, f"{what}: memory was not refused")
-        with parts.Sink(port) as sink:
-            delivered(line, what, relay, sink, early)
+        yield relay, port, early
 
 
 def is_taken(relay):

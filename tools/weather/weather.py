@@ -35,7 +35,10 @@ CASES = [
     (file_cases.no_file, {"2b": "no file is left for a while"}),
     (memory_cases.many_held, {"3a": "requests that are held", "3b": "and given back"}),
     (memory_cases.long_tags, {"3c": "long tags"}),
-    (memory_cases.refused, {"3d": "no memory while the next hop is away"}),
+    (
+        memory_cases.refused,
+        {"3d": "no memory while the next hop is away", "3e": "the same while sources hold the rest of it"},
+    ),
     (
         silent_cases.silent,
         {
