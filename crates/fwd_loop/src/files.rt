@@ -3,9 +3,8 @@
 use crate::acceptor::MONITORS;
 use fwd_settings::OutputSettings;
 use std::alloc::Global;
-use std::fs;
 use std::rt::Files;
-use std::str;
+use std::{fs, str};
 
 /// Where Linux tells a process's limits (proc_pid_limits(5)).
 const LIMITS: &str = "/proc/self/limits";

@@ -110,8 +110,9 @@ impl<'a> Outlet<'a> {
     }
 
     /// Hands in tickets that are due, block by block, and tells the sources of their receipts: some
-    /// thousands, the others later. The only error is out of memory, and then all tickets are to be
-    /// handed in again.
+    /// thousands, the others later. The only error is out of memory, and then those that were handed
+    /// in last are handed in again.
+    #[tactic(auto, using(crate::proofs::Collecting::tells_nothing, crate::proofs::Collecting::tells_more))]
     pub fn collect<R: Wait>(
         &mut self,
         rt: &R,
@@ -133,7 +134,7 @@ impl<'a> Outlet<'a> {
 
     /// Hands in a block of the tickets that are due, and answers what receipts there are: each is
     /// right for the request of one of these tickets. The others come back. The only error is out
-    /// of memory, and then all are to be handed in again.
+    /// of memory, and then all come back, and are handed in again.
     fn hand_in<R: Wait>(&mut self, rt: &R) -> Result<Vec<Receipt>, AllocError>
         ensures { IfOk result (λ receipts.
             IsHandedIn self.old.tickets receipts.items self.new.tickets) }
@@ -145,8 +146,8 @@ impl<'a> Outlet<'a> {
                 Ok(receipts)
             }
             Err((error, back)) => {
-                self.tickets.settle_all();
                 self.put_back(rt, back);
+                self.tickets.stir();
                 Err(error)
             }
         }

@@ -69,21 +69,20 @@ impl<'a> Outlets<'a> {
     }
 
     /// Admits the first request that waits, at the first output whose pattern matches its tag.
-    fn admit<R: Wait>(
-        &mut self,
-        rt: &R,
-        source: &mut SourcePeer,
-        now: u64,
-    ) -> Result<(), SourceEnd>
+    fn admit<R: Wait>(&mut self, rt: &R, source: &mut SourcePeer, now: u64) -> Result<(), SourceEnd>
         ensures { OnOk result (Admits self.old.routes.now
             (stores_of self.old.all.items) source.old
             (stores_of self.new.all.items) source.new) }
     {
-        let output = source.route(self.routes).ok_or(SourceEnd::NoRoute)?;
-        let outlet = self.all.get_mut(output as usize);
-        let outlet = outlet.ok_or(SourceEnd::NoRoute)?;
-        let refused = SourceEnd::Refused(AdmitRefusal::Memory);
-        let (origin, batch) = source.next().ok_or(refused)?;
+        let Some(output) = source.route(self.routes) else {
+            return Err(SourceEnd::NoRoute);
+        };
+        let Some(outlet) = self.all.get_mut(output as usize) else {
+            return Err(SourceEnd::NoRoute);
+        };
+        let Some((origin, batch)) = source.next() else {
+            return Err(SourceEnd::Refused(AdmitRefusal::Memory));
+        };
         match outlet.admit(rt, origin, batch, now) {
             Ok(()) => Ok(()),
             Err(refusal) => Err(SourceEnd::Refused(refusal)),
@@ -135,6 +134,7 @@ impl<'a> Outlets<'a> {
 
     /// Hands in tickets that are due, each at its output, and tells the sources of their receipts:
     /// of each output some thousands, the others later.
+    #[tactic(auto, using(crate::proofs::Collecting::tells_nothing, crate::proofs::Collecting::tells_on))]
     pub fn collect<R: Wait, W: Watch>(
         &mut self,
         rt: &R,

@@ -107,7 +107,10 @@ impl fmt::Display for Telling {
                 write!(f, "{caller} {peer}")
             }
             Fact::Memory(want) => tell_want(f, want),
-            Fact::FewFiles { files, sources } => write!(f, "{files} open at most, {sources} sources"),
+            Fact::FewFiles { files, sources } => write!(
+                f,
+                "{files} open at most, {sources} sources"
+            ),
             Fact::Descriptors(caller) => f.write_str(caller_name(caller)),
         }
     }

@@ -9,8 +9,8 @@ use std::marker::Model;
 use std::mem;
 use std::sync::Wait;
 
-/// The most tickets of a block.
-const BLOCK: usize = 2_048;
+/// The most tickets of a block: so few that where memory is short their receipts find room.
+const BLOCK: usize = 256;
 
 /// Tickets, in their order. They lie in blocks, so that no ticket is moved where lists are joined,
 /// and that few are handed on at a time. In contracts it is the list of its tickets. It must be
@@ -78,15 +78,15 @@ impl TicketList {
         ensures back { IfErr result (λ block. block.items ≡ tickets.items) }
         ensures same { OnErr result (self.new ≡ self.old) }
     {
+        if self.last.is_empty() {
+            mem::replace(&mut self.last, tickets).destroy_empty();
+            return Ok(());
+        }
         let Ok(()) = self.full.reserve(1) else {
             return Err(tickets);
         };
         let block = mem::replace(&mut self.last, tickets);
-        if block.is_empty() {
-            block.destroy_empty();
-        } else {
-            self.full.push_back_reserved(block);
-        }
+        self.full.push_back_reserved(block);
         Ok(())
     }
 

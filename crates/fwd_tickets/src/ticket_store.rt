@@ -114,6 +114,13 @@ impl TicketStore {
         self.is_stirred = true;
     }
 
+    /// Those that came back are to be handed in again.
+    pub fn stir(&mut self)
+        ensures { self.new ≡ record self.old { stirred = true } }
+    {
+        self.is_stirred = true;
+    }
+
     /// Whether there are tickets to be handed in.
     pub fn is_due(&self) -> bool
         ensures { result ≡ false → IsQuiet self.now }
