@@ -4,7 +4,7 @@ use Rattle.std.specs.Prelude.{All}
 use Rattle.std.proofs.lemmas.List.Elements.{All-append, All-nil}
 use Rattle.fwd_book.specs.Receipts.{Receipt}
 use Rattle.fwd_tickets.specs.Stores.{Stored}
-use Rattle.fwd_loop.specs.Collections.{IsHandedIn, IsRightSomewhere, TellsRight}
+use Rattle.fwd_loop.specs.Collections.{Collects, IsHandedIn, IsRightSomewhere, TellsRight}
 use Rattle.fwd_loop.specs.Tellings.{AreTold, Sources}
 
 -- who is told of some, and then of others, is told of all
@@ -35,3 +35,14 @@ tells_on s u t first more = record {
   told = told_append s u t first.receipts more.receipts first.told more.told;
   right = All-append IsRightSomewhere first.receipts more.receipts first.right more.right;
 }
+
+-- no round changes nothing
+pub collects_nothing : (s : Stored) (told : Sources) → Collects s told s told
+collects_nothing s told = ([], (refl, refl))
+
+-- a round, and then others
+pub collects_more : (s u t : Stored) (told between then_told : Sources) (receipts : List Receipt)
+    → IsHandedIn s receipts u → AreTold told receipts between → Collects u between t then_told
+    → Collects s told t then_told
+collects_more s u t told between then_told receipts given one more =
+    (receipts ∷ more.0, (u, (between, (given, one, more.1))))

@@ -1,5 +1,5 @@
 -- What is told: receipts of the tickets that are due, each of them, and each right for its ticket.
-use Rattle.std.specs.Prelude.{◌≡◌, ◌⊎◌, List, ◌++◌, map, All}
+use Rattle.std.specs.Prelude.{◌≡◌, ◌⊎◌, List, [], ◌∷◌, ◌++◌, map, All}
 use Rattle.std.specs.List.Sorted.{IsPermutation}
 use Rattle.fwd_book.specs.History.{BookSetting}
 use Rattle.fwd_book.specs.Receipts.{Receipt}
@@ -33,3 +33,16 @@ pub record TellsRight (s : Sources) (t : Sources) : Type 0 where
   pub receipts : List Receipt
   pub told : AreTold s receipts t
   pub right : All IsRightSomewhere receipts
+
+-- what an outlet collects in so many rounds: in each tickets are handed in, and each receipt that
+-- there is for them is told
+abbrev pub CollectsBy : List (List Receipt) → Stored → Sources → Stored → Sources → Type 0
+CollectsBy [] s told t told_then = (t ≡ s) × (told_then ≡ told)
+CollectsBy (receipts ∷ rounds) s told t told_then =
+    (between : Stored) × ((told_between : Sources) × (IsHandedIn s receipts between
+    × AreTold told receipts told_between × CollectsBy rounds between told_between t told_then))
+
+-- what it collects in some rounds
+abbrev pub Collects : Stored → Sources → Stored → Sources → Type 0
+Collects s told t told_then =
+    (rounds : List (List Receipt)) × CollectsBy rounds s told t told_then

@@ -4,7 +4,7 @@ ghost use Rattle.std.specs.Prelude.{◌≡◌, IfOk, OnOk, OnErr};
 ghost use Rattle.fwd_tickets.specs.Stores.{IsSame};
 ghost use Rattle.fwd_loop.specs.Admissions.{KeepsTicketOf};
 ghost use Rattle.fwd_loop.specs.Standings.{sources_in};
-ghost use Rattle.fwd_loop.specs.Collections.{ComeBack, IsHandedIn, TellsRight};
+ghost use Rattle.fwd_loop.specs.Collections.{Collects, ComeBack, IsHandedIn, TellsRight};
 
 use crate::connections::Connections;
 use crate::flush_timer::FlushTimer;
@@ -112,13 +112,16 @@ impl<'a> Outlet<'a> {
     /// Hands in tickets that are due, block by block, and tells the sources of their receipts: some
     /// thousands, the others later. The only error is out of memory, and then those that were handed
     /// in last are handed in again.
-    #[tactic(auto, using(crate::proofs::Collecting::tells_nothing, crate::proofs::Collecting::tells_more))]
+    #[tactic(auto, using(crate::proofs::Collecting::tells_nothing, crate::proofs::Collecting::tells_more, crate::proofs::Collecting::collects_nothing, crate::proofs::Collecting::collects_more))]
     pub fn collect<R: Wait>(
         &mut self,
         rt: &R,
         connections: &mut Connections,
     ) -> Result<(), AllocError>
-        ensures { TellsRight (sources_in connections.old) (sources_in connections.new) }
+        ensures each { OnOk result (Collects
+            self.old.tickets (sources_in connections.old)
+            self.new.tickets (sources_in connections.new)) }
+        ensures right { TellsRight (sources_in connections.old) (sources_in connections.new) }
     {
         let mut told: usize = 0;
         for _ in 0..BLOCKS {
