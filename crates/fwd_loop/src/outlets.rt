@@ -21,10 +21,17 @@ use std::sync::Wait;
 /// The most rounds of collecting at the end of a run.
 const ROUNDS: u32 = 1 << 20;
 
+/// How many bytes are kept in reserve for collecting receipts: what is settled is given back only
+/// once they are collected.
+const RESERVE: usize = 1 << 20;
+
 /// The outputs, in the settings' order, and which tags go to which. They must be spent: by `close`.
 pub(crate) struct Outlets<'a> {
+    alloc: Global,
     routes: &'a Routes,
     all: Vec<Outlet<'a>>,
+    /// Nothing is ever put into it: where memory is refused for receipts it is given back.
+    reserve: Vec<u8>,
 }
 
 /// The outputs' tickets are abandoned.
@@ -54,7 +61,14 @@ impl<'a> Outlets<'a> {
                 return Err(AllocError);
             }
         }
-        Ok(Outlets { routes, all })
+        let mut reserve = Vec::new(alloc);
+        let _ = reserve.reserve(RESERVE);
+        Ok(Outlets {
+            alloc,
+            routes,
+            all,
+            reserve,
+        })
     }
 
     /// Admits the requests that wait at a source at a moment (milliseconds). A request that is not
@@ -133,7 +147,8 @@ impl<'a> Outlets<'a> {
     }
 
     /// Hands in tickets that are due, each at its output, and tells the sources of their receipts:
-    /// of each output some thousands, the others later.
+    /// of each output some thousands, the others later. Where memory is refused for them what is
+    /// kept in reserve is given back, and they are collected again.
     #[tactic(auto, using(crate::proofs::Collecting::tells_nothing, crate::proofs::Collecting::tells_on))]
     pub fn collect<R: Wait, W: Watch>(
         &mut self,
@@ -143,9 +158,15 @@ impl<'a> Outlets<'a> {
     )
         ensures { TellsRight (sources_in connections.old) (sources_in connections.new) }
     {
+        if self.reserve.capacity() == 0 {
+            let _ = self.reserve.reserve(RESERVE);
+        }
         for (number, outlet) in (0..u16::MAX).zip(&mut self.all) {
             if outlet.collect(rt, connections).is_err() {
-                watch.see(Fact::Memory(Want::Output(number)));
+                self.reserve = Vec::new(self.alloc);
+                if outlet.collect(rt, connections).is_err() {
+                    watch.see(Fact::Memory(Want::Output(number)));
+                }
             }
         }
     }
@@ -173,7 +194,12 @@ impl<'a> Outlets<'a> {
 
     /// The tickets that are left are abandoned.
     pub fn close<R: Wait>(self, rt: &R) {
-        let Outlets { routes: _, all } = self;
+        let Outlets {
+            alloc: _,
+            routes: _,
+            all,
+            reserve: _,
+        } = self;
         close_all(rt, all);
     }
 }

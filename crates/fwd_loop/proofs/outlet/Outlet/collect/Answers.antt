@@ -5,17 +5,18 @@ use Rattle.fwd_loop.proofs.Collecting.{collects_more, tells_more}
 use Rattle.fwd_loop.proofs.outlet.Outlet.collect.Goals as goal
 
 pub loop-preserved : goal.loop-preserved
-loop-preserved g c =
-    (λ t more. c.loop.invariant.0 t
-        (tells_more (sources_in c.loop.connections) (sources_in c.tell_all.new.self) t
-          c.in_ok-receipts.receipts.items c.loop.self.tickets c.hand_in.new.self.tickets
-          c.in_ok-receipts.ensures told more),
-      λ t then_told more. c.loop.invariant.1 t then_told
-        (collects_more c.loop.self.tickets c.hand_in.new.self.tickets t
-          (sources_in c.loop.connections) (sources_in c.tell_all.new.self) then_told
-          c.in_ok-receipts.receipts.items c.in_ok-receipts.ensures told more))
+loop-preserved g c = (
+  λ t more. c.loop.invariant.0 t
+      (tells_more (sources_in c.loop.connections) (sources_in c.tell_all.new.self) t
+      c.in_ok-receipts.receipts.items c.loop.self.tickets c.hand_in.new.self.tickets
+      c.in_ok-receipts.ensures told more),
+  λ t then_told more. c.loop.invariant.1 t then_told
+      (collects_more c.loop.self.tickets c.hand_in.new.self.tickets t
+      (sources_in c.loop.connections) (sources_in c.tell_all.new.self) then_told
+      c.in_ok-receipts.receipts.items c.in_ok-receipts.ensures told more),
+)
   where
     told : AreTold (sources_in c.loop.connections) c.in_ok-receipts.receipts.items
-      (sources_in c.tell_all.new.self)
+        (sources_in c.tell_all.new.self)
     told = subst (λ rs. AreTold (sources_in c.loop.connections) rs (sources_in c.tell_all.new.self))
-      c.deref.ensures.value c.tell_all.ensures
+        c.deref.ensures.value c.tell_all.ensures
