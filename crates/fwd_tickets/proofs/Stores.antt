@@ -1,5 +1,5 @@
 -- What a store's calls make of what it holds, from what they make of its parts.
-use Rattle.std.proofs.Common.{◌≡◌, ◌++◌, [], ◌∷◌, ℕ, List, Option, Some, None, Result, Ok, Err, OnOk, refl, sym, subst}
+use Rattle.std.proofs.Common.{◌≡◌, ◌++◌, [], ◌∷◌, ℕ, List, Some, Result, Ok, Err, OnOk, refl, sym, subst}
 use Rattle.fwd_workers.specs.Tickets.{Ticket}
 use Rattle.fwd_tickets.specs.Stores.{
   AreHeld,
