@@ -4,7 +4,7 @@
 use crate::ending::RunEnd;
 use crate::saying::say;
 use fwd_loop::StartFault;
-use fwd_settings::SettingsFault;
+use fwd_settings::{Settings, SettingsFault};
 use std::alloc::Global;
 use std::io::Write;
 use std::net::{Net, SocketAddr, TcpListener};
@@ -72,16 +72,16 @@ fn bad_line(alloc: Global, text: &[u8]) -> Option<usize> {
     }
 }
 
-/// Says why the settings in a file are refused, where their fault alone does not.
+/// Says why the settings in a file are refused, if they are and their fault alone does not say it.
 pub(crate) fn say_refused<R: Clock + Files + AllocGlobal, E: Write>(
     rt: &R,
     path: &str,
-    fault: &SettingsFault,
+    found: &Result<Settings, SettingsFault>,
     errors: &mut E,
 ) {
-    let is_text = match fault {
-        SettingsFault::Unreadable => false,
-        SettingsFault::NotToml => true,
+    let is_text = match found {
+        Err(SettingsFault::Unreadable) => false,
+        Err(SettingsFault::NotToml) => true,
         _ => return,
     };
     match fs::read(rt, path) {

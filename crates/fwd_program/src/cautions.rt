@@ -1,6 +1,7 @@
 //! What is lawful in settings, and foolish.
 
 use crate::causes::say_refused;
+use crate::journal::Log;
 use crate::running::settings_at;
 use crate::saying::say;
 use fwd_script::{Command, asked};
@@ -139,24 +140,25 @@ fn say_of_output<R: Clock, E: Write>(
 fn say_cautions<R: Clock, E: Write>(rt: &R, settings: &Settings, errors: &mut E) {
     let listen = settings.relay.listen;
     say_of_relay(rt, &settings.relay, errors);
-    let mut output = 0;
-    for each in settings.outputs.as_slice() {
+    for (output, each) in settings.outputs.as_slice().iter().enumerate() {
         say_of_servers(rt, listen, output, each, errors);
         say_of_output(rt, output, each, errors);
-        output += 1;
     }
 }
 
-/// Says, where words ask for a check, why it will refuse the settings, or what is foolish in them.
+/// Says, where words ask for a check and the log for a journal, why the check will refuse the
+/// settings, or what is foolish in them.
 pub(crate) fn say_of_check<R: Clock + Files + AllocGlobal, E: Write>(
     rt: &R,
+    log: Log,
     words: &[String],
     errors: &mut E,
 ) {
-    if let Some(Command::Check(path)) = asked(words) {
-        match settings_at(rt.alloc(), rt, path) {
-            Ok(settings) => say_cautions(rt, &settings, errors),
-            Err(fault) => say_refused(rt, path, &fault, errors),
+    if let (Log::Info, Some(Command::Check(path))) = (log, asked(words)) {
+        let found = settings_at(rt.alloc(), rt, path);
+        say_refused(rt, path, &found, errors);
+        if let Ok(settings) = &found {
+            say_cautions(rt, settings, errors);
         }
     }
 }

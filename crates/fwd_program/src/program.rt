@@ -61,9 +61,7 @@ fn run_words<
             end.exit_code()
         }
         None => {
-            if let Log::Info = log {
-                say_of_check(rt, words.as_slice(), errors);
-            }
+            say_of_check(rt, log, words.as_slice(), errors);
             run_program(rt.alloc(), rt, Ok(words), input, output, errors)
         }
     }

@@ -100,9 +100,7 @@ fn run_logged<
     match log {
         Log::Off => ended(run_found(rt, found, run.turns, &mut (), output)),
         Log::Info => {
-            if let Err(fault) = &found {
-                say_refused(rt, run.path, fault, errors);
-            }
+            say_refused(rt, run.path, &found, errors);
             let mut journal = Journal::new(rt, errors);
             let ran = run_found(rt, found, run.turns, &mut journal, output);
             journal.close();
