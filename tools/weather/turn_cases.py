@@ -111,7 +111,7 @@ class Owed(threading.Thread):
         self.stream.close()
 
 
-HELD = {"match": "held", "chunk_limit": 16_000_000, "flush_interval": 2_000, "window": 8}
+HELD = {"match": "held", "chunk_limit": 8_000_000, "flush_interval": 2_000, "window": 8}
 
 
 def hold_all(relay, sink, owed, before):
