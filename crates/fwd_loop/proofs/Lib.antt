@@ -1,4 +1,4 @@
 pub mod Outputs
 pub mod Telling
 pub mod Admitting
-pub mod Collecting
+pub mod Told

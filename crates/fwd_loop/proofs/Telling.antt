@@ -38,8 +38,8 @@ told_alone s t receipt told id =
     by false e = refl
 
 -- and a monitor is told of none
-pub monitors_stay : (receipt : Receipt) (id : ℕ) → IsToldAt id receipt None None
-monitors_stay receipt id = refl
+pub stays : (receipt : Receipt) (id : ℕ) → IsToldAt id receipt None None
+stays receipt id = refl
 
 -- something is not nothing
 some_none : {X : Type 0} {x : X} → Some x ≡ None → ⊥

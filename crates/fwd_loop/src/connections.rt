@@ -64,7 +64,7 @@ pub(crate) struct Standing {
 impl Standing {
     /// Tells a receipt to a source, if it is of one of its requests, and says whether it is to
     /// stand in the queue of those that are told, where it did not.
-    #[tactic(auto, using(crate::proofs::Telling::told_alone, crate::proofs::Telling::monitors_stay))]
+    #[tactic(auto, using(crate::proofs::Telling::told_alone, crate::proofs::Telling::stays))]
     fn answer(&mut self, receipt: &Receipt) -> bool
         ensures { (id : ℕ) → IsToldAt id receipt.now
             (source_with id self.old.connection) (source_with id self.new.connection) }

@@ -110,9 +110,9 @@ impl<'a> Outlet<'a> {
     }
 
     /// Hands in tickets that are due, block by block, and tells the sources of their receipts: some
-    /// thousands, the others later. The only error is out of memory, and then those that were handed
-    /// in last are handed in again.
-    #[tactic(auto, using(crate::proofs::Collecting::tells_nothing, crate::proofs::Collecting::tells_more, crate::proofs::Collecting::collects_nothing, crate::proofs::Collecting::collects_more))]
+    /// thousands, the others later. The only error is out of memory, and then those that were last
+    /// handed in are handed in again.
+    #[tactic(auto, using(crate::proofs::Told::nothing, crate::proofs::Told::no_round))]
     pub fn collect<R: Wait>(
         &mut self,
         rt: &R,

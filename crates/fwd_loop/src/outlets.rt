@@ -149,7 +149,7 @@ impl<'a> Outlets<'a> {
     /// Hands in tickets that are due, each at its output, and tells the sources of their receipts:
     /// of each output some thousands, the others later. Where memory is refused for them what is
     /// kept in reserve is given back, and they are collected again.
-    #[tactic(auto, using(crate::proofs::Collecting::tells_nothing, crate::proofs::Collecting::tells_on))]
+    #[tactic(auto, using(crate::proofs::Told::nothing, crate::proofs::Told::on))]
     pub fn collect<R: Wait, W: Watch>(
         &mut self,
         rt: &R,

@@ -126,12 +126,12 @@ pub(crate) fn open<'a, R: Wait + Clock>(
 
 impl<'a, R: Wait + Clock> Turns<'a, R> {
     /// One turn, in this order. It waits until something is ready or told, at most 100 ms; hears
-    /// what workers told, collects the receipts of what they settled, some thousands of each output,
-    /// and tells the sources of those, and writes what is to be sent; reads connections that are
-    /// ready, for some milliseconds, a source at most 65,536 bytes, and admits its whole requests,
-    /// and serves monitors; takes the connections that wait, and closes those that had their time
-    /// and did not show what they are; and flushes what is due, and rings workers for it. What is
-    /// not done yet is done in a later turn.
+    /// what workers told, collects receipts of what they settled, of each output some thousands,
+    /// tells the sources of those, and writes what is to be sent; reads connections that are ready,
+    /// for some milliseconds, a source at most 65,536 bytes, admits its whole requests, and serves
+    /// monitors; takes the connections that wait, and closes those that had their time and did not
+    /// show what they are; and flushes what is due, and rings workers for it. What is not done yet
+    /// is done in a later turn.
     ///
     /// It fails with `Poll` where the wait failed.
     pub fn turn(&mut self, rt: &R) -> Result<(), StartFault> {

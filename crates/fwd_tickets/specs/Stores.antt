@@ -27,8 +27,8 @@ use Rattle.fwd_chunks.specs.declared.span.Span.{Span}
 use Rattle.fwd_workers.specs.Tickets.{Ticket}
 
 -- what a store holds: lists of tickets, each with the number of the chunk that they wait for; those
--- that are to be handed in, in their order; those that were handed in and came back; whether a chunk
--- was settled since; and whether all are to be handed in
+-- that are to be handed in, in their order; those that were handed in and came back; whether a
+-- chunk was settled since; and whether all are to be handed in
 pub record Stored : Type 0 where
   pub lists : List (ℕ × List Ticket)
   pub due : List Ticket

@@ -1,17 +1,17 @@
 use Rattle.std.proofs.Common.{subst}
 use Rattle.fwd_loop.specs.Standings.{sources_in}
 use Rattle.fwd_loop.specs.Tellings.{AreTold}
-use Rattle.fwd_loop.proofs.Collecting.{collects_more, tells_more}
+use Rattle.fwd_loop.proofs.Told.{a_round, more_told}
 use Rattle.fwd_loop.proofs.outlet.Outlet.collect.Goals as goal
 
 pub loop-preserved : goal.loop-preserved
 loop-preserved g c = (
   λ t more. c.loop.invariant.0 t
-      (tells_more (sources_in c.loop.connections) (sources_in c.tell_all.new.self) t
+      (more_told (sources_in c.loop.connections) (sources_in c.tell_all.new.self) t
       c.in_ok-receipts.receipts.items c.loop.self.tickets c.hand_in.new.self.tickets
       c.in_ok-receipts.ensures told more),
   λ t then_told more. c.loop.invariant.1 t then_told
-      (collects_more c.loop.self.tickets c.hand_in.new.self.tickets t
+      (a_round c.loop.self.tickets c.hand_in.new.self.tickets t
       (sources_in c.loop.connections) (sources_in c.tell_all.new.self) then_told
       c.in_ok-receipts.receipts.items c.in_ok-receipts.ensures told more),
 )

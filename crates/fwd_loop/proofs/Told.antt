@@ -14,13 +14,13 @@ told_append s u t (r ∷ rs) qs told rest =
     (told.0, (told.1.0, told_append told.0 u t rs qs told.1.1 rest))
 
 -- nobody is told of anything
-pub tells_nothing : (s : Sources) → TellsRight s s
-tells_nothing s = record { receipts = []; told = refl; right = All-nil IsRightSomewhere }
+pub nothing : (s : Sources) → TellsRight s s
+nothing s = record { receipts = []; told = refl; right = All-nil IsRightSomewhere }
 
 -- receipts that an output gave are told, and then more
-pub tells_more : (s u t : Sources) (receipts : List Receipt) (before after : Stored)
+pub more_told : (s u t : Sources) (receipts : List Receipt) (before after : Stored)
     → IsHandedIn before receipts after → AreTold s receipts u → TellsRight u t → TellsRight s t
-tells_more s u t receipts before after given told more = record {
+more_told s u t receipts before after given told more = record {
   receipts = receipts ++ more.receipts;
   told = told_append s u t receipts more.receipts told more.told;
   right = All-append IsRightSomewhere receipts more.receipts
@@ -28,20 +28,20 @@ tells_more s u t receipts before after given told more = record {
 }
 
 -- what is told right, and then more so, is told right
-pub tells_on : (s u t : Sources) → TellsRight s u → TellsRight u t → TellsRight s t
-tells_on s u t first more = record {
+pub on : (s u t : Sources) → TellsRight s u → TellsRight u t → TellsRight s t
+on s u t first more = record {
   receipts = first.receipts ++ more.receipts;
   told = told_append s u t first.receipts more.receipts first.told more.told;
   right = All-append IsRightSomewhere first.receipts more.receipts first.right more.right;
 }
 
 -- no round changes nothing
-pub collects_nothing : (s : Stored) (told : Sources) → Collects s told s told
-collects_nothing s told = ([], (refl, refl))
+pub no_round : (s : Stored) (told : Sources) → Collects s told s told
+no_round s told = ([], (refl, refl))
 
 -- a round, and then others
-pub collects_more : (s u t : Stored) (told between then_told : Sources) (receipts : List Receipt)
+pub a_round : (s u t : Stored) (told between then_told : Sources) (receipts : List Receipt)
     → IsHandedIn s receipts u → AreTold told receipts between → Collects u between t then_told
     → Collects s told t then_told
-collects_more s u t told between then_told receipts given one more =
+a_round s u t told between then_told receipts given one more =
     (receipts ∷ more.0, (u, (between, (given, one, more.1))))
