@@ -59,7 +59,7 @@ fn call_buffer<R: Print + AllocGlobal>(rt: &R) -> Result<()> {
         buffer.held(),
         buffer.admit(alloc, ORIGIN, &batch, 0)
     );
-    println!(rt; "buffer admit: {} runs", runs.len())?;
+    println!(rt; "buffer admit: {} runs", runs.as_slice().len())?;
     let report = made!(rt, "buffer report", 0, buffer.report(alloc));
     println!(rt; "buffer report: {} tags", report.tags.len())?;
     buffer.flush(0, FlushKind::All);
