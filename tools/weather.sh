@@ -10,8 +10,10 @@
 #
 # - 1a: a source sends an array of 16,777,200 values up to 16 MB, and then single bytes; meanwhile requests of others are
 #   answered within 100 ms. 1b: with a key it is closed, since no more than 4,096 bytes may wait before a PING.
-# - 1c: a server holds 1,000,000 requests of one source, and acknowledges all at once; meanwhile requests of others are
-#   answered, and the page is had, within 50 ms. 1c2: the same where the source closes, and its requests are settled then.
+# - 1c: a server holds 1,000,000 requests of one source in two chunks, and acknowledges all at once; meanwhile requests of
+#   others are answered, and the page is had, within 100 ms: a chunk of 500,000 requests is compared under the output's lock
+#   as it is settled, and dropped behind its last receipt. 1c2: the same where the source closes, and its requests are
+#   settled then.
 # - 1d: a request of 80,000 entries, each in a chunk of its own, costs at most 2.6 times what one of 40,000 costs.
 # - 2: with 256 files, 1,024 connections allowed and 1,000 clients the relay says how many sources it takes, closes the others,
 #   has sixteen monitors all the same, and reaches a server that was started again. 2b: where no file is left for a source and

@@ -135,8 +135,8 @@ def many_settled(run, settling, closing):
             told, seen = asks.since(), looks.since()
             settling.say(f"while they come others wait {told['own']:.0f} ms, the page {seen['own']:.0f} ms")
             told_within(settling, relay, sink, first)
-            settling.waits("others wait", asks.since(), 50)
-            settling.waits("the page", looks.since(), 50)
+            settling.waits("others wait", asks.since(), 100)
+            settling.waits("the page", looks.since(), 100)
             first.close()
             sink.ask("hold")
             second = Owed(relay.port, MANY)
@@ -145,13 +145,13 @@ def many_settled(run, settling, closing):
                 probe.since()
             second.close()
             time.sleep(2)
-            closing.waits("others wait", asks.since(), 50)
-            closing.waits("the page", looks.since(), 50)
+            closing.waits("others wait", asks.since(), 100)
+            closing.waits("the page", looks.since(), 100)
             sink.ask("answer")
             relay.await_settled(2 * MANY)
             time.sleep(1)
-            closing.waits("then, as they are settled, others", asks.since(), 50)
-            closing.waits("the page", looks.since(), 50)
+            closing.waits("then, as they are settled, others", asks.since(), 100)
+            closing.waits("the page", looks.since(), 100)
 
 
 def told_within(line, relay, sink, owed):
