@@ -19,7 +19,7 @@
 #   has sixteen monitors all the same, and reaches a server that was started again. 2b: where no file is left for a source and
 #   for a server it says so, and goes on once there is.
 # - 3a: a held request of one small entry takes at most 350 bytes beside its entry. 3b: behind three rounds of 1,000,000, each
-#   settled, it has at most 1.1 times the memory of behind the first: the C library keeps what it had, and takes it again. 3c:
+#   settled, it has at most 1.2 times the memory of behind the first: the C library keeps what it had, and takes it again. 3c:
 #   100,000 tags of 1,024 bytes take at most 4.5 times their bytes: each lies in its request, its chunk and the tags' index.
 # - 3d: its address space is limited to 400 MB beyond its need, and the next hop is away until memory was refused, for large
 #   requests, small ones and both: then all that was held is delivered, its source is told, and another one is taken. 3e: the

@@ -50,7 +50,7 @@ def many_held(run, held, given_back):
                 first = relay.least_memory(3)
         after = relay.least_memory(3)
         given_back.say(f"before {before / 1e6:.1f} MB, behind one round {first / 1e6:.1f} MB, behind three {after / 1e6:.1f} MB")
-        given_back.within("so", after / first, 1.1, " times")
+        given_back.within("so", after / first, 1.2, " times")
 
 
 def long_tags(run, line):
