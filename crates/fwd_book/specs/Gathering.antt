@@ -18,9 +18,11 @@ stands_behind (Some a) b = is_behind a b
 -- each of the origins is behind the one before it, the first behind this one
 abbrev pub rise_behind : Option Origin → List Origin → Bool
 rise_behind before [] = true
-rise_behind before (origin ∷ origins) = stands_behind before origin && rise_behind (Some origin) origins
+rise_behind before (origin ∷ origins) =
+    stands_behind before origin && rise_behind (Some origin) origins
 
 -- the receipts of the requests of these origins whose entries are all acknowledged, one origin
 -- after the other
 abbrev pub receipts_at : List Evidence → List Entered → List Origin → List Receipt
-receipts_at settled qs origins = flat_map (λ origin. receipt_if settled (request_at qs origin)) origins
+receipts_at settled qs origins =
+    flat_map (λ origin. receipt_if settled (request_at qs origin)) origins

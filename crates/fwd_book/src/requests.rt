@@ -42,8 +42,8 @@ use indexmap::IndexMap;
 use std::alloc::{AllocError, Global};
 use std::marker::Model;
 
-/// Requests in the order in which they were entered. An entry of the index stays, and leads to none,
-/// until room is made anew, so that what leaves moves nothing. A request stays in its slot.
+/// Requests in the order in which they were entered. An entry of the index stays, and leads to
+/// none, until room is made anew, so that what leaves moves nothing. A request stays in its slot.
 #[derive(Drop)]
 pub(crate) struct Requests {
     index: IndexMap<(u64, u64), usize>,
@@ -97,7 +97,8 @@ fn drop_empty(index: &mut IndexMap<(u64, u64), usize>, chains: &Chains)
 {
     index.retain(
         |key: &(u64, u64), slot: &mut usize| -> bool
-            ensures { (result ≡ is_some (led_to (held_at chains.entry.now.kept) (key.now, slot.old)))
+            ensures { (result
+                ≡ is_some (led_to (held_at chains.entry.now.kept) (key.now, slot.old)))
                 × (slot.new ≡ slot.old) }
         {
             let (conn, request) = *key;

@@ -76,7 +76,8 @@ connections = number_key (codes "connections") 1 CONNECTIONS_MAX CONNECTIONS_DEF
 
 -- how long a value of a source may be, in bytes
 abbrev pub message_limit : Key ℕ
-message_limit = number_key (codes "message_limit") MESSAGE_LIMIT_MIN MESSAGE_LIMIT_MAX MESSAGE_LIMIT_DEFAULT
+message_limit =
+    number_key (codes "message_limit") MESSAGE_LIMIT_MIN MESSAGE_LIMIT_MAX MESSAGE_LIMIT_DEFAULT
 
 -- how many arrays and maps may stand one in another in a value of a source
 abbrev pub depth : Key ℕ

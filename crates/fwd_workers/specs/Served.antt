@@ -226,7 +226,8 @@ pub record IsOver (t : LiveSession) (seen : Seen) : Type 0 where
 -- One of the chunks that a session carries is acknowledged by bytes that it heard, once these were
 -- written: its whole frame is among what was written, where the session was loaded only while it
 -- was ready; and a value that names it ended among those bytes.
-pub record IsAcknowledgedBy (s : SessionHistory) (written read : List ℕ) (a : Accepted) : Type 0 where
+pub record IsAcknowledgedBy (s : SessionHistory) (written read : List ℕ) (a : Accepted)
+    : Type 0 where
   pub place : ℕ
   pub chunk : slice_get (chunks_of s.carried) place ≡ Some a.chunk
   pub frame : IsFramed s
@@ -247,7 +248,8 @@ pub record IsAcknowledged (s : SessionHistory) (before after : Seen) : Type 0 wh
       (newly_accepted (sends s count) read)
 
 -- what is done with a session: a turn over its link, which comes to this; a chunk is loaded at a
--- moment; it is asked at a moment whether it is late; the chunk that was accepted first is taken out
+-- moment; it is asked at a moment whether it is late; the chunk that was accepted first is taken
+-- out
 pub data Deed : Type 0 where
   Serves : (what : Served) → Deed
   Loads : (chunk : Load) (now : ℕ) → Deed
@@ -299,7 +301,8 @@ pub record IsOfLink (s : LiveSession) (seen : Seen) (ends : Bool) : Type 0 where
 -- two moments the link had taken the frame, whole, and had not yet given the last byte of a value
 -- that names the chunk; at the second it had. The value is the one of this place among all whole
 -- values that the link gave.
-pub record IsWrittenFirst (s : LiveSession) (written acknowledged : Seen) (a : Accepted) : Type 0 where
+pub record IsWrittenFirst (s : LiveSession) (written acknowledged : Seen) (a : Accepted)
+    : Type 0 where
   pub chunk : (place : ℕ) × (slice_get (live_chunks s.carried) place ≡ Some a.chunk)
   pub front : List ℕ
   pub back : List ℕ

@@ -8,8 +8,9 @@
 //!     buffers requests|count|speed|output|reports ENTRIES TAGS SIZE REQUEST TURNS
 //!
 //! `values` goes over the values of a stream of MessagePack, `cuts` judges random bytes whole and
-//! in pieces, `mutants` good requests that are changed, `calls` makes each call that takes memory, `joins` joins entries beside a plain table, and `buffers` admits requests to a buffer
-//! and settles them.
+//! in pieces, `mutants` good requests that are changed, `calls` makes each call that takes memory,
+//! `joins` joins entries beside a plain table, and `buffers` admits requests to a buffer and
+//! settles them.
 #![tactic(auto)]
 
 mod buffers;
