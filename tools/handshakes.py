@@ -1,5 +1,5 @@
 #!/usr/bin/env python3
-"""Writes calls of fwd_handshake and the answers that they must have: the table data/handshakes.txt of crates/relay_tables,
+"""Writes calls of fwd_handshake and the answers that they must have: the table data/handshakes.txt of crates/relay_scripts,
 and its part of the program's stdout.
 
 It stands on Python's hashlib alone: the MessagePack spelling and the verdicts below are its own, written from the Forward

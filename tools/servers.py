@@ -1,5 +1,5 @@
 #!/usr/bin/env python3
-"""The calls of data/servers.txt of crates/relay_tables, and the answers that they must have.
+"""The calls of data/servers.txt of crates/relay_scripts, and the answers that they must have.
 
 What is chosen follows docs/FORMATS.md, "How a worker logs in, and which server it tries". Writes
 the table and its part of the program's stdout anew.

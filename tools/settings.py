@@ -1,5 +1,5 @@
 #!/usr/bin/env python3
-"""The cases of data/settings.txt of crates/relay_tables: texts of settings, and what is to be told
+"""The cases of data/settings.txt of crates/relay_scripts: texts of settings, and what is to be told
 of each.
 
 Each key is absent, of another kind, at both ends of its range, one below and one above, and beside

@@ -1,8 +1,8 @@
-"""The tables of crates/relay_tables: their lines, and what must be told of them."""
+"""The tables of crates/relay_scripts: their lines, and what must be told of them."""
 import re
 from pathlib import Path
 
-CRATE = Path(__file__).resolve().parent.parent / "crates" / "relay_tables"
+CRATE = Path(__file__).resolve().parent.parent / "crates" / "relay_scripts"
 
 
 def text_of(lines):

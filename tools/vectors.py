@@ -1,5 +1,5 @@
 #!/usr/bin/python3
-"""The cases of data/values.txt of crates/relay_tables: bytes, and what is to be read of them.
+"""The cases of data/values.txt of crates/relay_scripts: bytes, and what is to be read of them.
 
 Run with Debian's python3-msgpack:
 

@@ -1,4 +1,5 @@
-//! What `fwd_script` makes of scripts, of files of settings, and of lines, for the tests.
+//! What `fwd_script` makes of scripts, of files of settings, and of lines, for the tests; and what
+//! the crates below it make of tables of cases.
 //!
 //! Each script of the folder that the first word names is replayed, and its answers compared: as
 //! the script stands, with the bytes of each piece in two at each byte (of a piece above 4,096
@@ -8,7 +9,8 @@
 //! and nothing else.
 //!
 //! Each file of settings that the words behind the folder name is checked, and of each line on
-//! standard input is told whether it is an event's.
+//! standard input is told whether it is an event's. Then the cases of each table are told: see
+//! `tables`.
 //!
 //! With the words `steps FILE` it does what `tools/refused_memory.py` asks of a script instead: see
 //! `steps`.
@@ -21,16 +23,18 @@ mod lines;
 mod scripts;
 mod settings;
 mod steps;
+mod tables;
 
 use crate::lines::print_lines;
 use crate::scripts::judge_scripts;
 use crate::settings::print_settings;
 use crate::steps::print_refused;
+use crate::tables::print_tables;
 use std::process::ExitCode;
 use std::{env, io};
 
-/// Judges the scripts, and where all have their answers, prints the two tables. The status is 0
-/// only where there are any scripts and all have their answers.
+/// Judges the scripts, and where all have their answers, prints what is told of the rest. The status
+/// is 0 only where there are any scripts and all have their answers.
 fn main(rt: HostRuntime) -> io::Result<ExitCode> {
     let mut words = match env::args(&rt) {
         Ok(words) => words,
@@ -50,5 +54,9 @@ fn main(rt: HostRuntime) -> io::Result<ExitCode> {
     }
     print_settings(&rt)?;
     print_lines(&rt)?;
+    if let Err(error) = print_tables(&rt) {
+        println!(rt; "{error}")?;
+        return Ok(ExitCode::FAILURE);
+    }
     Ok(ExitCode::SUCCESS)
 }

@@ -8,8 +8,8 @@
 ghost use Rattle.std.specs.Prelude.{◌≡◌};
 ghost use Rattle.fwd_msgpack.specs.Scans.{verdict_of, whole_len};
 
-use crate::heads::fault_word;
-use crate::words::{bytes_of_word, push_times, words_of_line};
+use crate::tables::heads::fault_word;
+use crate::tables::words::{bytes_of_word, push_times, words_of_line};
 use anyhow::{Result, bail};
 use fwd_msgpack::{Fed, Limits, MAX_DEPTH, Scanner};
 use std::alloc::Global;

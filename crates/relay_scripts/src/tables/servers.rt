@@ -9,7 +9,7 @@
 
 ghost use Rattle.std.specs.Prelude.{◌≤◌, length, false, Contains};
 
-use crate::words::words_of_line;
+use crate::tables::words::words_of_line;
 use anyhow::{Result, bail};
 use fwd_failover::Servers;
 use std::alloc::Global;

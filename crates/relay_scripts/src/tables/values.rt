@@ -4,9 +4,9 @@
 //! A line is a front in hex, and where more follow, a unit and how many times it stands behind the
 //! front. tools/vectors.py has the cases.
 
-use crate::heads::{fault_word, head_words, shortest};
-use crate::members::is_read;
-use crate::words::{bytes_of_word, push_times};
+use crate::tables::heads::{fault_word, head_words, shortest};
+use crate::tables::members::is_read;
+use crate::tables::words::{bytes_of_word, push_times};
 use anyhow::Result;
 use fwd_msgpack::{Cut, HeadRead, Limits, Value, cut, read_head};
 use std::alloc::Global;

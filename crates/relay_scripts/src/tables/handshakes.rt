@@ -1,8 +1,8 @@
 //! Calls of fwd_handshake, a line each, and their answers. tools/handshakes.py says what the words
 //! of a line are, and has the cases.
 
-use crate::parties::{client, nonces, server, value};
-use crate::words::{bytes_of_word, word_of_bytes, words_of_line};
+use crate::tables::parties::{client, nonces, server, value};
+use crate::tables::words::{bytes_of_word, word_of_bytes, words_of_line};
 use anyhow::{Result, bail};
 use fwd_handshake::{
     Denial, HeloAnswer, Login, Nonces, PingVerdict, PongVerdict, Salt, Security, answer_helo,

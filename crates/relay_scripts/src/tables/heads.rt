@@ -3,7 +3,7 @@
 ghost use Rattle.std.specs.Bool.{OnTrue};
 ghost use Rattle.fwd_msgpack.specs.Heads.{IsSpelled};
 
-use crate::words::word_of_bytes;
+use crate::tables::words::word_of_bytes;
 use anyhow::{Result, bail};
 use fwd_msgpack::{Head, ScanFault, write_head};
 use std::alloc::{AllocError, Global};

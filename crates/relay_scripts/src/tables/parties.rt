@@ -2,7 +2,7 @@
 
 ghost use Rattle.std.specs.Prelude.{◌<◌, ◌^◌, length, IfOk};
 
-use crate::words::bytes_of_word;
+use crate::tables::words::bytes_of_word;
 use anyhow::{Result, bail};
 use fwd_base::{Bytes, Seq};
 use fwd_handshake::{Login, Nonces, Security, User};

@@ -5,7 +5,7 @@
 //! outputs has it; or why the first bad one is no pattern. A text `#FRONT#UNIT#COUNT#BACK` has the
 //! unit so many times between the two ends.
 
-use crate::words::push_times;
+use crate::tables::words::push_times;
 use anyhow::{Result, bail};
 use fwd_match::{Pattern, Routes};
 use std::alloc::Global;

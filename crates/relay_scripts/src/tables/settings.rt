@@ -1,7 +1,7 @@
 //! Texts of settings, a line `---` or `===` behind each, and what is told of them: `good`, or the
 //! first fault; behind `===` what each key is set to. tools/settings.py has the cases.
 
-use crate::keys::print_keys;
+use crate::tables::keys::print_keys;
 use anyhow::Result;
 use fwd_settings::read_settings;
 use std::alloc::AllocError;
