@@ -1,4 +1,1 @@
 pub mod Outputs
-pub mod Telling
-pub mod Admitting
-pub mod Told

@@ -1,11 +1,9 @@
 //! Where connections come in.
 
-use crate::connections::{Connection, Connections};
 use crate::listener::{Arrival, Listener};
-use crate::monitor_peer::MonitorPeer;
-use crate::watch::{Caller, Fact, Want, Watch};
 use fwd_handshake::{Nonces, Security};
 use fwd_msgpack::Limits;
+use fwd_outlets::{Caller, Connection, Connections, Fact, MonitorPeer, Want, Watch};
 use fwd_peers::SourcePeer;
 use fwd_source::Source;
 use mio::Registry;

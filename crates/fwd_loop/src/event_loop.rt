@@ -1,14 +1,11 @@
 //! What the loop waits for, reads and writes.
 
 use crate::acceptor::{Acceptor, NewComers};
-use crate::connections::{Connection, Connections, Ready};
 use crate::fault::StartFault;
 use crate::lost_servers::LostServers;
-use crate::outlets::Outlets;
-use crate::output::Output;
 use crate::run_clock::RunClock;
-use crate::watch::{Fact, Want, Watch};
 use fwd_links::{Mailbox, Notices};
+use fwd_outlets::{Connection, Connections, Fact, Outlets, Output, Ready, Want, Watch};
 use fwd_peers::{GREETING, SourceEnd, SourcePeer};
 use mio::event::Event;
 use mio::{Events, Poll, Token};

@@ -1,8 +1,7 @@
 //! Which servers are lost.
 
-use crate::output::Output;
-use crate::watch::Fact;
 use fwd_links::Notice;
+use fwd_outlets::{Fact, Output};
 use fwd_workers::News;
 use std::alloc::{AllocError, Global};
 use std::net::SocketAddr;

@@ -2,23 +2,21 @@
 
 ghost use Rattle.std.specs.Prelude.{◌≡◌, ◌≤◌, length, true, IfOk};
 ghost use Rattle.fwd_settings.specs.Ranges.{in_range};
-ghost use Rattle.fwd_loop.specs.Ends.{AddUp};
+ghost use Rattle.fwd_outlets.specs.Ends.{AddUp};
 
 use crate::acceptor::{Acceptor, SourceSetup};
-use crate::connections::Connections;
 use crate::event_loop::{EventLoop, MONITORS, SOURCES, WAKER};
 use crate::fault::StartFault;
 use crate::files::{most_files, sources_within};
 use crate::listener::Listener;
-use crate::output::reports_of;
 use crate::random_streams::RandomStreams;
 use crate::turns::{Opened, Own, Shared, Turns, WorkerTurns, open};
-use crate::watch::Watch;
 use crate::worker_pools::WorkerPools;
 use fwd_chunks::Report;
 use fwd_config::config_of;
 use fwd_core::{Config, OutputConfig};
 use fwd_links::Mailbox;
+use fwd_outlets::{Connections, Watch, reports_of};
 use fwd_settings::{OutputSettings, Settings};
 use mio::{Events, Poll, Waker};
 use std::alloc::{AllocError, Global};

@@ -1,20 +1,17 @@
 //! The turns of a relay's loop, and its workers beside them.
 
 ghost use Rattle.std.specs.Prelude.{IfOk};
-ghost use Rattle.fwd_loop.specs.Ends.{AddUp};
+ghost use Rattle.fwd_outlets.specs.Ends.{AddUp};
 
 use crate::event_loop::{EventLoop, tell_all};
 use crate::fault::StartFault;
-use crate::flush_timer::FlushTimer;
 use crate::lost_servers::LostServers;
-use crate::outlets::Outlets;
-use crate::output::{Output, reports_of};
 use crate::run_clock::RunClock;
-use crate::watch::Watch;
 use crate::worker_thread::WorkerThread;
 use fwd_chunks::Report;
 use fwd_links::Mailbox;
 use fwd_match::Routes;
+use fwd_outlets::{FlushTimer, Outlets, Output, Watch, reports_of};
 use std::alloc::Global;
 use std::net::Net;
 use std::rt::Clock;

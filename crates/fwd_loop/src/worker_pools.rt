@@ -3,13 +3,12 @@
 ghost use Rattle.std.specs.Prelude.{◌≡◌, ◌+◌, [], length, OnOk};
 
 use crate::fault::StartFault;
-use crate::flush_timer::FlushTimer;
-use crate::output::Output;
 use crate::random_streams::RandomStreams;
 use crate::worker_thread::WorkerThread;
 use fwd_core::{AckTerms, OutputConfig, OutputState};
 use fwd_handshake::Login;
 use fwd_links::WorkerWaker;
+use fwd_outlets::{FlushTimer, Output};
 use fwd_workers::{Locked, Plain, SharedOutput, Worker};
 use std::alloc::Global;
 use std::net::{Net, SocketAddr};

@@ -1,9 +1,9 @@
 //! A worker over TCP, in a thread of its own.
 
 use crate::fault::StartFault;
-use crate::output::Output;
 use crate::run_clock::RunClock;
 use fwd_links::{Looking, Mailbox, Notice, SharedWait, TcpHub, WorkerWait, WorkerWaker};
+use fwd_outlets::Output;
 use fwd_workers::{Gate, News, Pass, Place, Worker};
 use std::alloc::Global;
 use std::net::Net;

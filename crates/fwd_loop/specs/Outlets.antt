@@ -1,8 +1,0 @@
--- The stores of outlets. It only describes the code.
-use Rattle.std.specs.Prelude.{List, map}
-use Rattle.fwd_tickets.specs.Stores.{Stored}
-use Rattle.fwd_loop.specs.declared.outlet.Outlet.{Outlet}
-
--- each one's, in their order
-abbrev pub stores_of : List Outlet → List Stored
-stores_of outlets = map (λ outlet. outlet.tickets) outlets

@@ -1,0 +1,13 @@
+use Rattle.fwd_tickets.specs.Stores.{Stored}
+use Rattle.fwd_outlets.specs.Standings.{sources_in}
+use Rattle.fwd_outlets.specs.Tellings.{Sources}
+use Rattle.fwd_outlets.specs.Collections.{Collects, TellsRight}
+use Rattle.fwd_outlets.proofs.outlet.Outlet.collect.Given as goal
+
+abbrev pub invariant-loop : goal.invariant-loop
+invariant-loop g l =
+    ((t : Sources) → TellsRight (sources_in l.connections) t
+    → TellsRight (sources_in l.fn.connections) t)
+    × ((t : Stored) (told : Sources)
+    → Collects l.self.tickets (sources_in l.connections) t told
+    → Collects l.fn.self.tickets (sources_in l.fn.connections) t told)

@@ -1,0 +1,34 @@
+-- Which source stands under an id. It only describes the code.
+use Rattle.std.specs.Prelude.{◌==◌, ℕ, Option, Some, None, if◌then◌else◌}
+use Rattle.std.specs.Ordering.{nat_cmp}
+use Rattle.std.specs.BTreeMap as tree
+use Rattle.slab.specs.Slab as slots
+use Rattle.fwd_peers.specs.Peers.{PeerShown}
+use Rattle.fwd_outlets.specs.declared.connections.Connection.{Connection}
+use Rattle.fwd_outlets.specs.declared.connections.Connection.TheVariants as kind
+use Rattle.fwd_outlets.specs.declared.connections.Standing.{Standing}
+use Rattle.fwd_outlets.specs.declared.connections.Connections.{Connections}
+use Rattle.fwd_outlets.specs.Tellings.{Sources}
+
+-- the source that a connection is, if it has this id
+abbrev pub source_with : ℕ → Connection → Option PeerShown
+source_with id (kind.Source source) = if source.id == id then Some source else None
+source_with id (kind.Monitor monitor) = None
+
+-- the source that stands, if one of this id does
+abbrev pub source_in : ℕ → Option Standing → Option PeerShown
+source_in id None = None
+source_in id (Some standing) = source_with id standing.connection
+
+-- the source of this id at this key
+abbrev pub source_under : slots.Slab Standing → ℕ → Option ℕ → Option PeerShown
+source_under standing id None = None
+source_under standing id (Some key) = source_in id (slots.get standing key)
+
+-- the source of this id
+abbrev pub source_at : tree.BTreeMap ℕ ℕ → slots.Slab Standing → ℕ → Option PeerShown
+source_at keys standing id = source_under standing id (tree.get nat_cmp keys id)
+
+-- the sources that stand, by their ids
+abbrev pub sources_in : Connections → Sources
+sources_in c = source_at c.sources c.standing

@@ -1,0 +1,315 @@
+//! The connections that stand.
+
+ghost use Rattle.std.specs.Prelude.{ℕ};
+ghost use Rattle.fwd_outlets.specs.Standings.{source_with, sources_in};
+ghost use Rattle.fwd_outlets.specs.Tellings.{AreTold, IsToldAt, IsToldOf};
+
+use crate::deadlines::{Deadlines, Young};
+use crate::monitor_peer::MonitorPeer;
+use fwd_book::Receipt;
+use fwd_peers::SourcePeer;
+use mio::net::TcpStream;
+use mio::{Interest, Registry, Token};
+use slab::Slab;
+use std::alloc::{AllocError, Global};
+use std::collections::{BTreeMap, VecDeque};
+use std::mem;
+
+/// How long a source has to log in, where a shared key is set, in milliseconds.
+const LOGIN_LIMIT: u64 = 30_000;
+
+/// How long a monitor has to send its request's head, in milliseconds.
+const HEAD_LIMIT: u64 = 10_000;
+
+/// A connection.
+#[derive(Drop)]
+pub enum Connection {
+    Source(SourcePeer),
+    Monitor(MonitorPeer),
+}
+
+impl Connection {
+    /// Its stream.
+    fn stream(&mut self) -> &mut TcpStream {
+        match self {
+            Connection::Source(source) => &mut source.stream.tcp,
+            Connection::Monitor(monitor) => &mut monitor.stream.tcp,
+        }
+    }
+
+    /// Whether it has yet to show what it is: a source to log in, a monitor to send its head.
+    fn is_unknown(&self) -> bool {
+        match self {
+            Connection::Source(source) => source.awaits_login(),
+            Connection::Monitor(monitor) => monitor.awaits_head(),
+        }
+    }
+}
+
+/// A connection that stands.
+#[derive(Drop)]
+pub(crate) struct Standing {
+    connection: Connection,
+    /// When it came, in milliseconds.
+    came: u64,
+    /// It stands in the queue of those that are ready.
+    is_ready: bool,
+    /// It stands in the queue of those that are told.
+    is_told: bool,
+    /// The system told that its other side closed, or that it failed, which it tells once: it is
+    /// read to its end from now on.
+    is_closing: bool,
+}
+
+impl Standing {
+    /// Tells a receipt to a source, if it is of one of its requests, and says whether it is to
+    /// stand in the queue of those that are told, where it did not.
+    #[tactic(auto, using(crate::proofs::Telling::told_alone, crate::proofs::Telling::stays))]
+    fn answer(&mut self, receipt: &Receipt) -> bool
+        ensures { (id : ℕ) → IsToldAt id receipt.now
+            (source_with id self.old.connection) (source_with id self.new.connection) }
+    {
+        match &mut self.connection {
+            Connection::Source(source) => source.answer(receipt),
+            Connection::Monitor(_) => return false,
+        }
+        !mem::replace(&mut self.is_told, true)
+    }
+}
+
+/// The connections that stand, by keys, with two queues: of those that are ready to be read, or may
+/// have more to be read, and of the sources that have something to be sent, or may take it now.
+#[derive(Drop)]
+pub struct Connections {
+    standing: Slab<Standing>,
+    /// Each key at most once.
+    ready: VecDeque<usize>,
+    /// Each key at most once.
+    told: VecDeque<usize>,
+    /// The keys of the sources, by their ids.
+    sources: BTreeMap<u64, usize>,
+    monitors: usize,
+    /// Sources that may have yet to log in.
+    logins: Deadlines,
+    /// Monitors that may have yet to send their heads.
+    heads: Deadlines,
+}
+
+/// A connection that is ready.
+pub struct Ready<'a> {
+    pub key: usize,
+    /// It is to be read to its end.
+    pub to_end: bool,
+    pub connection: &'a mut Connection,
+}
+
+impl Connections {
+    /// No connections.
+    pub fn new(alloc: Global) -> Connections {
+        Connections {
+            standing: Slab::new(alloc),
+            ready: VecDeque::new(alloc),
+            told: VecDeque::new(alloc),
+            sources: BTreeMap::new(alloc),
+            monitors: 0,
+            logins: Deadlines::new(alloc, LOGIN_LIMIT),
+            heads: Deadlines::new(alloc, HEAD_LIMIT),
+        }
+    }
+
+    /// How many sources stand.
+    pub fn sources(&self) -> usize {
+        self.sources.len()
+    }
+
+    /// How many monitors stand.
+    pub fn monitors(&self) -> usize {
+        self.monitors
+    }
+
+    /// A connection comes at a moment (milliseconds), is registered, and is ready. Where the system
+    /// or memory refuses it, which is the only error, it is dropped.
+    pub fn add(
+        &mut self,
+        registry: &Registry,
+        connection: Connection,
+        now: u64,
+    ) -> Result<(), AllocError> {
+        let count = self.standing.len().saturating_add(1);
+        self.ready.reserve(count)?;
+        self.told.reserve(count)?;
+        let id = match &connection {
+            Connection::Source(source) => Some(source.id),
+            Connection::Monitor(_) => None,
+        };
+        let standing = Standing {
+            connection,
+            came: now,
+            is_ready: false,
+            is_told: false,
+            is_closing: false,
+        };
+        let Ok(key) = self.standing.insert(standing) else {
+            return Err(AllocError);
+        };
+        if self.register(registry, key).is_none() || self.count(id, key, now).is_err() {
+            let _ = self.standing.try_remove(key);
+            return Err(AllocError);
+        }
+        self.note_ready(key, false);
+        Ok(())
+    }
+
+    /// Has the wait tell of a connection.
+    fn register(&mut self, registry: &Registry, key: usize) -> Option<()> {
+        let stream = self.standing.get_mut(key)?.connection.stream();
+        let _ = stream.set_nodelay(true);
+        let interest = Interest::READABLE | Interest::WRITABLE;
+        registry.register(stream, Token(key), interest).ok()
+    }
+
+    /// Counts a source, or a monitor, that came at a moment (milliseconds). The only error is out
+    /// of memory.
+    fn count(&mut self, id: Option<u64>, key: usize, now: u64) -> Result<(), AllocError> {
+        let young = Young { key, came: now };
+        match id {
+            Some(id) => {
+                if self.is_unknown(key) {
+                    self.logins.add(young)?;
+                }
+                self.sources.insert(id, key)?;
+            }
+            None => {
+                self.heads.add(young)?;
+                self.monitors = self.monitors.saturating_add(1);
+            }
+        }
+        Ok(())
+    }
+
+    /// Whether the connection of this key has yet to show what it is.
+    fn is_unknown(&self, key: usize) -> bool {
+        self.standing
+            .get(key)
+            .is_some_and(|standing| standing.connection.is_unknown())
+    }
+
+    /// The key of the next connection that had its time at a moment (milliseconds) and has not
+    /// shown what it is: a source that has not logged in, a monitor that has not sent its head.
+    pub fn next_late(&mut self, now: u64) -> Option<usize> {
+        for _ in 0..u32::MAX {
+            let young = match self.logins.next(now) {
+                Some(young) => young,
+                None => self.heads.next(now)?,
+            };
+            if self.came(young.key) == Some(young.came) && self.is_unknown(young.key) {
+                return Some(young.key);
+            }
+        }
+        None
+    }
+
+    /// When the connection of this key came, if one stands.
+    fn came(&self, key: usize) -> Option<u64> {
+        Some(self.standing.get(key)?.came)
+    }
+
+    /// The connection of this key, if it stands.
+    pub fn at(&mut self, key: usize) -> Option<&mut Connection> {
+        Some(&mut self.standing.get_mut(key)?.connection)
+    }
+
+    /// A connection may be read; to its end, where the system told that it closed or failed.
+    pub fn note_ready(&mut self, key: usize, is_closing: bool) {
+        let Some(standing) = self.standing.get_mut(key) else {
+            return;
+        };
+        standing.is_closing = standing.is_closing || is_closing;
+        if !standing.is_ready {
+            standing.is_ready = true;
+            // Room for it was made when the connection came.
+            let _ = self.ready.push_back(key);
+        }
+    }
+
+    /// A connection has something to be sent, or may take it now.
+    pub fn note_told(&mut self, key: usize) {
+        let Some(standing) = self.standing.get_mut(key) else {
+            return;
+        };
+        if !standing.is_told {
+            standing.is_told = true;
+            // Room for it was made when the connection came.
+            let _ = self.told.push_back(key);
+        }
+    }
+
+    /// How many connections are ready.
+    pub fn ready(&self) -> usize {
+        self.ready.len()
+    }
+
+    /// How many connections are told.
+    pub fn told(&self) -> usize {
+        self.told.len()
+    }
+
+    /// The next connection that is ready.
+    pub fn next_ready(&mut self) -> Option<Ready<'_>> {
+        let key = self.ready.pop_front()?;
+        let standing = self.standing.get_mut(key)?;
+        standing.is_ready = false;
+        Some(Ready {
+            key,
+            to_end: standing.is_closing,
+            connection: &mut standing.connection,
+        })
+    }
+
+    /// The next connection that is told, with its key.
+    pub fn next_told(&mut self) -> Option<(usize, &mut Connection)> {
+        let key = self.told.pop_front()?;
+        let standing = self.standing.get_mut(key)?;
+        standing.is_told = false;
+        Some((key, &mut standing.connection))
+    }
+
+    /// Tells each receipt to the source whose request it is of, where that still stands.
+    pub(crate) fn tell_all(&mut self, receipts: &[Receipt])
+        ensures { AreTold (sources_in self.old) receipts.now (sources_in self.new) }
+    {
+        for receipt in receipts {
+            self.tell(receipt);
+        }
+    }
+
+    /// Tells a receipt to the source whose request it is of, where that still stands.
+    fn tell(&mut self, receipt: &Receipt)
+        ensures { IsToldOf (sources_in self.old) receipt.now (sources_in self.new) }
+    {
+        let Some(key) = self.sources.get(&receipt.origin().conn) else {
+            return;
+        };
+        let key = *key;
+        let Some(standing) = self.standing.get_mut(key) else {
+            return;
+        };
+        if standing.answer(receipt) {
+            // Room for it was made when the connection came.
+            let _ = self.told.push_back(key);
+        }
+    }
+
+    /// A connection goes.
+    pub fn remove(&mut self, key: usize) {
+        let Some(standing) = self.standing.try_remove(key) else {
+            return;
+        };
+        match standing.connection {
+            Connection::Source(source) => {
+                self.sources.remove(&source.id);
+            }
+            Connection::Monitor(_) => self.monitors = self.monitors.saturating_sub(1),
+        }
+    }
+}

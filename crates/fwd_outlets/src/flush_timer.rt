@@ -1,0 +1,63 @@
+//! When an output's open chunks are closed.
+
+/// How long after a flush an output's next one is due, in milliseconds, while chunks may be open:
+/// it is due sooner where all of them are old enough sooner.
+const STEP: u64 = 5;
+
+/// When an output is flushed next. Moments are in milliseconds.
+#[derive(Drop)]
+pub struct FlushTimer {
+    /// How long a chunk waits for more entries.
+    interval: u64,
+    /// Requests were admitted since the last look at the clock.
+    is_fresh: bool,
+    /// When the clock was looked at first, after a request was admitted last.
+    latest: u64,
+    /// When the next flush is due: never while no chunk can be open.
+    due: Option<u64>,
+}
+
+impl FlushTimer {
+    /// The timer of an output without entries, whose chunks wait so long (milliseconds).
+    pub fn new(interval: u64) -> FlushTimer {
+        FlushTimer {
+            interval,
+            is_fresh: false,
+            latest: 0,
+            due: None,
+        }
+    }
+
+    /// A request was admitted.
+    pub(crate) fn admitted(&mut self) {
+        self.is_fresh = true;
+    }
+
+    /// The clock is looked at. An output takes the greatest moment that a thread handed in for that
+    /// of a request, so that only the moment after an admission is sure to be no less.
+    pub(crate) fn look(&mut self, now: u64) {
+        if self.is_fresh {
+            self.is_fresh = false;
+            self.latest = now;
+            if self.due.is_none() {
+                self.due = Some(now.saturating_add(self.interval));
+            }
+        }
+    }
+
+    /// When the next flush is due, if one is.
+    pub(crate) fn due(&self) -> Option<u64> {
+        self.due
+    }
+
+    /// Chunks were flushed at this moment, or are left to the workers to close, who do so before
+    /// they look for one. What was admitted after the last of these chunks may be open still.
+    pub(crate) fn flushed(&mut self, now: u64) {
+        let last = self.latest.saturating_add(self.interval);
+        self.due = if last <= now {
+            None
+        } else {
+            Some(last.min(now.saturating_add(STEP)))
+        };
+    }
+}

@@ -1,0 +1,22 @@
+//! The connections that stand, the outputs as the loop sees them, where a request goes and who is
+//! told of receipts. What is proved here is that a request goes to the output that the routes name
+//! first for its tag, and a ticket that shows it is kept there; that sources are told of receipts
+//! of such tickets alone, and of each; and that each output is reported once and so that it adds
+//! up.
+#![tactic(auto)]
+
+mod connections;
+mod deadlines;
+mod flush_timer;
+mod monitor_peer;
+mod outlet;
+mod outlets;
+mod output;
+mod watch;
+
+pub use connections::{Connection, Connections, Ready};
+pub use flush_timer::FlushTimer;
+pub use monitor_peer::MonitorPeer;
+pub use outlets::Outlets;
+pub use output::{Output, reports_of};
+pub use watch::{Caller, Fact, Want, Watch};

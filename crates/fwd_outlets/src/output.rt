@@ -1,0 +1,61 @@
+//! The outputs, as threads share them.
+
+ghost use Rattle.std.specs.Prelude.{◌≡◌, length, IfOk};
+ghost use Rattle.fwd_outlets.specs.Ends.{AddUp};
+
+use fwd_chunks::Report;
+use fwd_links::WorkerWaker;
+use fwd_workers::{Plain, SharedOutput};
+use std::alloc::{AllocError, Global};
+use std::net::SocketAddr;
+use std::sync::Wait;
+
+/// An output that threads share, where its servers are reached, and what rings its workers.
+#[derive(Drop)]
+pub struct Output {
+    pub shared: SharedOutput<Plain, Plain>,
+    pub servers: Vec<SocketAddr>,
+    pub wakers: Vec<WorkerWaker>,
+}
+
+impl Output {
+    /// Whether it has no entries.
+    pub fn is_empty<R: Wait>(&self, rt: &R) -> bool {
+        self.shared.counts(rt).held == 0
+    }
+
+    /// Whether one of the output's workers looks for a chunk.
+    pub(crate) fn is_awaited(&self) -> bool {
+        self.wakers.iter().any(|waker| waker.is_awaited())
+    }
+
+    /// Rings the output's workers that look for a chunk, one for each of so many chunks.
+    pub fn ring(&self, chunks: usize) {
+        let mut left = chunks;
+        for waker in &self.wakers {
+            if left == 0 {
+                return;
+            }
+            if waker.ring() {
+                left -= 1;
+            }
+        }
+    }
+}
+
+/// What each output has to do with, in all and of each tag, in their order. Each is locked by
+/// itself for a moment. The only error is out of memory.
+pub fn reports_of<R: Wait>(
+    rt: &R,
+    alloc: Global,
+    outputs: &[Output],
+) -> Result<Vec<Report>, AllocError>
+    ensures count { IfOk result (λ reports. length reports.items ≡ length outputs.now) }
+    ensures add_up { IfOk result (λ reports. AddUp reports.items) }
+{
+    let mut reports = Vec::with_capacity(alloc, outputs.len())?;
+    for output in outputs {
+        reports.push(output.shared.report(rt, alloc)?)?;
+    }
+    Ok(reports)
+}

@@ -1,0 +1,96 @@
+//! What a run tells of itself as it goes on.
+
+use fwd_peers::{PeerEnd, SourceEnd};
+use fwd_workers::Loss;
+use std::net::SocketAddr;
+
+/// Who connects to a listener.
+#[derive(Clone, Copy, Debug)]
+pub enum Caller {
+    Source,
+    Monitor,
+}
+
+/// What memory was refused for.
+#[derive(Clone, Copy)]
+pub enum Want {
+    /// For a source, which is closed.
+    Source(SocketAddr),
+    /// For a monitor, which is closed.
+    Monitor,
+    /// For the receipts of the output of this number: they are asked for again.
+    Output(u16),
+    /// For what workers tell: all outputs are looked at in place of it.
+    News,
+}
+
+/// What a run tells of itself.
+#[derive(Clone, Copy)]
+pub enum Fact {
+    /// It listens at an address.
+    Listening {
+        caller: Caller,
+        address: SocketAddr,
+    },
+    /// It closes a source.
+    SourceClosed {
+        peer: SocketAddr,
+        why: SourceEnd,
+    },
+    /// A server of the output of this number is lost.
+    ServerLost {
+        output: u16,
+        server: SocketAddr,
+        why: Loss,
+    },
+    /// A server that was lost acknowledged a chunk.
+    ServerBack {
+        output: u16,
+        server: SocketAddr,
+    },
+    /// A worker of an output sends its chunk to another server than the one before.
+    ServerChanged {
+        output: u16,
+        worker: u16,
+        server: SocketAddr,
+    },
+    /// A connection is one too many, and is closed at once.
+    OverLimit {
+        caller: Caller,
+        peer: SocketAddr,
+    },
+    /// Memory was refused.
+    Memory(Want),
+    /// The process may have so many files open, which leaves room for so many sources at a time,
+    /// fewer than are set.
+    FewFiles {
+        files: u64,
+        sources: usize,
+    },
+    /// A connection waits for which no descriptor is left: it is tried again.
+    Descriptors(Caller),
+}
+
+impl Fact {
+    /// What there is to tell of a source that the relay closed.
+    pub fn of_source(peer: SocketAddr, end: PeerEnd) -> Fact {
+        match end {
+            PeerEnd::Closed(why) => Fact::SourceClosed { peer, why },
+            PeerEnd::Memory => Fact::Memory(Want::Source(peer)),
+        }
+    }
+}
+
+/// Is told what a run comes to. It is called in the thread of the loop alone.
+pub trait Watch {
+    /// A fact is told, when it happens or within a turn of it.
+    fn see(&mut self, fact: Fact);
+
+    /// A turn of the loop is over. The next one waits at most 100 milliseconds.
+    fn turned(&mut self) {}
+}
+
+/// Nobody looks.
+impl Watch for () {
+    fn see(&mut self, _fact: Fact) {}
+}
