@@ -42,8 +42,8 @@ pub fn tell_refused(rt: &impl Print, name: &str, is_same: bool) {
     tell(rt, name, &"memory");
 }
 
-/// Makes a call, and again where it was refused memory, which is printed. So is where the value that
-/// is read off before and after a refusal is another one, if the call has one to change.
+/// Makes a call, and again where it was refused memory, which is printed. So is where the value
+/// that is read off before and after a refusal is another one, if the call has one to change.
 macro_rules! call {
     ($rt:expr, $name:literal, $call:expr) => {
         if $call.is_err() {

@@ -6,10 +6,10 @@
 //!     joins
 //!     buffers requests|count|speed|output|reports ENTRIES TAGS SIZE REQUEST TURNS
 //!
-//! `values` goes over the values of a stream of MessagePack, `mutants` judges good requests that
-//! are changed, `calls` makes each call that takes memory, `joins` joins entries beside a plain
-//! table, and `buffers` admits requests to a buffer and settles them. Where a task is none of these,
-//! or memory runs out, it ends with 1; a line that could not be printed is not told.
+//! `values` goes over the values of a stream of MessagePack, `mutants` judges requests that are
+//! changed, `calls` makes each call that takes memory, `joins` joins entries beside a plain table,
+//! and `buffers` admits requests to a buffer and settles them. Where a task is none of these, or
+//! memory runs out, it ends with 1; that a line could not be printed is not told.
 #![tactic(auto)]
 
 mod buffers;

@@ -1,4 +1,4 @@
-//! Good requests of which a few bytes are changed: `mutants COUNT`. Of so many strings of bytes,
+//! Requests of which a few bytes are changed: `mutants COUNT`. Of so many strings of bytes,
 //! under small limits, it is printed whether some are heard as a request and some as each kind of
 //! fault, and how many are judged otherwise: by a connection, which feeds its scanner, whole and in
 //! pieces, than by the requests that the values are which `cut` cuts.
@@ -14,14 +14,14 @@ use std::alloc::{AllocError, Global};
 use std::env::Args;
 use std::rt::Runtime;
 
-/// Requests of each mode, with and without an option, and two requests in a row.
+/// Requests of each mode, with and without an option, one that is compressed, and two in a row.
 const GOOD: [&[u8]; 8] = [
     b"\x93\xa1a\x01\x80",
     b"\x94\xa1a\x01\x80\x81\xa5chunk\xa1x",
     b"\x94\xa1a\xd7\x00\0\0\0\x01\0\0\0\x02\x81\xa1k\x91\xcb\0\0\0\0\0\0\0\0\xc0",
     b"\x93\xa1a\x92\x92\x01\x80\x92\xcc\x80\x81\xa1k\xc3\x82\xa4size\x02\xa5chunk\xc4\x01x",
     b"\x92\xc4\x01a\x91\x92\xc7\x08\0\0\0\0\x01\0\0\0\x02\x80",
-    b"\x93\xa1a\xc4\x06\x92\x01\x80\x92\xff\x80\x81\xaacompressed\xa4gzhp",
+    b"\x93\xa1a\xc4\x06\x92\x01\x80\x92\xff\x80\x81\xaacompressed\xa4gzip",
     b"\x92\xa1a\xa3\x92\x01\x80",
     b"\xc0\x93\xa1a\x01\x80\x93\xa1b\xcd\x01\0\xde\0\x01\xa1k\x90",
 ];
@@ -81,7 +81,7 @@ fn change(alloc: Global, rng: &mut ChaCha20Rng, bytes: &mut Vec<u8>) -> Result<(
     Ok(())
 }
 
-/// A good request that is changed up to three times.
+/// A request that is changed up to three times.
 fn mutant(alloc: Global, rng: &mut ChaCha20Rng) -> Result<Vec<u8>, AllocError> {
     let good = GOOD.get(below(rng, 8) as usize).copied().unwrap_or(b"");
     let mut bytes = Vec::from_slice(alloc, good)?;
