@@ -34,7 +34,7 @@ fn waiting_after(alloc: Global, pieces: &[&[u8]]) -> Option<usize> {
 }
 
 /// The pieces of one request that the worked texts of the formats accept.
-const ACCEPTED: [&[u8]; 14] = [
+const ACCEPTED: &[&[u8]] = &[
     b"\x93\xa1a\x01\x80",
     b"\x94\xa1a\x01\x80\x81\xa5chunk\xa1x",
     b"\x94\xa1a\x01\x80\x82\xa5chunk\xa1x\xa5chunk\xc0",

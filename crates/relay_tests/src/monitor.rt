@@ -87,7 +87,7 @@ fn a_line_for_each_output_and_tag(rt: HostRuntime) {
     assert!(rt; is_page(rt.alloc()) == Ok(true));
 }
 
-const HEADS: [(&[u8], &str); 13] = [
+const HEADS: &[(&[u8], &str)] = &[
     (ASKED, PAGE),
     (b"GET / HTTP/1.0\n\n", PAGE),
     (b"GET / HTTP/1.1\r\n\r\nGET /", PAGE),
@@ -120,7 +120,7 @@ const LINE: &[u8] = b"a: b\r\n";
 
 /// Heads for the page behind their first line: a front, what comes behind it so many times, and a
 /// back. Those of 8,173 times have 8,192 bytes without their back.
-const LONG_HEADS: [(&[u8], &[u8], usize, &[u8], &str); 13] = [
+const LONG_HEADS: &[(&[u8], &[u8], usize, &[u8], &str)] = &[
     (b"", LINE, 63, b"", MORE),
     (b"", LINE, 63, b"a: b", MORE),
     (b"", LINE, 64, b"", MORE),

@@ -133,7 +133,7 @@ fn ran(rt: &HostRuntime, list: io::Result<Vec<String>>, input: &str, fails: Fail
 const USAGE: &str = "usage: forward_relay run CONFIG [TURNS] | check CONFIG | replay\n";
 
 /// Words that ask for nothing that this program knows.
-const UNKNOWN: [&[&str]; 10] = [
+const UNKNOWN: &[&[&str]] = &[
     &[],
     &["relay"],
     &["relay", ""],
@@ -229,42 +229,39 @@ fn replayed(rt: &HostRuntime, script: &str, fails: Fails) -> Outcome {
     ran(rt, words(rt.alloc(), &["relay", "replay"]), script, fails)
 }
 
-/// A bad line is told where the answers before it fit, and else the failed write.
+const UNREAD: Fails = Fails {
+    reads: TWO_LINES.len(),
+    ..GOOD
+};
+
+const JUST_FITS: Fails = Fails {
+    writes: BOTH.len(),
+    ..GOOD
+};
+
+const UNFLUSHED: Fails = Fails {
+    flush: true,
+    ..GOOD
+};
+
+/// Scripts, how their streams fail, and what is told. A bad line is told where the answers before
+/// it fit, and else the failed write.
+const ENDS: &[(&str, Fails, u8, &[u8], &str)] = &[
+    (TWO_LINES, GOOD, 0, BOTH, ""),
+    (AND_BAD, GOOD, 3, BOTH, BAD_LINE),
+    ("x\n---\nx\n", GOOD, 1, b"", "settings: not toml\n"),
+    (TWO_LINES, UNREAD, 5, b"", "input\n"),
+    (AND_BAD, JUST_FITS, 3, BOTH, BAD_LINE),
+    (TWO_LINES, UNFLUSHED, 5, b"", "output\n"),
+    (AND_BAD, UNFLUSHED, 5, b"", "output\n"),
+    ("---\n", UNFLUSHED, 5, b"", "output\n"),
+];
+
 #[test]
 fn each_end_has_its_status_and_text(rt: HostRuntime) {
-    for (script, reads, writes, flush, code, out, errors) in [
-        (TWO_LINES, usize::MAX, usize::MAX, false, 0, BOTH, ""),
-        (AND_BAD, usize::MAX, usize::MAX, false, 3, BOTH, BAD_LINE),
-        (
-            "x\n---\nx\n",
-            usize::MAX,
-            usize::MAX,
-            false,
-            1,
-            b"",
-            "settings: not toml\n",
-        ),
-        (
-            TWO_LINES,
-            TWO_LINES.len(),
-            usize::MAX,
-            false,
-            5,
-            b"",
-            "input\n",
-        ),
-        (AND_BAD, usize::MAX, BOTH.len(), false, 3, BOTH, BAD_LINE),
-        (TWO_LINES, usize::MAX, usize::MAX, true, 5, b"", "output\n"),
-        (AND_BAD, usize::MAX, usize::MAX, true, 5, b"", "output\n"),
-        ("---\n", usize::MAX, usize::MAX, true, 5, b"", "output\n"),
-    ] {
-        let fails = Fails {
-            reads,
-            writes,
-            flush,
-        };
+    for (script, fails, code, out, errors) in ENDS {
         assert!(rt;
-            replayed(&rt, script, fails).is(code, out, errors),
+            replayed(&rt, script, *fails).is(*code, out, errors),
             "{script}"
         );
     }
@@ -313,20 +310,27 @@ fn checked(alloc: Global, fails: Fails) -> Outcome {
     Outcome { code, out, errors }
 }
 
+const CHECKS: &[(Fails, u8, &[u8], &str)] = &[
+    (GOOD, 0, GOOD_LINE, ""),
+    (
+        Fails {
+            reads: SETTINGS.len(),
+            ..GOOD
+        },
+        1,
+        b"",
+        "settings: unreadable\n",
+    ),
+    (Fails { writes: 7, ..GOOD }, 5, b"setting", "output\n"),
+    (UNFLUSHED, 5, b"", "output\n"),
+];
+
 #[test]
 fn a_check_that_fails_is_told(rt: HostRuntime) {
-    let unread = "settings: unreadable\n";
-    for (reads, writes, flush, code, out, errors) in [
-        (usize::MAX, usize::MAX, false, 0, GOOD_LINE, ""),
-        (SETTINGS.len(), usize::MAX, false, 1, b"", unread),
-        (usize::MAX, 7, false, 5, b"setting", "output\n"),
-        (usize::MAX, usize::MAX, true, 5, b"", "output\n"),
-    ] {
-        let fails = Fails {
-            reads,
-            writes,
-            flush,
-        };
-        assert!(rt; checked(rt.alloc(), fails).is(code, out, errors), "{code}");
+    for (fails, code, out, errors) in CHECKS {
+        assert!(rt;
+            checked(rt.alloc(), *fails).is(*code, out, errors),
+            "{code}"
+        );
     }
 }

@@ -29,7 +29,7 @@ pub fn batch(alloc: Global, bytes: &[u8]) -> Option<Batch> {
 
 /// An EventTime in its fixed spelling and in its three sized ones, from the format's page in the
 /// standard, and what is none: its seconds and nanoseconds.
-const TIMES: [(&[u8], Option<(u32, u32)>); 7] = [
+const TIMES: &[(&[u8], Option<(u32, u32)>)] = &[
     (b"\xd7\x00\x00\x00\x00\x01\x00\x00\x00\x02", Some((1, 2))),
     (
         b"\xc7\x08\x00\x00\x00\x00\x01\x00\x00\x00\x02",
@@ -57,6 +57,6 @@ fn time_of(bytes: &[u8]) -> Option<(u32, u32)> {
 #[test]
 fn event_times_are_read(rt: HostRuntime) {
     for (bytes, time) in TIMES {
-        assert!(rt; time_of(bytes) == time);
+        assert!(rt; time_of(bytes) == *time);
     }
 }
