@@ -15,7 +15,7 @@ use std::env::Args;
 use std::rt::Runtime;
 
 /// Requests of each mode, with and without an option, one that is compressed, and two in a row.
-const GOOD: [&[u8]; 8] = [
+const GOOD: &[&[u8]] = &[
     b"\x93\xa1a\x01\x80",
     b"\x94\xa1a\x01\x80\x81\xa5chunk\xa1x",
     b"\x94\xa1a\xd7\x00\0\0\0\x01\0\0\0\x02\x81\xa1k\x91\xcb\0\0\0\0\0\0\0\0\xc0",

@@ -5,7 +5,7 @@ use fwd_modes::Batch;
 use std::alloc::Global;
 
 /// Entries of three, four and five bytes: a time and an empty record.
-const ENTRIES: [&[u8]; 3] = [
+const ENTRIES: &[&[u8]] = &[
     b"\x92\x01\x80",
     b"\x92\xcc\x80\x80",
     b"\x92\xcd\x01\x00\x80",
