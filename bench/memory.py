@@ -25,7 +25,7 @@ LOADS = [
 
 def run(program, mode, load):
     """What it printed, and the most bytes that it had."""
-    words = [program, "buffers", mode, *map(str, load), "0"]
+    words = [program, "buffers", mode, *map(str, load), "1"]
     child = subprocess.Popen(words, stdout=subprocess.PIPE)
     text = child.stdout.read().decode()
     _, status, usage = os.wait4(child.pid, 0)

@@ -7,7 +7,6 @@
 
 use crate::growing_chunks;
 use crate::hex::Hex;
-use anyhow::{Context, Result, bail};
 use fwd_base::{Bytes, Seq};
 use fwd_chunks::{Counts, Report, TagCount};
 use fwd_core::Relay;
@@ -23,42 +22,57 @@ use fwd_modes::{
 use fwd_monitor::{Reply, answer, page};
 use fwd_msgpack::{Cut, Head, Limits, Value, cut, write_head};
 use fwd_script::{print_answer, read_config, read_event};
-use fwd_settings::{Settings, read_settings};
+use fwd_settings::read_settings;
 use fwd_source::{Piece, Source};
 use std::alloc::{AllocError, Global};
+use std::fmt;
 use std::rt::Runtime;
 use std::sync::Arc;
 
-/// What a call gives, at the second try where the first one was refused memory, which is printed.
-/// So is where the value that is read off before and after a refusal is another one.
-macro_rules! made {
-    ($rt:expr, $name:literal, $value:expr, $call:expr) => {{
-        let before = $value;
-        match $call {
-            Ok(given) => given,
-            Err(_) => {
-                if $value != before {
-                    println!($rt; "{}: changed", $name)?;
-                }
-                println!($rt; "{}: memory", $name)?;
-                $call?
-            }
-        }
-    }};
+/// Prints what a call comes to.
+pub fn tell<T: fmt::Display>(rt: &impl Print, name: &str, answer: &T) {
+    let _ = println!(rt; "{name}: {answer}");
 }
 
-/// The same of a call that is none of the list.
+/// Prints that a call was refused memory, and where something has changed that too.
+pub fn tell_refused(rt: &impl Print, name: &str, is_same: bool) {
+    if !is_same {
+        tell(rt, name, &"changed");
+    }
+    tell(rt, name, &"memory");
+}
+
+/// Makes a call, and again where it was refused memory, which is printed. So is where the value
+/// that is read off before and after a refusal is another one, if the call has one to change.
+macro_rules! call {
+    ($rt:expr, $name:literal, $call:expr) => {
+        if $call.is_err() {
+            tell_refused($rt, $name, true);
+            let _again = $call;
+        }
+    };
+    ($rt:expr, $name:literal, $value:expr, $call:expr) => {
+        let before = $value;
+        if $call.is_err() {
+            tell_refused($rt, $name, $value == before);
+            let _again = $call;
+        }
+    };
+}
+
+/// What a call gives that is none of the list, at the second try where the first one was refused
+/// memory.
 macro_rules! again {
     ($call:expr) => {
         match $call {
             Ok(given) => given,
-            Err(_) => $call?,
+            Err(_) => $call.ok()?,
         }
     };
 }
 
 pub(crate) use again;
-pub(crate) use made;
+pub(crate) use call;
 
 const LIMITS: Limits = Limits {
     bytes: 16_777_216,
@@ -71,7 +85,7 @@ const NONCES: Nonces = Nonces {
     auth: [0; 16],
 };
 
-const HELO: &[u8] =
+pub const HELO: &[u8] =
     b"\x92\xa4HELO\x83\xa5nonce\xc4\x10 fox jumps over \xa4auth\xa0\xa9keepalive\xc3";
 
 /// PING of the worked handshake.
@@ -87,57 +101,69 @@ const SETTINGS: &[u8] =
     b"[[output]]\nmatch = \"a.*\"\n[[output.server]]\naddress = \"127.0.0.1:1\"\n";
 
 /// The one whole value of these bytes.
-fn whole(bytes: &[u8]) -> Result<Value<'_>> {
+fn whole(bytes: &[u8]) -> Option<Value<'_>> {
     match cut(bytes, LIMITS) {
-        Cut::Whole(value, _) => Ok(value),
-        _ => bail!("no value"),
+        Cut::Whole(value, _) => Some(value),
+        _ => None,
     }
 }
 
-/// Frames and what they are made of.
-fn call_frames<R: Print + AllocGlobal>(rt: &R) -> Result<()> {
-    let alloc = rt.alloc();
-    let mut out = again!(Vec::from_slice(alloc, b"\xc0"));
-    made!(
+/// Prints the bytes that a call gives.
+fn tell_bytes<R: Print>(
+    rt: &R,
+    name: &str,
+    bytes: Result<Vec<u8>, AllocError>,
+) -> Result<(), AllocError> {
+    tell(rt, name, &Hex(&bytes?));
+    Ok(())
+}
+
+/// A head behind another one.
+fn call_heads<R: Print + AllocGlobal>(rt: &R) -> Option<()> {
+    let mut out = again!(Vec::from_slice(rt.alloc(), b"\xc0"));
+    call!(
         rt,
         "write_head",
         out.len(),
         write_head(&mut out, Head::Str(300))
     );
-    println!(rt; "write_head: {}", Hex(&out))?;
-    let name = chunk_name(&[0; 6], 0, 1);
-    let head = made!(rt, "write_chunk_head", 0, write_chunk_head(alloc, b"a", 3));
-    println!(rt; "write_chunk_head: {}", Hex(&head))?;
-    let tail = made!(rt, "write_chunk_tail", 0, write_chunk_tail(alloc, 1, &name));
-    println!(rt; "write_chunk_tail: {}", Hex(&tail))?;
-    let frame = made!(
-        rt,
-        "write_chunk",
-        0,
-        write_chunk(alloc, b"a", b"\x92\x01\x80", 1, &name)
-    );
-    println!(rt; "write_chunk: {}", Hex(&frame))?;
-    let ack = made!(rt, "write_ack", 0, write_ack(alloc, b"\xa1x"));
-    println!(rt; "write_ack: {}", Hex(&ack))?;
-    Ok(())
+    tell(rt, "write_head", &Hex(&out));
+    Some(())
 }
 
-/// Requests.
-fn call_requests<R: Print + AllocGlobal>(rt: &R) -> Result<()> {
-    let value = whole(ASKING)?;
-    let Reading::Asks(batch) = made!(
+/// A frame in two parts and whole, and its acknowledgement.
+fn call_frames<R: Print + AllocGlobal>(rt: &R) {
+    let alloc = rt.alloc();
+    let name = chunk_name(&[0; 6], 0, 1);
+    call!(
         rt,
-        "read_request",
-        0,
-        read_request(rt.alloc(), value, LIMITS)
-    ) else {
-        bail!("no request");
-    };
-    println!(rt;
-        "read_request: {} {}",
-        Hex(batch.tag()),
-        Hex(batch.entries())
-    )?;
+        "write_chunk_head",
+        tell_bytes(rt, "write_chunk_head", write_chunk_head(alloc, b"a", 3))
+    );
+    call!(
+        rt,
+        "write_chunk_tail",
+        tell_bytes(rt, "write_chunk_tail", write_chunk_tail(alloc, 1, &name))
+    );
+    let entry = b"\x92\x01\x80";
+    call!(
+        rt,
+        "write_chunk",
+        tell_bytes(rt, "write_chunk", write_chunk(alloc, b"a", entry, 1, &name))
+    );
+    call!(
+        rt,
+        "write_ack",
+        tell_bytes(rt, "write_ack", write_ack(alloc, b"\xa1x"))
+    );
+}
+
+/// A request.
+fn tell_request<R: Print + AllocGlobal>(rt: &R, value: Value<'_>) -> Result<(), AllocError> {
+    if let Reading::Asks(batch) = read_request(rt.alloc(), value, LIMITS)? {
+        let (tag, entries) = (Hex(batch.tag()), Hex(batch.entries()));
+        tell(rt, "read_request", &format_args!("{tag} {entries}"));
+    }
     Ok(())
 }
 
@@ -162,122 +188,129 @@ pub fn login(alloc: Global) -> Result<Arc<Login>, AllocError> {
     Ok(Arc::new(alloc, login)?)
 }
 
-/// The handshake of a server.
-fn call_server<R: Print + AllocGlobal>(rt: &R, security: &Security) -> Result<()> {
-    let alloc = rt.alloc();
-    let helo = made!(rt, "write_helo", 0, write_helo(alloc, security, &NONCES));
-    println!(rt; "write_helo: {}", Hex(helo.as_slice()))?;
-    let ping = whole(PING)?;
-    let PingVerdict::Pass(pong) = made!(
-        rt,
-        "judge_ping",
-        0,
-        judge_ping(alloc, ping, security, &NONCES)
-    ) else {
-        bail!("no PONG");
-    };
-    println!(rt; "judge_ping: {}", Hex(pong.as_slice()))?;
+/// A server's HELO.
+fn tell_helo<R: Print + AllocGlobal>(rt: &R, security: &Security) -> Result<(), AllocError> {
+    let helo = write_helo(rt.alloc(), security, &NONCES)?;
+    tell(rt, "write_helo", &Hex(helo.as_slice()));
     Ok(())
 }
 
-/// The handshake of a client.
-fn call_client<R: Print + AllocGlobal>(rt: &R) -> Result<()> {
-    let login = again!(login(rt.alloc()));
-    let helo = whole(HELO)?;
-    let salt = Salt::new(b"The quick ").context("no salt")?;
-    let HeloAnswer::Ping { bytes, .. } = made!(
-        rt,
-        "answer_helo",
-        0,
-        answer_helo(rt.alloc(), helo, &login, salt)
-    ) else {
-        bail!("no PING");
-    };
-    println!(rt; "answer_helo: {}", Hex(bytes.as_slice()))?;
-    Ok(())
-}
-
-/// A connection that logs in and sends a request in two pieces.
-fn call_pieces<R: Print + AllocGlobal>(rt: &R, source: &mut Source) -> Result<()> {
-    let (front, back) = ASKING.split_at(5);
-    for piece in [PING, front, back] {
-        let told = made!(
-            rt,
-            "source piece",
-            (source.waiting(), source.out().len()),
-            source.piece(rt.alloc(), piece)
-        );
-        match told.piece {
-            Piece::Waiting(count) => {
-                println!(rt; "source piece: {count} out {}", Hex(told.out.as_slice()))?;
-            }
-            _ => bail!("a fault"),
-        }
+/// The PONG for a good PING.
+fn tell_pong<R: Print + AllocGlobal>(
+    rt: &R,
+    security: &Security,
+    ping: Value<'_>,
+) -> Result<(), AllocError> {
+    if let PingVerdict::Pass(pong) = judge_ping(rt.alloc(), ping, security, &NONCES)? {
+        tell(rt, "judge_ping", &Hex(pong.as_slice()));
     }
     Ok(())
 }
 
-/// Bytes behind those that wait at a connection.
-fn put(source: &mut Source, bytes: &[u8]) -> Result<(), AllocError> {
-    source.answer(bytes).map_err(|_| AllocError)
+/// The PING for a HELO.
+fn tell_ping<R: Print + AllocGlobal>(
+    rt: &R,
+    login: &Login,
+    helo: Value<'_>,
+    salt: Salt<'_>,
+) -> Result<(), AllocError> {
+    if let HeloAnswer::Ping { bytes, .. } = answer_helo(rt.alloc(), helo, login, salt)? {
+        tell(rt, "answer_helo", &Hex(bytes.as_slice()));
+    }
+    Ok(())
+}
+
+/// The handshake of a client.
+fn call_client<R: Print + AllocGlobal>(rt: &R) -> Option<()> {
+    let helo = whole(HELO)?;
+    let salt = Salt::new(b"The quick ")?;
+    let login = again!(login(rt.alloc()));
+    call!(rt, "answer_helo", tell_ping(rt, &login, helo, salt));
+    Some(())
+}
+
+/// What a connection hears.
+fn tell_piece<R: Print + AllocGlobal>(
+    rt: &R,
+    source: &mut Source,
+    piece: &[u8],
+) -> Result<(), AllocError> {
+    let told = source.piece(rt.alloc(), piece)?;
+    if let Piece::Waiting(count) = told.piece {
+        let out = Hex(told.out.as_slice());
+        tell(rt, "source piece", &format_args!("{count} out {out}"));
+    }
+    Ok(())
 }
 
 /// What is put behind the bytes that wait at a connection, of which none do at first.
-fn call_answers<R: Print + AllocGlobal>(rt: &R, source: &mut Source) -> Result<()> {
+fn call_answers<R: Print + AllocGlobal>(rt: &R, source: &mut Source) {
     source.drained(source.out().len());
-    made!(
+    call!(
         rt,
         "source answer",
         source.out().len(),
-        put(source, &[b'x'; 4000])
+        source.answer(&[b'x'; 4000])
     );
-    println!(rt; "source answer: {}", source.out().len())?;
-    made!(
+    tell(rt, "source answer", &source.out().len());
+    call!(
         rt,
         "source reserve",
         source.out().len(),
         source.reserve(9000)
     );
-    println!(rt; "source reserve: {}", put(source, &[b'y'; 9000]).is_ok())?;
-    Ok(())
+    tell(rt, "source reserve", &source.answer(&[b'y'; 9000]).is_ok());
 }
 
-/// A connection.
-fn call_source<R: Print + AllocGlobal>(rt: &R) -> Result<()> {
-    let security = again!(security(rt.alloc()));
-    call_server(rt, &security)?;
-    let mut source = match Source::new(rt.alloc(), 1, security, NONCES, LIMITS) {
-        Ok(source) => source,
+/// A connection of this side. Nothing is left of one that was refused memory.
+fn open_source<R: Print + AllocGlobal>(rt: &R, security: Arc<Security>) -> Option<Source> {
+    match Source::new(rt.alloc(), 1, security, NONCES, LIMITS) {
+        Ok(source) => Some(source),
         Err(failed) => {
-            println!(rt; "source new: memory")?;
-            Source::new(rt.alloc(), 1, failed.value, NONCES, LIMITS)?
+            tell_refused(rt, "source new", true);
+            Source::new(rt.alloc(), 1, failed.value, NONCES, LIMITS).ok()
         }
-    };
-    println!(rt; "source new: {}", Hex(source.out()))?;
-    call_pieces(rt, &mut source)?;
-    call_answers(rt, &mut source)
+    }
+}
+
+/// A connection that logs in and sends a request in two pieces.
+fn call_pieces<R: Print + AllocGlobal>(rt: &R, source: &mut Source) {
+    let (front, back) = ASKING.split_at(5);
+    for piece in [PING, front, back] {
+        call!(
+            rt,
+            "source piece",
+            (source.waiting(), source.out().len()),
+            tell_piece(rt, source, piece)
+        );
+    }
+}
+
+/// The handshake of a server, and a connection.
+fn call_source<R: Print + AllocGlobal>(rt: &R) -> Option<()> {
+    let ping = whole(PING)?;
+    let security = again!(security(rt.alloc()));
+    call!(rt, "write_helo", tell_helo(rt, &security));
+    call!(rt, "judge_ping", tell_pong(rt, &security, ping));
+    let mut source = open_source(rt, security)?;
+    tell(rt, "source new", &Hex(source.out()));
+    call_pieces(rt, &mut source);
+    call_answers(rt, &mut source);
+    Some(())
 }
 
 /// A pattern of two words, the first with two spellings.
-fn pattern(alloc: Global) -> Result<Pattern, AllocError> {
-    Pattern::read(alloc, "{a,b}.c x").map_err(|_| AllocError)
+fn tell_pattern<R: Print + AllocGlobal>(rt: &R) -> Result<(), AllocError> {
+    let pattern = Pattern::read(rt.alloc(), "{a,b}.c x").map_err(|_| AllocError)?;
+    let (is_one, is_other) = (pattern.matches(b"b.c"), pattern.matches(b"a"));
+    tell(rt, "pattern read", &format_args!("{is_one} {is_other}"));
+    Ok(())
 }
 
-/// Patterns and servers.
-fn call_patterns<R: Print + AllocGlobal>(rt: &R) -> Result<()> {
-    let pattern = made!(rt, "pattern read", 0, pattern(rt.alloc()));
-    println!(rt;
-        "pattern read: {} {}",
-        pattern.matches(b"b.c"),
-        pattern.matches(b"a")
-    )?;
-    let mut servers = made!(
-        rt,
-        "servers new",
-        0,
-        Servers::new(rt.alloc(), &[false, true], 500, 4000)
-    );
-    println!(rt; "servers new: {}", servers.choose(0, 0) == Some(0))?;
+/// Servers.
+fn tell_servers<R: Print + AllocGlobal>(rt: &R) -> Result<(), AllocError> {
+    let mut servers = Servers::new(rt.alloc(), &[false, true], 500, 4000)?;
+    tell(rt, "servers new", &(servers.choose(0, 0) == Some(0)));
     Ok(())
 }
 
@@ -300,41 +333,50 @@ fn report(alloc: Global) -> Result<Report, AllocError> {
 }
 
 /// The monitor's page.
-fn call_monitor<R: Print + AllocGlobal>(rt: &R) -> Result<()> {
-    let reports = [again!(report(rt.alloc()))];
-    let text = made!(rt, "monitor page", 0, page(rt.alloc(), &reports));
-    println!(rt; "monitor page: {}", Hex(text.as_bytes()))?;
-    let head = b"GET / HTTP/1.1\r\n\r\n";
-    let Reply::Bytes(bytes) = made!(rt, "monitor answer", 0, answer(rt.alloc(), head, &reports))
-    else {
-        bail!("no answer");
-    };
-    println!(rt; "monitor answer: {}", bytes.len())?;
+fn tell_page<R: Print + AllocGlobal>(rt: &R, reports: &[Report]) -> Result<(), AllocError> {
+    let text = page(rt.alloc(), reports)?;
+    tell(rt, "monitor page", &Hex(text.as_bytes()));
     Ok(())
 }
 
-/// The settings.
-fn settings(alloc: Global) -> Result<Settings, AllocError> {
-    read_settings(alloc, SETTINGS).map_err(|_| AllocError)
+/// The answer to a head that asks for it.
+fn tell_reply<R: Print + AllocGlobal>(rt: &R, reports: &[Report]) -> Result<(), AllocError> {
+    if let Reply::Bytes(bytes) = answer(rt.alloc(), b"GET / HTTP/1.1\r\n\r\n", reports)? {
+        tell(rt, "monitor answer", &bytes.len());
+    }
+    Ok(())
 }
 
-/// Settings, and the lines of scripts.
-fn call_script<R: Print + AllocGlobal>(rt: &R) -> Result<()> {
-    let settings = made!(rt, "read_settings", 0, settings(rt.alloc()));
-    println!(rt; "read_settings: {} outputs", settings.outputs.len())?;
-    let event = made!(
-        rt,
-        "read_event",
-        0,
-        read_event(rt.alloc(), b"piece 1 93a1610180")
-    );
-    println!(rt; "read_event: {}", event.is_some())?;
+/// The monitor.
+fn call_monitor<R: Print + AllocGlobal>(rt: &R) -> Option<()> {
+    let reports = [again!(report(rt.alloc()))];
+    call!(rt, "monitor page", tell_page(rt, &reports));
+    call!(rt, "monitor answer", tell_reply(rt, &reports));
+    Some(())
+}
+
+/// Settings.
+fn tell_settings<R: Print + AllocGlobal>(rt: &R) -> Result<(), AllocError> {
+    let settings = read_settings(rt.alloc(), SETTINGS).map_err(|_| AllocError)?;
+    let outputs = settings.outputs.len();
+    tell(rt, "read_settings", &format_args!("{outputs} outputs"));
+    Ok(())
+}
+
+/// A script's line.
+fn tell_event<R: Print + AllocGlobal>(rt: &R) -> Result<(), AllocError> {
+    let event = read_event(rt.alloc(), b"piece 1 93a1610180")?;
+    tell(rt, "read_event", &event.is_some());
+    Ok(())
+}
+
+/// An answer's line.
+fn tell_answer<R: Print + AllocGlobal>(rt: &R) -> Result<(), AllocError> {
     let answer = Answer::Admitted {
         request: 2,
         entries: 3,
     };
-    let line = made!(rt, "print_answer", 0, print_answer(rt.alloc(), &answer));
-    println!(rt; "print_answer: {line}")?;
+    tell(rt, "print_answer", &print_answer(rt.alloc(), &answer)?);
     Ok(())
 }
 
@@ -344,25 +386,40 @@ fn relay(alloc: Global) -> Result<Relay, AllocError> {
     Ok(Relay::new(alloc, config)?)
 }
 
-/// What a relay counts and reports.
-fn call_reports<R: Print + AllocGlobal>(rt: &R) -> Result<()> {
-    let relay = again!(relay(rt.alloc()));
-    let counts = made!(rt, "relay counts", 0, relay.counts(rt.alloc()));
-    println!(rt; "relay counts: {}", counts.len())?;
-    let reports = made!(rt, "relay reports", 0, relay.reports(rt.alloc()));
-    println!(rt; "relay reports: {}", reports.len())?;
+/// What a relay counts.
+fn tell_counts<R: Print + AllocGlobal>(rt: &R, relay: &Relay) -> Result<(), AllocError> {
+    tell(rt, "relay counts", &relay.counts(rt.alloc())?.len());
     Ok(())
 }
 
+/// What a relay reports.
+fn tell_reports<R: Print + AllocGlobal>(rt: &R, relay: &Relay) -> Result<(), AllocError> {
+    tell(rt, "relay reports", &relay.reports(rt.alloc())?.len());
+    Ok(())
+}
+
+/// A relay.
+fn call_relay<R: Print + AllocGlobal>(rt: &R) -> Option<()> {
+    let relay = again!(relay(rt.alloc()));
+    call!(rt, "relay counts", tell_counts(rt, &relay));
+    call!(rt, "relay reports", tell_reports(rt, &relay));
+    Some(())
+}
+
 /// Makes each call.
-pub fn call_all<R: Runtime + AllocGlobal>(rt: &R) -> Result<()> {
-    call_frames(rt)?;
-    call_requests(rt)?;
+pub fn call_all<R: Runtime + AllocGlobal>(rt: &R) -> Option<()> {
+    call_heads(rt)?;
+    call_frames(rt);
+    let asking = whole(ASKING)?;
+    call!(rt, "read_request", tell_request(rt, asking));
     call_client(rt)?;
     call_source(rt)?;
-    call_patterns(rt)?;
+    call!(rt, "pattern read", tell_pattern(rt));
+    call!(rt, "servers new", tell_servers(rt));
     call_monitor(rt)?;
-    call_script(rt)?;
-    call_reports(rt)?;
+    call!(rt, "read_settings", tell_settings(rt));
+    call!(rt, "read_event", tell_event(rt));
+    call!(rt, "print_answer", tell_answer(rt));
+    call_relay(rt)?;
     growing_chunks::call_all(rt)
 }

@@ -1,8 +1,7 @@
 //! What a buffer has to do: its requests.
 
+use crate::next_number;
 use crate::requests::{batch_of, put_front};
-use crate::words::next_number;
-use anyhow::Result;
 use fwd_modes::Batch;
 use fwd_msgpack::{Head, write_head};
 use std::alloc::{AllocError, Global};
@@ -29,12 +28,12 @@ impl Load {
 }
 
 /// The load of the next four words.
-pub fn next_load(words: &mut Args) -> Result<Load> {
-    Ok(Load {
-        entries: next_number(words, "entries")?,
-        tags: next_number(words, "tags")?,
-        size: next_number(words, "bytes an entry")?,
-        request: next_number(words, "entries a request")?,
+pub fn next_load(words: &mut Args) -> Option<Load> {
+    Some(Load {
+        entries: next_number(words)?,
+        tags: next_number(words)?,
+        size: next_number(words)?,
+        request: next_number(words)?,
     })
 }
 
@@ -59,28 +58,23 @@ fn put_entry(out: &mut Vec<u8>, size: u32) -> Result<(), AllocError> {
     Ok(())
 }
 
-/// Appends a Forward request of so many entries for a tag.
-fn put_request(out: &mut Vec<u8>, tag: &str, count: u32, size: u32) -> Result<()> {
-    put_front(out, tag.as_bytes(), count)?;
-    for _ in 0..count {
-        put_entry(out, size)?;
-    }
-    Ok(())
-}
-
-/// A Forward request of so many entries for the tag of a number.
-fn request(alloc: Global, tag: u32, count: u32, size: u32) -> Result<Batch> {
+/// The bytes of a Forward request of a load for the tag of a number.
+fn request_bytes(alloc: Global, tag: u32, load: Load) -> Result<Vec<u8>, AllocError> {
     let tag = format!(in alloc; "tag.{tag:07}")?;
     let mut bytes = Vec::new(alloc);
-    put_request(&mut bytes, &tag, count, size)?;
-    batch_of(alloc, &bytes)
+    put_front(&mut bytes, tag.as_bytes(), load.request)?;
+    for _ in 0..load.request {
+        put_entry(&mut bytes, load.size)?;
+    }
+    Ok(bytes)
 }
 
 /// A request for each tag, but no more than are admitted in all.
-pub fn batches(alloc: Global, load: Load) -> Result<Vec<Batch>> {
+pub fn batches(alloc: Global, load: Load) -> Option<Vec<Batch>> {
     let mut batches = Vec::new(alloc);
     for tag in 0..load.tags.min(load.requests()) {
-        batches.push(request(alloc, tag, load.request, load.size)?)?;
+        let bytes = request_bytes(alloc, tag, load).ok()?;
+        batches.push(batch_of(alloc, &bytes)?).ok()?;
     }
-    Ok(batches)
+    Some(batches)
 }

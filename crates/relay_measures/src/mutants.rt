@@ -1,31 +1,27 @@
-//! Good requests of which a few bytes are changed: `mutants COUNT`. Of so many strings of bytes,
+//! Requests of which a few bytes are changed: `mutants COUNT`. Of so many strings of bytes,
 //! under small limits, it is printed whether some are heard as a request and some as each kind of
-//! fault, and how many are judged otherwise: by a scanner that is fed pieces than by `cut`, or by a
-//! connection, whole and in pieces, than by the requests that their values are.
+//! fault, and how many are judged otherwise: by a connection, which feeds its scanner, whole and in
+//! pieces, than by the requests that the values are which `cut` cuts.
 
-use crate::cuts::{below, judge_pieces, judge_whole};
+use crate::next_number;
 use crate::pieces::{NONCES, security};
-use crate::words::next_number;
-use anyhow::Result;
-use fwd_handshake::Security;
 use fwd_modes::{Reading, read_request};
 use fwd_msgpack::{Cut, Limits, Value, cut};
 use fwd_source::{Piece, Source};
 use rand_chacha::ChaCha20Rng;
-use rand_core::SeedableRng;
+use rand_core::{Rng, SeedableRng};
 use std::alloc::{AllocError, Global};
 use std::env::Args;
 use std::rt::Runtime;
-use std::sync::Arc;
 
-/// Requests of each mode, with and without an option, and two requests in a row.
-const GOOD: [&[u8]; 8] = [
+/// Requests of each mode, with and without an option, one that is compressed, and two in a row.
+const GOOD: &[&[u8]] = &[
     b"\x93\xa1a\x01\x80",
     b"\x94\xa1a\x01\x80\x81\xa5chunk\xa1x",
     b"\x94\xa1a\xd7\x00\0\0\0\x01\0\0\0\x02\x81\xa1k\x91\xcb\0\0\0\0\0\0\0\0\xc0",
     b"\x93\xa1a\x92\x92\x01\x80\x92\xcc\x80\x81\xa1k\xc3\x82\xa4size\x02\xa5chunk\xc4\x01x",
     b"\x92\xc4\x01a\x91\x92\xc7\x08\0\0\0\0\x01\0\0\0\x02\x80",
-    b"\x93\xa1a\xc4\x06\x92\x01\x80\x92\xff\x80\x81\xaacompressed\xa4gzhp",
+    b"\x93\xa1a\xc4\x06\x92\x01\x80\x92\xff\x80\x81\xaacompressed\xa4gzip",
     b"\x92\xa1a\xa3\x92\x01\x80",
     b"\xc0\x93\xa1a\x01\x80\x93\xa1b\xcd\x01\0\xde\0\x01\xa1k\x90",
 ];
@@ -49,6 +45,11 @@ struct Heard {
 struct Tally {
     faults: [bool; 9],
     otherwise: u64,
+}
+
+/// A number below another.
+fn below(rng: &mut ChaCha20Rng, most: u32) -> u32 {
+    rng.next_u32().checked_rem(most).unwrap_or(0)
 }
 
 /// A place in the bytes, if they have any.
@@ -80,7 +81,7 @@ fn change(alloc: Global, rng: &mut ChaCha20Rng, bytes: &mut Vec<u8>) -> Result<(
     Ok(())
 }
 
-/// A good request that is changed up to three times.
+/// A request that is changed up to three times.
 fn mutant(alloc: Global, rng: &mut ChaCha20Rng) -> Result<Vec<u8>, AllocError> {
     let good = GOOD.get(below(rng, 8) as usize).copied().unwrap_or(b"");
     let mut bytes = Vec::from_slice(alloc, good)?;
@@ -137,18 +138,15 @@ fn heard_by_values(alloc: Global, bytes: &[u8], limits: Limits) -> Result<Heard,
 /// What a connection hears the bytes as, in pieces of at most so many.
 fn heard_in_pieces(
     alloc: Global,
-    security: &Arc<Security>,
     bytes: &[u8],
     limits: Limits,
     size: usize,
 ) -> Result<Heard, AllocError> {
-    let security = Arc::try_clone(security)?;
-    let mut source = Source::new(alloc, 1, security, NONCES, limits)?;
+    let mut source = Source::new(alloc, 1, security(alloc)?, NONCES, limits)?;
     let mut heard = Heard::default();
     for piece in bytes.chunks(size.max(1)) {
-        match source.piece(alloc, piece)?.piece {
-            Piece::Waiting(_) | Piece::Closed => {}
-            Piece::Fault(fault) => heard.fault = fault.number(),
+        if let Piece::Fault(fault) = source.piece(alloc, piece)?.piece {
+            heard.fault = fault.number();
         }
     }
     heard.requests = source.waiting();
@@ -156,21 +154,14 @@ fn heard_in_pieces(
 }
 
 /// Judges a mutant in each way.
-fn judge_one(
-    alloc: Global,
-    rng: &mut ChaCha20Rng,
-    security: &Arc<Security>,
-    tally: &mut Tally,
-) -> Result<(), AllocError> {
+fn judge_one(alloc: Global, rng: &mut ChaCha20Rng, tally: &mut Tally) -> Result<(), AllocError> {
     let bytes = mutant(alloc, rng)?;
     let limits = random_limits(rng);
-    let size = below(rng, 8) as usize;
     let heard = heard_by_values(alloc, &bytes, limits)?;
-    let is_alike = judge_whole(&bytes, limits) == judge_pieces(rng, &bytes, limits)
-        && heard_in_pieces(alloc, security, &bytes, limits, bytes.len())? == heard
-        && heard_in_pieces(alloc, security, &bytes, limits, size)? == heard;
-    if !is_alike {
-        tally.otherwise = tally.otherwise.saturating_add(1);
+    for size in [bytes.len(), below(rng, 8) as usize] {
+        if heard_in_pieces(alloc, &bytes, limits, size)? != heard {
+            tally.otherwise = tally.otherwise.saturating_add(1);
+        }
     }
     if let Some(met) = tally.faults.get_mut(heard.fault as usize) {
         *met = true;
@@ -179,16 +170,15 @@ fn judge_one(
 }
 
 /// Judges as many mutants as the next word says.
-pub fn count<R: Runtime + AllocGlobal>(rt: &R, words: &mut Args) -> Result<()> {
-    let mutants = next_number(words, "mutants")?;
-    let security = security(rt.alloc())?;
+pub fn count<R: Runtime + AllocGlobal>(rt: &R, words: &mut Args) -> Option<()> {
+    let mutants = next_number(words)?;
     let mut rng = ChaCha20Rng::from_seed([55; 32]);
     let mut tally = Tally::default();
     for _ in 0..mutants {
-        judge_one(rt.alloc(), &mut rng, &security, &mut tally)?;
+        judge_one(rt.alloc(), &mut rng, &mut tally).ok()?;
     }
     let all = tally.faults == [true; 9];
     let otherwise = tally.otherwise;
-    println!(rt; "{mutants} mutants, each fault: {all}, {otherwise} judged otherwise")?;
-    Ok(())
+    let _ = println!(rt; "{mutants} mutants, each fault: {all}, {otherwise} judged otherwise");
+    Some(())
 }

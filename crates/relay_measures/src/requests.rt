@@ -1,9 +1,8 @@
 //! The bytes of a request, and what they ask.
 
-use anyhow::{Context, Result, bail};
 use fwd_modes::{Batch, Reading, read_request};
 use fwd_msgpack::{Cut, Head, Limits, cut, write_head};
-use std::alloc::Global;
+use std::alloc::{AllocError, Global};
 
 /// The limits of a request's bytes.
 const LIMITS: Limits = Limits {
@@ -12,22 +11,21 @@ const LIMITS: Limits = Limits {
 };
 
 /// Appends a Forward request's bytes before its entries, of which there are so many.
-pub fn put_front(out: &mut Vec<u8>, tag: &[u8], count: u32) -> Result<()> {
-    let length = u32::try_from(tag.len()).context("a long tag")?;
+pub fn put_front(out: &mut Vec<u8>, tag: &[u8], count: u32) -> Result<(), AllocError> {
+    let length = u32::try_from(tag.len()).unwrap_or(u32::MAX);
     write_head(out, Head::Arr(2))?;
     write_head(out, Head::Str(length))?;
     out.extend_from_slice(tag)?;
-    write_head(out, Head::Arr(count))?;
-    Ok(())
+    write_head(out, Head::Arr(count))
 }
 
 /// What the bytes of a request ask.
-pub fn batch_of(alloc: Global, bytes: &[u8]) -> Result<Batch> {
+pub fn batch_of(alloc: Global, bytes: &[u8]) -> Option<Batch> {
     let Cut::Whole(value, _) = cut(bytes, LIMITS) else {
-        bail!("no value");
+        return None;
     };
-    match read_request(alloc, value, LIMITS)? {
-        Reading::Asks(batch) => Ok(batch),
-        _ => bail!("no request"),
+    match read_request(alloc, value, LIMITS) {
+        Ok(Reading::Asks(batch)) => Some(batch),
+        _ => None,
     }
 }

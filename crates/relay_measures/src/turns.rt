@@ -1,12 +1,12 @@
-//! What is measured.
+//! What is measured of a buffer.
 
 use crate::load::Load;
-use anyhow::Result;
+use crate::watch::{Watch, print_part};
 use fwd_chunks::{Buffer, BufferLimits, Carried, Counts, FlushKind};
 use fwd_modes::{Batch, Origin};
 use std::alloc::{AllocError, Global};
 use std::rt::Runtime;
-use std::time::{Duration, Instant};
+use std::time::Duration;
 
 /// A chunk has at most 8,000,000 bytes, as in the relay where no setting says more, and the buffer
 /// has no other limit.
@@ -22,60 +22,14 @@ pub const LIMITS: BufferLimits = BufferLimits {
 /// How often the chunk behind all others is taken.
 const BEHIND: u64 = 1000;
 
-/// How long each part took.
-#[derive(Clone, Copy)]
-pub struct Times {
-    pub admit: Duration,
-    pub flush: Duration,
-    pub take: Duration,
-    pub settle: Duration,
-    pub copy: Duration,
-    /// The taking of one chunk behind all others, which wait.
-    pub behind: Duration,
-}
-
-impl Times {
-    /// Longer than any.
-    const LONGEST: Times = Times {
-        admit: Duration::MAX,
-        flush: Duration::MAX,
-        take: Duration::MAX,
-        settle: Duration::MAX,
-        copy: Duration::MAX,
-        behind: Duration::MAX,
-    };
-
-    /// The shorter of each.
-    fn min(self, other: Times) -> Times {
-        Times {
-            admit: self.admit.min(other.admit),
-            flush: self.flush.min(other.flush),
-            take: self.take.min(other.take),
-            settle: self.settle.min(other.settle),
-            copy: self.copy.min(other.copy),
-            behind: self.behind.min(other.behind),
-        }
-    }
-}
-
-/// What a turn left.
-#[derive(Clone, Copy)]
-pub struct Found {
-    pub counts: Counts,
-    /// The chunks that were taken.
-    pub chunks: u64,
-    /// The chunks that the flush closed.
-    pub closed: u64,
-}
-
-/// Admits the requests in turn, until there are so many entries.
+/// Admits the requests in turn, until there are so many.
 #[inline(never)]
 fn admit_all(
     alloc: Global,
     buffer: &mut Buffer,
     batches: &Vec<Batch>,
     requests: u32,
-) -> Result<()> {
+) -> Option<()> {
     let mut place: usize = 0;
     for number in 0..requests {
         let origin = Origin {
@@ -83,14 +37,14 @@ fn admit_all(
             request: u64::from(number),
         };
         if let Some(batch) = batches.get(place) {
-            let _spans = buffer.admit(alloc, origin, batch, 0)?;
+            let _spans = buffer.admit(alloc, origin, batch, 0).ok()?;
         }
         place = place.saturating_add(1);
         if place >= batches.len() {
             place = 0;
         }
     }
-    Ok(())
+    Some(())
 }
 
 /// Copies the entries of the same requests into one vector that has room for them.
@@ -127,10 +81,10 @@ impl Rounds {
         }
     }
 
-    /// How long it took to take one.
-    fn mean(self) -> Duration {
-        let nanos = self.take.as_nanos() / u128::from(self.chunks.max(1));
-        Duration::from_nanos(u64::try_from(nanos).unwrap_or(u64::MAX))
+    /// Prints how long it took.
+    pub fn print(self, rt: &impl Print) {
+        print_part(rt, "take", self.take, self.chunks, "a chunk");
+        print_part(rt, "settle", self.give, self.chunks, "a chunk");
     }
 }
 
@@ -160,100 +114,92 @@ fn go_round<R: Runtime + AllocGlobal>(
     buffer: &mut Buffer,
     most: u64,
     fate: Fate,
-) -> Result<Rounds> {
+) -> Rounds {
     let mut rounds = Rounds::default();
     for _ in 0..most {
-        let start = Instant::now(rt)?;
-        let Some(carried) = buffer.take(rt.alloc(), 0, 0)? else {
+        let watch = Watch::start(rt);
+        let Ok(Some(carried)) = buffer.take(rt.alloc(), 0, 0) else {
             break;
         };
-        let took = start.elapsed(rt);
-        let start = Instant::now(rt);
+        let take = watch.took(rt);
+        let watch = Watch::start(rt);
         give_up(buffer, carried, fate);
-        rounds = rounds.more(took?, start?.elapsed(rt)?);
+        rounds = rounds.more(take, watch.took(rt));
     }
-    Ok(rounds)
+    rounds
 }
 
 /// A buffer to which all is admitted.
-pub fn filled(alloc: Global, batches: &Vec<Batch>, requests: u32) -> Result<Buffer> {
+pub fn filled(alloc: Global, batches: &Vec<Batch>, requests: u32) -> Option<Buffer> {
     let mut buffer = Buffer::new(alloc, LIMITS, [0; 6], 0);
     admit_all(alloc, &mut buffer, batches, requests)?;
-    Ok(buffer)
+    Some(buffer)
 }
 
-/// Admits all, closes it, and takes and settles each chunk.
-fn settle_turn<R: Runtime + AllocGlobal>(
+/// Admits all, closes it, and takes and settles each chunk. It is printed what the buffer was left
+/// with, and if asked how long each part took.
+pub fn buffer_turn<R: Runtime + AllocGlobal>(
     rt: &R,
+    load: Load,
     batches: &Vec<Batch>,
-    requests: u32,
-) -> Result<(Found, Times)> {
-    let mut buffer = Buffer::new(rt.alloc(), LIMITS, [0; 6], 0);
-    let start = Instant::now(rt)?;
-    admit_all(rt.alloc(), &mut buffer, batches, requests)?;
-    let admit = start.elapsed(rt)?;
-    let start = Instant::now(rt)?;
+    is_timed: bool,
+) -> Option<()> {
+    let watch = Watch::start(rt);
+    let mut buffer = filled(rt.alloc(), batches, load.requests())?;
+    let admit = watch.took(rt);
+    let watch = Watch::start(rt);
     let closed = buffer.flush(0, FlushKind::All);
-    let flush = start.elapsed(rt)?;
-    let settled = go_round(rt, &mut buffer, u64::MAX, Fate::Settled)?;
-    let found = Found {
-        counts: buffer.held(),
-        chunks: settled.chunks,
-        closed: closed as u64,
-    };
-    let times = Times {
-        admit,
-        flush,
-        take: settled.take,
-        settle: settled.give,
-        ..Times::LONGEST
-    };
-    Ok((found, times))
+    let flush = watch.took(rt);
+    let rounds = go_round(rt, &mut buffer, u64::MAX, Fate::Settled);
+    let Counts {
+        accepted,
+        settled,
+        ..
+    } = buffer.held();
+    let chunks = rounds.chunks;
+    let _ = println!(rt; "entries {accepted} settled {settled} chunks {chunks} closed {closed}");
+    if is_timed {
+        print_part(rt, "admit", admit, accepted, "an entry");
+        print_part(rt, "flush", flush, chunks, "a chunk");
+        rounds.print(rt);
+    }
+    Some(())
 }
 
 /// Takes a chunk again and again that stands behind all the others, which were lost and wait.
-fn behind_turn<R: Runtime + AllocGlobal>(
+pub fn behind_turn<R: Runtime + AllocGlobal>(
     rt: &R,
+    load: Load,
     batches: &Vec<Batch>,
-    requests: u32,
-) -> Result<Rounds> {
-    let mut buffer = filled(rt.alloc(), batches, requests)?;
+) -> Option<()> {
+    let mut buffer = filled(rt.alloc(), batches, load.requests())?;
     buffer.flush(0, FlushKind::All);
-    go_round(rt, &mut buffer, u64::MAX, Fate::Lost)?;
+    go_round(rt, &mut buffer, u64::MAX, Fate::Lost);
     admit_all(rt.alloc(), &mut buffer, batches, 1)?;
     buffer.flush(0, FlushKind::All);
-    go_round(rt, &mut buffer, BEHIND, Fate::Kept)
+    let rounds = go_round(rt, &mut buffer, BEHIND, Fate::Kept);
+    print_part(
+        rt,
+        "behind",
+        rounds.take,
+        rounds.chunks,
+        "a chunk taken behind all others, which wait",
+    );
+    Some(())
 }
 
 /// Copies the bytes of all entries.
-fn copy_turn<R: Runtime + AllocGlobal>(
-    rt: &R,
-    batches: &Vec<Batch>,
-    load: Load,
-) -> Result<Duration> {
+pub fn copy_turn<R: Runtime + AllocGlobal>(rt: &R, load: Load, batches: &Vec<Batch>) -> Option<()> {
     let bytes = u64::from(load.entries).saturating_mul(u64::from(load.size));
-    let mut copy = Vec::with_capacity(rt.alloc(), bytes as usize)?;
-    let start = Instant::now(rt)?;
-    copy_all(&mut copy, batches, load.requests())?;
-    Ok(start.elapsed(rt)?)
-}
-
-/// What a turn leaves, and how long each part took in the fastest.
-pub fn fastest<R: Runtime + AllocGlobal>(
-    rt: &R,
-    load: Load,
-    turns: u32,
-    batches: &Vec<Batch>,
-) -> Result<(Found, Times)> {
-    let requests = load.requests();
-    let (mut found, mut least) = settle_turn(rt, batches, requests)?;
-    for _ in 0..turns {
-        let (again, times) = settle_turn(rt, batches, requests)?;
-        found = again;
-        least = least.min(times);
-        let behind = behind_turn(rt, batches, requests)?;
-        least.behind = least.behind.min(behind.mean());
-        least.copy = least.copy.min(copy_turn(rt, batches, load)?);
-    }
-    Ok((found, least))
+    let mut copy = Vec::with_capacity(rt.alloc(), bytes as usize).ok()?;
+    let watch = Watch::start(rt);
+    copy_all(&mut copy, batches, load.requests()).ok()?;
+    print_part(
+        rt,
+        "copy",
+        watch.took(rt),
+        u64::from(load.entries),
+        "an entry",
+    );
+    Some(())
 }

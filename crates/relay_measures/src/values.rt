@@ -1,12 +1,12 @@
 //! The loops over the values of a stream, which are measured.
 
 use crate::pieces::{feed_pieces, hear_pieces};
+use crate::watch::Watch;
 use fwd_modes::{Reading, read_request};
 use fwd_msgpack::{Cut, Limits, Value, cut};
 use std::alloc::{AllocError, Global};
-use std::io;
 use std::rt::Runtime;
-use std::time::{Duration, Instant};
+use std::time::Duration;
 
 /// The limits of a value from a source, as the relay has them.
 pub const LIMITS: Limits = Limits {
@@ -78,28 +78,28 @@ fn read_requests(alloc: Global, values: &[Value<'_>]) -> Result<(u64, u64), Allo
     Ok((requests, entries))
 }
 
-/// What a turn finds, and how long the fastest one took. Where
-/// requests are measured, the values were cut beforehand.
+/// What a turn finds, and how long the fastest one took. Where requests are measured, the values
+/// were cut beforehand.
 pub fn fastest<R: Runtime + AllocGlobal>(
     rt: &R,
     measure: Measure,
     turns: u32,
     stream: &[u8],
-) -> io::Result<(Found, Duration)> {
+) -> Option<(Found, Duration)> {
     let mut found = cut_values(stream);
-    let values = values_of(rt.alloc(), stream)?;
+    let values = values_of(rt.alloc(), stream).ok()?;
     let mut least = Duration::MAX;
     for _ in 0..turns {
-        let start = Instant::now(rt)?;
+        let watch = Watch::start(rt);
         match measure {
             Measure::Cut => found = cut_values(stream),
             Measure::Requests => {
-                (found.requests, found.entries) = read_requests(rt.alloc(), &values)?;
+                (found.requests, found.entries) = read_requests(rt.alloc(), &values).ok()?;
             }
             Measure::Feed(size) => found = feed_pieces(stream, size),
-            Measure::Hear(size) => found = hear_pieces(rt.alloc(), stream, size)?,
+            Measure::Hear(size) => found = hear_pieces(rt.alloc(), stream, size).ok()?,
         }
-        least = least.min(start.elapsed(rt)?);
+        least = least.min(watch.took(rt));
     }
-    Ok((found, least))
+    Some((found, least))
 }

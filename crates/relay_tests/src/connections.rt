@@ -1,134 +1,87 @@
-//! One connection, by the calls that no script makes.
+//! One connection, by pieces that no script has.
 
-ghost use Rattle.std.specs.Prelude.{◌≡◌, false, IfOk};
-
-use crate::limits::SOURCE_LIMITS;
-use crate::requests::{has_entries, many_entries, many_request};
+use crate::request::SOURCE_LIMITS;
 use fwd_base::{Bytes, Seq};
 use fwd_handshake::{Nonces, Security};
-use fwd_source::{AnswerError, Piece, Source};
-use std::alloc::{AllocError, Global};
+use fwd_source::{Piece, Source};
+use std::alloc::Global;
 use std::sync::Arc;
-use std::test::Fail;
 
 const NONCES: Nonces = Nonces {
     nonce: [0; 16],
     auth: [0; 16],
 };
 
-/// The connection 7 of a server without a key.
-fn open_source(alloc: Global) -> Result<Source, AllocError>
-    ensures { IfOk result (λ source. source.live.shut ≡ false) }
-{
+/// The side of a server without a key.
+fn security(alloc: Global) -> Option<Arc<Security>> {
     let security = Security {
-        hostname: Bytes::from_slice(alloc, b"brown")?,
+        hostname: Bytes::new(alloc),
         shared_key: None,
         users: Seq::new(alloc),
     };
-    let security = Arc::new(alloc, security)?;
-    Ok(Source::new(alloc, 7, security, NONCES, SOURCE_LIMITS)?)
+    Arc::new(alloc, security).ok()
 }
 
-/// That neither answer is refused is proved, by what `reserve` and `answer` ensure.
-fn answers_twice(source: &mut Source) -> Result<(), AllocError>
-    requires { source.old.live.shut ≡ false }
-{
-    source.reserve(9)?;
-    source.answer(b"first").unwrap();
-    source.answer(b"last").unwrap();
-    Ok(())
-}
-
-#[test]
-fn answers_fit_the_room_that_is_reserved(rt: HostRuntime) -> Result<(), Fail> {
-    let mut source = open_source(rt.alloc())?;
-    assert_eq!(rt; answers_twice(&mut source), Ok(()));
-    assert_eq!(rt; source.out(), b"firstlast".as_slice());
-    Ok(())
-}
-
-#[test]
-fn what_waits_to_be_sent_is_dropped_once_shut(rt: HostRuntime) -> Result<(), Fail> {
-    let mut source = open_source(rt.alloc())?;
-    assert_eq!(rt; source.answer(b"told"), Ok(()));
-    for _ in 0..2 {
-        source.shut();
-        assert!(rt; source.is_shut());
-        assert_eq!(rt; source.out(), b"".as_slice());
-        assert_eq!(rt; source.answer(b"told"), Err(AnswerError::Closed));
+/// How many requests wait at a connection once it has heard these pieces, if no fault comes.
+fn waiting_after(alloc: Global, pieces: &[&[u8]]) -> Option<usize> {
+    let mut source = Source::new(alloc, 7, security(alloc)?, NONCES, SOURCE_LIMITS).ok()?;
+    for piece in pieces {
+        if !matches!(source.piece(alloc, piece).ok()?.piece, Piece::Waiting(_)) {
+            return None;
+        }
     }
-    Ok(())
+    Some(source.waiting())
 }
 
-/// Bytes come in pieces of 65,536.
-fn hear_pieces(alloc: Global, source: &mut Source, bytes: &[u8]) -> Result<(), AllocError> {
-    for piece in bytes.chunks(65_536) {
-        source.piece(alloc, piece)?;
-    }
-    Ok(())
-}
-
-/// A request nearly as long as a value may be, which comes in many pieces.
-#[test]
-fn a_request_of_the_greatest_size_comes_in_pieces(rt: HostRuntime) -> Result<(), Fail> {
-    let entries = many_entries(rt.alloc())?;
-    let bytes = many_request(rt.alloc(), &entries)?;
-    let mut source = open_source(rt.alloc())?;
-    hear_pieces(rt.alloc(), &mut source, &bytes)?;
-    assert_eq!(rt; source.waiting(), 1);
-    let taken = source.next();
-    assert!(rt; taken.is_some_and(|(_, batch)| has_entries(&batch, &entries)));
-    Ok(())
-}
-
-/// The pieces of one request that the worked texts of the formats accept, as digits.
-const ACCEPTED: [&str; 14] = [
-    "93a1610180",
-    "94a161018081a56368756e6ba178",
-    "94a161018082a56368756e6ba178a56368756e6bc0",
-    "93a1619081a56368756e6ba178",
-    "93a1619392018092018092018081a56368756e6ba178",
-    "93a161cc8080",
-    "93a161c40392018081aa636f6d70726573736564a474657874",
-    "93a161c40392018081aa636f6d70726573736564c0",
-    "92a1619192d700000000010000000280",
-    "92a1619192c70800000000010000000280",
-    "92a1619192ff80",
-    "92a161a3920180",
-    "92a161c403920180",
-    "92a161c405dc00020180",
+/// The pieces of one request that the worked texts of the formats accept.
+const ACCEPTED: &[&[u8]] = &[
+    b"\x93\xa1a\x01\x80",
+    b"\x94\xa1a\x01\x80\x81\xa5chunk\xa1x",
+    b"\x94\xa1a\x01\x80\x82\xa5chunk\xa1x\xa5chunk\xc0",
+    b"\x93\xa1a\x90\x81\xa5chunk\xa1x",
+    b"\x93\xa1a\x93\x92\x01\x80\x92\x01\x80\x92\x01\x80\x81\xa5chunk\xa1x",
+    b"\x93\xa1a\xcc\x80\x80",
+    b"\x93\xa1a\xc4\x03\x92\x01\x80\x81\xaacompressed\xa4text",
+    b"\x93\xa1a\xc4\x03\x92\x01\x80\x81\xaacompressed\xc0",
+    b"\x92\xa1a\x91\x92\xd7\x00\x00\x00\x00\x01\x00\x00\x00\x02\x80",
+    b"\x92\xa1a\x91\x92\xc7\x08\x00\x00\x00\x00\x01\x00\x00\x00\x02\x80",
+    b"\x92\xa1a\x91\x92\xff\x80",
+    b"\x92\xa1a\xa3\x92\x01\x80",
+    b"\x92\xa1a\xc4\x03\x92\x01\x80",
+    b"\x92\xa1a\xc4\x05\xdc\x00\x02\x01\x80",
 ];
-
-/// Whether a connection whose whole stream is these bytes has so many requests, and no fault.
-fn has_heard(alloc: Global, bytes: &[u8], requests: usize) -> bool {
-    let Ok(mut source) = open_source(alloc) else {
-        return false;
-    };
-    match source.piece(alloc, bytes) {
-        Ok(told) => matches!(told.piece, Piece::Waiting(count) if count == requests),
-        Err(_) => false,
-    }
-}
 
 /// The first front of these bytes that is told otherwise than as no request and no fault yet, or as
 /// one request where it is all of them.
 fn first_other_front(alloc: Global, bytes: &[u8]) -> Option<usize> {
     for count in 0..bytes.len() {
-        if !has_heard(alloc, &bytes[..count], 0) {
+        if waiting_after(alloc, &[&bytes[..count]]) != Some(0) {
             return Some(count);
         }
     }
-    if has_heard(alloc, bytes, 1) {
+    if waiting_after(alloc, &[bytes]) == Some(1) {
         return None;
     }
     Some(bytes.len())
 }
 
 #[test]
-fn a_front_of_a_request_is_no_request_and_no_fault(rt: HostRuntime) -> Result<(), Fail> {
-    for digits in ACCEPTED {
-        let bytes = hex::decode(rt.alloc(), digits)?;
-        assert_eq!(rt; first_other_front(rt.alloc(), &bytes), None, "{digits}");
+fn a_front_of_a_request_is_no_request_and_no_fault(rt: HostRuntime) {
+    for bytes in ACCEPTED {
+        assert_eq!(rt; first_other_front(rt.alloc(), bytes), None);
     }
-    Ok(())
+}
+
+/// How many requests wait once 100,000 have come in one piece, and one more behind them.
+fn many_waiting(alloc: Global) -> Option<usize> {
+    let mut many = Vec::new(alloc);
+    for _ in 0..100_000 {
+        many.extend_from_slice(ACCEPTED[0]).ok()?;
+    }
+    waiting_after(alloc, &[&many, ACCEPTED[0]])
+}
+
+#[test]
+fn many_requests_wait(rt: HostRuntime) {
+    assert_eq!(rt; many_waiting(rt.alloc()), Some(100_001));
 }

@@ -1,122 +1,123 @@
-//! A request of the greatest size at an output: its chunk, its frame and its receipt.
+//! A request of the greatest size goes through the relay: 100,000 entries of 160 bytes, nearly as
+//! long as a value of a source may be, and as long as a chunk may be.
 
-ghost use Rattle.std.specs.Prelude.{◌≡◌};
+use crate::relay::{ACCEPT, answers_with, relay_of};
+use fwd_base::Bytes;
+use fwd_core::Relay;
+use fwd_model::{Answer, Event};
+use fwd_modes::{chunk_name, write_chunk};
+use std::alloc::{AllocError, Global};
 
-use crate::request::batch;
-use crate::requests::{many_entries, many_frame, many_request};
-use crate::session::{ACK, drop_chunk, drop_session, load_chunk, session};
-use fwd_book::Receipt;
-use fwd_chunks::{BufferLimits, Carried, FlushKind, Parts};
-use fwd_core::OutputState;
-use fwd_modes::Origin;
-use fwd_session::Session;
-use std::alloc::Global;
-use std::test::Fail;
+/// An output whose limits the request's entries just fit.
+const SETTINGS: &str = "[[output]]\nmatch = \"**\"\nchunk_limit = 16000000\n\
+    total_limit = 16000000\n[[output.server]]\naddress = \"127.0.0.1:1\"\n";
 
-/// Limits that the request's entries just fit.
-const LIMITS: BufferLimits = BufferLimits {
-    chunk: 16_000_000,
-    total: 16_000_000,
-    interval: 1000,
-    retry_wait: 500,
-    retry_max: 4000,
-    first: 1,
-};
-
-const ORIGIN: Origin = Origin {
-    conn: 7,
-    request: 1,
-};
-
-/// An output of one server, which is given the request for these entries.
-fn output_of(alloc: Global, entries: &[u8]) -> Result<OutputState, Fail> {
-    let bytes = many_request(alloc, entries)?;
-    let request = batch(alloc, &bytes)?;
-    let mut output = OutputState::new(alloc, LIMITS, [0; 6], 0, &[false])?;
-    output.admit(alloc, ORIGIN, &request, 0)?;
-    Ok(output)
-}
-
-/// Whether the pieces, one behind the other, are these bytes.
-fn is_joined(parts: Parts<'_>, bytes: &[u8]) -> bool {
-    let mut rest = bytes;
-    for part in parts {
-        if rest.get(..part.len()) != Some(part) {
-            return false;
-        }
-        rest = rest.get(part.len()..).unwrap_or(&[]);
+/// 100,000 entries one after the other: each a time and a map of one str of 153 bytes.
+fn many_entries(alloc: Global) -> Result<Vec<u8>, AllocError> {
+    let mut entry = vec![in alloc; b'x'; 160]?;
+    for (to, from) in entry.iter_mut().zip(b"\x92\x01\x81\xa1k\xd9\x99") {
+        *to = *from;
     }
-    rest.is_empty()
+    let mut entries = Vec::new(alloc);
+    for _ in 0..100_000 {
+        entries.extend_from_slice(&entry)?;
+    }
+    Ok(entries)
 }
 
-/// The chunk that a worker takes, if it has these entries.
-fn take_chunk(alloc: Global, output: &mut OutputState, entries: &[u8]) -> Result<Carried, Fail> {
-    output.flush(0, FlushKind::All);
-    let Some(chunk) = output.take(alloc, 0, 0)? else {
-        return Err(Fail::from("no chunk"));
+/// The request for these entries, under the tag `a`.
+fn request_of(alloc: Global, entries: &[u8]) -> Result<Vec<u8>, AllocError> {
+    let mut request = Vec::from_slice(alloc, b"\x92\xa1a\xdd\x00\x01\x86\xa0")?;
+    request.extend_from_slice(entries)?;
+    Ok(request)
+}
+
+/// The frame of these entries, under the tag `a`, in the chunk with number 1 of run 0 at output 0.
+fn frame_of(alloc: Global, entries: &[u8]) -> Result<Vec<u8>, AllocError> {
+    let mut frame = Vec::from_slice(alloc, b"\x93\xa1a\xc6\x00\xf4\x24\x00")?;
+    frame.extend_from_slice(entries)?;
+    frame.extend_from_slice(b"\x82\xa4size\xce\x00\x01\x86\xa0")?;
+    frame.extend_from_slice(b"\xa5chunk\xb8AAAAAAAAAAAAAAAAAAAAAQ==")?;
+    Ok(frame)
+}
+
+/// How many requests wait once a piece was heard.
+fn hear(alloc: Global, relay: &mut Relay, piece: &[u8]) -> Option<usize> {
+    let bytes = Bytes::from_slice(alloc, piece).ok()?;
+    match relay.step(alloc, &Event::Piece { conn: 1, bytes }) {
+        Answer::Requests { waiting, .. } => Some(waiting),
+        _ => None,
+    }
+}
+
+/// How many requests wait once these bytes were heard, in pieces of 65,536.
+fn hear_all(alloc: Global, relay: &mut Relay, bytes: &[u8]) -> Option<usize> {
+    let mut waiting = None;
+    for piece in bytes.chunks(65_536) {
+        waiting = hear(alloc, relay, piece);
+    }
+    waiting
+}
+
+/// Whether the frame of the chunk that is loaded is this one.
+fn loads(alloc: Global, relay: &mut Relay, frame: &[u8]) -> bool {
+    let load = Event::Load {
+        output: 0,
+        worker: 0,
+        now: 0,
     };
-    if chunk.count() != 100_000 || !is_joined(chunk.parts(), entries) {
-        drop_chunk(alloc, chunk);
-        return Err(Fail::from("another chunk"));
-    }
-    Ok(chunk)
-}
-
-/// All of the frame is sent, if it is this one, and its acknowledgement is heard.
-fn send(alloc: Global, session: &mut Session, frame: &[u8]) -> Result<(), Fail> {
-    let mut room = Vec::new(alloc);
-    room.resize(frame.len().saturating_add(1), 0)?;
-    let count = session.gather(&mut room);
-    if room.get(..count) != Some(frame) {
-        return Err(Fail::from("another frame"));
-    }
-    session.wrote(session.waiting() as usize);
-    session.heard(alloc, ACK)?;
-    Ok(())
-}
-
-/// How many entries are settled, if the chunk was acknowledged.
-fn settle(output: &mut OutputState, session: &mut Session) -> Option<usize> {
-    let (acked, chunk) = session.acked()?;
-    Some(output.settle(acked, chunk))
-}
-
-/// A session carries the chunk of these entries to its server: how many are settled.
-fn carry(
-    alloc: Global,
-    output: &mut OutputState,
-    session: &mut Session,
-    entries: &[u8],
-) -> Result<Option<usize>, Fail> {
-    let chunk = take_chunk(alloc, output, entries)?;
-    load_chunk(alloc, session, chunk)?;
-    let frame = many_frame(alloc, entries)?;
-    send(alloc, session, &frame)?;
-    Ok(settle(output, session))
-}
-
-/// The same with a session of its own.
-fn settled(alloc: Global, output: &mut OutputState, entries: &[u8]) -> Result<usize, Fail> {
-    let mut session = session(alloc, None)?;
-    let settled = carry(alloc, output, &mut session, entries);
-    drop_session(alloc, session);
-    match settled? {
-        None => Err(Fail::from("not acknowledged")),
-        Some(count) => Ok(count),
+    match relay.step(alloc, &load) {
+        Answer::Frame { out } => out.as_slice() == frame,
+        _ => false,
     }
 }
 
-/// Whether it is the receipt of the request for these entries, which stand in one chunk.
-fn is_whole(receipt: &Receipt, entries: &[u8]) -> bool {
-    receipt.origin() == ORIGIN && receipt.entries() == entries && receipt.parts().len() == 1
+/// From a source's bytes to the acknowledged frame.
+const THERE: &str = "admit 1 0 0\nflush 0 0 all\nup 0 0 0 - 0\ntake 0 0 0\n";
+
+const ANSWERS_THERE: &str = "admitted 1 entries 100000\nclosed 1\ndone\ntook 1 entries 100000\n";
+
+const BACK: &str = "wrote 0 0 16000050\n\
+    heard 0 0 81a361636bb8414141414141414141414141414141414141414141513d3d\nsettle 0 0\n\
+    collect 1 0\n";
+
+const ANSWERS_BACK: &str = "done\nacked out -\nsettled 100000\ntold 1 out -\n";
+
+/// Whether the relay takes the request in pieces, sends the frame, and tells of its end.
+fn goes_through(alloc: Global, relay: &mut Relay, request: &[u8], frame: &[u8]) -> bool {
+    answers_with(alloc, relay, ACCEPT, "accepted out -\n")
+        && hear_all(alloc, relay, request) == Some(1)
+        && answers_with(alloc, relay, THERE, ANSWERS_THERE)
+        && loads(alloc, relay, frame)
+        && answers_with(alloc, relay, BACK, ANSWERS_BACK)
+}
+
+/// The same of a relay of its own.
+fn is_carried(alloc: Global) -> Option<bool> {
+    let entries = many_entries(alloc).ok()?;
+    let request = request_of(alloc, &entries).ok()?;
+    let frame = frame_of(alloc, &entries).ok()?;
+    let mut relay = relay_of(alloc, SETTINGS)?;
+    Some(goes_through(alloc, &mut relay, &request, &frame))
 }
 
 #[test]
-fn a_request_of_the_greatest_size_has_its_receipt(rt: HostRuntime) -> Result<(), Fail> {
-    let entries = many_entries(rt.alloc())?;
-    let mut output = output_of(rt.alloc(), &entries)?;
-    assert_eq!(rt; settled(rt.alloc(), &mut output, &entries)?, 100_000);
-    let receipt = output.receipt(rt.alloc(), ORIGIN)?;
-    assert!(rt; receipt.is_some_and(|receipt| is_whole(&receipt, &entries)));
-    Ok(())
+fn a_request_of_the_greatest_size_goes_through(rt: HostRuntime) {
+    assert!(rt; is_carried(rt.alloc()) == Some(true));
+}
+
+/// Whether the frame is written so in one piece.
+fn is_written(alloc: Global) -> Option<bool> {
+    let entries = many_entries(alloc).ok()?;
+    let frame = frame_of(alloc, &entries).ok()?;
+    let name = chunk_name(&[0; 6], 0, 1);
+    if entries.len() != 16_000_000 {
+        return None;
+    }
+    Some(write_chunk(alloc, b"a", &entries, 100_000, &name).ok()? == frame)
+}
+
+#[test]
+fn a_frame_of_the_greatest_size_is_written(rt: HostRuntime) {
+    assert!(rt; is_written(rt.alloc()) == Some(true));
 }

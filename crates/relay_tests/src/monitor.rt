@@ -4,7 +4,6 @@ use fwd_base::{Bytes, Seq};
 use fwd_chunks::{Counts, Report, TagCount};
 use fwd_monitor::{Reply, answer, page, wants_page};
 use std::alloc::{AllocError, Global};
-use std::test::Fail;
 
 const FIRST: Counts = Counts {
     accepted: 3,
@@ -30,204 +29,142 @@ const PAGE: &str = "HTTP/1.1 200 OK\r\nContent-Type: text/plain\r\nContent-Lengt
     bytes 120 chunks 2\n\
     tag - held 4 bytes 50\ntag 61ff held 6 bytes 70\n";
 
+/// The page of the first output alone: 76 bytes.
+const FIRST_PAGE: &str =
+    "output 0 accepted 3 settled 2 held 1 bytes 3 chunks 1\ntag 61 held 1 bytes 3\n";
+
 const NOT_FOUND: &str = "HTTP/1.1 404 Not Found\r\nContent-Length: 0\r\nConnection: close\r\n\r\n";
 
 const BAD_REQUEST: &str =
     "HTTP/1.1 400 Bad Request\r\nContent-Length: 0\r\nConnection: close\r\n\r\n";
 
+/// What is told where no answer is due yet.
+const MORE: &str = "";
+
 const ASKED: &[u8] = b"GET / HTTP/1.1\r\nHost: a\r\n\r\n";
 
-/// What is held of a tag.
-fn tag_count(alloc: Global, tag: &[u8], held: u64, bytes: u64) -> Result<TagCount, AllocError> {
-    Ok(TagCount {
-        tag: Bytes::from_slice(alloc, tag)?,
-        held,
-        bytes,
-    })
+/// What an output holds of tags: of each its bytes, how many entries, and how many bytes of them.
+fn report(alloc: Global, counts: Counts, held: &[(&[u8], u64, u64)]) -> Result<Report, AllocError> {
+    let mut tags = Seq::new(alloc);
+    for (tag, held, bytes) in held {
+        tags.push(TagCount {
+            tag: Bytes::from_slice(alloc, tag)?,
+            held: *held,
+            bytes: *bytes,
+        })?;
+    }
+    Ok(Report { counts, tags })
 }
 
 /// The first output, which holds an entry of the tag `a`.
 fn first(alloc: Global) -> Result<Report, AllocError> {
-    let mut tags = Seq::new(alloc);
-    tags.push(tag_count(alloc, b"a", 1, 3)?)?;
-    Ok(Report {
-        counts: FIRST,
-        tags,
-    })
+    report(alloc, FIRST, &[(b"a", 1, 3)])
 }
 
 /// The second one, which holds entries of the empty tag and of one that is no text.
 fn second(alloc: Global) -> Result<Report, AllocError> {
-    let mut tags = Seq::new(alloc);
-    tags.push(tag_count(alloc, b"", 4, 50)?)?;
-    tags.push(tag_count(alloc, b"a\xff", 6, 70)?)?;
-    Ok(Report {
-        counts: SECOND,
-        tags,
-    })
+    report(alloc, SECOND, &[(b"", 4, 50), (b"a\xff", 6, 70)])
 }
 
 /// Whether these bytes are told this text.
 fn is_told(alloc: Global, head: &[u8], text: &str) -> Result<bool, AllocError> {
-    match answer(alloc, head, &[first(alloc)?, second(alloc)?])? {
-        Reply::More => Ok(false),
-        Reply::Bytes(bytes) => Ok(bytes.as_slice() == text.as_bytes()),
-    }
-}
-
-/// Whether these bytes are told nothing yet.
-fn waits(alloc: Global, head: &[u8]) -> Result<bool, AllocError> {
-    match answer(alloc, head, &[first(alloc)?, second(alloc)?])? {
-        Reply::More => Ok(true),
-        Reply::Bytes(_) => Ok(false),
-    }
-}
-
-/// The lines of a head for the page, with so many headers: its empty line has not come.
-fn header_lines(alloc: Global, count: usize) -> Result<Vec<u8>, AllocError> {
-    let mut head = b"GET / HTTP/1.1\r\n".to_vec(alloc)?;
-    for _ in 0..count {
-        head.extend_from_slice(b"a: b\r\n")?;
-    }
-    Ok(head)
-}
-
-/// A head for the page, with so many headers.
-fn with_headers(alloc: Global, count: usize) -> Result<Vec<u8>, AllocError> {
-    let mut head = header_lines(alloc, count)?;
-    head.extend_from_slice(b"\r\n")?;
-    Ok(head)
-}
-
-/// Whether so many header lines wait for their empty line, and do so with a further line's front.
-fn lines_wait(alloc: Global, count: usize) -> Result<bool, AllocError> {
-    let mut head = header_lines(alloc, count)?;
-    let is_let = waits(alloc, &head)?;
-    head.extend_from_slice(b"a: b")?;
-    Ok(is_let && waits(alloc, &head)?)
-}
-
-/// Whether so many header lines are refused before their empty line, and with a further line's
-/// front.
-fn lines_are_refused(alloc: Global, count: usize) -> Result<bool, AllocError> {
-    let mut head = header_lines(alloc, count)?;
-    let is_refused = is_told(alloc, &head, BAD_REQUEST)?;
-    head.extend_from_slice(b"a: b")?;
-    Ok(is_refused && is_told(alloc, &head, BAD_REQUEST)?)
-}
-
-/// The front of a head for the page: 19 bytes, and so many of its first header's value.
-fn unfinished(alloc: Global, value: usize) -> Result<Vec<u8>, AllocError> {
-    let mut head = b"GET / HTTP/1.1\r\na: ".to_vec(alloc)?;
-    for _ in 0..value {
-        head.push(b'b')?;
-    }
-    Ok(head)
-}
-
-#[test]
-fn a_line_for_each_output(rt: HostRuntime) -> Result<(), Fail> {
-    let alone = Report {
-        counts: FIRST,
-        tags: Seq::new(rt.alloc()),
+    let reports = [first(alloc)?, second(alloc)?];
+    let is_told = match answer(alloc, head, &reports)? {
+        Reply::More => text == MORE,
+        Reply::Bytes(bytes) => bytes.as_slice() == text.as_bytes(),
     };
-    let text = page(rt.alloc(), &[alone])?;
-    assert_eq!(rt;
-        text.as_str(),
-        "output 0 accepted 3 settled 2 held 1 bytes 3 chunks 1\n"
-    );
-    assert_eq!(rt; text.len(), 54);
-    let text = page(rt.alloc(), &[])?;
-    assert_eq!(rt; text.as_str(), "");
-    Ok(())
+    Ok(is_told && wants_page(head) == (text == PAGE))
+}
+
+/// Whether the page of the first output is its text.
+fn is_page(alloc: Global) -> Result<bool, AllocError> {
+    let text = page(alloc, &[first(alloc)?])?;
+    Ok(text.as_str() == FIRST_PAGE && text.len() == 76)
 }
 
 #[test]
-fn a_line_for_each_tag(rt: HostRuntime) -> Result<(), Fail> {
-    let text = page(rt.alloc(), &[first(rt.alloc())?])?;
-    assert_eq!(rt;
-        text.as_str(),
-        "output 0 accepted 3 settled 2 held 1 bytes 3 chunks 1\ntag 61 held 1 bytes 3\n"
-    );
-    assert_eq!(rt; text.len(), 76);
-    Ok(())
+fn a_line_for_each_output_and_tag(rt: HostRuntime) {
+    assert!(rt; is_page(rt.alloc()) == Ok(true));
 }
 
-#[test]
-fn the_page_is_wanted_by_its_head_alone(rt: HostRuntime) -> Result<(), Fail> {
-    assert!(rt; wants_page(ASKED));
-    assert!(rt; !wants_page(b"GET /metrics HTTP/1.1\r\n\r\n"));
-    assert!(rt; !wants_page(b"GET / HTTP/1.1\r\n"));
-    assert!(rt; !wants_page(b"\x01"));
-    Ok(())
-}
+const HEADS: &[(&[u8], &str)] = &[
+    (ASKED, PAGE),
+    (b"GET / HTTP/1.0\n\n", PAGE),
+    (b"GET / HTTP/1.1\r\n\r\nGET /", PAGE),
+    (b"GET /metrics HTTP/1.1\r\n\r\n", NOT_FOUND),
+    (b"GET /? HTTP/1.1\r\n\r\n", NOT_FOUND),
+    (b"HEAD / HTTP/1.1\r\n\r\n", NOT_FOUND),
+    (b"get / HTTP/1.1\r\n\r\n", NOT_FOUND),
+    (b"\x01", BAD_REQUEST),
+    (b"GET  / HTTP/1.1\r\n\r\n", BAD_REQUEST),
+    (b"GET / HTTP/1.2\r\n\r\n", BAD_REQUEST),
+    (b"GET / HTTP/1.9\r\n\r\n", BAD_REQUEST),
+    (b"GET / HTTP/2.0\r\n\r\n", BAD_REQUEST),
+    (b"GET / HTTP/1.1\r\n: b\r\n", BAD_REQUEST),
+];
 
 #[test]
-fn the_page_is_told(rt: HostRuntime) -> Result<(), Fail> {
-    let alloc = rt.alloc();
-    assert!(rt; is_told(alloc, ASKED, PAGE)?);
-    assert!(rt; is_told(alloc, b"GET / HTTP/1.0\n\n", PAGE)?);
-    assert!(rt; is_told(alloc, b"GET / HTTP/1.1\r\n\r\nGET /", PAGE)?);
-    Ok(())
-}
-
-#[test]
-fn others_are_not_found(rt: HostRuntime) -> Result<(), Fail> {
-    let alloc = rt.alloc();
-    assert!(rt; is_told(alloc, b"GET /metrics HTTP/1.1\r\n\r\n", NOT_FOUND)?);
-    assert!(rt; is_told(alloc, b"GET /? HTTP/1.1\r\n\r\n", NOT_FOUND)?);
-    assert!(rt; is_told(alloc, b"HEAD / HTTP/1.1\r\n\r\n", NOT_FOUND)?);
-    assert!(rt; is_told(alloc, b"get / HTTP/1.1\r\n\r\n", NOT_FOUND)?);
-    Ok(())
-}
-
-#[test]
-fn what_is_no_request_is_bad(rt: HostRuntime) -> Result<(), Fail> {
-    let alloc = rt.alloc();
-    assert!(rt; is_told(alloc, b"\x01", BAD_REQUEST)?);
-    assert!(rt; is_told(alloc, b"GET  / HTTP/1.1\r\n\r\n", BAD_REQUEST)?);
-    assert!(rt; is_told(alloc, b"GET / HTTP/1.2\r\n\r\n", BAD_REQUEST)?);
-    assert!(rt; is_told(alloc, b"GET / HTTP/1.9\r\n\r\n", BAD_REQUEST)?);
-    assert!(rt; is_told(alloc, b"GET / HTTP/2.0\r\n\r\n", BAD_REQUEST)?);
-    assert!(rt; is_told(alloc, b"GET / HTTP/1.1\r\n: b\r\n", BAD_REQUEST)?);
-    Ok(())
-}
-
-#[test]
-fn headers_are_counted(rt: HostRuntime) -> Result<(), Fail> {
-    let alloc = rt.alloc();
-    assert!(rt; is_told(alloc, &with_headers(alloc, 64)?, PAGE)?);
-    assert!(rt; is_told(alloc, &with_headers(alloc, 65)?, BAD_REQUEST)?);
-    Ok(())
-}
-
-#[test]
-fn unfinished_headers_are_counted(rt: HostRuntime) -> Result<(), Fail> {
-    let alloc = rt.alloc();
-    assert!(rt; lines_wait(alloc, 63)?);
-    assert!(rt; lines_wait(alloc, 64)?);
-    assert!(rt; lines_are_refused(alloc, 65)?);
-    assert!(rt; lines_are_refused(alloc, 66)?);
-    Ok(())
-}
-
-#[test]
-fn unfinished_bytes_are_counted(rt: HostRuntime) -> Result<(), Fail> {
-    let alloc = rt.alloc();
-    assert!(rt; waits(alloc, &unfinished(alloc, 8172)?)?);
-    let mut head = unfinished(alloc, 8173)?;
-    assert_eq!(rt; head.len(), 8192);
-    assert!(rt; is_told(alloc, &head, BAD_REQUEST)?);
-    head.extend_from_slice(b"\r\n\r\n")?;
-    assert!(rt; is_told(alloc, &head, PAGE)?);
-    Ok(())
-}
-
-#[test]
-fn each_front_of_a_head_waits(rt: HostRuntime) -> Result<(), Fail> {
-    let alloc = rt.alloc();
-    for end in 0..ASKED.len() {
-        assert!(rt; waits(alloc, &ASKED[..end])?, "cut at {end}");
+fn each_head_has_its_answer(rt: HostRuntime) {
+    for (head, text) in HEADS {
+        assert!(rt; is_told(rt.alloc(), head, text) == Ok(true), "{text}");
     }
-    Ok(())
+    for end in 0..ASKED.len() {
+        assert!(rt;
+            is_told(rt.alloc(), &ASKED[..end], MORE) == Ok(true),
+            "cut at {end}"
+        );
+    }
+}
+
+const LINE: &[u8] = b"a: b\r\n";
+
+/// Heads for the page behind their first line: a front, what comes behind it so many times, and a
+/// back. Those of 8,173 times have 8,192 bytes without their back.
+const LONG_HEADS: &[(&[u8], &[u8], usize, &[u8], &str)] = &[
+    (b"", LINE, 63, b"", MORE),
+    (b"", LINE, 63, b"a: b", MORE),
+    (b"", LINE, 64, b"", MORE),
+    (b"", LINE, 64, b"a: b", MORE),
+    (b"", LINE, 64, b"\r\n", PAGE),
+    (b"", LINE, 65, b"", BAD_REQUEST),
+    (b"", LINE, 65, b"a: b", BAD_REQUEST),
+    (b"", LINE, 65, b"\r\n", BAD_REQUEST),
+    (b"", LINE, 66, b"", BAD_REQUEST),
+    (b"", LINE, 66, b"a: b", BAD_REQUEST),
+    (b"a: ", b"b", 8172, b"", MORE),
+    (b"a: ", b"b", 8173, b"", BAD_REQUEST),
+    (b"a: ", b"b", 8173, b"\r\n\r\n", PAGE),
+];
+
+/// A head for the page, of these parts.
+fn head_of(
+    alloc: Global,
+    front: &[u8],
+    unit: &[u8],
+    count: usize,
+    back: &[u8],
+) -> Result<Vec<u8>, AllocError> {
+    let mut head = b"GET / HTTP/1.1\r\n".to_vec(alloc)?;
+    head.extend_from_slice(front)?;
+    for _ in 0..count {
+        head.extend_from_slice(unit)?;
+    }
+    head.extend_from_slice(back)?;
+    Ok(head)
+}
+
+/// The first of the long heads that is told another text, if there is memory for all.
+fn first_wrong(alloc: Global) -> Result<Option<usize>, AllocError> {
+    for (place, (front, unit, count, back, text)) in LONG_HEADS.iter().enumerate() {
+        let head = head_of(alloc, front, unit, *count, back)?;
+        if !is_told(alloc, &head, text)? {
+            return Ok(Some(place));
+        }
+    }
+    Ok(None)
+}
+
+#[test]
+fn headers_and_bytes_are_counted(rt: HostRuntime) {
+    assert_eq!(rt; first_wrong(rt.alloc()), Ok(None));
 }
