@@ -36,6 +36,7 @@ import urllib.request
 import msgpack
 
 sys.path.insert(0, str(pathlib.Path(__file__).resolve().parent / "refused_memory"))
+from page import parse_page
 from refusing import Refusals, build, environment
 
 SOURCES = 4
@@ -307,7 +308,7 @@ class Site:
         lines = errors.decode().splitlines()
         said = [line for line in lines if not LINES.fullmatch(line)]
         page = b"output 0 accepted 0 settled 0 held 0 bytes 0 chunks 0\n"
-        good = child.returncode == 0 and out == page and not said
+        good = child.returncode == 0 and out.endswith(page) and not said
         good = good or child.returncode == 4 and not out and len(said) == 1 and START_TEXTS.fullmatch(said[0])
         self.verdict.judge(good, f"start, refused at {at}: status {child.returncode}, {out!r}, {lines}")
         return self.refusals.count() > 0
@@ -346,16 +347,15 @@ class Site:
         """The counts of a page, judged beside the last ones; None where the monitor gave none."""
         try:
             with urllib.request.urlopen(f"http://127.0.0.1:{self.monitor}/", timeout=10) as answer:
-                page = answer.read().decode()
+                (output,) = parse_page(answer.read())
         except OSError:
             self.unanswered += 1
             return None
-        first, *tags = [line.split() for line in page.splitlines()]
-        accepted, settled, held, held_bytes = (int(first[place]) for place in (3, 5, 7, 9))
+        accepted, settled, held = output.accepted, output.settled, output.held
         good = accepted == settled + held and accepted >= self.counts[0] and settled >= self.counts[1]
-        good = good and held == sum(int(tag[3]) for tag in tags) and held_bytes == sum(int(tag[5]) for tag in tags)
-        if not good:
-            self.verdict.wrong(f"a page behind {self.counts}: {page!r}")
+        good = good and held == sum(tag.held for tag in output.tags)
+        if not good or output.bytes != sum(tag.bytes for tag in output.tags):
+            self.verdict.wrong(f"a page behind {self.counts}: {output}")
         self.counts = accepted, settled, held
         return self.counts
 

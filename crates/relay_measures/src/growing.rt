@@ -332,17 +332,21 @@ fn report(alloc: Global) -> Result<Report, AllocError> {
     Ok(Report { counts, tags })
 }
 
-/// The monitor's page.
+/// The last line of the page that is made here.
+const TAG_LINE: &str = "tag 61 held 1 bytes 3\n";
+
+/// The monitor's page: whether it ends with its tag's line.
 fn tell_page<R: Print + AllocGlobal>(rt: &R, reports: &[Report]) -> Result<(), AllocError> {
     let text = page(rt.alloc(), reports)?;
-    tell(rt, "monitor page", &Hex(text.as_bytes()));
+    tell(rt, "monitor page", &text.as_str().ends_with(TAG_LINE));
     Ok(())
 }
 
-/// The answer to a head that asks for it.
+/// The answer to a head that asks for it: whether it ends so, too.
 fn tell_reply<R: Print + AllocGlobal>(rt: &R, reports: &[Report]) -> Result<(), AllocError> {
     if let Reply::Bytes(bytes) = answer(rt.alloc(), b"GET / HTTP/1.1\r\n\r\n", reports)? {
-        tell(rt, "monitor answer", &bytes.len());
+        let is_page = bytes.as_slice().ends_with(TAG_LINE.as_bytes());
+        tell(rt, "monitor answer", &is_page);
     }
     Ok(())
 }

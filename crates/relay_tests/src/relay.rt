@@ -95,7 +95,7 @@ fn page_of(alloc: Global, relay: &Relay) -> Option<String> {
 }
 
 /// Whether a relay of these settings, which a connection came to, gives for each of these lines
-/// these answers, and shows this page then.
+/// these answers, and shows a page then that ends so.
 fn shows(alloc: Global, settings: &str, steps: &[(&str, &str, &str)]) -> bool {
     let Some(mut relay) = relay_of(alloc, settings) else {
         return false;
@@ -104,7 +104,7 @@ fn shows(alloc: Global, settings: &str, steps: &[(&str, &str, &str)]) -> bool {
     for (lines, answers, wanted) in steps {
         is_right = is_right
             && answers_with(alloc, &mut relay, lines, answers)
-            && page_of(alloc, &relay).is_some_and(|text| text.as_str() == *wanted);
+            && page_of(alloc, &relay).is_some_and(|text| text.as_str().ends_with(*wanted));
     }
     is_right
 }
