@@ -67,10 +67,10 @@ struct Call {
     manner: Manner,
 }
 
-/// Calls: with settings that are not there, that are refused, of an address of sources, and of
-/// monitors, that no machine has; a run that ends behind its turns; words that ask for no run; and
-/// outputs that cannot be flushed, or written.
-static CALLS: [Call; 9] = [
+/// Calls: with settings that are not there, that are refused, and of an address that no machine
+/// has; a run that ends behind its turns; words that ask for no run; and outputs that cannot be
+/// flushed, or written.
+static CALLS: [Call; 8] = [
     Call {
         words: &["run", "missing.toml", "1"],
         manner: Manner::Gives,
@@ -81,10 +81,6 @@ static CALLS: [Call; 9] = [
     },
     Call {
         words: &["run", "taken.toml", "1"],
-        manner: Manner::Gives,
-    },
-    Call {
-        words: &["run", "unwatched.toml", "1"],
         manner: Manner::Gives,
     },
     Call {
@@ -145,22 +141,20 @@ impl Call {
     }
 }
 
-/// Writes settings to a file: of a relay at a free port of this machine, with these keys beside, to
-/// a server that is not there.
-fn write_settings<R: Net<Listener = TcpListener, Stream = TcpStream> + Files + AllocGlobal>(
+/// Writes good settings to a file: of a relay at a free port of this machine, to a server that is
+/// not there.
+fn write_good<R: Net<Listener = TcpListener, Stream = TcpStream> + Files + AllocGlobal>(
     rt: &R,
-    path: &str,
-    keys: &str,
 ) -> Result<()> {
     let address = Server::new(rt, 78)?.address;
     let text = format!(in rt.alloc();
-        "[relay]\nlisten = \"{address}\"\n{keys}[[output]]\nmatch = \"**\"\n\
+        "[relay]\nlisten = \"{address}\"\n[[output]]\nmatch = \"**\"\n\
         [[output.server]]\naddress = \"127.0.0.78:1\"\n"
     )?;
-    Ok(fs::write(rt, path, text.as_str())?)
+    Ok(fs::write(rt, "good.toml", text.as_str())?)
 }
 
-/// Writes the settings of the calls, and makes these.
+/// Writes the good settings, and makes the calls.
 fn try_ends<
     R: Net<Listener = TcpListener, Stream = TcpStream>
         + Threads
@@ -171,12 +165,10 @@ fn try_ends<
         + AllocGlobal
         + Sync,
 >(rt: &R) -> Result<()> {
-    write_settings(rt, "good.toml", "")?;
-    write_settings(rt, "unwatched.toml", "monitor = \"203.0.113.1:21948\"\n")?;
+    write_good(rt)?;
     for call in &CALLS {
         call.say(rt)?;
     }
-    fs::remove_file(rt, "unwatched.toml")?;
     Ok(fs::remove_file(rt, "good.toml")?)
 }
 

@@ -63,7 +63,7 @@ fn main(rt: HostRuntime) {
     say_scenes(&rt, scene::play_all(&rt, &windows::WINDOWS));
     say(&rt, by_hand::text_of_turns(&rt, 17));
     say_next(&rt);
-    starts::say_starts(&rt, 15);
+    say(&rt, starts::text_of_starts(&rt, 15));
     say_next(&rt);
     facts::say_each(&rt);
     say_next(&rt);

@@ -511,6 +511,7 @@ pub static SCENES: [Scene; 17] = [
             Said::IsLost,
             Said::FirstLost,
             Said::Returns,
+            Said::IsChanged,
             Said::Others,
         ],
         ..SCENE

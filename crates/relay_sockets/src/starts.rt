@@ -1,33 +1,68 @@
 //! Why a relay does not start, and what is said of it.
 
 use crate::sealed::Sealed;
-use crate::site::PLAIN;
+use crate::site::{PLAIN, SEED, Site};
 use crate::stage::Stage;
-use anyhow::Result;
+use crate::told::Told;
+use anyhow::{Result, anyhow};
 use fwd_loop::StartFault;
-use std::net::{Net, TcpListener, TcpStream};
+use std::net::{Net, SocketAddr, TcpListener, TcpStream};
 use std::rt::Clock;
 
-/// Starts a relay that has no seed, and no file to draw one from.
-fn start<R: Net<Listener = TcpListener, Stream = TcpStream> + Clock + AllocGlobal>(
+/// What a relay with these keys says that does not start.
+fn start<R: Net<Listener = TcpListener, Stream = TcpStream> + AllocGlobal>(
     rt: &R,
-    host: u8,
-) -> Result<()> {
-    let stage = Stage::new(rt, rt.alloc(), host)?;
-    let _started = stage.site.relay(&Sealed::new(rt), 8, "", &[PLAIN])?;
-    Ok(())
+    site: Site,
+    keys: &str,
+) -> Result<String> {
+    match site.relay(&Sealed::new(rt), 8, keys, &[PLAIN]) {
+        Ok(_) => Err(anyhow!("it starts")),
+        Err(fault) => Ok(format!(in rt.alloc(); "{fault}")?),
+    }
 }
 
-/// Says what such a relay says, and the texts of what no test can cause. That an address cannot be
-/// listened at is told of whole runs.
-pub fn say_starts<R: Net<Listener = TcpListener, Stream = TcpStream> + Clock + Print + AllocGlobal>(
+/// Whether a relay does not start since this address is taken, and says so.
+fn is_refused<R: Net<Listener = TcpListener, Stream = TcpStream> + AllocGlobal>(
+    rt: &R,
+    site: Site,
+    taken: SocketAddr,
+) -> Result<bool> {
+    let due = format!(in rt.alloc(); "listen: {taken}")?;
+    Ok(start(rt, site, SEED)?.as_str() == due.as_str())
+}
+
+/// What relays say that do not start: where sources, or monitors, cannot be listened for, and where
+/// there is no seed, and no file to draw one from.
+fn tell_starts<R: Net<Listener = TcpListener, Stream = TcpStream> + AllocGlobal>(
+    rt: &R,
+    site: Site,
+    told: &mut Told,
+) -> Result<()> {
+    let taken = site.servers[0];
+    let front = Site {
+        sources: taken,
+        ..site
+    };
+    let behind = Site {
+        monitors: taken,
+        ..site
+    };
+    told.put("sources", &is_refused(rt, front, taken)?)?;
+    told.put("monitors", &is_refused(rt, behind, taken)?)?;
+    told.put("seed", &start(rt, site, "")?)
+}
+
+/// What is printed of that, and the texts of what no test can cause.
+pub fn text_of_starts<R: Net<Listener = TcpListener, Stream = TcpStream> + Clock + AllocGlobal>(
     rt: &R,
     host: u8,
-) {
-    if let Err(fault) = start(rt, host) {
-        let _ = println!(rt; "{fault}");
-    }
+) -> Result<String> {
+    let mut stage = Stage::new(rt, rt.alloc(), host)?;
+    stage.told.begin("no start");
+    let told = tell_starts(rt, stage.site, &mut stage.told);
+    stage.told.note(told);
     for fault in &[StartFault::Memory, StartFault::Poll, StartFault::Thread] {
-        let _ = println!(rt; "{fault}");
+        let _ = write!(stage.told.text, "\n  {fault}");
     }
+    Ok(stage.take_text())
 }
