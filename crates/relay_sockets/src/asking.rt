@@ -43,15 +43,39 @@ impl<'a> Env for Variable<'a> {
     }
 }
 
+/// What environments have.
+static VARIABLES: [Variable<'static>; 6] = [
+    Variable {
+        name: "FORWARD_RELAY_LOG",
+        value: "info",
+    },
+    Variable {
+        name: "FORWARD_RELAY_LOG",
+        value: "Info",
+    },
+    Variable {
+        name: "FORWARD_RELAY_LOG",
+        value: "",
+    },
+    Variable {
+        name: "FORWARD_RELAY_LOG",
+        value: "info ",
+    },
+    Variable {
+        name: "FORWARD_RELAY_LOG",
+        value: "debug",
+    },
+    Variable {
+        name: "LOG",
+        value: "info",
+    },
+];
+
 /// Says what each environment asks for.
-pub fn say_asked(rt: &(impl Print + AllocGlobal)) -> anyhow::Result<()> {
-    let name = "FORWARD_RELAY_LOG";
-    for value in ["info", "Info", "", "info ", "debug"] {
-        let log = asked_log(&(Variable { name, value }, rt.alloc()));
-        println!(rt; "{name}={value}: {log:?}")?;
+pub fn say_asked(rt: &(impl Print + AllocGlobal)) {
+    for variable in &VARIABLES {
+        let Variable { name, value } = *variable;
+        let log = asked_log(&(*variable, rt.alloc()));
+        let _ = println!(rt; "{name}={value}: {log:?}");
     }
-    let (name, value) = ("LOG", "info");
-    let log = asked_log(&(Variable { name, value }, rt.alloc()));
-    println!(rt; "{name}={value}: {log:?}")?;
-    Ok(())
 }

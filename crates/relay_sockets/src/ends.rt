@@ -9,115 +9,136 @@ use std::net::{Net, TcpListener, TcpStream};
 use std::rt::{Clock, Files};
 use std::sync::Wait;
 use std::thread::Threads;
-use std::{fs, io, str};
+use std::{fs, io};
 
-/// A call's words as the system gives them, the program's own name before them.
-fn words_of(alloc: Global, call: &[&str]) -> io::Result<Vec<String>> {
-    let mut words = Vec::new(alloc);
-    words.push(String::from_str(alloc, "relay")?)?;
-    for word in call {
-        words.push(String::from_str(alloc, word)?)?;
-    }
-    Ok(words)
-}
-
-/// A writer that takes nothing.
+/// What a writer does.
 #[derive(Clone, Copy)]
-struct Full;
-
-impl Write for Full {
-    fn write(&mut self, _buf: &[u8]) -> io::Result<usize> {
-        Err(io::Error::from(ErrorKind::StorageFull))
-    }
-
-    fn flush(&mut self) -> io::Result<()> {
-        Ok(())
-    }
+enum Manner {
+    /// It takes all, and gives it on when it is flushed.
+    Gives,
+    /// It takes all, and cannot be flushed.
+    Keeps,
+    /// It takes nothing.
+    IsFull,
 }
 
-/// A writer that takes all and gives it on when it is flushed, which fails where it is to.
+/// Such a writer.
 #[derive(Drop)]
 struct Pipe {
+    manner: Manner,
     held: Vec<u8>,
     given: Vec<u8>,
-    flush_fails: bool,
+}
+
+impl Pipe {
+    /// A writer that nothing was written to.
+    fn new(alloc: Global, manner: Manner) -> Pipe {
+        Pipe {
+            manner,
+            held: Vec::new(alloc),
+            given: Vec::new(alloc),
+        }
+    }
 }
 
 impl Write for Pipe {
     fn write(&mut self, buf: &[u8]) -> io::Result<usize> {
+        if self.manner == Manner::IsFull {
+            return Err(io::Error::from(ErrorKind::StorageFull));
+        }
         self.held.extend_from_slice(buf)?;
         Ok(buf.len())
     }
 
     fn flush(&mut self) -> io::Result<()> {
-        if self.flush_fails {
+        if self.manner == Manner::Keeps {
             return Err(io::Error::from(ErrorKind::Other));
         }
-        self.given.extend_from_slice(self.held.as_slice())?;
+        self.given.extend_from_slice(&self.held)?;
         self.held.clear();
         Ok(())
     }
 }
 
-/// The exit status of the whole program, called without input.
-fn status_of<
-    R: Net<Listener = TcpListener, Stream = TcpStream>
-        + Threads
-        + Wait
-        + Clock
-        + Files
-        + AllocGlobal
-        + Sync,
-    W: Write,
->(rt: &R, call: &[&str], output: &mut W, errors: &mut Vec<u8>) -> u8 {
-    let words = words_of(rt.alloc(), call);
-    let mut input = b"".as_slice();
-    run_all(rt, words, Log::Off, &mut input, output, errors)
+/// A call of the program over a writer.
+#[derive(Clone, Copy)]
+struct Call {
+    words: &'static [&'static str],
+    manner: Manner,
 }
 
-/// Says what a call came to: its exit status, what it wrote, and what it told.
-fn say(rt: &impl Print, call: &[&str], status: u8, output: &[u8], errors: &[u8]) -> Result<()> {
-    let written = str::from_utf8(output)?;
-    let told = str::from_utf8(errors)?;
-    println!(rt; "{call:?}: {status} {written:?} {told:?}")?;
-    Ok(())
-}
+/// Calls: with settings that are not there, that are refused, and of an address that no machine
+/// has; a run that ends behind its turns; words that ask for no run; and outputs that cannot be
+/// flushed, or written.
+static CALLS: [Call; 8] = [
+    Call {
+        words: &["run", "missing.toml", "1"],
+        manner: Manner::Gives,
+    },
+    Call {
+        words: &["run", "refused.toml", "1"],
+        manner: Manner::Gives,
+    },
+    Call {
+        words: &["run", "taken.toml", "1"],
+        manner: Manner::Gives,
+    },
+    Call {
+        words: &["run", "good.toml", "1"],
+        manner: Manner::Gives,
+    },
+    Call {
+        words: &["run", "good.toml", "01"],
+        manner: Manner::Gives,
+    },
+    Call {
+        words: &["run"],
+        manner: Manner::Gives,
+    },
+    Call {
+        words: &["run", "good.toml", "1"],
+        manner: Manner::Keeps,
+    },
+    Call {
+        words: &["run", "good.toml", "1"],
+        manner: Manner::IsFull,
+    },
+];
 
-/// Calls the whole program over an output whose flush fails or not, and says what came of it.
-fn say_end<
-    R: Net<Listener = TcpListener, Stream = TcpStream>
-        + Threads
-        + Wait
-        + Clock
-        + Files
-        + Print
-        + AllocGlobal
-        + Sync,
->(rt: &R, call: &[&str], flush_fails: bool) -> Result<()> {
-    let mut pipe = Pipe {
-        held: Vec::new(rt.alloc()),
-        given: Vec::new(rt.alloc()),
-        flush_fails,
-    };
-    let mut errors = Vec::new(rt.alloc());
-    let status = status_of(rt, call, &mut pipe, &mut errors);
-    say(rt, call, status, pipe.given.as_slice(), errors.as_slice())
-}
+impl Call {
+    /// Its words as the system gives them, the program's own name before them.
+    fn words(self, alloc: Global) -> io::Result<Vec<String>> {
+        let mut words = Vec::new(alloc);
+        words.push(String::from_str(alloc, "relay")?)?;
+        for word in self.words {
+            words.push(String::from_str(alloc, word)?)?;
+        }
+        Ok(words)
+    }
 
-/// The same over an output that takes nothing.
-fn say_unwritten<
-    R: Net<Listener = TcpListener, Stream = TcpStream>
-        + Threads
-        + Wait
-        + Clock
-        + Files
-        + Print
-        + AllocGlobal
-        + Sync,
->(rt: &R, call: &[&str]) -> Result<()> {
-    let mut errors = Vec::new(rt.alloc());
-    let status = status_of(rt, call, &mut Full, &mut errors);
-    say(rt, call, status, b"", errors.as_slice())
+    /// Calls the whole program, and says its exit status, what it wrote, and what it told.
+    fn say<
+        R: Net<Listener = TcpListener, Stream = TcpStream>
+            + Threads
+            + Wait
+            + Clock
+            + Files
+            + Print
+            + AllocGlobal
+            + Sync,
+    >(self, rt: &R) -> Result<()> {
+        let alloc = rt.alloc();
+        let mut output = Pipe::new(alloc, self.manner);
+        let mut errors = Vec::new(alloc);
+        let words = self.words(alloc);
+        let mut input = b"".as_slice();
+        let status = run_all(rt, words, Log::Off, &mut input, &mut output, &mut errors);
+        let written = String::from_utf8_lossy(alloc, &output.given)?;
+        let told = String::from_utf8_lossy(alloc, &errors)?;
+        let words = self.words;
+        let _ = println!(rt; "{words:?}: {status} {written:?} {told:?}");
+        Ok(())
+    }
 }
 
 /// Writes good settings to a file: of a relay at a free port of this machine, to a server that is
@@ -133,10 +154,8 @@ fn write_good<R: Net<Listener = TcpListener, Stream = TcpStream> + Files + Alloc
     Ok(fs::write(rt, "good.toml", text.as_str())?)
 }
 
-/// Says how runs end: by settings that are not there, that are refused, and of an address that no
-/// machine has; behind their turns; by words that ask for no run; and where the output cannot be
-/// flushed or written.
-pub fn say_ends<
+/// Writes the good settings, and makes the calls.
+fn try_ends<
     R: Net<Listener = TcpListener, Stream = TcpStream>
         + Threads
         + Wait
@@ -147,17 +166,24 @@ pub fn say_ends<
         + Sync,
 >(rt: &R) -> Result<()> {
     write_good(rt)?;
-    for call in [
-        ["run", "missing.toml", "1"],
-        ["run", "refused.toml", "1"],
-        ["run", "taken.toml", "1"],
-        ["run", "good.toml", "1"],
-        ["run", "good.toml", "01"],
-    ] {
-        say_end(rt, &call, false)?;
+    for call in &CALLS {
+        call.say(rt)?;
     }
-    say_end(rt, &["run"], false)?;
-    say_end(rt, &["run", "good.toml", "1"], true)?;
-    say_unwritten(rt, &["run", "good.toml", "1"])?;
     Ok(fs::remove_file(rt, "good.toml")?)
+}
+
+/// Says how runs end.
+pub fn say_ends<
+    R: Net<Listener = TcpListener, Stream = TcpStream>
+        + Threads
+        + Wait
+        + Clock
+        + Files
+        + Print
+        + AllocGlobal
+        + Sync,
+>(rt: &R) {
+    if let Err(error) = try_ends(rt) {
+        let _ = println!(rt; "failed: {error}");
+    }
 }

@@ -12,7 +12,7 @@ use std::io;
 use std::net::{Ipv4Addr, Ipv6Addr, SocketAddr};
 
 /// Why sources are closed.
-const ENDS: [SourceEnd; 16] = [
+static ENDS: [SourceEnd; 16] = [
     SourceEnd::Fault(SourceFault::Scan(ScanFault::Reserved)),
     SourceEnd::Fault(SourceFault::Scan(ScanFault::TooDeep)),
     SourceEnd::Fault(SourceFault::Scan(ScanFault::TooLong)),
@@ -32,7 +32,7 @@ const ENDS: [SourceEnd; 16] = [
 ];
 
 /// Why servers are lost.
-const LOSSES: [Loss; 13] = [
+static LOSSES: [Loss; 13] = [
     Loss::Link(LinkFault::Connect),
     Loss::Link(LinkFault::Read),
     Loss::Link(LinkFault::Write),
@@ -46,6 +46,18 @@ const LOSSES: [Loss; 13] = [
     Loss::Fault(SessionFault::BadDigest),
     Loss::Late,
     Loss::Memory,
+];
+
+/// What else is told.
+static OTHERS: [Fact; 5] = [
+    Fact::Memory(Want::Monitor),
+    Fact::Memory(Want::Output(3)),
+    Fact::Memory(Want::News),
+    Fact::FewFiles {
+        files: 256,
+        sources: 92,
+    },
+    Fact::Descriptors(Caller::Source),
 ];
 
 /// A journal that is told each fact a second after the one before.
@@ -76,36 +88,30 @@ pub fn say_each(rt: &impl Print) {
         now: START,
         journal: Journal::new(&clock, &mut out),
     };
-    for caller in [Caller::Source, Caller::Monitor] {
-        let address = peer;
+    for caller in &[Caller::Source, Caller::Monitor] {
+        let (caller, address) = (*caller, peer);
         teller.tell(Fact::Listening { caller, address });
         teller.tell(Fact::OverLimit { caller, peer });
     }
-    for why in ENDS {
-        teller.tell(Fact::SourceClosed { peer, why });
+    for why in &ENDS {
+        teller.tell(Fact::SourceClosed { peer, why: *why });
     }
-    for why in LOSSES {
+    for why in &LOSSES {
         teller.tell(Fact::ServerLost {
             output: 65_534,
             server,
-            why,
+            why: *why,
         });
     }
-    teller.tell(Fact::ServerBack { output: 0, server });
+    let (output, worker) = (0, 15);
+    teller.tell(Fact::ServerBack { output, server });
     teller.tell(Fact::ServerChanged {
-        output: 0,
-        worker: 15,
+        output,
+        worker,
         server,
     });
-    for want in [
-        Want::Source(peer),
-        Want::Monitor,
-        Want::Output(3),
-        Want::News,
-    ] {
-        teller.tell(Fact::Memory(want));
+    teller.tell(Fact::Memory(Want::Source(peer)));
+    for fact in &OTHERS {
+        teller.tell(*fact);
     }
-    let (files, sources) = (256, 92);
-    teller.tell(Fact::FewFiles { files, sources });
-    teller.tell(Fact::Descriptors(Caller::Source));
 }

@@ -15,21 +15,13 @@ pub const EMPTY: &[u8] = b"\x93\xa1a\x90\x81\xa5chunk\xa1x";
 /// What an acknowledgement begins with: a map of one, `ack`, and a str of 24 bytes.
 const ACK: &[u8] = b"\x81\xa3ack\xb8";
 
-/// The name of a chunk: the last bytes of its frame, and of its acknowledgement.
-pub type Name = [u8; 24];
-
-/// The name of a frame's chunk.
-pub fn name_of(frame: &[u8]) -> Result<Name> {
-    match frame.last_chunk::<24>() {
-        Some(name) => Ok(*name),
-        None => Err(anyhow!("no name")),
-    }
-}
-
-/// The acknowledgement of a chunk.
-pub fn ack(name: Name) -> [u8; 30] {
+/// The acknowledgement of a frame's chunk, whose name is the last bytes of both.
+pub fn ack(frame: &[u8]) -> Result<[u8; 30]> {
+    let Some(name) = frame.last_chunk::<24>() else {
+        return Err(anyhow!("no name"));
+    };
     let mut ack = [0; 30];
     ack[..6].copy_from_slice(ACK);
-    ack[6..].copy_from_slice(&name);
-    ack
+    ack[6..].copy_from_slice(name);
+    Ok(ack)
 }

@@ -1,43 +1,83 @@
-//! What a run told of its sources and servers.
+//! What a run told.
 
-use fwd_loop::{Fact, SourceEnd, Watch};
+use crate::site::Site;
+use crate::told::Told;
+use anyhow::Result;
+use fwd_loop::{Caller, Fact, SourceEnd, Watch};
 use fwd_session::SessionFault;
 use fwd_workers::{LinkFault, Loss};
 use std::alloc::Global;
+use std::net::SocketAddr;
 
-/// What a run told of its sources and servers.
+/// What a run told.
 #[derive(Drop)]
 pub struct Heard {
+    sources_at: Option<SocketAddr>,
+    monitors_at: Option<SocketAddr>,
+    /// Who was one too many last.
+    over_limit: Option<Caller>,
     /// Why it closed its sources, in its order. One for which memory is refused is left out.
-    pub closings: Vec<SourceEnd>,
+    closings: Vec<SourceEnd>,
     /// How often a server was lost.
-    pub lost: u32,
+    lost: u32,
+    /// The first one, and its output.
+    first_lost: Option<(u16, SocketAddr)>,
     /// Of those, how often it could not be connected to.
-    pub unreached: u32,
+    unreached: u32,
     /// The faults of servers, in their order. One for which memory is refused is left out.
-    pub faults: Vec<SessionFault>,
+    faults: Vec<SessionFault>,
     /// How often a server that was lost came back.
-    pub back: u32,
+    back: u32,
     /// How often a worker sent its chunk to another server than the one before.
-    pub changed: u32,
+    changed: u32,
+    /// What else was told.
+    others: u32,
+}
+
+/// What is said of that.
+#[derive(Clone, Copy)]
+pub enum Said {
+    /// Whether it told where it listens.
+    Listening,
+    OverLimit,
+    /// How often a server was lost, and whether one was.
+    Losses,
+    IsLost,
+    /// Which was lost first: its output, and whether it is the first server.
+    FirstLost,
+    /// Whether one could not be connected to.
+    IsUnreached,
+    Faults,
+    /// How often a server came back, and whether one did.
+    Returns,
+    IsBack,
+    /// Whether a worker went to another server.
+    IsChanged,
+    Others,
 }
 
 impl Heard {
     /// Nothing.
-    pub fn nothing(alloc: Global) -> Heard {
+    pub fn new(alloc: Global) -> Heard {
         Heard {
+            sources_at: None,
+            monitors_at: None,
+            over_limit: None,
             closings: Vec::new(alloc),
             lost: 0,
+            first_lost: None,
             unreached: 0,
             faults: Vec::new(alloc),
             back: 0,
             changed: 0,
+            others: 0,
         }
     }
 
-    /// A server is lost.
-    fn lose(&mut self, why: Loss) {
+    /// A server of an output is lost.
+    fn lose(&mut self, output: u16, server: SocketAddr, why: Loss) {
         self.lost = self.lost.saturating_add(1);
+        self.first_lost = self.first_lost.or(Some((output, server)));
         match why {
             Loss::Link(LinkFault::Connect) => self.unreached = self.unreached.saturating_add(1),
             Loss::Fault(fault) => {
@@ -47,20 +87,58 @@ impl Heard {
         }
     }
 
-    /// A source is closed.
-    fn close(&mut self, why: SourceEnd) {
-        let _ = self.closings.push(why);
+    /// Whether it told that it listens here.
+    fn is_listening(&self, site: Site) -> bool {
+        self.sources_at == Some(site.sources) && self.monitors_at == Some(site.monitors)
+    }
+
+    /// Appends one of the things that it told.
+    pub fn put(&self, said: Said, site: Site, told: &mut Told) -> Result<()> {
+        let first = Some((0, site.servers[0]));
+        match said {
+            Said::Listening => told.put("listening", &self.is_listening(site)),
+            Said::OverLimit => told.put("over the limit", &self.over_limit),
+            Said::Losses => told.put("lost", &self.lost),
+            Said::IsLost => told.put("lost", &(self.lost > 0)),
+            Said::FirstLost => told.put("first", &(self.first_lost == first)),
+            Said::IsUnreached => told.put("unreached", &(self.unreached > 0)),
+            Said::Faults => told.put("faults", &self.faults),
+            Said::Returns => told.put("back", &self.back),
+            Said::IsBack => told.put("back", &(self.back > 0)),
+            Said::IsChanged => told.put("changed", &(self.changed > 0)),
+            Said::Others => told.put("others", &self.others),
+        }
+    }
+
+    /// Appends why it closed sources, if it did.
+    pub fn put_closings(&self, told: &mut Told) -> Result<()> {
+        if self.closings.is_empty() {
+            return Ok(());
+        }
+        told.begin_line();
+        told.put("closed", &self.closings)
     }
 }
 
 impl Watch for Heard {
     fn see(&mut self, fact: Fact) {
         match fact {
-            Fact::SourceClosed { peer: _, why } => self.close(why),
-            Fact::ServerLost { why, .. } => self.lose(why),
+            Fact::Listening { caller, address } => match caller {
+                Caller::Source => self.sources_at = Some(address),
+                Caller::Monitor => self.monitors_at = Some(address),
+            },
+            Fact::OverLimit { caller, peer: _ } => self.over_limit = Some(caller),
+            Fact::SourceClosed { peer: _, why } => {
+                let _ = self.closings.push(why);
+            }
+            Fact::ServerLost {
+                output,
+                server,
+                why,
+            } => self.lose(output, server, why),
             Fact::ServerBack { .. } => self.back = self.back.saturating_add(1),
             Fact::ServerChanged { .. } => self.changed = self.changed.saturating_add(1),
-            _ => {}
+            _ => self.others = self.others.saturating_add(1),
         }
     }
 }

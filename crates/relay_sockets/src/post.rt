@@ -1,12 +1,10 @@
 //! A server that is looked after now and then.
 
-use crate::frame::name_of;
-use crate::line::Line;
-use crate::peer::acknowledge;
+use crate::frame::ack;
+use crate::line::{Came, Line};
 use crate::record::Record;
 use crate::server::Server;
-use anyhow::{Result, anyhow};
-use fwd_msgpack::{Cut, Limits, cut};
+use anyhow::Result;
 use std::alloc::Global;
 use std::mem;
 use std::net::{Net, TcpListener, TcpStream};
@@ -26,20 +24,20 @@ pub enum Mood {
 
 /// A server with its connections.
 #[derive(Drop)]
-pub struct Post<'a> {
+pub struct Post {
     alloc: Global,
-    server: &'a mut Server,
-    mood: Mood,
+    server: Option<Server>,
+    pub mood: Mood,
     lines: Vec<Line>,
     /// Whether anyone ever connected.
-    is_met: bool,
+    pub is_met: bool,
     /// How many frames it acknowledged since its mood changed.
-    acked: u32,
+    pub acked: u32,
 }
 
-impl<'a> Post<'a> {
+impl Post {
     /// A server without connections.
-    pub fn new(alloc: Global, server: &'a mut Server, mood: Mood) -> Post<'a> {
+    pub fn new(alloc: Global, server: Option<Server>, mood: Mood) -> Post {
         Post {
             alloc,
             server,
@@ -50,24 +48,9 @@ impl<'a> Post<'a> {
         }
     }
 
-    /// Whether anyone ever connected.
-    pub fn is_met(&self) -> bool {
-        self.is_met
-    }
-
-    /// Whether it is gone.
-    pub fn is_dead(&self) -> bool {
-        self.mood == Mood::Dead
-    }
-
     /// Whether no connection stands.
     pub fn is_left(&self) -> bool {
         self.lines.is_empty()
-    }
-
-    /// How many frames it acknowledged since its mood changed.
-    pub fn acked(&self) -> u32 {
-        self.acked
     }
 
     /// Its mood changes.
@@ -78,7 +61,9 @@ impl<'a> Post<'a> {
 
     /// It is gone, with all its connections.
     pub fn die(&mut self) {
-        self.server.close();
+        if let Some(server) = &mut self.server {
+            server.close();
+        }
         self.lines.clear();
         self.set_mood(Mood::Dead);
     }
@@ -88,70 +73,71 @@ impl<'a> Post<'a> {
         &mut self,
         rt: &R,
     ) -> Result<()> {
-        if self.is_dead() {
-            self.server.reopen(rt)?;
+        if self.mood == Mood::Dead {
+            if let Some(server) = &mut self.server {
+                server.reopen(rt)?;
+            }
             self.set_mood(Mood::Serves);
         }
         Ok(())
     }
 
+    /// The next connection, if one waits.
+    fn poll(&self) -> Option<TcpStream> {
+        self.server.as_ref()?.poll()
+    }
+
     /// Takes a connection that waits.
     fn meet(&mut self) -> Result<()> {
-        let Some(stream) = self.server.poll()? else {
-            return Ok(());
-        };
-        self.is_met = true;
-        if self.mood != Mood::Closes {
-            self.lines.push(Line::new(self.alloc, stream)?)?;
+        if let Some(stream) = self.poll() {
+            self.is_met = true;
+            if self.mood != Mood::Closes {
+                self.lines.push(Line::polled(self.alloc, stream)?)?;
+            }
         }
         Ok(())
     }
 
     /// It hears a frame over a connection, and acknowledges it, or is gone.
-    fn hear(&mut self, line: &mut Line, record: &mut Record) -> Result<()> {
-        record.heard(&line.bytes)?;
+    fn hear(&mut self, line: &Line, record: &mut Record) -> Result<()> {
+        record.heard(line.last());
         if self.mood == Mood::Dies {
             self.die();
             return Ok(());
         }
-        record.acked(&line.bytes)?;
-        acknowledge(&line.stream, name_of(&line.bytes)?)?;
-        line.bytes.clear();
+        record.acked(line.last());
         self.acked = self.acked.saturating_add(1);
-        Ok(())
+        line.send(&ack(line.last())?)
     }
 
     /// Reads what came over a connection: whether it still stands.
     fn look(&mut self, line: &mut Line, record: &mut Record) -> Result<bool> {
-        if self.is_dead() || !line.read()? {
+        if self.mood == Mood::Dead || line.read()? == Came::Close {
             return Ok(false);
         }
-        if let Cut::Whole(..) = cut(&line.bytes, Limits::WIDEST) {
+        if line.take()? {
             self.hear(line, record)?;
         }
-        Ok(!self.is_dead())
-    }
-
-    /// Reads what came over a connection, and keeps it while it stands.
-    fn visit(&mut self, line: Line, record: &mut Record) {
-        let mut line = line;
-        match self.look(&mut line, record) {
-            Ok(true) => {
-                if self.lines.push(line).is_err() {
-                    record.fail(anyhow!("memory"));
-                }
-            }
-            Ok(false) => {}
-            Err(error) => record.fail(error),
-        }
+        Ok(self.mood != Mood::Dead)
     }
 
     /// Takes a connection that waits, and reads all that stand.
-    pub fn turn(&mut self, record: &mut Record) {
-        record.note(self.meet());
+    fn try_turn(&mut self, record: &mut Record) -> Result<()> {
+        self.meet()?;
         let lines = mem::replace(&mut self.lines, Vec::new(self.alloc));
         for line in lines {
-            self.visit(line, record);
+            let mut line = line;
+            if self.look(&mut line, record)? {
+                self.lines.push(line)?;
+            }
+        }
+        Ok(())
+    }
+
+    /// The same, of which is recorded what went wrong.
+    pub fn turn(&mut self, record: &mut Record) {
+        if self.try_turn(record).is_err() {
+            record.fail("a server fails");
         }
     }
 }

@@ -1,10 +1,7 @@
 //! Requests of a play with traffic, and what becomes of each: it stands in one chunk, whose entries
 //! never change, and is told once, and not before its chunk was acknowledged.
 
-use crate::frame::{Name, name_of};
-use anyhow::{Context, Error, Result, anyhow, ensure};
 use std::alloc::Global;
-use std::mem;
 
 /// What a source sends: a Message under the tag `a`, whose time is its number, and which asks to be
 /// acknowledged by it, a bin of four bytes.
@@ -28,41 +25,29 @@ pub const TOLD_LEN: usize = 11;
 /// What stands before the length of a frame's entries, which is less than 256.
 const HEAD: &[u8] = b"\x93\xa1a\xc4";
 
-/// How many bytes stand before a frame's entries, and behind them.
-const BEFORE: usize = 5;
-
-const BEHIND: usize = 38;
-
 /// How many bytes an entry has.
 const ENTRY: usize = 7;
 
-/// Appends the frame of a chunk of these requests.
-fn put_frame(frame: &mut Vec<u8>, numbers: &[u32], name: Name) -> Result<()> {
-    let count = u8::try_from(numbers.len()).context("too many entries")?;
-    let size = numbers.len().saturating_mul(ENTRY);
-    frame.extend_from_slice(HEAD)?;
-    frame.push(u8::try_from(size).context("a frame is too long")?)?;
-    for number in numbers {
-        frame.extend_from_slice(b"\x92\xce")?;
-        frame.extend_from_slice(&number.to_be_bytes())?;
-        frame.extend_from_slice(b"\x80")?;
+/// The entries of a frame of such requests, if it is one: spelled as it is to be, but for what
+/// stands in them and for its name.
+fn entries_of(frame: &[u8]) -> Option<&[u8]> {
+    let (size, behind) = frame.strip_prefix(HEAD)?.split_first()?;
+    let (entries, behind) = behind.split_at_checked(usize::from(*size))?;
+    let (count, name) = behind.strip_prefix(b"\x82\xa4size")?.split_first()?;
+    let name = name.strip_prefix(b"\xa5chunk\xb8")?;
+    if name.len() == 24 && entries.len() == usize::from(*count).saturating_mul(ENTRY) {
+        Some(entries)
+    } else {
+        None
     }
-    frame.extend_from_slice(b"\x82\xa4size")?;
-    frame.push(count)?;
-    frame.extend_from_slice(b"\xa5chunk\xb8")?;
-    Ok(frame.extend_from_slice(&name)?)
 }
 
-/// Appends the numbers of a frame's entries, if it is one.
-fn put_numbers(numbers: &mut Vec<u32>, frame: &[u8]) -> Result<()> {
-    let end = frame.len().saturating_sub(BEHIND);
-    let entries = frame.get(BEFORE..end).unwrap_or(&[]);
-    for entry in entries.chunks_exact(ENTRY) {
-        if let [_, _, a, b, c, d, _] = entry {
-            numbers.push(u32::from_be_bytes([*a, *b, *c, *d]))?;
-        }
+/// The number of the request of an entry, if it is spelled as it was sent.
+fn number_of(entry: &[u8]) -> Option<u32> {
+    match entry {
+        [0x92, 0xce, a, b, c, d, 0x80] => Some(u32::from_be_bytes([*a, *b, *c, *d])),
+        _ => None,
     }
-    Ok(())
 }
 
 /// What became of a request.
@@ -85,8 +70,8 @@ pub struct Record {
     told: usize,
     /// The frame of each chunk.
     frames: Vec<Vec<u8>>,
-    /// What came of it so far.
-    result: Result<()>,
+    /// What went wrong first.
+    pub fault: Option<&'static str>,
 }
 
 impl Record {
@@ -97,32 +82,13 @@ impl Record {
             fates: Vec::new(alloc),
             told: 0,
             frames: Vec::new(alloc),
-            result: Ok(()),
+            fault: None,
         }
     }
 
-    /// What came of it: an error where something went wrong.
-    pub fn finish(&mut self) -> Result<()> {
-        mem::replace(&mut self.result, Ok(()))
-    }
-
-    /// Whether nothing went wrong.
-    pub fn is_well(&self) -> bool {
-        self.result.is_ok()
-    }
-
-    /// Something went wrong, which is told where nothing did before it.
-    pub fn fail(&mut self, error: Error) {
-        if self.result.is_ok() {
-            self.result = Err(error);
-        }
-    }
-
-    /// A step's outcome.
-    pub fn note(&mut self, outcome: Result<()>) {
-        if let Err(error) = outcome {
-            self.fail(error);
-        }
+    /// Something went wrong.
+    pub fn fail(&mut self, fault: &'static str) {
+        self.fault = self.fault.or(Some(fault));
     }
 
     /// How many requests were not told yet.
@@ -130,88 +96,93 @@ impl Record {
         self.fates.len().saturating_sub(self.told)
     }
 
-    /// The number of a further request, which is sent.
-    pub fn next(&mut self) -> Result<u32> {
-        let number = u32::try_from(self.fates.len()).context("too many requests")?;
-        self.fates.push(Fate::Sent)?;
-        Ok(number)
+    /// A further request, which is sent.
+    pub fn next(&mut self) -> [u8; 22] {
+        let number = u32::try_from(self.fates.len()).unwrap_or(u32::MAX);
+        if self.fates.push(Fate::Sent).is_err() {
+            self.fail("memory");
+        }
+        request(number)
     }
 
-    /// A request goes from one fate to the next.
-    fn go(&mut self, number: u32, from: Fate, to: Fate) -> Result<()> {
+    /// A request goes from one fate to the next, if it has the first: whether it has.
+    fn go(&mut self, number: u32, from: Fate, to: Fate) -> bool {
         let Some(fate) = self.fates.get_mut(number as usize) else {
-            return Err(anyhow!("no request {number} was sent"));
+            return false;
         };
-        ensure!(
-            *fate == from,
-            "request {number} is told early or twice, or stands in two chunks"
-        );
-        *fate = to;
-        Ok(())
+        let goes = *fate == from;
+        if goes {
+            *fate = to;
+        }
+        goes
     }
 
-    /// The numbers of the requests in a frame. It is an error that it is none of them, spelled as
-    /// they were sent.
-    pub fn numbers(&self, frame: &[u8]) -> Result<Vec<u32>> {
-        let name = name_of(frame)?;
-        let mut numbers = Vec::new(self.alloc);
-        put_numbers(&mut numbers, frame)?;
-        let mut due = Vec::new(self.alloc);
-        put_frame(&mut due, &numbers, name)?;
-        ensure!(due.as_slice() == frame, "a frame is none of these requests");
-        Ok(numbers)
+    /// Each request of a frame goes from one fate to the next: whether each is a request that was
+    /// sent, and has the first.
+    fn go_all(&mut self, frame: &[u8], from: Fate, to: Fate) -> bool {
+        let Some(entries) = entries_of(frame) else {
+            self.fail("a frame is none of these requests");
+            return false;
+        };
+        let mut go = true;
+        for entry in entries.chunks_exact(ENTRY) {
+            go = match number_of(entry) {
+                Some(number) => self.go(number, from, to) && go,
+                None => false,
+            };
+        }
+        go
     }
 
-    /// Whether a frame comes again. It is an error that its chunk came with other entries.
-    fn is_known(&self, frame: &[u8]) -> Result<bool> {
-        let name = name_of(frame)?;
+    /// Whether a frame of this name came as it is, if one came.
+    fn is_same(&self, frame: &[u8]) -> Option<bool> {
         for known in &self.frames {
-            if known.ends_with(&name) {
-                ensure!(known.as_slice() == frame, "a chunk is altered");
-                return Ok(true);
+            if known.last_chunk::<24>() == frame.last_chunk::<24>() {
+                return Some(known.as_slice() == frame);
             }
         }
-        Ok(false)
+        None
     }
 
-    /// A server heard a frame. It is an error that a chunk is not what it was, or that one of its
-    /// requests stands in another chunk, too.
-    pub fn heard(&mut self, frame: &[u8]) -> Result<()> {
-        if self.is_known(frame)? {
-            return Ok(());
+    /// A frame comes for the first time. It is a fault that one of its requests stands in another
+    /// chunk, too.
+    fn enter(&mut self, frame: &[u8]) {
+        if !self.go_all(frame, Fate::Sent, Fate::Chunked) {
+            self.fail("a request stands in two chunks");
         }
-        for number in self.numbers(frame)? {
-            self.go(number, Fate::Sent, Fate::Chunked)?;
+        if let Ok(copy) = Vec::from_slice(self.alloc, frame) {
+            let _ = self.frames.push(copy);
         }
-        let copy = Vec::from_slice(self.alloc, frame)?;
-        Ok(self.frames.push(copy)?)
     }
 
-    /// A server acknowledges a frame that it heard.
-    pub fn acked(&mut self, frame: &[u8]) -> Result<()> {
-        for number in self.numbers(frame)? {
-            let _again = self.go(number, Fate::Chunked, Fate::Acked);
+    /// A server heard a frame. It is a fault that a chunk is not what it was.
+    pub fn heard(&mut self, frame: &[u8]) {
+        match self.is_same(frame) {
+            Some(true) => {}
+            Some(false) => self.fail("a chunk is altered"),
+            None => self.enter(frame),
         }
-        Ok(())
     }
 
-    /// A source is told of a request. It is an error that it was told before, or that its chunk was
-    /// not acknowledged.
-    fn tell(&mut self, number: u32) -> Result<()> {
-        self.go(number, Fate::Acked, Fate::Told)?;
-        self.told = self.told.saturating_add(1);
-        Ok(())
+    /// A server acknowledges a frame that it heard, which may have been before.
+    pub fn acked(&mut self, frame: &[u8]) {
+        self.go_all(frame, Fate::Chunked, Fate::Acked);
     }
 
-    /// A source is told this, of which each is to be an acknowledgement of a request.
-    pub fn told(&mut self, bytes: &[u8]) -> Result<()> {
+    /// A source is told this, of which each is to be an acknowledgement of a request. It is a fault
+    /// that it was told before, or that its chunk was not acknowledged.
+    pub fn told(&mut self, bytes: &[u8]) {
         for told in bytes.chunks_exact(TOLD_LEN) {
-            ensure!(told.starts_with(TOLD), "a source is told something else");
-            match told.last_chunk::<4>() {
-                Some(digits) => self.tell(u32::from_be_bytes(*digits))?,
-                None => return Err(anyhow!("no number")),
+            let is_told = match (told.starts_with(TOLD), told.last_chunk::<4>()) {
+                (true, Some(digits)) => {
+                    self.go(u32::from_be_bytes(*digits), Fate::Acked, Fate::Told)
+                }
+                _ => false,
+            };
+            if !is_told {
+                self.fail("a request is told early or twice, or something else is");
             }
+            self.told = self.told.saturating_add(1);
         }
-        Ok(())
     }
 }

@@ -1,9 +1,8 @@
-//! A relay runs until it is told to end.
+//! A relay runs, beside those around it.
 
 use crate::heard::Heard;
-use fwd_chunks::{Counts, Report};
+use fwd_chunks::Report;
 use fwd_loop::{Loop, Opened, StartFault, Turns, WorkerTurns};
-use std::alloc::{AllocError, Global};
 use std::net::{Net, TcpListener, TcpStream};
 use std::rt::Clock;
 use std::sync::Wait;
@@ -11,23 +10,54 @@ use std::sync::atomic::{AtomicBool, Ordering};
 use std::thread;
 use std::thread::Threads;
 
-/// Makes turns until they are to end. One waits 100 milliseconds at most.
-fn turn_until<R: Wait + Clock>(
-    rt: &R,
-    turns: &mut Turns<'_, R>,
-    heard: &mut Heard,
-    over: &AtomicBool,
-) -> Result<(), StartFault> {
-    for _ in 0..u64::MAX {
-        if over.load(Ordering::SeqCst) {
-            break;
-        }
-        turns.turn_watched(rt, heard)?;
-    }
-    Ok(())
+/// Who makes the turns of a relay.
+pub trait Turner {
+    /// Makes turns before the workers work.
+    fn turn_alone<R: Net<Listener = TcpListener, Stream = TcpStream> + Wait + Clock>(
+        &mut self,
+        rt: &R,
+        turns: &mut Turns<'_, R>,
+    );
+
+    /// Makes turns while they work.
+    fn turn_beside<R: Net<Listener = TcpListener, Stream = TcpStream> + Wait + Clock>(
+        &mut self,
+        rt: &R,
+        turns: &mut Turns<'_, R>,
+    );
 }
 
-/// Makes turns until they are to end, with the workers at work meanwhile, which end then, too.
+/// Makes turns until they are to end. One waits 100 milliseconds at most.
+#[derive(Drop)]
+pub struct Until<'a> {
+    pub heard: Heard,
+    pub over: &'a AtomicBool,
+    /// Why they ended before that.
+    pub fault: Option<StartFault>,
+}
+
+impl Turner for Until<'_> {
+    fn turn_alone<R: Net<Listener = TcpListener, Stream = TcpStream> + Wait + Clock>(
+        &mut self,
+        _rt: &R,
+        _turns: &mut Turns<'_, R>,
+    ) {}
+
+    fn turn_beside<R: Net<Listener = TcpListener, Stream = TcpStream> + Wait + Clock>(
+        &mut self,
+        rt: &R,
+        turns: &mut Turns<'_, R>,
+    ) {
+        for _ in 0..u64::MAX {
+            if self.over.load(Ordering::SeqCst) || self.fault.is_some() {
+                break;
+            }
+            self.fault = turns.turn_watched(rt, &mut self.heard).err();
+        }
+    }
+}
+
+/// Makes turns with the workers at work meanwhile, which end then, too.
 fn serve<
     R: Net<Listener = TcpListener, Stream = TcpStream>
         + Threads
@@ -35,56 +65,42 @@ fn serve<
         + Clock
         + AllocGlobal
         + Sync,
->(
-    rt: &R,
-    turns: &mut Turns<'_, R>,
-    workers: Vec<WorkerTurns<'_>>,
-    heard: &mut Heard,
-    over: &AtomicBool,
-) -> Result<(), StartFault> {
+    T: Turner,
+>(rt: &R, turns: &mut Turns<'_, R>, workers: Vec<WorkerTurns<'_>>, turner: &mut T) {
     thread::scope(thread::scope_env(), rt, move |scope| {
-        let mut children = Vec::with_capacity(rt.alloc(), workers.len())?;
+        let mut children = Vec::new(rt.alloc());
         for worker in workers {
             if let Ok(child) = scope.spawn(move || worker.work(rt, u64::MAX)) {
                 let _ = children.push(child);
             }
         }
-        let served = turn_until(rt, turns, heard, over);
+        turner.turn_beside(rt, turns);
         turns.stop();
         for child in children {
             child.join(rt);
         }
-        served
-    })
+    });
 }
 
-/// The counts of reports.
-pub fn counts_in(alloc: Global, reports: &[Report]) -> Result<Vec<Counts>, AllocError> {
-    let mut counts = Vec::with_capacity(alloc, reports.len())?;
-    for report in reports {
-        counts.push(report.counts)?;
-    }
-    Ok(counts)
-}
-
-/// Runs a relay until it is to end, which it does within a turn, and answers the counts of its
-/// outputs. All its threads have ended then.
-pub fn run_until<
+/// Opens a relay, makes its turns, and answers what its outputs have to do with then. All its
+/// threads have ended by that.
+pub fn run<
     R: Net<Listener = TcpListener, Stream = TcpStream>
         + Threads
         + Wait
         + Clock
         + AllocGlobal
         + Sync,
->(rt: &R, relay: Loop, heard: &mut Heard, over: &AtomicBool) -> Result<Vec<Counts>, StartFault> {
+    T: Turner,
+>(rt: &R, relay: Loop, turner: &mut T) -> Result<Vec<Report>, StartFault> {
     let mut relay = relay;
     match relay.open(rt) {
         Ok(Opened { mut turns, workers }) => {
-            let served = serve(rt, &mut turns, workers, heard, over);
+            turner.turn_alone(rt, &mut turns);
+            serve(rt, &mut turns, workers, turner);
             let reports = turns.reports(rt);
             turns.close(rt);
-            served?;
-            Ok(counts_in(rt.alloc(), &reports?)?)
+            reports
         }
         Err(fault) => Err(fault),
     }

@@ -1,11 +1,16 @@
 //! The listeners of a scene's servers.
 
-use crate::frame::MESSAGE;
-use crate::peer::{accept, poll, serve_text, source};
-use crate::site::Site;
 use anyhow::{Result, anyhow};
 use std::net::{Ipv4Addr, Net, SocketAddr, TcpListener, TcpStream};
 use std::rt::Clock;
+use std::thread;
+use std::time::Duration;
+
+/// How often a connection is looked for before it is missing.
+const TRIES: u32 = 4_000;
+
+/// How long is waited before it is looked for again, in milliseconds.
+const PAUSE: u64 = 5;
 
 /// A server, which listens until it is closed.
 #[derive(Drop)]
@@ -23,45 +28,40 @@ impl Server {
     ) -> Result<Server> {
         let host = Ipv4Addr::new(127, 0, 0, host);
         let listener = TcpListener::bind(rt, SocketAddr::from((host, 0)))?;
-        let address = listener.local_addr()?;
+        listener.set_nonblocking(true)?;
         Ok(Server {
-            address,
+            address: listener.local_addr()?,
             listener: Some(listener),
         })
     }
 
-    /// The next connection.
-    pub fn accept<R: Clock>(&self, rt: &R) -> Result<TcpStream> {
-        match &self.listener {
-            Some(listener) => accept(rt, listener),
-            None => Err(anyhow!("the server is closed")),
-        }
+    /// Two free ports of the host of that number.
+    pub fn free_addresses<R: Net<Listener = TcpListener, Stream = TcpStream>>(
+        rt: &R,
+        host: u8,
+    ) -> Result<(SocketAddr, SocketAddr)> {
+        let one = Server::new(rt, host)?;
+        let other = Server::new(rt, host)?;
+        Ok((one.address, other.address))
     }
 
     /// The next connection, if one waits. None does where the server is closed.
-    pub fn poll(&self) -> Result<Option<TcpStream>> {
-        match &self.listener {
-            Some(listener) => poll(listener),
-            None => Ok(None),
+    pub fn poll(&self) -> Option<TcpStream> {
+        match self.listener.as_ref()?.accept() {
+            Ok((stream, _)) => Some(stream),
+            Err(_) => None,
         }
     }
 
-    /// A source sends a request, for which the relay connects: both connections.
-    pub fn meet<R: Net<Listener = TcpListener, Stream = TcpStream> + Clock>(
-        &self,
-        rt: &R,
-        site: Site,
-    ) -> Result<(TcpStream, TcpStream)> {
-        let source = source(rt, site, MESSAGE)?;
-        let link = self.accept(rt)?;
-        Ok((source, link))
-    }
-
-    /// Takes the next connection, reads a frame there and acknowledges it: its bytes in hexadecimal
-    /// digits.
-    pub fn serve<R: Clock + AllocGlobal>(&self, rt: &R) -> Result<String> {
-        let link = self.accept(rt)?;
-        serve_text(rt.alloc(), &link)
+    /// The next connection.
+    pub fn accept<R: Clock>(&self, rt: &R) -> Result<TcpStream> {
+        for _ in 0..TRIES {
+            if let Some(stream) = self.poll() {
+                return Ok(stream);
+            }
+            thread::sleep(rt, Duration::from_millis(PAUSE));
+        }
+        Err(anyhow!("nobody connects"))
     }
 
     /// It is gone.
@@ -74,37 +74,9 @@ impl Server {
         &mut self,
         rt: &R,
     ) -> Result<()> {
-        self.listener = Some(TcpListener::bind(rt, self.address)?);
+        let listener = TcpListener::bind(rt, self.address)?;
+        listener.set_nonblocking(true)?;
+        self.listener = Some(listener);
         Ok(())
-    }
-}
-
-/// The three servers of a scene, of which most scenes need only the first or two.
-#[derive(Drop)]
-pub struct Servers {
-    pub first: Server,
-    pub second: Server,
-    pub third: Server,
-}
-
-impl Servers {
-    /// Three servers at the host of this number.
-    pub fn new<R: Net<Listener = TcpListener, Stream = TcpStream>>(
-        rt: &R,
-        host: u8,
-    ) -> Result<Servers> {
-        let first = Server::new(rt, host)?;
-        let second = Server::new(rt, host)?;
-        let third = Server::new(rt, host)?;
-        Ok(Servers {
-            first,
-            second,
-            third,
-        })
-    }
-
-    /// Where they listen.
-    pub fn addresses(&self) -> [SocketAddr; 3] {
-        [self.first.address, self.second.address, self.third.address]
     }
 }

@@ -1,18 +1,52 @@
 //! A relay on this machine: its ports and its settings.
 
-use crate::server::Servers;
+use crate::server::Server;
 use anyhow::{Result, anyhow};
-use fwd_loop::{Loop, StartFault};
+use fwd_loop::Loop;
 use fwd_settings::{accepted_is_in_range, read_settings};
-use std::alloc::AllocError;
+use std::alloc::{AllocError, Global};
 use std::net::{Net, SocketAddr, TcpListener, TcpStream};
 use std::rt::Files;
 
-/// A seed of zeros, of which the relay's random numbers come.
+/// What most relays are set to: a seed of zeros, of which their random numbers come.
 pub const SEED: &str =
     "seed = \"0000000000000000000000000000000000000000000000000000000000000000\"\n";
 
-/// Where a relay listens, and its servers.
+/// The same with a shared key.
+pub const KEYED: &str = "\
+    seed = \"0000000000000000000000000000000000000000000000000000000000000000\"\n\
+    shared_key = \"secret\"\n";
+
+/// What most outputs are set to: each entry is alone in its chunk, and what was lost waits one
+/// millisecond.
+pub const OUTPUT: &str = "chunk_limit = 2\nretry_wait = 1\n";
+
+/// What a server is to an output.
+#[derive(Clone, Copy)]
+pub enum Role {
+    Primary,
+    Standby,
+    None,
+}
+
+/// An output of a relay.
+#[derive(Clone, Copy)]
+pub struct Output {
+    pub pattern: &'static str,
+    /// What it is set to beside.
+    pub keys: &'static str,
+    /// What each server of the scene is to it.
+    pub roles: [Role; 3],
+}
+
+/// An output for all tags, to the first server.
+pub const PLAIN: Output = Output {
+    pattern: "**",
+    keys: OUTPUT,
+    roles: [Role::Primary, Role::None, Role::None],
+};
+
+/// Where a relay listens, and the servers around it.
 #[derive(Clone, Copy)]
 pub struct Site {
     pub sources: SocketAddr,
@@ -20,84 +54,99 @@ pub struct Site {
     pub servers: [SocketAddr; 3],
 }
 
-/// Two free ports of the host of this number, for a relay to these servers.
-pub fn free_site<R: Net<Listener = TcpListener, Stream = TcpStream>>(
-    rt: &R,
-    host: u8,
-    servers: [SocketAddr; 3],
-) -> Result<Site> {
-    let [sources, monitors, _] = Servers::new(rt, host)?.addresses();
-    Ok(Site {
-        sources,
-        monitors,
-        servers,
-    })
-}
-
-/// Appends what the settings of a relay begin with: it takes so many sources, and has these keys
-/// beside.
-pub fn put_relay(
-    text: &mut String,
-    site: Site,
-    connections: u16,
-    keys: &str,
-) -> Result<(), AllocError> {
-    let (sources, monitors) = (site.sources, site.monitors);
-    write!(
-        text,
-        "[relay]\nlisten = \"{sources}\"\nmonitor = \"{monitors}\"\nconnections = {connections}\n\
-        run_id = \"000000000000\"\n{keys}"
-    )
-}
-
-/// Appends the settings of an output for the tags of a pattern, with these keys beside, to these
-/// servers, of which only the first is no standby. Each entry is alone in its chunk.
-pub fn put_output(
-    text: &mut String,
-    pattern: &str,
-    keys: &str,
-    servers: &[SocketAddr],
-) -> Result<(), AllocError> {
-    write!(
-        text,
-        "[[output]]\nmatch = \"{pattern}\"\nflush_interval = 0\nchunk_limit = 2\n\
-        ack_wait = 60000\nretry_wait = 1\n{keys}"
-    )?;
-    put_servers(text, servers, 1)
-}
-
-/// Appends an output's servers, of which the first so many are no standbys.
-pub fn put_servers(
-    text: &mut String,
-    servers: &[SocketAddr],
-    primaries: usize,
-) -> Result<(), AllocError> {
-    for (number, server) in servers.iter().enumerate() {
-        let standby = number >= primaries;
+impl Output {
+    /// Appends its settings.
+    fn put_settings(self, text: &mut String, site: Site) -> Result<(), AllocError> {
+        let Output {
+            pattern,
+            keys,
+            roles,
+        } = self;
         write!(
             text,
-            "[[output.server]]\naddress = \"{server}\"\nstandby = {standby}\n"
+            "[[output]]\nmatch = \"{pattern}\"\nflush_interval = 0\nack_wait = 60000\n{keys}"
         )?;
-    }
-    Ok(())
-}
-
-/// A relay by these settings, or why it cannot start.
-pub fn try_relay<R: Net + Files + AllocGlobal>(
-    rt: &R,
-    text: &str,
-) -> Result<Result<Loop, StartFault>> {
-    accepted_is_in_range();
-    match read_settings(rt.alloc(), text.as_bytes()) {
-        Ok(settings) => Ok(Loop::new(rt, settings)),
-        Err(_) => Err(anyhow!("the settings are not taken")),
+        for (role, address) in roles.iter().zip(&site.servers) {
+            if *role != Role::None {
+                let standby = *role == Role::Standby;
+                write!(
+                    text,
+                    "[[output.server]]\naddress = \"{address}\"\nstandby = {standby}\n"
+                )?;
+            }
+        }
+        Ok(())
     }
 }
 
-/// A relay by these settings.
-pub fn relay<R: Net + Files + AllocGlobal>(rt: &R, text: &str) -> Result<Loop> {
-    match try_relay(rt, text)? {
-        Ok(relay) => Ok(relay),
-        Err(fault) => Err(anyhow!("{fault}")),
+impl Site {
+    /// Two free ports of the host of this number, for a relay beside these servers.
+    pub fn new<R: Net<Listener = TcpListener, Stream = TcpStream>>(
+        rt: &R,
+        host: u8,
+        servers: &[Server],
+    ) -> Result<Site> {
+        let [first, second, third] = servers else {
+            return Err(anyhow!("three servers are wanted"));
+        };
+        let (sources, monitors) = Server::free_addresses(rt, host)?;
+        Ok(Site {
+            sources,
+            monitors,
+            servers: [first.address, second.address, third.address],
+        })
+    }
+
+    /// Appends the settings of a relay that takes so many sources at a time, with these keys and
+    /// outputs.
+    fn put_settings(
+        self,
+        text: &mut String,
+        connections: u16,
+        keys: &str,
+        outputs: &[Output],
+    ) -> Result<(), AllocError> {
+        let (sources, monitors) = (self.sources, self.monitors);
+        write!(
+            text,
+            "[relay]\nlisten = \"{sources}\"\nmonitor = \"{monitors}\"\n\
+            run_id = \"000000000000\"\nconnections = {connections}\n{keys}"
+        )?;
+        for output in outputs {
+            output.put_settings(text, self)?;
+        }
+        Ok(())
+    }
+
+    /// Such settings.
+    fn settings_text(
+        self,
+        alloc: Global,
+        connections: u16,
+        keys: &str,
+        outputs: &[Output],
+    ) -> Result<String> {
+        let mut text = String::new(alloc);
+        self.put_settings(&mut text, connections, keys, outputs)?;
+        Ok(text)
+    }
+
+    /// A relay by such settings. Where it does not start, the error is what is said of that.
+    pub fn relay<R: Net + Files + AllocGlobal>(
+        self,
+        rt: &R,
+        connections: u16,
+        keys: &str,
+        outputs: &[Output],
+    ) -> Result<Loop> {
+        let text = self.settings_text(rt.alloc(), connections, keys, outputs)?;
+        accepted_is_in_range();
+        let Ok(settings) = read_settings(rt.alloc(), text.as_bytes()) else {
+            return Err(anyhow!("the settings are not taken"));
+        };
+        match Loop::new(rt, settings) {
+            Ok(relay) => Ok(relay),
+            Err(fault) => Err(anyhow!("{fault}")),
+        }
     }
 }

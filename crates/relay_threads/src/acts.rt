@@ -13,14 +13,15 @@ pub const KEY: &[u8] = b"secret";
 /// A server's nonce.
 const NONCE: &[u8] = b" fox jumps over ";
 
-/// A server's HELO without its last byte, which is `keepalive`.
-const HELO: &[u8] = b"\x92\xa4HELO\x83\xa5nonce\xc4\x10 fox jumps over \xa4auth\xa0\xa9keepalive";
+/// A server's HELO, and that of one that keeps no connection.
+const HELO: &[u8] =
+    b"\x92\xa4HELO\x83\xa5nonce\xc4\x10 fox jumps over \xa4auth\xa0\xa9keepalive\xc3";
+
+const FLEETING: &[u8] =
+    b"\x92\xa4HELO\x83\xa5nonce\xc4\x10 fox jumps over \xa4auth\xa0\xa9keepalive\xc2";
 
 /// What a PING of the host `relay` begins with. Behind it stand the 32 digits of its salt.
 const PING: &[u8] = b"\x96\xa4PING\xa5relay\xd9\x20";
-
-/// Where the salt of a PING stands: behind 14 bytes.
-const SALT_AT: usize = 14;
 
 /// What stands before the digest of a PONG that lets a client in.
 const PONG: &[u8] = b"\x95\xa4PONG\xc3\xa0\xa6server\xd9\x80";
@@ -32,7 +33,7 @@ const DENIAL: &[u8] = b"\x95\xa4PONG\xc2\xa2no\xa0\xa0";
 const ACK: &[u8] = b"\x81\xa3ack\xb8";
 
 /// The name of a chunk that nobody sent.
-const ANOTHER: &[u8] = b"BBBBBBBBBBBBBBBBBBBBBB==";
+const ANOTHER: &[u8; 24] = b"BBBBBBBBBBBBBBBBBBBBBB==";
 
 /// What a server does at one read of its link. Before that it takes all that is written.
 #[derive(Clone, Copy)]
@@ -85,6 +86,17 @@ impl Act {
     }
 }
 
+/// What came whole at a server.
+#[derive(Clone, Copy)]
+pub enum Came {
+    /// Nothing yet.
+    Nothing,
+    /// A PING with this salt.
+    Ping([u8; 32]),
+    /// A chunk, as it is called.
+    Chunk(&'static str),
+}
+
 /// What a server knows of its client.
 #[derive(Drop)]
 pub struct Server {
@@ -92,11 +104,9 @@ pub struct Server {
     /// What came of a message that is not whole yet.
     part: Vec<u8>,
     /// The salt of the PING.
-    salt: Vec<u8>,
-    /// The name of the last chunk.
-    name: Vec<u8>,
-    /// The acknowledgements of all chunks, the last first.
-    acks: Vec<u8>,
+    salt: [u8; 32],
+    /// The names of all chunks.
+    names: Vec<[u8; 24]>,
 }
 
 /// What a message of a client is.
@@ -113,11 +123,16 @@ fn title(message: &[u8]) -> &'static str {
     "another message"
 }
 
-/// These bytes, and then those.
-fn joined(alloc: Global, front: &[u8], back: &[u8]) -> Result<Vec<u8>, AllocError> {
-    let mut all = Vec::from_slice(alloc, front)?;
-    all.extend_from_slice(back)?;
-    Ok(all)
+/// The salt of a PING, if a message is one.
+fn salt_of(message: &[u8]) -> Option<[u8; 32]> {
+    let behind = message.strip_prefix(PING)?;
+    Some(*behind.first_chunk::<32>()?)
+}
+
+/// Appends the acknowledgement of a chunk.
+fn put_ack(bytes: &mut Vec<u8>, name: &[u8; 24]) -> Result<(), AllocError> {
+    bytes.extend_from_slice(ACK)?;
+    bytes.extend_from_slice(name)
 }
 
 impl Server {
@@ -126,73 +141,69 @@ impl Server {
         Server {
             alloc,
             part: Vec::new(alloc),
-            salt: Vec::new(alloc),
-            name: Vec::new(alloc),
-            acks: Vec::new(alloc),
+            salt: [0; 32],
+            names: Vec::new(alloc),
         }
     }
 
-    /// Bytes come. Answers what came whole by them, if a message did.
-    pub fn hear(&mut self, bytes: &[u8]) -> Result<Option<String>, AllocError> {
-        self.part.extend_from_slice(bytes)?;
+    /// Bytes come. Answers what came whole by them.
+    pub fn hear(&mut self, bytes: &[u8]) -> Came {
+        let _ = self.part.extend_from_slice(bytes);
         match cut(&self.part, Limits::WIDEST) {
             Cut::Whole(..) => {}
-            _ => return Ok(None),
+            _ => return Came::Nothing,
         }
         let message = mem::replace(&mut self.part, Vec::new(self.alloc));
-        match message.get(SALT_AT..SALT_AT + 32) {
-            Some(salt) if message.starts_with(PING) => self.hear_ping(salt),
-            _ => self.hear_chunk(&message),
+        self.hear_whole(&message)
+    }
+
+    /// A message came.
+    fn hear_whole(&mut self, message: &[u8]) -> Came {
+        if let Some(salt) = salt_of(message) {
+            self.salt = salt;
+            return Came::Ping(salt);
         }
-    }
-
-    /// A PING came, with this salt.
-    fn hear_ping(&mut self, salt: &[u8]) -> Result<Option<String>, AllocError> {
-        self.salt = Vec::from_slice(self.alloc, salt)?;
-        let text = String::from_utf8_lossy(self.alloc, salt)?;
-        let told = format!(in self.alloc; "PING {text}")?;
-        Ok(Some(told))
-    }
-
-    /// A chunk came.
-    fn hear_chunk(&mut self, message: &[u8]) -> Result<Option<String>, AllocError> {
-        let from = message.len().saturating_sub(24);
-        if let Some(name) = message.get(from..) {
-            self.name = Vec::from_slice(self.alloc, name)?;
+        if let Some(name) = message.last_chunk::<24>() {
+            let _ = self.names.push(*name);
         }
-        let ack = joined(self.alloc, ACK, &self.name)?;
-        self.acks = joined(self.alloc, &ack, &self.acks)?;
-        let told = title(message);
-        let told = format!(in self.alloc; "{told}")?;
-        Ok(Some(told))
+        Came::Chunk(title(message))
     }
 
-    /// The PONG that lets the client in by a key.
-    fn pong(&self, key: &[u8]) -> Result<Vec<u8>, AllocError> {
-        let digest = key_digest(&self.salt, b"server", NONCE, key);
-        joined(self.alloc, PONG, &digest)
+    /// Appends the PONG that lets the client in by a key.
+    fn put_pong(&self, bytes: &mut Vec<u8>, key: &[u8]) -> Result<(), AllocError> {
+        bytes.extend_from_slice(PONG)?;
+        bytes.extend_from_slice(&key_digest(&self.salt, b"server", NONCE, key))
     }
 
-    /// What it gives at an act.
-    pub fn gives(&self, act: Act) -> Result<Vec<u8>, AllocError> {
+    /// Appends the acknowledgements of all chunks, the last first.
+    fn put_all(&self, bytes: &mut Vec<u8>) -> Result<(), AllocError> {
+        for name in self.names.iter().rev() {
+            put_ack(bytes, name)?;
+        }
+        Ok(())
+    }
+
+    /// Appends the acknowledgement of the last chunk, and these bytes.
+    fn put_last(&self, bytes: &mut Vec<u8>, behind: &[u8]) -> Result<(), AllocError> {
+        if let Some(name) = self.names.last() {
+            put_ack(bytes, name)?;
+        }
+        bytes.extend_from_slice(behind)
+    }
+
+    /// Appends what it gives at an act.
+    pub fn put(&self, bytes: &mut Vec<u8>, act: Act) -> Result<(), AllocError> {
         match act {
-            Act::Greets(true) => joined(self.alloc, HELO, b"\xc3"),
-            Act::Greets(false) => joined(self.alloc, HELO, b"\xc2"),
-            Act::LetsIn => self.pong(KEY),
-            Act::OtherKey => self.pong(b"another"),
-            Act::Denies => joined(self.alloc, DENIAL, b""),
-            Act::Acks => joined(self.alloc, ACK, &self.name),
-            Act::AcksAll => Vec::from_slice(self.alloc, &self.acks),
-            Act::AcksAndFaults => self.ack_and_fault(),
-            Act::AcksAnother => joined(self.alloc, ACK, ANOTHER),
-            _ => Ok(Vec::new(self.alloc)),
+            Act::Greets(true) => bytes.extend_from_slice(HELO),
+            Act::Greets(false) => bytes.extend_from_slice(FLEETING),
+            Act::LetsIn => self.put_pong(bytes, KEY),
+            Act::OtherKey => self.put_pong(bytes, b"another"),
+            Act::Denies => bytes.extend_from_slice(DENIAL),
+            Act::Acks => self.put_last(bytes, b""),
+            Act::AcksAll => self.put_all(bytes),
+            Act::AcksAndFaults => self.put_last(bytes, b"\xc1"),
+            Act::AcksAnother => put_ack(bytes, ANOTHER),
+            _ => Ok(()),
         }
-    }
-
-    /// An acknowledgement, and a byte that begins no value.
-    fn ack_and_fault(&self) -> Result<Vec<u8>, AllocError> {
-        let mut bytes = joined(self.alloc, ACK, &self.name)?;
-        bytes.extend_from_slice(b"\xc1")?;
-        Ok(bytes)
     }
 }

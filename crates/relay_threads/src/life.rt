@@ -114,13 +114,13 @@ impl Telling {
             interrupt,
             ..
         } = self.life;
+        let mut hub = PlayedHub::new(self.alloc, self.record.share()?, meetings);
+        let mut gate = Watched::new(self.alloc, self.record.share()?, interrupt);
         let key = if self.life.is_keyed { Some(KEY) } else { None };
         let login = login_with(self.alloc, key)?;
         let acks = terms_of(window, ack_wait);
         let rng = ChaCha20Rng::from_seed([0; 32]);
         let mut worker = Worker::new(self.alloc, worker, login, acks, rng);
-        let mut hub = PlayedHub::new(self.alloc, self.record.share()?, meetings);
-        let mut gate = Watched::new(self.alloc, self.record.share()?, interrupt);
         let mut clock = Ticking::new(self.life.tick);
         let ((), ended) = worker.run(rt, &self.out, (), &mut hub, &mut gate, &mut clock, turns);
         Ok(ended)

@@ -449,7 +449,7 @@ static NUMBERS: [Life; 4] = [
 fn tell<R: Wait + Print>(rt: &R, alloc: Global, lives: &[Life]) -> Result<()> {
     for life in lives {
         let text = lived(rt, alloc, *life)?;
-        println!(rt; "{text}")?;
+        let _ = println!(rt; "{text}");
     }
     Ok(())
 }

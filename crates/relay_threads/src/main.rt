@@ -23,9 +23,7 @@ mod turns;
 mod watched;
 
 use crate::batches::output;
-use crate::memory::Open;
-use crate::mirror::{Story, mirrored, told};
-use crate::turns::Post;
+use crate::mirror::{Story, are_alike, played_bare, played_behind};
 use anyhow::Result;
 use fwd_core::FlushKind;
 use fwd_workers::{Closing, Locked, Plain, SharedOutput};
@@ -60,33 +58,32 @@ fn tell_day<R: Threads + Wait + Sync + Print>(rt: &R, alloc: Global, window: u8)
     let day = day::whole_day(rt, alloc, window)?;
     let closing = day.closing;
     let tickets = (day.first, day.second);
-    println!(rt;
-        "two and two, a window of {window}: accepted {}, tickets {tickets:?}",
-        closing.accepted
-    )?;
-    let is_sum = closing.settled.saturating_add(closing.left) == closing.accepted;
-    println!(rt; "accepted = settled + left: {is_sum}")?;
+    let accepted = closing.accepted;
+    let _ = println!(rt;
+        "two and two, a window of {window}: accepted {accepted}, tickets {tickets:?}"
+    );
+    let is_sum = closing.settled.saturating_add(closing.left) == accepted;
+    let _ = println!(rt; "accepted = settled + left: {is_sum}");
     Ok(())
 }
 
 /// What an output came to, in entries.
-fn print_closing<R: Print>(rt: &R, name: &str, closing: Closing) -> Result<()> {
+fn print_closing<R: Print>(rt: &R, name: &str, closing: Closing) {
     let Closing {
         accepted,
         settled,
         left,
     } = closing;
-    println!(rt; "{name}: accepted {accepted}, settled {settled}, left {left}")?;
-    Ok(())
+    let _ = println!(rt; "{name}: accepted {accepted}, settled {settled}, left {left}");
 }
 
-/// Many seats, and a request that is abandoned: what the ledgers say at the close.
+/// Many seats: what the ledgers say at the close.
 fn tell_seats<R: Threads + Wait + Sync + Print>(rt: &R, alloc: Global) -> Result<()> {
     let sums = seats::eight_and_four(rt, alloc)?;
-    print_closing(rt, "eight and four", sums.closing)?;
+    print_closing(rt, "eight and four", sums.closing);
     let added = sums.seats;
-    println!(rt; "added from the seats: {added:?}")?;
-    print_closing(rt, "one is abandoned", seats::abandoned(rt, alloc)?)
+    let _ = println!(rt; "added from the seats: {added:?}");
+    Ok(())
 }
 
 /// Two workers that settle only together.
@@ -96,39 +93,46 @@ fn tell_gates<R: Threads + Wait + Clock + Sync + Print>(rt: &R, alloc: Global) -
     out.flush(rt, 0, FlushKind::All);
     let stopped = gates::both_work(rt, alloc, &out);
     let (receipts, left) = turns::collected(rt, alloc, &out, tickets);
-    println!(rt; "at once: stopped {stopped:?}, receipts {receipts}, left {left}")?;
-    Ok(())
-}
-
-/// One worker sends, and tickets are collected before and after it.
-fn tell_worker<R: Wait + Print>(rt: &R, alloc: Global) -> Result<()> {
-    let out = shared(alloc, 1000)?;
-    let ((), tickets) = turns::admits(rt, alloc, &out, (), 1, 3);
-    out.flush(rt, 0, FlushKind::All);
-    let post = Post::narrow(0);
-    let ((), stopped) = turns::works(rt, alloc, &out, (), post, &mut Open);
-    let (receipts, left) = turns::collected(rt, alloc, &out, tickets);
-    println!(rt; "one worker: stopped {stopped}, receipts {receipts}, left {left}")?;
+    let _ = println!(rt; "at once: stopped {stopped:?}, receipts {receipts}, left {left}");
     Ok(())
 }
 
 /// The stories, with and without a lock.
 fn tell_stories<R: Wait + Print>(rt: &R, alloc: Global) -> Result<()> {
     for story in &STORIES {
-        let (calls, alike) = mirrored(rt, alloc, *story)?;
-        let answers = told(rt, alloc, *story)?;
-        println!(rt; "{story:?}: {calls} calls, alike: {alike}:{answers}")?;
+        let bare = played_bare(alloc, *story)?;
+        let behind = played_behind(rt, alloc, *story)?;
+        let (name, calls) = (story.name(), behind.counts.len());
+        let alike = are_alike(&bare, &behind);
+        let answers = behind.text;
+        let _ = println!(rt; "{name}: {calls} calls, alike: {alike}:{answers}");
     }
     Ok(())
 }
 
-/// What turns by pieces come to over a link that fails at its call from 1 to 10.
-fn tell_failures<R: Wait + Print>(rt: &R, alloc: Global) -> Result<()> {
-    let mut all = Vec::new(alloc);
+/// What turns by pieces come to over a link that fails at its call from 1 to 10, and over links
+/// that take so many bytes.
+fn tell_served<R: Wait + Print>(rt: &R, alloc: Global) -> Result<()> {
     for call in 1..=10 {
-        all.push(serving::failed_at(rt, alloc, call)?)?;
+        let served = serving::failed_at(rt, alloc, call)?;
+        let _ = println!(rt; "a link that fails at its call {call}: {served:?}");
     }
-    println!(rt; "a link that fails at its call from 1 to 10: {all:?}")?;
+    for most in [45, 46] {
+        let served = serving::served(rt, alloc, most)?;
+        let _ = println!(rt; "a link that takes {most} bytes: {served:?}");
+    }
+    Ok(())
+}
+
+/// How many turns the frame takes over links that take at most so many bytes at once.
+fn tell_turns<R: Wait + Print>(rt: &R, alloc: Global) -> Result<()> {
+    for most in [1, 2, 45, 46] {
+        let (pieces, gathered, is_frame) = serving::turns(rt, alloc, most)?;
+        let _ = println!(rt;
+            "writes of at most {most} bytes: {pieces} turns by pieces, {gathered} gathered, \
+            the frame: {is_frame}"
+        );
+    }
     Ok(())
 }
 
@@ -137,22 +141,11 @@ fn main(rt: HostRuntime) -> Result<()> {
     if scarce::is_asked(&rt)? {
         return scarce::tell(&rt, alloc);
     }
-    tell_worker(&rt, alloc)?;
     tell_stories(&rt, alloc)?;
     lives::tell_all(&rt, alloc)?;
     trials::tell_all(&rt, alloc)?;
-    tell_failures(&rt, alloc)?;
-    let served = serving::served(&rt, alloc, 45)?;
-    println!(rt; "a link that takes 45 bytes: {served:?}")?;
-    let served = serving::served(&rt, alloc, 46)?;
-    println!(rt; "a link that takes 46 bytes: {served:?}")?;
-    for most in [1, 2, 45, 46] {
-        let (pieces, gathered, is_frame) = serving::turns(&rt, alloc, most)?;
-        println!(rt;
-            "writes of at most {most} bytes: {pieces} turns by pieces, {gathered} gathered, \
-            the frame: {is_frame}"
-        )?;
-    }
+    tell_served(&rt, alloc)?;
+    tell_turns(&rt, alloc)?;
     tell_day(&rt, alloc, 1)?;
     tell_day(&rt, alloc, 8)?;
     tell_seats(&rt, alloc)?;

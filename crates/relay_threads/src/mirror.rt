@@ -20,35 +20,41 @@ use std::alloc::Global;
 use std::mem;
 use std::sync::{Arc, Wait};
 
-/// What a call answered.
-#[derive(Clone, Copy, Debug, PartialEq, Eq)]
-enum Answer {
-    /// How many runs the entries took.
-    Admitted(usize),
-    Refused(AdmitRefusal),
-    Closed(usize),
-    /// The chunk's number and how many entries it has.
-    Took(u64, usize),
-    TookNothing,
-    Settled(u64),
-    /// How many receipts there were, and how many tickets came back.
-    Collected(usize, usize),
-    Chose(Option<u16>),
-    Done,
+/// What the calls of a story answered.
+#[derive(Drop)]
+pub struct Notes {
+    /// The answers, as a text.
+    pub text: String,
+    /// The counts after each.
+    pub counts: Vec<Counts>,
 }
 
-/// An answer, and the counts after it.
-#[derive(Clone, Copy, PartialEq, Eq)]
-struct Note {
-    answer: Answer,
-    counts: Counts,
+impl Notes {
+    /// Goes on with an answer of these numbers, and the counts after it.
+    fn put(&mut self, answer: &str, numbers: &[u64], counts: Counts) {
+        let _ = write!(self.text, " {answer}");
+        if !numbers.is_empty() {
+            let _ = write!(self.text, "{numbers:?}");
+        }
+        let _ = self.counts.push(counts);
+    }
+}
+
+/// What a refusal is called.
+fn refused(refusal: AdmitRefusal) -> &'static str {
+    match refusal {
+        AdmitRefusal::NotNow => "NotNow",
+        AdmitRefusal::Full => "Full",
+        AdmitRefusal::NumbersSpent => "NumbersSpent",
+        AdmitRefusal::Memory => "Memory",
+    }
 }
 
 /// An output, what it answered so far, and the tickets that it gave.
 struct Play<'a, O: Output> {
     alloc: Global,
     out: &'a mut O,
-    notes: Vec<Note>,
+    notes: Notes,
     tickets: Vec<Ticket>,
 }
 
@@ -82,10 +88,10 @@ fn acknowledged(alloc: Global, chunk: Carried) -> Option<(Arc<Acked>, Carried)>
 }
 
 impl<'a, O: Output> Play<'a, O> {
-    /// Notes an answer, with the counts after it.
-    fn note(&mut self, answer: Answer) {
+    /// Notes an answer of these numbers, with the counts after it.
+    fn note(&mut self, answer: &str, numbers: &[u64]) {
         let counts = self.out.counts();
-        let _ = self.notes.push(Note { answer, counts });
+        self.notes.put(answer, numbers, counts);
     }
 
     /// Admits a request of a connection at moment 0.
@@ -106,32 +112,32 @@ impl<'a, O: Output> Play<'a, O> {
             Ok(ticket) => {
                 let runs = ticket.spans().len();
                 self.tickets.push_reserved(ticket);
-                self.note(Answer::Admitted(runs));
+                self.note("Admitted", &[runs as u64]);
             }
-            Err((refusal, _)) => self.note(Answer::Refused(refusal)),
+            Err((refusal, _)) => self.note(refused(refusal), &[]),
         }
     }
 
     /// Closes all chunks.
     fn flush(&mut self) {
         let count = self.out.flush(0, FlushKind::All);
-        self.note(Answer::Closed(count));
+        self.note("Closed", &[count as u64]);
     }
 
     /// Closes the chunks that are due at a moment (milliseconds).
     fn flush_due(&mut self, now: u64) {
         let count = self.out.flush(now, FlushKind::Due);
-        self.note(Answer::Closed(count));
+        self.note("Closed", &[count as u64]);
     }
 
     /// A worker takes a chunk at a moment (milliseconds).
     fn take(&mut self, worker: u16, now: u64) -> Option<Carried> {
         let chunk = self.out.take(self.alloc, worker, now);
         match &chunk {
-            None => self.note(Answer::TookNothing),
+            None => self.note("TookNothing", &[]),
             Some(carried) => {
                 let (number, count) = (carried.number(), carried.count());
-                self.note(Answer::Took(number, count));
+                self.note("Took", &[number, count as u64]);
             }
         }
         chunk
@@ -144,7 +150,7 @@ impl<'a, O: Output> Play<'a, O> {
         };
         if let Some((acked, chunk)) = acknowledged(self.alloc, chunk) {
             let count = self.out.settle(acked, chunk);
-            self.note(Answer::Settled(count));
+            self.note("Settled", &[count]);
         }
     }
 
@@ -157,13 +163,15 @@ impl<'a, O: Output> Play<'a, O> {
     fn end_as(&mut self, chunk: Option<Carried>, server: Option<u16>, lost: bool, now: u64) {
         let (taken, loaded) = left_as(self.alloc, chunk, lost);
         self.out.end(taken, loaded, server, now);
-        self.note(Answer::Done);
+        self.note("Done", &[]);
     }
 
     /// The server that a worker tries at a moment (milliseconds).
     fn choose(&mut self, worker: u16, now: u64) {
-        let server = self.out.choose(worker, now);
-        self.note(Answer::Chose(server));
+        match self.out.choose(worker, now) {
+            Some(server) => self.note("Chose", &[u64::from(server)]),
+            None => self.note("ChoseNothing", &[]),
+        }
     }
 
     /// Hands in all tickets.
@@ -176,7 +184,7 @@ impl<'a, O: Output> Play<'a, O> {
         let left = back.len();
         let none = mem::replace(&mut self.tickets, back);
         none.destroy_empty();
-        self.note(Answer::Collected(receipts, left));
+        self.note("Collected", &[receipts as u64, left as u64]);
     }
 
     /// The oldest ticket is abandoned.
@@ -184,12 +192,12 @@ impl<'a, O: Output> Play<'a, O> {
         if !self.tickets.is_empty() {
             let ticket = self.tickets.remove(0);
             self.out.abandon(ticket);
-            self.note(Answer::Done);
+            self.note("Done", &[]);
         }
     }
 
     /// What was noted. The tickets that are left are abandoned.
-    fn end_play(self) -> Vec<Note> {
+    fn end_play(self) -> Notes {
         let Play {
             alloc: _,
             out,
@@ -328,7 +336,7 @@ fn again<O: Output>(play: &mut Play<'_, O>) {
 }
 
 /// Which calls are made.
-#[derive(Clone, Copy, Debug)]
+#[derive(Clone, Copy)]
 pub enum Story {
     WayBack,
     LaterFirst,
@@ -343,6 +351,22 @@ pub enum Story {
 }
 
 impl Story {
+    /// What it is called.
+    pub fn name(self) -> &'static str {
+        match self {
+            Story::WayBack => "WayBack",
+            Story::LaterFirst => "LaterFirst",
+            Story::InOrder => "InOrder",
+            Story::Lost => "Lost",
+            Story::Full => "Full",
+            Story::Abandoned => "Abandoned",
+            Story::Due => "Due",
+            Story::Choices => "Choices",
+            Story::Returns => "Returns",
+            Story::Again => "Again",
+        }
+    }
+
     /// The most bytes of a chunk, and of all entries.
     fn limits(self) -> (u32, u64) {
         match self {
@@ -354,11 +378,14 @@ impl Story {
 }
 
 /// What a story's calls answer.
-fn played<O: Output>(alloc: Global, out: &mut O, story: Story) -> Vec<Note> {
+fn played<O: Output>(alloc: Global, out: &mut O, story: Story) -> Notes {
     let mut play = Play {
         alloc,
         out,
-        notes: Vec::new(alloc),
+        notes: Notes {
+            text: String::new(alloc),
+            counts: Vec::new(alloc),
+        },
         tickets: Vec::new(alloc),
     };
     match story {
@@ -387,33 +414,20 @@ fn locked(alloc: Global, story: Story) -> Result<Locked<Plain, Plain>> {
 }
 
 /// What a story's calls answer on an output itself.
-fn played_bare(alloc: Global, story: Story) -> Result<Vec<Note>> {
+pub fn played_bare(alloc: Global, story: Story) -> Result<Notes> {
     let mut out = locked(alloc, story)?;
     Ok(played(alloc, &mut out, story))
 }
 
 /// What a story's calls answer on the same output behind its lock.
-fn played_behind<R: Wait>(rt: &R, alloc: Global, story: Story) -> Result<Vec<Note>> {
+pub fn played_behind<R: Wait>(rt: &R, alloc: Global, story: Story) -> Result<Notes> {
     let shared = SharedOutput::new(locked(alloc, story)?);
     let mut behind = Behind { rt, shared };
     Ok(played(alloc, &mut behind, story))
 }
 
-/// How many calls a story has, and whether the output answered them alike behind its lock.
-pub fn mirrored<R: Wait>(rt: &R, alloc: Global, story: Story) -> Result<(usize, bool)> {
-    let bare = played_bare(alloc, story)?;
-    let behind = played_behind(rt, alloc, story)?;
-    Ok((bare.len(), bare.as_slice() == behind.as_slice()))
-}
-
-/// What a story's calls answer behind a lock, one after the other.
-pub fn told<R: Wait>(rt: &R, alloc: Global, story: Story) -> Result<String> {
-    let notes = played_behind(rt, alloc, story)?;
-    let mut text = String::new(alloc);
-    for note in &notes {
-        let answer = note.answer;
-        let line = format!(in alloc; " {answer:?}")?;
-        text.push_str(&line)?;
-    }
-    Ok(text)
+/// Whether an output answered alike, with and without its lock, and counted alike after each call.
+pub fn are_alike(bare: &Notes, behind: &Notes) -> bool {
+    let is_text = bare.text.as_str() == behind.text.as_str();
+    is_text && bare.counts.as_slice() == behind.counts.as_slice()
 }

@@ -4,11 +4,12 @@ ghost use Rattle.std.specs.Prelude.{◌≡◌, ◌≤◌, [], length, IfOk, IfEr
 ghost use Rattle.fwd_workers.specs.Links.{count_read};
 ghost use Rattle.fwd_workers.specs.declared.link.LinkFault.TheVariants as fault;
 
-use crate::acts::{Act, Server};
+use crate::acts::{Act, Came, Server};
 use crate::memory::give;
 use crate::record::Record;
 use fwd_workers::{Calls, Hub, Link, LinkFault, Read};
 use std::alloc::Global;
+use std::str;
 use std::sync::Wait;
 
 /// A link to a server that acts.
@@ -73,8 +74,9 @@ impl Played {
     fn give_bytes(&self, act: Act, room: &mut [u8]) -> Read
         ensures { count_read (Ok result) ≤ length room.new }
     {
-        match self.server.gives(act) {
-            Ok(bytes) if !bytes.is_empty() => give(room, &bytes),
+        let mut bytes = Vec::new(self.alloc);
+        match self.server.put(&mut bytes, act) {
+            Ok(()) if !bytes.is_empty() => give(room, &bytes),
             _ => Read::Nothing,
         }
     }
@@ -108,8 +110,12 @@ impl Played {
     {
         let count = bytes.len();
         let made = match self.server.hear(bytes) {
-            Ok(Some(message)) => format!(in self.alloc; ", sent {message}"),
-            _ => format!(in self.alloc; ", sent {count} bytes"),
+            Came::Chunk(title) => format!(in self.alloc; ", sent {title}"),
+            Came::Ping(salt) => {
+                let salt = str::from_utf8(&salt).unwrap_or("no salt");
+                format!(in self.alloc; ", sent PING {salt}")
+            }
+            Came::Nothing => format!(in self.alloc; ", sent {count} bytes"),
         };
         self.record.note_made(rt, made);
     }

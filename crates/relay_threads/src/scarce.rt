@@ -91,8 +91,8 @@ pub fn tell<R: Threads + Wait + Sync + Print>(rt: &R, alloc: Global) -> Result<(
         Ok(outcome) => outcome,
         Err(_) => alone(rt, alloc)?,
     };
-    print_closing(rt, "two threads and one worker", closing)?;
+    print_closing(rt, "two threads and one worker", closing);
     let (first, second) = (well(rt, alloc), well(rt, alloc));
-    println!(rt; "told {told}, turns by pieces {first:?} {second:?}")?;
+    let _ = println!(rt; "told {told}, turns by pieces {first:?} {second:?}");
     Ok(())
 }

@@ -226,32 +226,3 @@ pub fn eight_and_four<R: Threads + Wait + Sync>(rt: &R, alloc: Global) -> Result
 {
     sums_by::<Brand, Brand, R>(rt, alloc, Blank::new(9), Blank::new(5))
 }
-
-/// The closing of an output whose one request was abandoned, by two ledgers of one part.
-fn abandoned_by<L: Ledger, M: Ledger, R: Wait>(
-    rt: &R,
-    alloc: Global,
-    admitting: Blank,
-    working: Blank,
-) -> Result<Closing>
-    requires admitting { (admitting.name ≡ L.name) × (admitting.parts ≡ L.parts) × (L.parts ≡ 1) }
-    requires working { (working.name ≡ M.name) × (working.parts ≡ M.parts) × (M.parts ≡ 1) }
-    ensures { IfOk result (λ closing. closing.accepted ≡ closing.settled + closing.left) }
-{
-    let (accepted, admit_seat) = open::<L>(admitting);
-    let (settled, work_seat) = open::<M>(working);
-    let state = output(alloc, 10, 100_000)?;
-    let out = SharedOutput::new(Locked::new(state, accepted, settled));
-    let (admit_seat, tickets) = admits(rt, alloc, &out, admit_seat, 1, 1);
-    abandon_all(rt, &out, tickets);
-    let admit_seats = vec![in alloc; admit_seat]?;
-    let work_seats = vec![in alloc; work_seat]?;
-    Ok(out.close(admit_seats, work_seats))
-}
-
-/// What an output comes to whose one request was abandoned.
-pub fn abandoned<R: Wait>(rt: &R, alloc: Global) -> Result<Closing>
-    ensures { IfOk result (λ closing. closing.accepted ≡ closing.settled + closing.left) }
-{
-    abandoned_by::<Brand, Brand, R>(rt, alloc, Blank::new(1), Blank::new(1))
-}

@@ -1,17 +1,17 @@
 //! Turns of a session over a link that holds an acknowledgement before the frame's last byte.
 
-ghost use Rattle.std.specs.Prelude.{◌≡◌, ◌≤◌, ◌<◌, false, length, IfOk};
+ghost use Rattle.std.specs.Prelude.{◌≡◌, ◌<◌, false, IfOk};
 ghost use Rattle.fwd_session.specs.Live.{live_room};
 
 use crate::batches::{ACK, MESSAGE, batch, drop_chunk, drop_session, login, output, terms};
 use crate::faulty::{Faulty, Got, Wrong};
-use crate::memory::{Wire, give};
+use crate::memory::Wire;
 use anyhow::{Result, bail};
 use fwd_base::Bytes;
 use fwd_core::{FlushKind, Origin, OutputState, OwnedSalt};
 use fwd_handshake::Login;
 use fwd_session::{LoadFailed, Session};
-use fwd_workers::{Calls, Link, LinkFault, Read, Served, serve_gathered, serve_turn};
+use fwd_workers::{Served, serve_gathered, serve_turn};
 use std::alloc::Global;
 use std::sync::{Arc, Wait};
 
@@ -24,43 +24,6 @@ const MOST_TURNS: u32 = 100;
 
 /// The room that gathered turns are handed.
 const ROOM: usize = 4_096;
-
-/// A link that takes so many bytes in all, and gives an acknowledgement whatever it took.
-#[derive(Drop)]
-struct Hasty {
-    taken: usize,
-    most: usize,
-    calls: Calls,
-}
-
-impl Hasty {
-    /// Takes of these bytes what it still takes.
-    fn keep(&mut self, bytes: &[u8]) -> usize
-        ensures taken { result ≤ length bytes.now }
-        ensures calls { self.new.calls ≡ self.old.calls }
-    {
-        let count = bytes.len().min(self.most.saturating_sub(self.taken));
-        self.taken = self.taken.saturating_add(count);
-        count
-    }
-}
-
-impl Link for Hasty {
-    ghost calls = { λ l. l.calls.list };
-
-    fn read<R: Wait>(&mut self, _rt: &R, room: &mut [u8]) -> Result<Read, LinkFault> {
-        let read = give(room, ACK);
-        let room = &*room;
-        self.calls = self.calls.and_read(&room, &Ok(read));
-        Ok(read)
-    }
-
-    fn write<R: Wait>(&mut self, _rt: &R, bytes: &[u8]) -> Result<usize, LinkFault> {
-        let count = self.keep(bytes);
-        self.calls = self.calls.and_write(&bytes, &Ok(count));
-        Ok(count)
-    }
-}
 
 /// A session that begins, with a login without a key.
 fn session(alloc: Global) -> Result<Session>
@@ -155,49 +118,6 @@ pub fn turns<R: Wait>(rt: &R, alloc: Global, most: usize) -> Result<(u32, u32, b
     Ok((pieces, gathered, is_frame && is_same))
 }
 
-/// What gathered turns come to where the link takes at most so many bytes of the frame's 46.
-pub fn served<R: Wait>(rt: &R, alloc: Global, most: usize) -> Result<Served> {
-    let mut state = closed_output(alloc)?;
-    serve_first(rt, alloc, &mut state, most)
-}
-
-/// The first answer of a session's turns that asks for anything.
-fn first_answer<R: Wait>(
-    rt: &R,
-    alloc: Global,
-    link: &mut Hasty,
-    session: &mut Session,
-) -> Result<Served> {
-    for _ in 0..MOST_TURNS {
-        if session.is_down() {
-            bail!("down");
-        }
-        let served = serve_gathered(rt, alloc, link, session, &mut [0; ROOM]);
-        if !matches!(served, Served::Quiet) {
-            return Ok(served);
-        }
-    }
-    bail!("quiet")
-}
-
-/// The same of a session that is loaded with the output's chunk first.
-fn serve_first<R: Wait>(
-    rt: &R,
-    alloc: Global,
-    state: &mut OutputState,
-    most: usize,
-) -> Result<Served> {
-    let mut session = loaded_session(alloc, state)?;
-    let mut link = Hasty {
-        taken: 0,
-        most,
-        calls: Calls::none(),
-    };
-    let served = first_answer(rt, alloc, &mut link, &mut session);
-    drop_session(alloc, session);
-    served
-}
-
 /// The first answer of turns by pieces that is not quiet. Each has to be `Failed` just where its
 /// own calls of the link failed.
 fn turns_until<R: Wait>(
@@ -236,6 +156,12 @@ fn turns_over_faulty<R: Wait>(rt: &R, alloc: Global, wrong: Option<Wrong>) -> Re
 /// What turns by pieces come to over a link that fails at its call of this number.
 pub fn failed_at<R: Wait>(rt: &R, alloc: Global, call: u64) -> Result<Served> {
     turns_over_faulty(rt, alloc, Some(Wrong::Fails(call)))
+}
+
+/// What they come to over a link that takes so many bytes of the frame's 46, and then gives its
+/// acknowledgement.
+pub fn served<R: Wait>(rt: &R, alloc: Global, most: usize) -> Result<Served> {
+    turns_over_faulty(rt, alloc, Some(Wrong::Lies(most, ACK)))
 }
 
 /// What they come to over a good link, if there is memory to begin with.

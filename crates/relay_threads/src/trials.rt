@@ -209,7 +209,8 @@ fn tried_out<R: Wait>(rt: &R, alloc: Global, trial: Trial) -> Result<Tried>
 fn tell<R: Wait + Print>(rt: &R, alloc: Global, name: &str, trial: Trial) -> Result<()> {
     let Tried { closing, witness } = tried_out(rt, alloc, trial)?;
     let told = witness.record.text(rt)?;
-    print_closing(rt, &format!(in alloc; "{name}{told}")?, closing)
+    print_closing(rt, &format!(in alloc; "{name}{told}")?, closing);
+    Ok(())
 }
 
 /// The trial of a link that fails at its call of this number.
@@ -232,12 +233,12 @@ fn tell_failing<R: Wait + Print>(rt: &R, alloc: Global, refused: u64) -> Result<
         accepted = accepted.saturating_add(closing.accepted);
         settled = settled.saturating_add(closing.settled);
         others = others.saturating_add(other);
-        frames.push(first)?;
+        let _ = frames.push(first);
     }
-    println!(rt;
+    let _ = println!(rt;
         "{refused} connects fail, and a call from 1 to 10: accepted {accepted}, \
         settled {settled}, frames {frames:?}, others {others}"
-    )?;
+    );
     Ok(())
 }
 

@@ -1,0 +1,226 @@
+//! A scene: a relay, and what happens around it.
+
+use crate::heard::{Heard, Said};
+use crate::post::Mood;
+use crate::running::{Until, run};
+use crate::sealed::Sealed;
+use crate::site::{Output, PLAIN, SEED};
+use crate::stage::Stage;
+use crate::step::Step;
+use crate::traffic::{play_alone, play_deaths};
+use anyhow::{Result, anyhow, bail};
+use fwd_chunks::Report;
+use fwd_loop::{Loop, StartFault};
+use std::net::{Net, TcpListener, TcpStream};
+use std::rt::Clock;
+use std::sync::Wait;
+use std::sync::atomic::{AtomicBool, Ordering};
+use std::thread;
+use std::thread::Threads;
+
+/// What happens around a relay.
+#[derive(Clone, Copy)]
+pub enum Play {
+    /// These steps, one behind the other.
+    Steps(&'static [Step]),
+    /// A source sends requests, one behind the other, beside such servers.
+    Alone([Mood; 3]),
+    /// Several requests are under way while the first primary dies, or both do, and come back.
+    Deaths(bool),
+}
+
+/// A scene.
+#[derive(Clone, Copy)]
+pub struct Scene {
+    /// What it is about.
+    pub title: &'static str,
+    /// The number of its host, where all its listeners stand.
+    pub host: u8,
+    /// How many sources its relay takes at a time, and what it is set to beside.
+    pub sources: u16,
+    pub keys: &'static str,
+    pub outputs: &'static [Output],
+    pub play: Play,
+    /// How many turns its relay runs for. Else it runs until the play is over.
+    pub turns: Option<u64>,
+    /// Whether it is told what the outputs have to do with then.
+    pub is_counted: bool,
+    /// What is said of what the relay told.
+    pub said: &'static [Said],
+}
+
+/// What most scenes have.
+pub const SCENE: Scene = Scene {
+    title: "",
+    host: 0,
+    sources: 8,
+    keys: SEED,
+    outputs: &[PLAIN],
+    play: Play::Steps(&[]),
+    turns: None,
+    is_counted: true,
+    said: &[],
+};
+
+impl Scene {
+    /// What its sources, servers and monitors do and see.
+    fn play<R: Net<Listener = TcpListener, Stream = TcpStream> + Clock>(
+        self,
+        rt: &R,
+        stage: &mut Stage,
+    ) -> Result<()> {
+        match self.play {
+            Play::Steps(steps) => {
+                for step in steps {
+                    stage.play(rt, *step)?;
+                }
+                Ok(())
+            }
+            Play::Alone(moods) => play_alone(rt, stage, moods),
+            Play::Deaths(both) => play_deaths(rt, stage, both),
+        }
+    }
+
+    /// The same. Behind a play that failed nobody stands, so that no worker waits for a server.
+    fn play_out<R: Net<Listener = TcpListener, Stream = TcpStream> + Clock>(
+        self,
+        rt: &R,
+        stage: &mut Stage,
+    ) -> Result<()> {
+        let played = self.play(rt, stage);
+        if played.is_err() {
+            stage.clear();
+        }
+        if self.turns.is_some() {
+            stage.hurry(rt);
+        }
+        played
+    }
+
+    /// Runs its relay: what its outputs have to do with then.
+    fn turn<
+        R: Net<Listener = TcpListener, Stream = TcpStream>
+            + Threads
+            + Wait
+            + Clock
+            + AllocGlobal
+            + Sync,
+    >(self, rt: &R, relay: Loop, until: &mut Until<'_>) -> Result<Vec<Report>, StartFault> {
+        match self.turns {
+            Some(turns) => relay.run_watched(rt, &mut until.heard, turns),
+            None => run(rt, relay, until),
+        }
+    }
+
+    /// Appends what its relay came to.
+    fn put_end(self, stage: &mut Stage, reports: &[Report], heard: &Heard) -> Result<()> {
+        if self.is_counted {
+            stage.told.put_counts(reports)?;
+        }
+        stage.told.begin_line();
+        for said in self.said {
+            heard.put(*said, stage.site, &mut stage.told)?;
+        }
+        heard.put_closings(&mut stage.told)
+    }
+
+    /// Runs its relay, and plays what happens around it meanwhile. The relay ends with the play,
+    /// whatever that came to.
+    fn run<
+        R: Net<Listener = TcpListener, Stream = TcpStream>
+            + Threads
+            + Wait
+            + Clock
+            + AllocGlobal
+            + Sync,
+    >(self, rt: &R, stage: &mut Stage, until: &mut Until<'_>) -> Result<Vec<Report>> {
+        let relay = stage
+            .site
+            .relay(&Sealed::new(rt), self.sources, self.keys, self.outputs)?;
+        let over = until.over;
+        let (ended, played) = thread::join(
+            rt,
+            move || self.turn(rt, relay, until),
+            move || {
+                let played = self.play_out(rt, stage);
+                over.store(true, Ordering::SeqCst);
+                played
+            },
+        );
+        played?;
+        match ended {
+            Ok(reports) => Ok(reports),
+            Err(fault) => Err(anyhow!("{fault}")),
+        }
+    }
+
+    /// The same, and appends what it came to.
+    fn put_run<
+        R: Net<Listener = TcpListener, Stream = TcpStream>
+            + Threads
+            + Wait
+            + Clock
+            + AllocGlobal
+            + Sync,
+    >(self, rt: &R, stage: &mut Stage) -> Result<()> {
+        let is_over = AtomicBool::new(false);
+        let mut until = Until {
+            heard: Heard::new(rt.alloc()),
+            over: &is_over,
+            fault: None,
+        };
+        let reports = self.run(rt, stage, &mut until)?;
+        if let Some(fault) = until.fault {
+            bail!("{fault}");
+        }
+        self.put_end(stage, &reports, &until.heard)
+    }
+
+    /// What is printed of it. What failed is printed too, so that one scene does not hide another.
+    fn text<
+        R: Net<Listener = TcpListener, Stream = TcpStream>
+            + Threads
+            + Wait
+            + Clock
+            + AllocGlobal
+            + Sync,
+    >(self, rt: &R) -> Result<String> {
+        let mut stage = Stage::new(rt, rt.alloc(), self.host)?;
+        stage.told.begin(self.title);
+        let played = self.put_run(rt, &mut stage);
+        stage.told.note(played);
+        Ok(stage.take_text())
+    }
+}
+
+/// What is printed of the scene at a place among these.
+fn text_at<
+    R: Net<Listener = TcpListener, Stream = TcpStream>
+        + Threads
+        + Wait
+        + Clock
+        + AllocGlobal
+        + Sync,
+>(rt: &R, scenes: &[Scene], place: usize) -> Result<String> {
+    match scenes.get(place) {
+        Some(scene) => scene.text(rt),
+        None => Err(anyhow!("no such scene")),
+    }
+}
+
+/// What is printed of these scenes, which are played side by side.
+pub fn play_all<
+    R: Net<Listener = TcpListener, Stream = TcpStream>
+        + Threads
+        + Wait
+        + Clock
+        + AllocGlobal
+        + Sync,
+>(rt: &R, scenes: &[Scene]) -> Result<Vec<Result<String>>> {
+    Ok(thread::map_indices(
+        rt,
+        rt.alloc(),
+        scenes.len(),
+        &|place| text_at(rt, scenes, place),
+    )?)
+}
