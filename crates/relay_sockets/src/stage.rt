@@ -34,9 +34,9 @@ const FRONT: &[u8] = b"GET / HT";
 const BACK: &[u8] = b"TP/1.1\r\nHost: relay\r\n\r\n";
 
 /// What the page of an output that took nothing begins with, and what it ends with.
-const PAGE: &[u8] = b"HTTP/1.1 200 OK\r\nContent-Type: text/plain\r\nContent-Length: 54\r\n";
+const PAGE: &[u8] = b"HTTP/1.1 200 OK\r\nContent-Type: text/plain\r\n";
 
-const END: &[u8] = b"\r\n\r\noutput 0 accepted 0 settled 0 held 0 bytes 0 chunks 0\n";
+const END: &[u8] = b"\noutput 0 accepted 0 settled 0 held 0 bytes 0 chunks 0\n";
 
 /// Sources of random bytes: from so many seeds, from 1 on. The first value of each is whole within
 /// its first 256 bytes, and is no array.
