@@ -72,13 +72,18 @@ fn a_front_of_a_request_is_no_request_and_no_fault(rt: HostRuntime) {
     }
 }
 
+/// How many requests wait once two pieces have come, if no fault did.
+fn waiting_behind<'a>(alloc: Global, first: &'a [u8], second: &'a [u8]) -> Option<usize> {
+    waiting_after(alloc, &[first, second])
+}
+
 /// How many requests wait once 100,000 have come in one piece, and one more behind them.
 fn many_waiting(alloc: Global) -> Option<usize> {
     let mut many = Vec::new(alloc);
     for _ in 0..100_000 {
         many.extend_from_slice(ACCEPTED[0]).ok()?;
     }
-    waiting_after(alloc, &[&many, ACCEPTED[0]])
+    waiting_behind(alloc, &many, ACCEPTED[0])
 }
 
 #[test]
