@@ -33,8 +33,8 @@ use crate::tables::print_tables;
 use std::process::ExitCode;
 use std::{env, io};
 
-/// Judges the scripts, and where all have their answers, prints what is told of the rest. The status
-/// is 0 only where there are any scripts and all have their answers.
+/// Judges the scripts, and where all have their answers, prints what is told of the rest. The
+/// status is 0 only where there are any scripts and all have their answers.
 fn main(rt: HostRuntime) -> io::Result<ExitCode> {
     let mut words = match env::args(&rt) {
         Ok(words) => words,
