@@ -2,7 +2,7 @@
 
 memory.py PROGRAM
 
-PROGRAM is relay_measures as it was built. For each load it runs twice: to make the requests alone, and
+PROGRAM is relay_scripts as it was built. For each load it runs twice: to make the requests alone, and
 to admit them all and settle them. The most memory of the second run less that of the first, by the
 system's count of resident bytes, stands beside twice the entries' bytes, 8 bytes an entry and 256 a
 chunk.

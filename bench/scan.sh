@@ -4,8 +4,8 @@
 #     sh bench/scan.sh [TURNS [MEGABYTES]]
 #
 # Run at the top of the repository, on a quiet machine. It needs Debian's python3-msgpack and libmsgpuck-dev, which it
-# installs where they are absent, and cc. It proves and builds crates/relay_measures, unless MEASURES names a built
-# program (the gate leaves one at crates/relay_measures/out/relay_measures), writes streams to a folder that it removes in
+# installs where they are absent, and cc. It proves and builds crates/relay_scripts, unless MEASURES names a built
+# program (the gate leaves one at crates/relay_scripts/out/relay_scripts), writes streams to a folder that it removes in
 # the end, and prints one line a stream: MB/s of the fastest of five times TURNS turns (a MB is 10^6 bytes), and the
 # ratio to mp_check's.
 #
@@ -25,8 +25,8 @@ megabytes=${2:-20}
 
 bench=${MEASURES:-}
 [ -n "$bench" ] || {
-    (cd crates/relay_measures && rt run -- values count cut 1 - <stdin >/dev/null)
-    bench=$PWD/crates/relay_measures/out/relay_measures
+    (cd crates/relay_scripts && rt run -- values count cut 1 - <stdin >/dev/null)
+    bench=$PWD/crates/relay_scripts/out/relay_scripts
 }
 
 folder=$(mktemp -d)

@@ -2,10 +2,10 @@
 """Refuses memory once, at each request for it, to programs that replay scripts, check settings, and make each call that
 takes memory by itself.
 
-    /usr/bin/python3 tools/refused_memory.py [RELAY SCRIPTS MEASURES]
+    /usr/bin/python3 tools/refused_memory.py [RELAY SCRIPTS]
 
-Run at the top of the repository. The three are built programs, which a gate leaves at crates/NAME/out/NAME: forward_relay,
-relay_scripts and relay_measures. It needs cc, for the shim tools/refused_memory/refuse.c. Each program runs for N = 1, 2, ..
+Run at the top of the repository. The two are built programs, which a gate leaves at crates/NAME/out/NAME: forward_relay
+and relay_scripts. It needs cc, for the shim tools/refused_memory/refuse.c. Each program runs for N = 1, 2, ..
 until a run meets no refusal, the Nth request for memory refused, over each script of crates/relay_scripts/data and of
 examples:
 
@@ -14,7 +14,7 @@ examples:
   come. It also runs all events at once, on a relay of its own: the answers that are not `memory` are those of a further
   relay to those events.
 
-In the same way `check` runs over each file of settings, and the calls of `relay_measures calls` are made: each prints what
+In the same way `check` runs over each file of settings, and the calls of `relay_scripts calls` are made: each prints what
 it prints with ample memory, but that one may have been refused memory once before, and then nothing has changed.
 
 It prints a line for each of these four, what went wrong, and in the end `N passed, M failed`, with 1 where any failed.
@@ -31,7 +31,7 @@ from refusing import build, runs
 
 TOP = pathlib.Path(__file__).resolve().parent.parent
 DATA = TOP / "crates" / "relay_scripts" / "data"
-NAMES = ["forward_relay", "relay_scripts", "relay_measures"]
+NAMES = ["forward_relay", "relay_scripts"]
 ENDS = (b"line ", b"settings: ")  # how the line begins that tells an end on standard error
 
 
@@ -115,7 +115,7 @@ def judge_calls(_path, parts):
 
 
 def main(*programs):
-    relay, scripts, measures = [
+    relay, scripts = [
         str(pathlib.Path(program).resolve()) for program in programs or [TOP / "crates" / n / "out" / n for n in NAMES]
     ]
     texts = sorted(DATA.glob("*.script")) + sorted((TOP / "examples").glob("*.script"))
@@ -123,7 +123,7 @@ def main(*programs):
     tasks = [("replay", judge_replay, path, [relay, "replay"], path.read_bytes()) for path in texts]
     tasks += [("steps", judge_steps, path, [scripts, "steps", str(path)], b"") for path in texts]
     tasks += [("check", judge_check, path, [relay, "check", str(path)], b"") for path in settings]
-    tasks += [("calls", judge_calls, None, [measures, "calls"], b"")]
+    tasks += [("calls", judge_calls, None, [scripts, "calls"], b"")]
     passed = failed = 0
     counts = Counter()
     with tempfile.TemporaryDirectory() as folder, ThreadPoolExecutor(2) as pool:

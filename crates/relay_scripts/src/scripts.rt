@@ -1,6 +1,11 @@
-//! The scripts of a folder, and whether they have their answers.
+//! The scripts of a folder, and whether they have their answers: as the script stands, with the bytes
+//! of each piece in two at each byte (of a piece above 4,096 bytes near its ends alone), and with
+//! the bytes of two pieces in one. `NAME.script` is what `forward_relay replay` reads.
+//! `NAME.answers` is what must come: what the program writes on standard output, and behind that
+//! what it tells on standard error. A script is these two files and nothing else.
 
 use crate::differences::{Difference, difference_of};
+use std::env::Args;
 use std::rt::Files;
 use std::{fs, io};
 
@@ -60,7 +65,7 @@ fn have_answers<R: Files + Print + Eprint + AllocGlobal>(
 
 /// Judges all scripts of a folder, and prints that each has its answers, or what is wrong. It
 /// answers true only where there are any and all have their answers.
-pub fn judge_scripts<R: Files + Print + Eprint + AllocGlobal + Clone + Drop>(
+fn judge_scripts<R: Files + Print + Eprint + AllocGlobal + Clone + Drop>(
     rt: &R,
     folder: &str,
 ) -> io::Result<bool> {
@@ -74,4 +79,15 @@ pub fn judge_scripts<R: Files + Print + Eprint + AllocGlobal + Clone + Drop>(
     }
     println!(rt; "each script has its answers")?;
     Ok(true)
+}
+
+/// Judges the scripts of the folder of the next word.
+pub fn judge_next<R: Files + Print + Eprint + AllocGlobal + Clone + Drop>(
+    rt: &R,
+    words: &mut Args,
+) -> Option<()> {
+    match judge_scripts(rt, &words.next()?) {
+        Ok(true) => Some(()),
+        _ => None,
+    }
 }

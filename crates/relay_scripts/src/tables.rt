@@ -60,11 +60,22 @@ impl Table {
 }
 
 /// Prints what is told of the cases of each table, behind its heading.
-pub fn print_tables<R: Files + Print + AllocGlobal>(rt: &R) -> Result<()> {
+fn print_tables<R: Files + Print + AllocGlobal>(rt: &R) -> Result<()> {
     for (table, file) in &TABLES {
         println!(rt; "== {file}")?;
         let text = fs::read_to_string(rt, *file)?;
         table.print(rt, text.as_str())?;
     }
     Ok(())
+}
+
+/// The same, and prints why that fails.
+pub fn tell_tables<R: Files + Print + AllocGlobal>(rt: &R) -> Option<()> {
+    match print_tables(rt) {
+        Ok(()) => Some(()),
+        Err(error) => {
+            let _ = println!(rt; "{error}");
+            None
+        }
+    }
 }

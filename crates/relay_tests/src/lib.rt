@@ -1,7 +1,7 @@
 //! Tests of what no contract says: printed texts, failing streams, values of standards, and calls
 //! that take memory with ample memory, at the greatest sizes too. Scripts are replayed by the
 //! program `relay_scripts`, MessagePack as others spell it is read by `relay_tables`, and the other
-//! calls that take memory are made by `relay_measures`.
+//! calls that take memory are made by `relay_scripts`.
 #![tactic(auto)]
 
 #[cfg(test)]

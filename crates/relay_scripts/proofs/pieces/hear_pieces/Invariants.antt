@@ -1,5 +1,5 @@
 use Rattle.std.proofs.Common.{length}
-use Rattle.relay_measures.proofs.pieces.hear_pieces.Given as goal
+use Rattle.relay_scripts.proofs.pieces.hear_pieces.Given as goal
 
 abbrev pub decreases-pieces : goal.decreases-pieces
 decreases-pieces l = length l.rest
