@@ -5,8 +5,8 @@
 //! `tools/refused_memory.py` has memory refused to each in turn. What is no call of the list is
 //! made again where it is refused memory, and nothing is said of it.
 
+use crate::digits::Hex;
 use crate::growing_chunks;
-use crate::hex::Hex;
 use fwd_base::{Bytes, Seq};
 use fwd_chunks::{Counts, Report, TagCount};
 use fwd_core::Relay;

@@ -25,10 +25,10 @@
 mod answers;
 mod buffers;
 mod differences;
+mod digits;
 mod events;
 mod growing;
 mod growing_chunks;
-mod hex;
 mod joins;
 mod lines;
 mod load;
