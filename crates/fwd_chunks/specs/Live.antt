@@ -13,6 +13,7 @@ use Rattle.fwd_chunks.specs.declared.fault.AdmitError.{AdmitError}
 use Rattle.fwd_chunks.specs.declared.fault.AdmitError.TheVariants.{Full, NumbersSpent}
 use Rattle.fwd_chunks.specs.declared.stage.Stage.{Stage}
 use Rattle.fwd_chunks.specs.declared.stage.Stage.TheVariants.{Open, Closed, Taken}
+use Rattle.fwd_retry.specs.declared.losses.Losses.{Losses}
 use Rattle.fwd_retry.specs.Tallies.{tally_of, tally_more, live_is_over}
 use Rattle.fwd_chunks.specs.Cells.{
   Carry,
@@ -264,6 +265,20 @@ live_load b c = record {
   entries = c.entries;
   name = chunk_name b.setting.run b.setting.output c.number;
 }
+
+-- how often it was lost, where 65 stands for every greater count
+abbrev pub times_lost : Option Losses → ℕ
+times_lost None = 0
+times_lost (Some l) = l.count
+
+-- how often the chunk was lost; one that is not there never was
+abbrev pub losses_in : Option Chunk → ℕ
+losses_in None = 0
+losses_in (Some c) = times_lost c.losses
+
+-- how often the chunk of a number was lost
+abbrev pub live_losses : LiveBuffer → ℕ → ℕ
+live_losses b number = losses_in (find (is_at number) b.chunks)
 
 -- what a worker has under a number, if one has it
 abbrev pub live_carried : LiveBuffer → ℕ → Option Load

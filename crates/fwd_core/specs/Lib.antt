@@ -6,7 +6,8 @@ pub mod Places
 pub mod Relays
 pub mod Runs
 pub mod Standing
--- Of the crate below, for those above.
+-- Of the crates below, for those above.
+pub use Rattle.fwd_failover.specs.Doubts
 pub use Rattle.fwd_model.specs.declared.config.Config
 pub use Rattle.fwd_model.specs.declared.event.EndKind
 pub use Rattle.fwd_model.specs.Live

@@ -44,12 +44,14 @@ ghost use Rattle.fwd_chunks.specs.Live.{
   live_given,
   live_load,
   live_looks,
+  live_losses,
   live_spans,
   live_takes,
   live_frees,
   live_counts,
 };
 ghost use Rattle.fwd_chunks.specs.Soundness.{IsSound};
+ghost use Rattle.fwd_failover.specs.Doubts.{live_is_doubted, live_trusted};
 ghost use Rattle.fwd_chunks.specs.TagCounts.{live_report, IsSnapshot};
 ghost use Rattle.fwd_session.specs.Evidence.{IsEvidence};
 ghost use Rattle.fwd_book.specs.History.{Entered, entered_as, is_of, request_at};
@@ -338,6 +340,29 @@ impl OutputState {
     {
         let moment = self.buffer.look(now);
         self.servers.choose(worker, moment)
+    }
+
+    /// Whether a server was lost since it last settled a chunk, so that it is not known to work.
+    pub fn is_doubted(&self, server: u16) -> bool
+        ensures { result ≡ live_is_doubted self.now.servers server }
+    {
+        self.servers.is_doubted(server)
+    }
+
+    /// The first server in a worker's order that was not lost since it last settled a chunk, if
+    /// there is one.
+    pub fn trusted(&self, worker: u16) -> Option<u16>
+        ensures { result ≡ live_trusted self.now.servers worker }
+    {
+        self.servers.trusted(worker)
+    }
+
+    /// How often the chunk was lost before a worker took it, where 65 stands for every greater
+    /// count. A chunk that is not in this output was never lost.
+    pub fn losses(&self, carried: &Carried) -> u8
+        ensures { result ≡ live_losses self.now.buffer carried.now.number }
+    {
+        self.buffer.losses(carried)
     }
 
     /// A server acknowledged the chunk: its entries are settled, what was acknowledged is kept for

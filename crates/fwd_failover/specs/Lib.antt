@@ -1,5 +1,6 @@
--- To be believed, all three: the public calls and laws speak of them.
+-- To be believed, all four: the public calls and laws speak of them.
 -- History is what happened to the servers, and Live what of it still matters.
 pub mod History
 pub mod Choices
 pub mod Live
+pub mod Doubts

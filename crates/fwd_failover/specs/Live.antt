@@ -1,6 +1,6 @@
 -- What of a history still matters: of each server how often
 -- it was lost since it last settled, and when last.
-use Rattle.std.specs.Prelude.{ℕ, ◌+◌, List, [], ◌∷◌, length, map, find, Bool, true, nat_le, nat_lt, min, max, Option, Some, None, slice_index_or, slice_set, if◌then◌else◌}
+use Rattle.std.specs.Prelude.{ℕ, List, length, map, find, Bool, nat_lt, max, Option, Some, None, slice_index_or, slice_set, if◌then◌else◌}
 use Rattle.std.specs.List.{enumerate_from}
 use Rattle.fwd_retry.specs.declared.losses.Losses.{Losses}
 use Rattle.fwd_retry.specs.Tallies.{tally_of, tally_more, live_is_over}

@@ -5,6 +5,7 @@ ghost use Rattle.std.specs.Prelude.{
   max,
   length,
   false,
+  not,
   Contains,
   IfOk,
   IfSome,
@@ -21,6 +22,7 @@ ghost use Rattle.fwd_failover.specs.History.{
   settled,
 };
 ghost use Rattle.fwd_failover.specs.Choices.{places, choice};
+ghost use Rattle.fwd_failover.specs.Doubts.{live_is_doubted, live_trusted};
 ghost use Rattle.fwd_failover.specs.Live.{
   live_servers,
   live_choice,
@@ -137,6 +139,38 @@ impl Servers {
             .iter()
             .copied()
             .find(|server| self.is_usable(*server))
+    }
+
+    /// Whether a server was lost since it last settled a chunk, so that it is not known to work.
+    pub fn is_doubted(&self, server: u16) -> bool
+        ensures { result ≡ live_is_doubted self.now server }
+    {
+        match self.losses.get(usize::from(server)) {
+            None => false,
+            Some(losses) => losses.is_some(),
+        }
+    }
+
+    /// The first of some servers that was not lost since it last settled a chunk.
+    fn first_trusted(&self, servers: &[u16]) -> Option<u16>
+        ensures { result ≡ find (λ s. not (live_is_doubted self.now s)) servers.now }
+    {
+        servers
+            .iter()
+            .copied()
+            .find(|server| !self.is_doubted(*server))
+    }
+
+    /// The first server in a worker's order that was not lost since it last settled a chunk, if
+    /// there is one: the order is that of `choose`.
+    pub fn trusted(&self, worker: u16) -> Option<u16>
+        ensures { result ≡ live_trusted self.now worker }
+    {
+        let place = usize::from(worker) % self.primaries.len();
+        let (passed, ahead) = self.primaries.split_at(place);
+        self.first_trusted(ahead)
+            .or(self.first_trusted(passed))
+            .or(self.first_trusted(&self.standbys))
     }
 
     /// The server that a worker tries at a moment (milliseconds), if one is usable: the first

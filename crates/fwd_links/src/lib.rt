@@ -14,5 +14,5 @@ mod wire;
 pub use descriptors::lacks_descriptors;
 pub use fault::WaitFault;
 pub use link::{TcpHub, TcpLink};
-pub use mailbox::{Mailbox, Notice, Notices, Stop};
+pub use mailbox::{Mailbox, Notice, Notices, Refusal, Stop};
 pub use waiting::{Looking, SharedWait, WorkerWait, WorkerWaker};

@@ -1,6 +1,6 @@
 //! What the loop and the workers tell each other.
 
-use fwd_workers::News;
+use fwd_workers::{News, Refused};
 use mio::Waker;
 use std::alloc::{AllocError, Global};
 use std::mem;
@@ -17,11 +17,21 @@ pub struct Notice {
     pub news: News,
 }
 
+/// What a worker told of a chunk that a server seems to refuse.
+#[derive(Clone, Copy)]
+pub struct Refusal {
+    /// The number of the worker's output.
+    pub output: u16,
+    pub refused: Refused,
+}
+
 /// What workers told since the loop last asked.
 #[derive(Drop)]
 pub struct Notices {
     /// In the order in which they were told.
     pub all: Vec<Notice>,
+    /// The chunks that servers seem to refuse, in that order.
+    pub refused: Vec<Refusal>,
     /// Memory was refused for more of them.
     pub missed: bool,
 }
@@ -31,6 +41,7 @@ impl Notices {
     fn none(alloc: Global) -> Notices {
         Notices {
             all: Vec::new(alloc),
+            refused: Vec::new(alloc),
             missed: false,
         }
     }
@@ -90,6 +101,17 @@ impl Mailbox {
     /// the system.
     pub fn tell<R: Wait>(&self, rt: &R, notice: Notice) {
         self.note(rt, notice);
+        self.call();
+    }
+
+    /// A worker tells that a server seems to refuse a chunk. Where memory is refused it is not told.
+    pub fn tell_refused<R: Wait>(&self, rt: &R, refusal: Refusal) {
+        let _ = self.notices.lock(rt).refused.push(refusal);
+        self.call();
+    }
+
+    /// Something was told: the loop is woken where it sleeps.
+    fn call(&self) {
         self.is_told.store(true, Ordering::SeqCst);
         if self.is_asleep.swap(false, Ordering::SeqCst) {
             let _ = self.waker.wake();

@@ -2,7 +2,7 @@
 
 use crate::acceptor::{Acceptor, NewComers};
 use crate::fault::StartFault;
-use crate::lost_servers::LostServers;
+use crate::lost_servers::{LostServers, fact_of};
 use crate::run_clock::RunClock;
 use fwd_links::{Mailbox, Notices};
 use fwd_outlets::{Connection, Connections, Fact, Outlets, Output, Ready, Want, Watch};
@@ -282,6 +282,11 @@ pub(crate) fn tell_all<W: Watch>(
     }
     for notice in &notices.all {
         if let Some(fact) = lost_servers.hear(outputs, notice) {
+            watch.see(fact);
+        }
+    }
+    for refusal in &notices.refused {
+        if let Some(fact) = fact_of(outputs, refusal) {
             watch.see(fact);
         }
     }

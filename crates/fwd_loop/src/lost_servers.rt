@@ -1,8 +1,8 @@
 //! Which servers are lost.
 
-use fwd_links::Notice;
+use fwd_links::{Notice, Refusal};
 use fwd_outlets::{Fact, Output};
-use fwd_workers::News;
+use fwd_workers::{News, Refused};
 use std::alloc::{AllocError, Global};
 use std::net::SocketAddr;
 
@@ -20,6 +20,27 @@ impl ServerId {
         let address = own.servers.get(self.server as usize)?;
         Some(*address)
     }
+}
+
+/// What there is to tell of a chunk that a server seems to refuse.
+pub(crate) fn fact_of(outputs: &[Output], refusal: &Refusal) -> Option<Fact> {
+    let output = refusal.output;
+    let Refused {
+        server,
+        tag,
+        size,
+        losses,
+        why,
+    } = refusal.refused;
+    let server = ServerId { output, server }.address(outputs)?;
+    Some(Fact::ChunkRefused {
+        output,
+        server,
+        tag,
+        size,
+        losses,
+        why,
+    })
 }
 
 /// The servers that were lost, and settled no chunk since.

@@ -2,9 +2,9 @@
 
 use crate::fault::StartFault;
 use crate::run_clock::RunClock;
-use fwd_links::{Looking, Mailbox, Notice, SharedWait, TcpHub, WorkerWait, WorkerWaker};
+use fwd_links::{Looking, Mailbox, Notice, Refusal, SharedWait, TcpHub, WorkerWait, WorkerWaker};
 use fwd_outlets::Output;
-use fwd_workers::{Gate, News, Pass, Place, Worker};
+use fwd_workers::{Gate, News, Pass, Place, Refused, Worker};
 use std::alloc::Global;
 use std::net::Net;
 use std::rt::Clock;
@@ -87,6 +87,11 @@ impl<'a> Gate for WorkerGate<'a> {
             news,
         };
         self.mailbox.tell(rt, notice);
+    }
+
+    fn hear_refused<R: Wait>(&mut self, rt: &R, _worker: u16, refused: Refused) {
+        let output = self.number;
+        self.mailbox.tell_refused(rt, Refusal { output, refused });
     }
 }
 

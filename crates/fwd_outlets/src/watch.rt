@@ -1,7 +1,7 @@
 //! What a run tells of itself as it goes on.
 
 use fwd_peers::{PeerEnd, SourceEnd};
-use fwd_workers::Loss;
+use fwd_workers::{Loss, TagFront};
 use std::net::SocketAddr;
 
 /// Who connects to a listener.
@@ -53,6 +53,19 @@ pub enum Fact {
         output: u16,
         worker: u16,
         server: SocketAddr,
+    },
+    /// A server seems to refuse a chunk of an output: that was lost three times or more, the last
+    /// time at this server, which had acknowledged others since it was lost before.
+    ChunkRefused {
+        output: u16,
+        server: SocketAddr,
+        /// The first bytes of the chunk's tag.
+        tag: TagFront,
+        /// The bytes of its entries.
+        size: u64,
+        /// How often it was lost.
+        losses: u8,
+        why: Loss,
     },
     /// A connection is one too many, and is closed at once.
     OverLimit {

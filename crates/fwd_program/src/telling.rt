@@ -17,14 +17,15 @@ pub enum Kind {
     Memory = 6,
     FewFiles = 7,
     Descriptors = 8,
+    ChunkRefused = 9,
 }
 
 impl Kind {
     /// How many kinds there are.
-    pub const COUNT: usize = 9;
+    pub const COUNT: usize = 10;
 
     /// Each kind once.
-    pub const ALL: [Kind; 9] = [
+    pub const ALL: [Kind; 10] = [
         Kind::Listening,
         Kind::SourceClosed,
         Kind::ServerLost,
@@ -34,6 +35,7 @@ impl Kind {
         Kind::Memory,
         Kind::FewFiles,
         Kind::Descriptors,
+        Kind::ChunkRefused,
     ];
 
     /// The kind of a fact.
@@ -48,6 +50,7 @@ impl Kind {
             Fact::Memory(_) => Kind::Memory,
             Fact::FewFiles { .. } => Kind::FewFiles,
             Fact::Descriptors(_) => Kind::Descriptors,
+            Fact::ChunkRefused { .. } => Kind::ChunkRefused,
         }
     }
 }
@@ -65,6 +68,7 @@ impl fmt::Display for Kind {
             Kind::Memory => "memory",
             Kind::FewFiles => "few files",
             Kind::Descriptors => "no descriptor",
+            Kind::ChunkRefused => "chunk refused",
         })
     }
 }
@@ -112,8 +116,29 @@ impl fmt::Display for Telling {
                 "{files} open at most, {sources} sources"
             ),
             Fact::Descriptors(caller) => f.write_str(caller_name(caller)),
+            Fact::ChunkRefused {
+                output,
+                server,
+                tag,
+                size,
+                losses,
+                why,
+            } => {
+                write!(f, "output {output} tag ")?;
+                write_hex(f, tag.as_slice())?;
+                let name = loss_name(why);
+                write!(f, " bytes {size} losses {losses} server {server} {name}")
+            }
         }
     }
+}
+
+/// Bytes in hexadecimal digits.
+fn write_hex<W: fmt::Write>(f: &mut fmt::Formatter<W>, bytes: &[u8]) -> fmt::Result {
+    for byte in bytes {
+        write!(f, "{byte:02x}")?;
+    }
+    Ok(())
 }
 
 /// What memory was refused for.

@@ -16,6 +16,7 @@ ghost use Rattle.std.specs.List.{concat};
 ghost use Rattle.fwd_chunks.specs.Lending.{AreSome};
 ghost use Rattle.fwd_workers.specs.Links.{Call, DidWrite, HasOffered, count_read, read_into};
 
+use crate::refused::Refused;
 use fwd_chunks::Pieces;
 use fwd_session::SessionFault;
 use std::sync::Wait;
@@ -147,4 +148,7 @@ pub trait Gate {
 
     /// The worker of this number tells what its turn came to.
     fn hear<R: Wait>(&mut self, _rt: &R, _worker: u16, _news: News) {}
+
+    /// The worker of this number tells that a server seems to refuse a chunk.
+    fn hear_refused<R: Wait>(&mut self, _rt: &R, _worker: u16, _refused: Refused) {}
 }

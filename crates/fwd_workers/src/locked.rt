@@ -33,10 +33,12 @@ ghost use Rattle.fwd_chunks.specs.Live.{
   live_given,
   live_load,
   live_looks,
+  live_losses,
   live_takes,
 };
 ghost use Rattle.fwd_chunks.specs.Soundness.{IsSound};
 ghost use Rattle.fwd_chunks.specs.TagCounts.{AddsUp, IsSnapshot, live_report};
+ghost use Rattle.fwd_core.specs.Doubts.{live_is_doubted, live_trusted};
 ghost use Rattle.fwd_session.specs.Evidence.{IsEvidence};
 ghost use Rattle.fwd_book.specs.Live.{IsSound as IsSoundBook, live_leaves};
 ghost use Rattle.fwd_core.specs.Outputs.{
@@ -69,6 +71,7 @@ ghost use Rattle.fwd_workers.specs.Turns.{
 };
 
 use crate::collecting::{due_of, hand_out, shows};
+use crate::outlook::{Outlook, Picked};
 use crate::refusal::AdmitRefusal;
 use crate::tally::{Ledgered, Seat, Tally};
 use crate::ticket::Ticket;
@@ -318,6 +321,62 @@ impl<A: Tally, S: Tally> Locked<A, S> {
     {
         let _ = seat;
         self.state.take(alloc, worker, now)
+    }
+
+    /// The same, with how often the chunk was lost before.
+    pub fn pick(
+        &mut self,
+        alloc: Global,
+        seat: &mut S::Seat,
+        worker: u16,
+        now: u64,
+    ) -> Result<Option<Picked>, AllocError>
+        ensures given { IfOk result (λ picked. option_map (λ p. p.chunk) picked ≡ option_map
+            (live_load self.old.output.buffer)
+            (live_given (live_looks self.old.output.buffer now))) }
+        ensures losses { IfOk result (λ picked. IfSome picked (λ p.
+            p.losses ≡ live_losses self.new.output.buffer p.chunk.number)) }
+        ensures ok { OnOk result (self.new ≡ turn_goes self.old (record (self.old.output) {
+          buffer = live_takes self.old.output.buffer worker now;
+        })) }
+        ensures err { OnErr result (self.new ≡ self.old) }
+        ensures same { seat.new ≡ seat.old }
+    {
+        match self.take(alloc, seat, worker, now)? {
+            None => Ok(None),
+            Some(chunk) => {
+                let losses = self.state.losses(&chunk);
+                Ok(Some(Picked { chunk, losses }))
+            }
+        }
+    }
+
+    /// What a worker sees at a moment (milliseconds) before it takes a chunk.
+    pub fn outlook(&mut self, worker: u16, now: u64) -> Outlook
+        ensures server { result.server ≡ output_choice self.old.output worker now }
+        ensures doubted { IfSome result.server (λ server.
+            result.is_doubted ≡ live_is_doubted self.new.output.servers server) }
+        ensures trusted { result.trusted ≡ live_trusted self.new.output.servers worker }
+        ensures looked { self.new ≡ turn_goes self.old (output_looks self.old.output now) }
+    {
+        let server = self.state.choose(worker, now);
+        let is_doubted = match server {
+            None => false,
+            Some(server) => self.state.is_doubted(server),
+        };
+        Outlook {
+            is_claimed: self.is_claimed(now),
+            server,
+            is_doubted,
+            trusted: self.state.trusted(worker),
+        }
+    }
+
+    /// Whether a server was lost since it last settled a chunk, so that it is not known to work.
+    pub fn is_doubted(&self, server: u16) -> bool
+        ensures { result ≡ live_is_doubted self.now.output.servers server }
+    {
+        self.state.is_doubted(server)
     }
 
     /// A server acknowledged the chunk: its entries are settled, and answered is how many they are.

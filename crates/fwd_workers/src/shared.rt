@@ -23,6 +23,7 @@ ghost use Rattle.fwd_workers.specs.Seats.{parts_of, counts_of};
 ghost use Rattle.fwd_workers.specs.Tickets.{IsRight, ticket_of};
 
 use crate::locked::{Closing, Locked};
+use crate::outlook::{Outlook, Picked};
 use crate::refusal::AdmitRefusal;
 use crate::tally::{Ledgered, Seat, Tally};
 use crate::ticket::Ticket;
@@ -144,6 +145,30 @@ impl<A: Tally, S: Tally> SharedOutput<A, S> {
         self.lock.lock(rt).take(alloc, seat, worker, now)
     }
 
+    /// The same, with how often the chunk was lost before.
+    pub(crate) fn pick<R: Wait>(
+        &self,
+        rt: &R,
+        alloc: Global,
+        seat: &mut S::Seat,
+        worker: u16,
+        now: u64,
+    ) -> Result<Option<Picked>, AllocError>
+        ensures { seat.new ≡ seat.old }
+    {
+        self.lock.lock(rt).pick(alloc, seat, worker, now)
+    }
+
+    /// What a worker sees at a moment (milliseconds) before it takes a chunk.
+    pub(crate) fn outlook<R: Wait>(&self, rt: &R, worker: u16, now: u64) -> Outlook {
+        self.lock.lock(rt).outlook(worker, now)
+    }
+
+    /// Whether a server was lost since it last settled a chunk, so that it is not known to work.
+    pub(crate) fn is_doubted<R: Wait>(&self, rt: &R, server: u16) -> bool {
+        self.lock.lock(rt).is_doubted(server)
+    }
+
     /// A worker claims the next free chunk from a moment on (milliseconds), for a while.
     pub(crate) fn claim<R: Wait>(&self, rt: &R, now: u64) {
         self.lock.lock(rt).claim(now);
@@ -152,11 +177,6 @@ impl<A: Tally, S: Tally> SharedOutput<A, S> {
     /// A worker that claimed a free chunk took one.
     pub(crate) fn release<R: Wait>(&self, rt: &R) {
         self.lock.lock(rt).release();
-    }
-
-    /// Whether free chunks are left to a worker that claims them, at a moment (milliseconds).
-    pub(crate) fn is_claimed<R: Wait>(&self, rt: &R, now: u64) -> bool {
-        self.lock.lock(rt).is_claimed(now)
     }
 
     /// A server acknowledged the chunk: its entries are settled, and answered is how many they are.

@@ -19,15 +19,18 @@ ghost use Rattle.fwd_workers.specs.Working.{
   HasSought,
   HasTakenFirst,
   HasTakenNext,
-  place_of,
   accepted_at,
   setup_by,
 };
 
+use crate::doubts::Doubts;
 use crate::ending::{Ending, Unmet};
-use crate::line::{FreeLine, Line, RoomyLine, Stage};
-use crate::link::{Clock, Gate, Hub, Link, Loss, News, Pass, Place};
-use crate::parting::{end_free, end_line, finish, miss, settle_line};
+use crate::line::{FreeLine, Line, RoomyLine, Stage, place};
+use crate::link::{Clock, Gate, Hub, Link, Loss, News, Pass};
+use crate::outlook::{Outlook, Picked};
+use crate::parting::{end_free, end_line, finish, give_back, miss, settle_line};
+use crate::picking::{fresh, pick, unused};
+use crate::refused::Suspect;
 use crate::round::{Round, World};
 use crate::serve::ROOM;
 use crate::shared::SharedOutput;
@@ -42,6 +45,12 @@ use rand_chacha::ChaCha20Rng;
 use std::alloc::{AllocError, Global};
 use std::sync::{Arc, Wait};
 
+/// How many chunks that were lost a worker passes by at the most, in search of one that was not.
+const AHEAD: u16 = 256;
+
+/// How often a chunk was lost before, where one loss more says that its server refuses it.
+const SUSPECT: u8 = 2;
+
 /// Why a worker's run ended.
 #[derive(Clone, Copy)]
 pub enum Ended {
@@ -49,23 +58,6 @@ pub enum Ended {
     Stopped,
     /// It made all its turns.
     TurnsSpent,
-}
-
-/// Where the gate is asked: nowhere while the server is waited for, and no chunk may be added.
-fn place<L: Link>(stage: &Stage<L>) -> Option<Place>
-    ensures { result ≡ place_of stage.now }
-{
-    match stage {
-        Stage::Idle | Stage::Seeking | Stage::Sought(_) | Stage::Standing(_) => {
-            Some(Place::BeforeTake)
-        }
-        Stage::Took(free, _) if free.line.session.is_ready() => Some(Place::BeforeLoad),
-        Stage::Added(..) => Some(Place::BeforeLoad),
-        Stage::Loaded(line) if line.session.is_acked() => Some(Place::BeforeSettle),
-        Stage::Loaded(line) if line.may_add() => Some(Place::BeforeTake),
-        Stage::Settled(_) => Some(Place::AfterSettle),
-        Stage::Took(..) | Stage::Loaded(_) => None,
-    }
 }
 
 /// A worker of an output.
@@ -83,6 +75,7 @@ pub struct Worker {
     last: Option<u16>,
     /// What the turn came to, until it is told.
     news: Option<News>,
+    doubts: Doubts,
 }
 
 impl Worker {
@@ -104,6 +97,7 @@ impl Worker {
             room: Vec::new(alloc),
             last: None,
             news: None,
+            doubts: Doubts::none(),
         }
     }
 
@@ -155,9 +149,7 @@ impl Worker {
                         clock: &mut *clock,
                     };
                     stage = self.step(&round, &mut seat, &mut world, stage);
-                    if let Some(news) = self.news.take() {
-                        gate.hear(rt, self.number, news);
-                    }
+                    self.tell(rt, gate);
                 }
                 Pass::Hold => {}
                 Pass::Stop => {
@@ -169,6 +161,16 @@ impl Worker {
         let now = clock.now();
         finish(&Round { rt, out, now }, &mut seat, stage);
         (seat, Ended::TurnsSpent)
+    }
+
+    /// The gate is told what the turn came to.
+    fn tell<G: Gate, R: Wait>(&mut self, rt: &R, gate: &mut G) {
+        if let Some(news) = self.news.take() {
+            gate.hear(rt, self.number, news);
+        }
+        if let Some(refused) = self.doubts.refused.take() {
+            gate.hear_refused(rt, self.number, refused);
+        }
     }
 
     /// One turn from where the worker stands. Entries are settled only where a loaded chunk's
@@ -196,8 +198,10 @@ impl Worker {
         }
     }
 
-    /// Takes a chunk where there is a server to try, and begins a session with it. What another
-    /// worker claims is left to it.
+    /// Takes a chunk where there is a server to try, and begins a session with it. A server that is
+    /// not known to work is tried with a chunk that was not lost, where there is one, and a chunk
+    /// that was lost goes to a server that works, where there is one. What another worker claims is
+    /// left to it.
     fn begin<A: Tally, S: Tally, H: Hub, C: Clock, R: Wait>(
         &mut self,
         round: &Round<'_, A, S, R>,
@@ -208,17 +212,24 @@ impl Worker {
         ensures begun { HasBegun result (setup_by (arc_value self.old.login)
             (hex_drawn 0 4 self.old.rng) self.old.acks round.entry.now.now) }
     {
-        if round.out.is_claimed(round.rt, round.now) {
-            return Stage::Idle;
-        }
-        let Some(server) = round.out.choose(round.rt, self.number, round.now) else {
+        let outlook = round.out.outlook(round.rt, self.number, round.now);
+        let Some(server) = outlook.open_server() else {
             return Stage::Idle;
         };
-        let Some(chunk) = self.next_chunk(round, seat) else {
+        let Some(picked) = self.next_chunk(round, seat, outlook.is_doubted) else {
             return Stage::Idle;
         };
+        let server = if picked.was_lost() {
+            outlook.server_for_lost(server)
+        } else {
+            server
+        };
+        let chunk = self.note(picked);
         match self.meet(round, world.hub, server) {
-            Ok(free) => Stage::Took(free, chunk),
+            Ok(free) => {
+                self.doubts.begin();
+                Stage::Took(free, chunk)
+            }
             Err(why) => {
                 self.tell_unmet(why, server);
                 miss(
@@ -232,8 +243,9 @@ impl Worker {
         }
     }
 
-    /// Begins a session without a chunk, where there is a server to try. Where the output holds
-    /// nothing, there is nothing to seek a server for.
+    /// Begins a session without a chunk: with the server that just lost one, where another is free,
+    /// and else with the one to try, or before it with one that is known to work. Where the output
+    /// holds nothing, there is nothing to seek a server for.
     fn seek<A: Tally, S: Tally, H: Hub, C: Clock, R: Wait>(
         &mut self,
         round: &Round<'_, A, S, R>,
@@ -247,12 +259,58 @@ impl Worker {
         if round.out.counts(round.rt).held == 0 {
             return Stage::Idle;
         }
-        let Some(server) = round.out.choose(round.rt, self.number, round.now) else {
+        let outlook = round.out.outlook(round.rt, self.number, round.now);
+        if let Some(server) = self.to_ask(round, seat, outlook) {
+            return self.ask(round, world, server);
+        }
+        let Some(server) = outlook.server else {
             return Stage::Seeking;
         };
-        match self.try_server(round, seat, world, server) {
+        match self.try_server(round, seat, world, outlook.server_for_lost(server)) {
             Some(free) => Stage::Sought(free),
             None => Stage::Seeking,
+        }
+    }
+
+    /// The server that is to be asked once more though its wait is not over, where a chunk is free
+    /// to ask it with. That chunk goes back until the session is ready, and any worker may take it.
+    /// No clause can see through the lock that one is free: it is tested.
+    fn to_ask<A: Tally, S: Tally, R: Wait>(
+        &mut self,
+        round: &Round<'_, A, S, R>,
+        seat: &mut S::Seat,
+        outlook: Outlook,
+    ) -> Option<u16>
+        ensures same { seat.new ≡ seat.old }
+        ensures kept { self.new ≡ record self.old { doubts = self.new.doubts } }
+    {
+        let server = self.doubts.ask?;
+        if outlook.is_claimed || outlook.server == Some(server) {
+            return None;
+        }
+        let picked = self.next_chunk(round, seat, true)?;
+        give_back(round, seat, unused(self.alloc, picked));
+        self.doubts.ask = None;
+        Some(server)
+    }
+
+    /// A session begins with a server that is asked once more. Where none can be had, nothing more
+    /// is known of it than before: that is no loss, and is not told.
+    fn ask<A: Tally, S: Tally, H: Hub, C: Clock, R: Wait>(
+        &mut self,
+        round: &Round<'_, A, S, R>,
+        world: &mut World<'_, H, C>,
+        server: u16,
+    ) -> Stage<H::Line>
+        ensures { HasSought result (setup_by (arc_value self.old.login)
+            (hex_drawn 0 4 self.old.rng) self.old.acks round.entry.now.now) }
+    {
+        match self.meet(round, world.hub, server) {
+            Ok(free) => {
+                self.doubts.is_asking = true;
+                Stage::Sought(free)
+            }
+            Err(_) => Stage::Seeking,
         }
     }
 
@@ -271,7 +329,10 @@ impl Worker {
             (hex_drawn 0 4 self.old.rng) self.old.acks round.entry.now.now server))) }
     {
         match self.meet(round, world.hub, server) {
-            Ok(free) => Some(free),
+            Ok(free) => {
+                self.doubts.begin();
+                Some(free)
+            }
             Err(why) => {
                 self.tell_unmet(why, server);
                 miss(
@@ -296,46 +357,53 @@ impl Worker {
         self.last = self.last.or(Some(server));
     }
 
-    /// A session with the server that the worker is to try, where that is another than its own and
-    /// can be had. That it is just that server no clause can see through the lock: it is tested.
-    /// Its own is left also where that works and is said to be lost, by another worker's session.
+    /// A session with the server that the worker is to go over to, if there is one and it can be
+    /// had. That it is just that server no clause can see through the lock: it is tested. Its own
+    /// is left also where that works and is said to be lost, by another worker's session.
     fn go_over<A: Tally, S: Tally, H: Hub, C: Clock, R: Wait>(
         &mut self,
         round: &Round<'_, A, S, R>,
         seat: &mut S::Seat,
         world: &mut World<'_, H, C>,
-        own: u16,
+        to: Option<u16>,
     ) -> Option<FreeLine<H::Line>>
         ensures same { seat.new ≡ seat.old }
         ensures begun { IfSome result (λ free. (free.line.ending ≡ None)
             × Begins (setup_by (arc_value self.old.login) (hex_drawn 0 4 self.old.rng)
             self.old.acks round.entry.now.now) free.line.session) }
     {
-        let server = round.out.choose(round.rt, self.number, round.now)?;
-        if server == own {
-            return None;
-        }
+        let server = to?;
         self.try_server(round, seat, world, server)
     }
 
-    /// The next chunk, if there is one. Only now are chunks closed that are due, so that entries go
-    /// on joining them while all workers are at work. That it flushes what is due, and takes for
-    /// this worker, no clause can see through the lock: it is tested.
+    /// The next chunk, if there is one; where a server is to be tried that is not known to work,
+    /// one that was not lost before, if there is one. Only now are chunks closed that are due, so
+    /// that entries go on joining them while all workers are at work. That it flushes what is due,
+    /// and takes for this worker, no clause can see through the lock: it is tested.
     fn next_chunk<A: Tally, S: Tally, R: Wait>(
         &self,
         round: &Round<'_, A, S, R>,
         seat: &mut S::Seat,
-    ) -> Option<Carried>
+        is_doubted: bool,
+    ) -> Option<Picked>
         ensures { seat.new ≡ seat.old }
     {
         round.out.flush(round.rt, round.now, FlushKind::Due);
-        match round
-            .out
-            .take(round.rt, self.alloc, seat, self.number, round.now)
-        {
-            Ok(chunk) => chunk,
-            Err(_) => None,
+        if is_doubted {
+            fresh(round, self.alloc, seat, self.number, AHEAD)
+        } else {
+            pick(round, self.alloc, seat, self.number)
         }
+    }
+
+    /// A chunk that was taken, and how often it was lost is noted.
+    fn note(&mut self, picked: Picked) -> Carried
+        ensures chunk { result ≡ picked.chunk }
+        ensures kept { self.new ≡ record self.old { doubts = self.new.doubts } }
+    {
+        let Picked { chunk, losses } = picked;
+        self.doubts.losses = losses;
+        chunk
     }
 
     /// A link to a server, and a session that begins on it at the turn's moment.
@@ -439,18 +507,20 @@ impl Worker {
             return Stage::Sought(free);
         }
         round.out.claim(round.rt, round.now);
-        match self.next_chunk(round, seat) {
-            Some(chunk) => {
+        let is_doubted = round.out.is_doubted(round.rt, free.line.session.server());
+        match self.next_chunk(round, seat, is_doubted) {
+            Some(picked) => {
                 round.out.release(round.rt);
-                Stage::Took(free, chunk)
+                Stage::Took(free, self.note(picked))
             }
             None => Stage::Sought(free),
         }
     }
 
-    /// Takes a chunk for the session that stands, unless the server closed it, or for one with the
-    /// server that the worker is to try in its place. Where that must log in first, the chunk goes
-    /// back until then, and any worker may take it. What another worker claims is left to it.
+    /// Takes a chunk for the session that stands, unless the server closed it, or, where the chunk
+    /// was not lost before, for one with the server that the worker is to try in its place. Where
+    /// that must log in first, the chunk goes back until then, and any worker may take it. What
+    /// another worker claims is left to it.
     fn take_next<A: Tally, S: Tally, H: Hub, C: Clock, R: Wait>(
         &mut self,
         round: &Round<'_, A, S, R>,
@@ -468,13 +538,17 @@ impl Worker {
         if free.line.ending.is_some() || !free.line.session.is_ready() {
             return self.stand(round, seat, free);
         }
-        if round.out.is_claimed(round.rt, round.now) {
+        let outlook = round.out.outlook(round.rt, self.number, round.now);
+        if outlook.is_claimed {
             return Stage::Standing(free);
         }
-        let Some(chunk) = self.next_chunk(round, seat) else {
+        let own = free.line.session.server();
+        let Some(picked) = self.next_chunk(round, seat, outlook.doubts(own)) else {
             return Stage::Standing(free);
         };
-        let Some(other) = self.go_over(round, seat, world, free.line.session.server()) else {
+        let to = outlook.way_of(&picked, own);
+        let chunk = self.note(picked);
+        let Some(other) = self.go_over(round, seat, world, to) else {
             return Stage::Took(free, chunk);
         };
         if other.line.session.is_ready() {
@@ -503,8 +577,10 @@ impl Worker {
             return self.wait_for(round, seat, free, chunk);
         }
         let FreeLine { mut line } = free;
+        let suspect = self.suspect(round, line.session.server(), &chunk);
         match line.session.load(self.alloc, chunk, round.now) {
             Ok(()) => {
+                self.doubts.load(suspect);
                 self.go_to(line.session.server());
                 Stage::Loaded(line)
             }
@@ -513,6 +589,21 @@ impl Worker {
                 self.wait_for(round, seat, free, chunk)
             }
         }
+    }
+
+    /// What is told of a chunk if its session ends now: it was lost twice before, and its server is
+    /// known to work.
+    fn suspect<A: Tally, S: Tally, R: Wait>(
+        &self,
+        round: &Round<'_, A, S, R>,
+        server: u16,
+        chunk: &Carried,
+    ) -> Option<Suspect> {
+        let losses = self.doubts.losses;
+        if losses < SUSPECT || round.out.is_doubted(round.rt, server) {
+            return None;
+        }
+        Some(Suspect::of(chunk, losses))
     }
 
     /// Loads the chunk that was taken, beside those that the session has.
@@ -596,6 +687,7 @@ impl Worker {
     {
         let mut line = line;
         if line.session.is_acked() {
+            self.doubts.settle();
             self.news = settle_line(round, seat, &mut line);
             return Stage::Settled(line);
         }
@@ -627,14 +719,18 @@ impl Worker {
         ensures last { self.new.last ≡ self.old.last }
         ensures seeks { result ≡ Stage.Seeking }
     {
-        self.news = why.news(line.session.server());
+        let server = line.session.server();
+        let told = why.news(server);
+        self.news = told;
+        self.doubts.lose(server, why);
         end_line(round, seat, line, taken);
         Stage::Seeking
     }
 
-    /// Takes a chunk for a session that has others, where one more may be added and the worker is
-    /// to try no other server: else it goes there once its chunks are acknowledged. What another
-    /// worker claims is left to it.
+    /// Takes a chunk for a session that has others, where one more may be added, and the server is
+    /// the one to try and known to work: else the worker waits until its chunks are acknowledged.
+    /// One that was lost before goes alone, so that what its server does about it is done to no
+    /// other. What another worker claims is left to it.
     fn add<A: Tally, S: Tally, L: Link, R: Wait>(
         &mut self,
         round: &Round<'_, A, S, R>,
@@ -646,28 +742,21 @@ impl Worker {
         ensures same { seat.new ≡ seat.old }
         ensures added { HasAdded result line.session }
     {
-        if !line.may_add() || round.out.is_claimed(round.rt, round.now) {
+        if self.doubts.alone || !line.may_add() {
             return Stage::Loaded(line);
         }
-        if self.is_to_try_other(round, line.session.server()) {
+        let outlook = round.out.outlook(round.rt, self.number, round.now);
+        if outlook.is_claimed || !outlook.trusts(line.session.server()) {
             return Stage::Loaded(line);
         }
-        match self.next_chunk(round, seat) {
-            Some(chunk) => Stage::Added(RoomyLine { line }, chunk),
+        match self.next_chunk(round, seat, false) {
             None => Stage::Loaded(line),
-        }
-    }
-
-    /// Whether the worker is to try another server than the one of its session. That it asks for
-    /// its own choice no clause can see through the lock: it is tested.
-    fn is_to_try_other<A: Tally, S: Tally, R: Wait>(
-        &self,
-        round: &Round<'_, A, S, R>,
-        own: u16,
-    ) -> bool {
-        match round.out.choose(round.rt, self.number, round.now) {
-            Some(server) => server != own,
-            None => false,
+            Some(picked) if picked.was_lost() => {
+                give_back(round, seat, unused(self.alloc, picked));
+                self.doubts.alone = true;
+                Stage::Loaded(line)
+            }
+            Some(picked) => Stage::Added(RoomyLine { line }, self.note(picked)),
         }
     }
 

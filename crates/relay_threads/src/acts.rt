@@ -1,7 +1,7 @@
 //! A server in memory that acts one step for each read of its link, and for each write that it does
 //! not take whole.
 
-use crate::batches::{FRAME, OTHER_OUTPUT, SECOND};
+use crate::batches::{FOURTH, FRAME, OTHER_OUTPUT, SECOND, THIRD};
 use fwd_handshake::key_digest;
 use fwd_msgpack::{Cut, Limits, cut};
 use std::alloc::{AllocError, Global};
@@ -116,6 +116,12 @@ fn title(message: &[u8]) -> &'static str {
     }
     if message == SECOND {
         return "chunk 2";
+    }
+    if message == THIRD {
+        return "chunk 3";
+    }
+    if message == FOURTH {
+        return "chunk 4";
     }
     if message == OTHER_OUTPUT {
         return "chunk 1 of output 1";

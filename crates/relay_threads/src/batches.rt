@@ -33,6 +33,13 @@ pub const FRAME: &[u8] =
 pub const SECOND: &[u8] =
     b"\x93\xa1a\xc4\x03\x92\x01\x80\x82\xa4size\x01\xa5chunk\xb8AAAAAAAAAAAAAAAAAAAAAg==";
 
+/// The frames of those with the numbers 3 and 4.
+pub const THIRD: &[u8] =
+    b"\x93\xa1a\xc4\x03\x92\x01\x80\x82\xa4size\x01\xa5chunk\xb8AAAAAAAAAAAAAAAAAAAAAw==";
+
+pub const FOURTH: &[u8] =
+    b"\x93\xa1a\xc4\x03\x92\x01\x80\x82\xa4size\x01\xa5chunk\xb8AAAAAAAAAAAAAAAAAAAABA==";
+
 /// The frame of the chunk with number 1 of run 0 at output 1, with the same entry.
 pub const OTHER_OUTPUT: &[u8] =
     b"\x93\xa1a\xc4\x03\x92\x01\x80\x82\xa4size\x01\xa5chunk\xb8AAAAAAAAAAEAAAAAAAAAAQ==";
@@ -76,6 +83,14 @@ pub fn output_at(alloc: Global, number: u16, chunk: u32, total: u64) -> Result<O
 {
     let limits = limits(chunk, total);
     let state = OutputState::new(alloc, limits, [0; 6], number, &[false, true])?;
+    Ok(state)
+}
+
+/// The first output, with one server.
+pub fn output_of_one(alloc: Global, chunk: u32, total: u64) -> Result<OutputState>
+    ensures { IfOk result (λ o. (o.buffer.accepted ≡ 0) × (o.buffer.settled ≡ 0)) }
+{
+    let state = OutputState::new(alloc, limits(chunk, total), [0; 6], 0, &[false])?;
     Ok(state)
 }
 

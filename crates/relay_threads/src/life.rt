@@ -2,7 +2,7 @@
 //! tells, and how it leaves its output.
 
 use crate::acts::KEY;
-use crate::batches::{login_with, output_at, output_of_three, terms_of};
+use crate::batches::{login_with, output_at, output_of_one, output_of_three, terms_of};
 use crate::played::{Meetings, PlayedHub};
 use crate::record::Record;
 use crate::turns::{abandon_all, admits};
@@ -21,6 +21,8 @@ type Out = SharedOutput<Plain, Plain>;
 /// Which servers an output has: for each whether it is a standby.
 #[derive(Clone, Copy)]
 pub enum Servers {
+    /// A primary alone.
+    One,
     /// A primary and a standby.
     Two,
     /// Two primaries and a standby.
@@ -31,7 +33,7 @@ pub enum Servers {
 #[derive(Clone, Copy)]
 pub struct Life {
     pub name: &'static str,
-    /// The number of an output with two servers; one with three has 0.
+    /// The number of an output with two servers; others have 0.
     pub output: u16,
     pub servers: Servers,
     /// How many requests of one entry are admitted at moment 0.
@@ -76,6 +78,7 @@ pub const PLAIN: Life = Life {
 fn locked(alloc: Global, life: Life) -> Result<Locked<Plain, Plain>> {
     let chunk = if life.is_closed { 3 } else { 1000 };
     let state = match life.servers {
+        Servers::One => output_of_one(alloc, chunk, 100_000)?,
         Servers::Two => output_at(alloc, life.output, chunk, 100_000)?,
         Servers::Three => output_of_three(alloc, chunk, 100_000)?,
     };

@@ -405,6 +405,120 @@ static WINDOWS: [Life; 3] = [
     },
 ];
 
+/// Chunks that their server refuses, and others, where there is no other server.
+static REFUSED: [Life; 5] = [
+    Life {
+        name: "a chunk is refused, and its server is asked once more with the next",
+        servers: Servers::One,
+        requests: 2,
+        turns: 9,
+        meetings: &[Some(&[Act::Closes]), Some(&[Act::Silent, Act::Acks])],
+        looks: [9, 502, 503],
+        ..PLAIN
+    },
+    Life {
+        name: "two are refused, and behind the server's wait a third goes first",
+        servers: Servers::One,
+        requests: 3,
+        tick: 250,
+        turns: 18,
+        meetings: &[
+            Some(&[Act::Closes]),
+            Some(&[Act::Silent, Act::Closes]),
+            Some(&[Act::Silent, Act::Acks]),
+        ],
+        looks: [4500, 4501, 4502],
+        ..PLAIN
+    },
+    Life {
+        name: "a chunk is refused three times, and told",
+        servers: Servers::One,
+        requests: 4,
+        tick: 250,
+        turns: 42,
+        meetings: &[
+            Some(&[Act::Closes]),
+            Some(&[Act::Silent, Act::Acks, Act::Silent, Act::Closes]),
+            Some(&[
+                Act::Silent,
+                Act::Acks,
+                Act::Silent,
+                Act::Silent,
+                Act::Closes,
+            ]),
+            Some(&[Act::Silent, Act::Acks]),
+        ],
+        looks: [10500, 10501, 10502],
+        ..PLAIN
+    },
+    Life {
+        name: "a window of four is lost, and each goes alone",
+        servers: Servers::One,
+        requests: 4,
+        window: 8,
+        tick: 100,
+        turns: 46,
+        meetings: &[
+            Some(&[
+                Act::Silent,
+                Act::Silent,
+                Act::Silent,
+                Act::Silent,
+                Act::Closes,
+            ]),
+            Some(&[Act::Silent, Act::Silent, Act::Closes]),
+            Some(&[
+                Act::Silent,
+                Act::Silent,
+                Act::Acks,
+                Act::Silent,
+                Act::Silent,
+                Act::Acks,
+                Act::Silent,
+                Act::Silent,
+                Act::Acks,
+            ]),
+        ],
+        looks: [4600, 4601, 4602],
+        ..PLAIN
+    },
+    Life {
+        name: "the server is away when it is asked once more",
+        servers: Servers::One,
+        requests: 2,
+        tick: 100,
+        turns: 14,
+        meetings: &[Some(&[Act::Closes]), None, Some(&[Act::Silent, Act::Acks])],
+        looks: [1400, 1401, 1402],
+        ..PLAIN
+    },
+];
+
+/// A primary that takes each connection and closes it behind a chunk, and its standby.
+static CLOSING: [Life; 1] = [Life {
+    name: "what a primary lost goes by its standby, though the primary's wait is over",
+    requests: 4,
+    tick: 100,
+    turns: 28,
+    meetings: &[
+        Some(&[Act::Closes]),
+        Some(&[Act::Silent, Act::Closes]),
+        Some(&[
+            Act::Silent,
+            Act::Acks,
+            Act::Silent,
+            Act::Acks,
+            Act::Silent,
+            Act::Acks,
+            Act::Silent,
+            Act::Acks,
+        ]),
+        None,
+    ],
+    looks: [2800, 2801, 2802],
+    ..PLAIN
+}];
+
 /// Numbers of workers, servers, chunks and outputs.
 static NUMBERS: [Life; 4] = [
     Life {
@@ -465,5 +579,7 @@ pub fn tell_all<R: Wait + Print>(rt: &R, alloc: Global) -> Result<()> {
     tell(rt, alloc, &SOUGHT)?;
     tell(rt, alloc, &RETURNS)?;
     tell(rt, alloc, &WINDOWS)?;
+    tell(rt, alloc, &REFUSED)?;
+    tell(rt, alloc, &CLOSING)?;
     tell(rt, alloc, &NUMBERS)
 }

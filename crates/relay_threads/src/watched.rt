@@ -1,8 +1,9 @@
 //! A gate that notes what it is asked and told, and a clock that goes on at each look.
 
 use crate::record::Record;
-use fwd_workers::{Clock, Gate, LinkFault, Loss, News, Pass, Place};
+use fwd_workers::{Clock, Gate, LinkFault, Loss, News, Pass, Place, Refused};
 use std::alloc::{AllocError, Global};
+use std::str;
 use std::sync::Wait;
 
 /// A clock that begins at 0 and goes on by so many milliseconds at each look.
@@ -92,6 +93,22 @@ pub fn news_text(alloc: Global, worker: u16, news: News) -> Result<String, Alloc
     }
 }
 
+/// What a worker tells of a chunk that a server seems to refuse.
+fn refused_text(alloc: Global, worker: u16, refused: Refused) -> Result<String, AllocError> {
+    let Refused {
+        server,
+        tag,
+        size,
+        losses,
+        why,
+    } = refused;
+    let tag = str::from_utf8(tag.as_slice()).unwrap_or("no text");
+    let why = loss_text(alloc, why)?;
+    format!(in alloc;
+        ", worker {worker} tells a chunk of {tag} refused by server {server}: {size} bytes, {losses} losses: {why}"
+    )
+}
+
 impl Watched {
     /// A gate that may interrupt its worker.
     pub fn new(alloc: Global, record: Record, interrupt: Option<Interrupt>) -> Watched {
@@ -134,6 +151,11 @@ impl Gate for Watched {
 
     fn hear<R: Wait>(&mut self, rt: &R, worker: u16, news: News) {
         let made = news_text(self.alloc, worker, news);
+        self.record.note_made(rt, made);
+    }
+
+    fn hear_refused<R: Wait>(&mut self, rt: &R, worker: u16, refused: Refused) {
+        let made = refused_text(self.alloc, worker, refused);
         self.record.note_made(rt, made);
     }
 }

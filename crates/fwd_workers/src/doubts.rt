@@ -1,0 +1,67 @@
+//! What a worker remembers of losses, by which it chooses with which chunk it tries a server.
+
+use crate::ending::Ending;
+use crate::refused::{Refused, Suspect};
+use std::mem;
+
+/// What a worker remembers of losses.
+#[derive(Clone, Copy)]
+pub(crate) struct Doubts {
+    /// How often the chunk that it took last was lost before.
+    pub losses: u8,
+    /// No chunk is added to those of its session: one of them was lost before, or one that was waits
+    /// until they are acknowledged.
+    pub alone: bool,
+    /// The server that it asks once more, with the next free chunk: it took the connection and a
+    /// chunk that was lost.
+    pub ask: Option<u16>,
+    /// Its session asks a server once more.
+    pub is_asking: bool,
+    /// The chunk of its session, where it was lost twice before and its server is known to work.
+    pub suspect: Option<Suspect>,
+    /// The chunk that its server refused in this turn, until it is told.
+    pub refused: Option<Refused>,
+}
+
+impl Doubts {
+    /// None.
+    pub(crate) fn none() -> Doubts {
+        Doubts {
+            losses: 0,
+            alone: false,
+            ask: None,
+            is_asking: false,
+            suspect: None,
+            refused: None,
+        }
+    }
+
+    /// A session begins with a server that is tried for its own sake: nothing is asked once more.
+    pub(crate) fn begin(&mut self) {
+        self.ask = None;
+        self.is_asking = false;
+    }
+
+    /// The first chunk of a session is loaded, which may be one that its server refuses.
+    pub(crate) fn load(&mut self, suspect: Option<Suspect>) {
+        self.alone = 0 < self.losses;
+        self.suspect = suspect;
+    }
+
+    /// A chunk of the session was settled: its server works.
+    pub(crate) fn settle(&mut self) {
+        self.is_asking = false;
+        self.suspect = None;
+    }
+
+    /// A session with this server ended with chunks that are lost. The server is asked once more,
+    /// unless it just was.
+    pub(crate) fn lose(&mut self, server: u16, why: Ending) {
+        let was_asking = mem::replace(&mut self.is_asking, false);
+        self.ask = if was_asking { None } else { Some(server) };
+        self.refused = match self.suspect.take() {
+            None => None,
+            Some(suspect) => suspect.refused(server, why),
+        };
+    }
+}

@@ -1,0 +1,83 @@
+//! A chunk that a server seems to refuse, as it is told.
+
+use crate::ending::Ending;
+use crate::link::Loss;
+use fwd_chunks::Carried;
+
+/// How many bytes of a tag are told.
+const SHOWN: usize = 64;
+
+/// The first bytes of a tag, at most 64.
+#[derive(Clone, Copy)]
+pub struct TagFront {
+    bytes: [u8; SHOWN],
+    count: usize,
+}
+
+impl TagFront {
+    /// The first bytes of this tag.
+    pub fn of(tag: &[u8]) -> TagFront {
+        let mut bytes = [0; SHOWN];
+        for (to, byte) in bytes.iter_mut().zip(tag) {
+            *to = *byte;
+        }
+        let count = tag.len().min(SHOWN);
+        TagFront { bytes, count }
+    }
+
+    /// These bytes.
+    pub fn as_slice(&self) -> &[u8] {
+        let count = self.count.min(SHOWN);
+        &self.bytes[..count]
+    }
+}
+
+/// A chunk that was lost three times or more, the last time at a server that had acknowledged others
+/// since it was lost before: the server seems to refuse just this chunk.
+#[derive(Clone, Copy)]
+pub struct Refused {
+    /// The server, by its place in the output's list.
+    pub server: u16,
+    /// The first bytes of the chunk's tag.
+    pub tag: TagFront,
+    /// The bytes of its entries.
+    pub size: u64,
+    /// How often it was lost, where 65 stands for every greater count.
+    pub losses: u8,
+    /// Why its last session ended.
+    pub why: Loss,
+}
+
+/// A chunk that was lost before, in a session with a server that is known to work.
+#[derive(Clone, Copy)]
+pub(crate) struct Suspect {
+    tag: TagFront,
+    size: u64,
+    losses: u8,
+}
+
+impl Suspect {
+    /// A chunk that was lost so often before.
+    pub(crate) fn of(chunk: &Carried, losses: u8) -> Suspect {
+        Suspect {
+            tag: TagFront::of(chunk.tag()),
+            size: chunk.body().size(),
+            losses,
+        }
+    }
+
+    /// What is told of it, where its session with this server ended for a loss.
+    pub(crate) fn refused(self, server: u16, why: Ending) -> Option<Refused> {
+        let Ending::Lost(why) = why else {
+            return None;
+        };
+        let Suspect { tag, size, losses } = self;
+        Some(Refused {
+            server,
+            tag,
+            size,
+            losses: losses.saturating_add(1),
+            why,
+        })
+    }
+}
