@@ -119,23 +119,21 @@ impl<'a, R: Clock, E: Write> Journal<'a, R, E> {
         self.settle_unwritten();
     }
 
-    /// Says a line of any length, at once.
-    fn say_now<T: fmt::Display>(&mut self, text: &T) {
-        self.look();
-        let now = self.now;
-        let _ = writeln!(self.errors, "{now:.3} {text}");
-    }
-
-    /// Says what runs: the program by the settings in a file, with so many outputs.
+    /// Says what runs: the program by the settings in a file, with so many outputs. It is the first
+    /// line, of any length.
     pub fn begin(&mut self, path: &str, outputs: usize) {
         self.is_begun = true;
-        self.say_now(&Begun { path, outputs });
+        self.look();
+        let now = self.now;
+        let begun = Begun { path, outputs };
+        let _ = writeln!(self.errors, "{now:.3} {begun}");
     }
 
     /// Says why it runs no more, if it was said that it does.
     pub fn end(&mut self, ran: &Result<(), RunEnd>) {
         if self.is_begun {
-            self.say_now(&Stopped { ran });
+            self.look();
+            self.say(&Stopped { ran }, 1);
         }
     }
 }
