@@ -3,19 +3,22 @@
 #
 #     sh tools/install.sh [--prefix P] [--uninstall]
 #
-# Run at the top of the repository. RELAY names the program, else it is crates/forward_relay/out/forward_relay, which
-# `rt ci` builds. It needs nothing but POSIX tools, and takes no time. P is /usr/local where it is not given. It puts
+# Run at the top of the repository. RELAY names the program, else it is crates/forward_relay/out/forward_relay (README,
+# "Install"). It needs nothing but POSIX tools, and takes no time. P is /usr/local where it is not given. It puts
 #
 #     P/sbin/forward_relay
+#     P/bin/forward_relay-watch, P/bin/forward_relay-metrics     need python3 (3.9 or later) and nothing else
+#     P/lib/forward_relay/             what these two are
 #     P/share/man/man8/forward_relay.8
-#     P/share/doc/forward_relay/       OPERATING.md, FORMATS.md, and the example settings
+#     P/share/doc/forward_relay/       OPERATING.md, FORMATS.md, CHANGELOG.md, the example settings, and the list of folders
+#                                      that were made
 #     P/lib/systemd/system/forward_relay.service
 #     P/etc/forward_relay/relay.toml   the example settings, readable by root alone, and never over an existing file;
 #                                      where P is /usr or /usr/local it is /etc/forward_relay/relay.toml
 #
 # It neither starts nor stops a service, makes no user (the unit has systemd make one), and says what to do next.
-# --uninstall takes away these files, but settings that are not the example any more, and those of its folders that are
-# empty then.
+# --uninstall takes away these files, but settings that are not the example any more, and the folders that were made and
+# are empty then. Stop the service first: systemctl disable --now forward_relay.
 set -eu
 
 prefix=/usr/local action=install
@@ -45,11 +48,24 @@ case $prefix in
     ;;
 esac
 program=${RELAY:-crates/forward_relay/out/forward_relay}
-sbin=$prefix/sbin man=$prefix/share/man/man8 doc=$prefix/share/doc/forward_relay unit=$prefix/lib/systemd/system
+bin=$prefix/bin sbin=$prefix/sbin lib=$prefix/lib/forward_relay man=$prefix/share/man/man8
+doc=$prefix/share/doc/forward_relay unit=$prefix/lib/systemd/system
+folders=$doc/folders
+version=$(sed -n 's/^pub const VERSION: &str = "\(.*\)";$/\1/p' crates/fwd_program/src/version.rt)
+
+# makes a folder and those above it, and notes each that was not there
+make() {
+    [ -d "${1:-/}" ] || {
+        make "${1%/*}"
+        mkdir "$1"
+        made="$1
+$made"
+    }
+}
 
 # installs a file with a mode: FILE MODE TARGET, which is replaced in one step, also where it is a program that runs
 put() {
-    mkdir -p "${3%/*}"
+    make "${3%/*}"
     cp "$1" "$3.new"
     chmod "$2" "$3.new"
     mv -f "$3.new" "$3"
@@ -64,37 +80,67 @@ take() {
     }
 }
 
+# installs a text with the paths and the version written into it: FILE MODE TARGET
+put_filled() {
+    filled=$(mktemp)
+    sed "s|@SBIN@|$sbin|; s|@ETC@|$etc|; s|@LIB@|$lib|; s|@VERSION@|$version|" "$1" >"$filled"
+    put "$filled" "$2" "$3"
+    rm "$filled"
+}
+
 install_all() {
     [ -x "$program" ] || {
-        echo "no program at $program: build it with \`rt ci\`, or name one with RELAY" >&2
+        cat >&2 <<TEXT
+no program at $program: name one with RELAY, or build it, which takes about half an hour on four cores:
+    (cd crates/forward_relay && rt run -- check ../../examples/relay.toml)
+TEXT
         exit 1
     }
+    [ -n "$version" ] || {
+        echo "no version in crates/fwd_program/src/version.rt: run this at the top of the repository" >&2
+        exit 1
+    }
+    made=
     put "$program" 755 "$sbin/forward_relay"
-    put packaging/forward_relay.8 644 "$man/forward_relay.8"
-    for file in docs/OPERATING.md docs/FORMATS.md examples/*.toml examples/*.conf; do
+    for tool in watch metrics; do
+        put_filled "packaging/forward_relay-$tool" 755 "$bin/forward_relay-$tool"
+        put "tools/$tool.py" 644 "$lib/$tool.py"
+    done
+    put tools/page.py 644 "$lib/page.py"
+    put_filled packaging/forward_relay.8 644 "$man/forward_relay.8"
+    for file in docs/OPERATING.md docs/FORMATS.md CHANGELOG.md examples/*.toml examples/*.conf; do
         put "$file" 644 "$doc/${file##*/}"
     done
-    paths=$(mktemp)
-    sed "s|@SBIN@|$sbin|; s|@ETC@|$etc|" packaging/forward_relay.service >"$paths"
-    put "$paths" 644 "$unit/forward_relay.service"
-    rm "$paths"
+    put_filled packaging/forward_relay.service 644 "$unit/forward_relay.service"
     if [ -e "$etc/relay.toml" ]; then
         echo "kept $etc/relay.toml"
     else
         put examples/relay.toml 600 "$etc/relay.toml"
     fi
+    printf %s "$made" | cat - "$folders" 2>/dev/null >"$folders.new" || :
+    mv -f "$folders.new" "$folders"
+    # systemd looks for units in these two alone, and is told of any other by its path
+    case $prefix in
+    /usr | /usr/local) name=forward_relay ;;
+    *) name=$unit/forward_relay.service ;;
+    esac
     cat <<TEXT
 Next: write the settings, check them, and start it.
     $sbin/forward_relay check $etc/relay.toml
     systemctl daemon-reload
-    systemctl enable --now forward_relay
+    systemctl enable --now $name
 TEXT
 }
 
 uninstall_all() {
     take "$sbin/forward_relay"
+    for tool in watch metrics; do
+        take "$bin/forward_relay-$tool"
+        take "$lib/$tool.py"
+    done
+    take "$lib/page.py"
     take "$man/forward_relay.8"
-    for file in docs/OPERATING.md docs/FORMATS.md examples/*.toml examples/*.conf; do
+    for file in docs/OPERATING.md docs/FORMATS.md CHANGELOG.md examples/*.toml examples/*.conf; do
         take "$doc/${file##*/}"
     done
     take "$unit/forward_relay.service"
@@ -103,7 +149,10 @@ uninstall_all() {
     else
         echo "kept $etc/relay.toml, which is not the example"
     fi
-    for folder in "$doc" "$etc"; do
+    [ -e "$folders" ] || return 0
+    made=$(cat "$folders")
+    rm "$folders"
+    echo "$made" | while read -r folder; do
         [ ! -d "$folder" ] || rmdir "$folder" 2>/dev/null || echo "kept $folder, which has other files"
     done
 }

@@ -90,6 +90,21 @@ forward_relay_tag_held_bytes{output="1",tag="hex:c3"} 16
 forward_relay_tag_held_bytes{output="1",tag="hex:6865783a66666665"} 17
 forward_relay_tag_held_bytes{output="1",tag="hex:00"} 18
 forward_relay_tag_held_bytes{output="1",tag="ö"} 0
+# HELP forward_relay_other_tags Tags with entries that are not settled and no series.
+# TYPE forward_relay_other_tags gauge
+forward_relay_other_tags{output="0"} 0
+forward_relay_other_tags{output="1"} 0
+forward_relay_other_tags{output="2"} 0
+# HELP forward_relay_other_tags_held_entries Entries of these tags.
+# TYPE forward_relay_other_tags_held_entries gauge
+forward_relay_other_tags_held_entries{output="0"} 0
+forward_relay_other_tags_held_entries{output="1"} 0
+forward_relay_other_tags_held_entries{output="2"} 0
+# HELP forward_relay_other_tags_held_bytes Bytes of these tags' entries.
+# TYPE forward_relay_other_tags_held_bytes gauge
+forward_relay_other_tags_held_bytes{output="0"} 0
+forward_relay_other_tags_held_bytes{output="1"} 0
+forward_relay_other_tags_held_bytes{output="2"} 0
 """
 
 NO_PAGE = """# HELP forward_relay_up Whether the relay gave its page.
@@ -146,6 +161,27 @@ class Metrics(unittest.TestCase):
 
     def test_no_page(self):
         self.assertEqual(metrics_text(None), NO_PAGE)
+
+    def test_tags_that_hold_less_are_counted_together(self):
+        lines = metrics_text(parse_page(PAGE), most=2).splitlines()
+        of_tags = [line for line in lines if ",tag=" in line and "held_bytes" in line]
+        self.assertEqual(of_tags, [
+            'forward_relay_tag_held_bytes{output="0",tag="a"} 3',
+            'forward_relay_tag_held_bytes{output="1",tag="hex:6865783a66666665"} 17',
+            'forward_relay_tag_held_bytes{output="1",tag="hex:00"} 18',
+        ])
+        for told in ("other_tags", "other_tags_held_entries", "other_tags_held_bytes"):
+            with self.subTest(told):
+                told = f'forward_relay_{told}{{output="1"}} '
+                count = {"tags": 7, "entries": 21, "bytes": 81}[told.split("{")[0].split("_")[-1]]
+                self.assertIn(f"{told}{count}", lines)
+
+    def test_series_are_bounded(self):
+        tags = "".join(f"tag {tag:04x} held 1 bytes 1\n" for tag in range(5_000))
+        page = f"output 0 accepted 5000 settled 0 held 5000 bytes 5000 chunks 5000\n{tags}"
+        lines = metrics_text(parse_page(page.encode())).splitlines()
+        self.assertEqual(sum(",tag=" in line for line in lines), 200)
+        self.assertIn('forward_relay_other_tags{output="0"} 4900', lines)
 
     def test_labels_differ(self):
         tags = {b"", b"hex:", b"hex:00", b"\0", b"hex:hex:00", b"\\n", b"\n", b'"', b'\\"', b"\\"}
@@ -211,7 +247,7 @@ class Served(unittest.TestCase):
             self.assertEqual(fetch(metrics + "metrics"), (200, CONTENT_TYPE, EXPOSITION))
             self.assertEqual(fetch(metrics)[0], 404)
         with served(QuietScrapes, relay) as metrics:
-            self.assertEqual(fetch(metrics + "metrics"), (503, CONTENT_TYPE, NO_PAGE))
+            self.assertEqual(fetch(metrics + "metrics"), (200, CONTENT_TYPE, NO_PAGE))
 
 
 if __name__ == "__main__":

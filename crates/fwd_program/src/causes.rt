@@ -1,41 +1,114 @@
-//! Why a run or a check came to no more: what the system, or the reader of TOML, says of it. Since
-//! a fault does not have that, what failed is tried once more.
+//! Why a run or a check came to no more: what the system or the reader of TOML says of it, and where
+//! a key stands and what may stand under it.
 
 use crate::ending::RunEnd;
+use crate::file::SettingsFile;
+use crate::finding::{line_at, line_of, value_at};
 use crate::saying::say;
+use crate::sections::{Allowed, Section};
 use fwd_loop::StartFault;
-use fwd_settings::{Settings, SettingsFault};
+use fwd_match::{Pattern, PatternFault};
+use fwd_settings::SettingsFault;
+use fwd_settings::ranges::SERVERS_MAX;
 use std::alloc::Global;
 use std::io::Write;
 use std::net::{Net, SocketAddr, TcpListener};
-use std::rt::{Clock, Files};
-use std::{fmt, fs, io};
+use std::{fmt, io};
+use toml::{Table, de};
 
-/// A file that cannot be read, and what the system says of it.
-#[derive(Drop)]
-struct Unread<'a> {
-    path: &'a str,
-    error: io::Error,
+/// Why settings are refused.
+#[derive(Clone, Copy)]
+enum Why<'a> {
+    /// The file cannot be read.
+    Unread(&'a io::Error),
+    /// The text is no TOML.
+    NotToml(de::Error),
+    /// The key is required.
+    Missing(&'a str),
+    /// The key's value is of another kind, or out of its range.
+    Wrong(&'a str),
+    /// The key's value is no match pattern.
+    NoPattern(&'a str, Option<PatternFault>),
+    /// All servers of the list are standbys.
+    Standbys(&'a str),
+    /// There are users and no shared key.
+    Keyless(&'a str),
+    /// There is no such key.
+    Unknown(&'a str),
 }
 
-impl fmt::Display for Unread<'_> {
+impl fmt::Display for Why<'_> {
     fn fmt<W: fmt::Write>(&self, f: &mut fmt::Formatter<W>) -> fmt::Result {
-        let Unread { path, error } = self;
-        write!(f, "settings: {path}: {error}")
+        match self {
+            Why::Unread(error) => write!(f, "{error}"),
+            Why::NotToml(error) => {
+                let message = error.message();
+                write!(f, "no TOML: {message}")
+            }
+            Why::Missing(key) => tell_allowed(f, key, "is required"),
+            Why::Wrong(key) => tell_allowed(f, key, "is refused"),
+            Why::NoPattern(key, fault) => {
+                write!(f, "{key} is no match pattern")?;
+                match fault {
+                    Some(fault) => write!(f, ": {fault}"),
+                    None => Ok(()),
+                }
+            }
+            Why::Standbys(key) => write!(f, "{key} has no server that is not a standby"),
+            Why::Keyless(key) => write!(f, "{key} needs a shared_key in [relay]"),
+            Why::Unknown(key) => tell_unknown(f, key),
+        }
     }
 }
 
-/// A file that is no TOML, and the line where it stops to be.
-#[derive(Drop)]
-struct NotToml<'a> {
-    path: &'a str,
-    line: usize,
+/// What may stand under a key.
+fn tell_allowed<W: fmt::Write>(f: &mut fmt::Formatter<W>, key: &str, what: &str) -> fmt::Result {
+    let (section, name) = Section::of_key(key);
+    write!(f, "{key} {what}")?;
+    match section.allowed(name) {
+        Some(allowed) => write!(f, ": allowed is {allowed}"),
+        None => Ok(()),
+    }
 }
 
-impl fmt::Display for NotToml<'_> {
+/// Where a key would stand that is none here, or which keys are.
+fn tell_unknown<W: fmt::Write>(f: &mut fmt::Formatter<W>, key: &str) -> fmt::Result {
+    let (section, name) = Section::of_key(key);
+    write!(f, "{key} is no key: ")?;
+    if let Some(parent) = section.parent() {
+        if parent.allowed(name).is_some() {
+            return write!(f, "{name} stands in {parent}, above {section}");
+        }
+    }
+    if let Some(other) = Section::having(name) {
+        return write!(f, "{name} stands in {other}");
+    }
+    write!(f, "{section} has")?;
+    let mut mark = " ";
+    for rule in section.rules() {
+        let name = rule.name;
+        write!(f, "{mark}{name}")?;
+        mark = ", ";
+    }
+    Ok(())
+}
+
+/// Why the settings in a file are refused, and the line of it, where one is known.
+#[derive(Clone, Copy)]
+struct Refusal<'a> {
+    path: &'a str,
+    line: Option<usize>,
+    why: Why<'a>,
+}
+
+impl fmt::Display for Refusal<'_> {
     fn fmt<W: fmt::Write>(&self, f: &mut fmt::Formatter<W>) -> fmt::Result {
-        let NotToml { path, line } = self;
-        write!(f, "settings: {path}: not toml at line {line}")
+        let Refusal { path, line, why } = self;
+        write!(f, "settings: {path}")?;
+        if let Some(line) = line {
+            write!(f, " line {line}")?;
+        }
+        write!(f, ": {why}")
     }
 }
 
@@ -53,58 +126,109 @@ impl fmt::Display for Unheard {
     }
 }
 
-/// The line, counted from 1, of a place in a text.
-fn line_at(text: &[u8], place: usize) -> usize {
-    let mut line = 1usize;
-    for byte in text.iter().take(place) {
-        if *byte == b'\n' {
-            line = line.saturating_add(1);
+/// Why the value under a key is out of its range.
+fn out_of_range<'a>(root: &Table, key: &'a str) -> Why<'a> {
+    let (section, name) = Section::of_key(key);
+    let listed = match value_at(root, key) {
+        Some(value) => value.as_array().map_or(0, |members| members.len()),
+        None => 0,
+    };
+    let is_list = 1 <= listed && listed <= SERVERS_MAX;
+    match section.allowed(name) {
+        Some(Allowed::Users) if listed > 0 => Why::Keyless(key),
+        Some(Allowed::Servers) if is_list => Why::Standbys(key),
+        _ => Why::Wrong(key),
+    }
+}
+
+/// What is wrong with the pattern under a key.
+fn pattern_fault(alloc: Global, root: &Table, key: &str) -> Option<PatternFault> {
+    let text = value_at(root, key)?.as_str()?;
+    match Pattern::read(alloc, text) {
+        Ok(_) => None,
+        Err(fault) => Some(fault),
+    }
+}
+
+/// The table that a key is in, by its own key.
+fn table_of(key: &str) -> Option<&str> {
+    let (table, _) = key.rsplit_once('.')?;
+    Some(table)
+}
+
+/// Why a text that is TOML is refused with a fault, and where.
+fn key_refusal<'a>(
+    alloc: Global,
+    file: (&'a str, &[u8]),
+    root: &Table,
+    fault: &'a SettingsFault,
+) -> Option<Refusal<'a>> {
+    let (path, text) = file;
+    let (why, place) = match fault {
+        SettingsFault::Missing(key) => (Why::Missing(key.as_str()), table_of(key.as_str())),
+        SettingsFault::WrongKind(key) => (Why::Wrong(key.as_str()), Some(key.as_str())),
+        SettingsFault::OutOfRange(key) => (out_of_range(root, key.as_str()), Some(key.as_str())),
+        SettingsFault::BadPattern(key) => {
+            let key = key.as_str();
+            (
+                Why::NoPattern(key, pattern_fault(alloc, root, key)),
+                Some(key),
+            )
+        }
+        SettingsFault::Unknown(key) => (Why::Unknown(key.as_str()), Some(key.as_str())),
+        _ => return None,
+    };
+    let line = match place {
+        Some(key) => line_of(alloc, text, key),
+        None => None,
+    };
+    Some(Refusal { path, line, why })
+}
+
+/// Why a text is refused with a fault, and where, if that can be found.
+fn refusal<'a>(
+    alloc: Global,
+    path: &'a str,
+    text: &[u8],
+    fault: &'a SettingsFault,
+) -> Option<Refusal<'a>> {
+    match toml::table_from_slice(alloc, text) {
+        Ok(root) => key_refusal(alloc, (path, text), &root, fault),
+        Err(error) => {
+            let line = Some(line_at(text, error.span()?.start));
+            let why = Why::NotToml(error);
+            Some(Refusal { path, line, why })
         }
     }
-    line
 }
 
-/// The line where a text stops to be TOML, if it does.
-fn bad_line(alloc: Global, text: &[u8]) -> Option<usize> {
-    match toml::table_from_slice(alloc, text) {
-        Ok(_) => None,
-        Err(error) => Some(line_at(text, error.span()?.start)),
-    }
-}
-
-/// Says why the settings in a file are refused, if they are and their fault alone does not say it.
-pub(crate) fn say_refused<R: Clock + Files + AllocGlobal, E: Write>(
-    rt: &R,
-    path: &str,
-    found: &Result<Settings, SettingsFault>,
+/// Says why the settings in a file are refused with a fault.
+pub(crate) fn say_refused<E: Write>(
+    alloc: Global,
+    file: &SettingsFile<'_>,
+    fault: &SettingsFault,
     errors: &mut E,
 ) {
-    let is_text = match found {
-        Err(SettingsFault::Unreadable) => false,
-        Err(SettingsFault::NotToml) => true,
-        _ => return,
-    };
-    match fs::read(rt, path) {
-        Err(error) => say(rt, errors, &Unread { path, error }),
-        Ok(text) if is_text => {
-            if let Some(line) = bad_line(rt.alloc(), text.as_slice()) {
-                say(rt, errors, &NotToml { path, line });
+    let path = file.path;
+    match &file.text {
+        Ok(text) => {
+            if let Some(refusal) = refusal(alloc, path, text.as_slice(), fault) {
+                say(errors, &refusal);
             }
         }
-        Ok(_) => {}
+        Err(error) => {
+            let (line, why) = (None, Why::Unread(error));
+            say(errors, &Refusal { path, line, why });
+        }
     }
 }
 
 /// Says why an address could not be listened at, if a run ended with that.
-pub(crate) fn say_unheard<R: Clock + Net, E: Write>(
-    rt: &R,
-    ran: &Result<(), RunEnd>,
-    errors: &mut E,
-) {
+pub(crate) fn say_unheard<R: Net, E: Write>(rt: &R, ran: &Result<(), RunEnd>, errors: &mut E) {
     if let Err(RunEnd::Start(StartFault::Listen(address))) = ran {
         let address = *address;
         if let Err(error) = TcpListener::bind(rt, address) {
-            say(rt, errors, &Unheard { address, error });
+            say(errors, &Unheard { address, error });
         }
     }
 }

@@ -1,15 +1,18 @@
 //! What is lawful in settings, and foolish.
 
-use crate::causes::say_refused;
-use crate::journal::Log;
-use crate::running::settings_at;
+use crate::file::SettingsFile;
 use crate::saying::say;
-use fwd_script::{Command, asked};
+use crate::unreached::is_unreached;
 use fwd_settings::{OutputSettings, RelaySettings, Settings};
+use std::alloc::Global;
 use std::fmt;
 use std::io::Write;
 use std::net::SocketAddr;
-use std::rt::{Clock, Files};
+use toml::Table;
+
+/// The most bytes of a chunk that is short enough for the servers of other makers by their defaults:
+/// Fluent Bit takes messages of 6,144,000 bytes, and a frame has a head and a tail.
+const COMMON_CHUNK: u64 = 6_000_000;
 
 /// What is lawful in settings, and foolish.
 #[derive(Clone, Copy)]
@@ -27,42 +30,64 @@ enum Caution {
         chunk: u64,
         total: u64,
     },
-    /// The output has more workers than servers that they are to use.
-    ManyWorkers {
+    /// A chunk of the output may have more bytes than some servers take in one message.
+    LongChunk {
+        output: usize,
+        chunk: u64,
+    },
+    /// The output has fewer workers than servers that are no standby.
+    FewWorkers {
         output: usize,
         workers: u16,
         servers: usize,
+    },
+    /// Each tag that the output of this number takes goes to one before it.
+    Unreached {
+        output: usize,
     },
 }
 
 impl fmt::Display for Caution {
     fn fmt<W: fmt::Write>(&self, f: &mut fmt::Formatter<W>) -> fmt::Result {
+        f.write_str("caution: ")?;
         match *self {
             Caution::SameAddress(address) => write!(
                 f,
-                "caution: listen and monitor are both {address}"
+                "listen and monitor are both {address}: no run can start"
             ),
-            Caution::OwnServer { output, server } => {
-                write!(
-                    f,
-                    "caution: output {output} server {server} is the relay itself"
-                )
-            }
+            Caution::OwnServer { output, server } => write!(
+                f,
+                "output {output} server {server} is the relay itself: what it sends comes back"
+            ),
             Caution::LargeChunk {
                 output,
                 chunk,
                 total,
             } => write!(
                 f,
-                "caution: output {output} chunk_limit {chunk} above total_limit {total}"
+                "output {output} chunk_limit {chunk} above total_limit {total}: \
+                no chunk can become as large"
             ),
-            Caution::ManyWorkers {
+            Caution::LongChunk { output, chunk } => write!(
+                f,
+                "output {output} chunk_limit {chunk} above {COMMON_CHUNK}: \
+                some servers refuse such a chunk each time, as Fluent Bit by its defaults"
+            ),
+            Caution::FewWorkers {
                 output,
                 workers,
                 servers,
-            } => write!(
+            } => {
+                let idle = servers.saturating_sub(usize::from(workers));
+                write!(
+                    f,
+                    "output {output} workers {workers} for servers {servers}: \
+                    the last {idle} get nothing until another is lost"
+                )
+            }
+            Caution::Unreached { output } => write!(
                 f,
-                "caution: output {output} workers {workers} for servers {servers}"
+                "output {output} gets nothing: its tags all go to outputs before it"
             ),
         }
     }
@@ -76,17 +101,16 @@ fn leads_to(address: SocketAddr, listen: SocketAddr) -> bool {
 }
 
 /// Says what is foolish in the addresses that the relay listens at.
-fn say_of_relay<R: Clock, E: Write>(rt: &R, relay: &RelaySettings, errors: &mut E) {
+pub(crate) fn say_of_relay<E: Write>(relay: &RelaySettings, errors: &mut E) {
     if let Some(monitor) = relay.monitor {
         if leads_to(monitor, relay.listen) || leads_to(relay.listen, monitor) {
-            say(rt, errors, &Caution::SameAddress(monitor));
+            say(errors, &Caution::SameAddress(monitor));
         }
     }
 }
 
 /// Says which servers of the output of this number are the relay itself.
-fn say_of_servers<R: Clock, E: Write>(
-    rt: &R,
+fn say_of_servers<E: Write>(
     listen: SocketAddr,
     output: usize,
     settings: &OutputSettings,
@@ -95,23 +119,16 @@ fn say_of_servers<R: Clock, E: Write>(
     for server in settings.servers.as_slice() {
         let server = server.address;
         if leads_to(server, listen) {
-            say(rt, errors, &Caution::OwnServer { output, server });
+            say(errors, &Caution::OwnServer { output, server });
         }
     }
 }
 
-/// Says what is foolish in the limits and the workers of the output of this number. Standbys are
-/// used only where the others fail.
-fn say_of_output<R: Clock, E: Write>(
-    rt: &R,
-    output: usize,
-    settings: &OutputSettings,
-    errors: &mut E,
-) {
+/// Says what is foolish in the limits of the output of this number.
+fn say_of_limits<E: Write>(output: usize, settings: &OutputSettings, errors: &mut E) {
     let (chunk, total) = (settings.chunk_limit, settings.total_limit);
     if chunk > total {
         say(
-            rt,
             errors,
             &Caution::LargeChunk {
                 output,
@@ -119,15 +136,21 @@ fn say_of_output<R: Clock, E: Write>(
                 total,
             },
         );
+    } else if chunk > COMMON_CHUNK {
+        say(errors, &Caution::LongChunk { output, chunk });
     }
+}
+
+/// Says where the output of this number has fewer workers than servers. Standbys are used only where
+/// the others fail.
+fn say_of_workers<E: Write>(output: usize, settings: &OutputSettings, errors: &mut E) {
     let all = settings.servers.as_slice();
     let servers = all.iter().filter(|server| !server.standby).count();
     let workers = settings.workers;
-    if usize::from(workers) > servers {
+    if usize::from(workers) < servers {
         say(
-            rt,
             errors,
-            &Caution::ManyWorkers {
+            &Caution::FewWorkers {
                 output,
                 workers,
                 servers,
@@ -136,29 +159,39 @@ fn say_of_output<R: Clock, E: Write>(
     }
 }
 
-/// Says what is lawful in settings, and foolish.
-fn say_cautions<R: Clock, E: Write>(rt: &R, settings: &Settings, errors: &mut E) {
-    let listen = settings.relay.listen;
-    say_of_relay(rt, &settings.relay, errors);
-    for (output, each) in settings.outputs.as_slice().iter().enumerate() {
-        say_of_servers(rt, listen, output, each, errors);
-        say_of_output(rt, output, each, errors);
+/// Says which outputs get nothing, by the patterns in their document. Where memory runs out no more
+/// is said.
+fn say_unreached<E: Write>(
+    alloc: Global,
+    root: &Table,
+    outputs: &[OutputSettings],
+    errors: &mut E,
+) {
+    for output in 0..outputs.len() {
+        match is_unreached(alloc, root, &outputs[..output], output) {
+            Ok(true) => say(errors, &Caution::Unreached { output }),
+            Ok(false) => {}
+            Err(_) => return,
+        }
     }
 }
 
-/// Says, where words ask for a check and the log for a journal, why the check will refuse the
-/// settings, or what is foolish in them.
-pub(crate) fn say_of_check<R: Clock + Files + AllocGlobal, E: Write>(
-    rt: &R,
-    log: Log,
-    words: &[String],
+/// Says what is lawful in the settings of a file, and foolish.
+pub(crate) fn say_cautions<E: Write>(
+    alloc: Global,
+    file: &SettingsFile<'_>,
+    settings: &Settings,
     errors: &mut E,
 ) {
-    if let (Log::Info, Some(Command::Check(path))) = (log, asked(words)) {
-        let found = settings_at(rt.alloc(), rt, path);
-        say_refused(rt, path, &found, errors);
-        if let Ok(settings) = &found {
-            say_cautions(rt, settings, errors);
-        }
+    let listen = settings.relay.listen;
+    say_of_relay(&settings.relay, errors);
+    let outputs = settings.outputs.as_slice();
+    for (output, each) in outputs.iter().enumerate() {
+        say_of_servers(listen, output, each, errors);
+        say_of_limits(output, each, errors);
+        say_of_workers(output, each, errors);
+    }
+    if let Some(root) = file.document(alloc) {
+        say_unreached(alloc, &root, outputs, errors);
     }
 }

@@ -1,7 +1,9 @@
 //! What a run says on standard error.
 
-use crate::line_limit::LineLimit;
-use crate::telling::{Kind, Telling};
+use crate::ending::RunEnd;
+use crate::line_limits::{LeftOut, LineLimits};
+use crate::telling::{Subject, Telling};
+use crate::version::VERSION;
 use arrayvec::ArrayString;
 use fwd_loop::{Fact, Watch};
 use jiff::Timestamp;
@@ -35,7 +37,7 @@ pub fn asked_log<R: Env + AllocGlobal>(rt: &R) -> Log {
     }
 }
 
-/// Says facts, each on a line behind the time in UTC: of one kind at most ten in a second of the
+/// Says facts, each on a line behind the time in UTC: of one subject at most ten in a second of the
 /// clock, and in a later one how many were left out. It takes no memory. A line that cannot be
 /// written is left out, and told as that as soon as a line can be written. Where the clock cannot
 /// be read it stands, at first at 1970.
@@ -44,12 +46,13 @@ pub struct Journal<'a, R: Clock, E: Write> {
     clock: &'a R,
     errors: &'a mut E,
     now: Timestamp,
-    /// By kinds.
-    limits: [LineLimit; Kind::COUNT],
+    limits: LineLimits,
     /// How many lines could not be written since that was told last.
     unwritten: u64,
     /// The second in which writing was tried last.
     tried: i64,
+    /// What runs was said.
+    is_begun: bool,
 }
 
 impl<'a, R: Clock, E: Write> Journal<'a, R, E> {
@@ -59,9 +62,10 @@ impl<'a, R: Clock, E: Write> Journal<'a, R, E> {
             clock,
             errors,
             now: Timestamp::UNIX_EPOCH,
-            limits: [LineLimit::NONE; Kind::COUNT],
+            limits: LineLimits::new(),
             unwritten: 0,
             tried: 0,
+            is_begun: false,
         }
     }
 
@@ -97,53 +101,94 @@ impl<'a, R: Clock, E: Write> Journal<'a, R, E> {
         }
     }
 
-    /// Says how many lines of a kind were left out in a second that is over, if any were.
-    fn settle(&mut self, kind: Kind) {
-        let second = self.now.as_second();
-        if let Some(limit) = self.limits.get_mut(kind as usize) {
-            if let Some(count) = limit.owes(second) {
-                self.say(&LeftOut { kind, count }, count);
-            }
+    /// Says how many lines were left out, by what they were about, if any were: in a second that is
+    /// over, or where the run is over in any.
+    fn settle(&mut self, second: Option<i64>) {
+        for _ in 0..u16::MAX {
+            let Some(left_out) = self.limits.owed(second) else {
+                return;
+            };
+            self.say(&left_out, left_out.count);
         }
     }
 
     /// Says how many lines were left out, if any were: the run is over.
     pub fn close(&mut self) {
         self.look();
-        for kind in Kind::ALL {
-            if let Some(limit) = self.limits.get_mut(kind as usize) {
-                if let Some(count) = limit.take_left_out() {
-                    self.say(&LeftOut { kind, count }, count);
-                }
-            }
-        }
+        self.settle(None);
         self.settle_unwritten();
+    }
+
+    /// Says what runs: the program by the settings in a file, with so many outputs. It is the first
+    /// line, of any length.
+    pub fn begin(&mut self, path: &str, outputs: usize) {
+        self.is_begun = true;
+        self.look();
+        let now = self.now;
+        let begun = Begun { path, outputs };
+        let _ = writeln!(self.errors, "{now:.3} {begun}");
+    }
+
+    /// Says why it runs no more, if it was said that it does.
+    pub fn end(&mut self, ran: &Result<(), RunEnd>) {
+        if self.is_begun {
+            self.look();
+            self.say(&Stopped { ran }, 1);
+        }
     }
 }
 
 impl<'a, R: Clock, E: Write> Watch for Journal<'a, R, E> {
     fn see(&mut self, fact: Fact) {
         self.look();
-        let kind = Kind::of(&fact);
-        self.settle(kind);
         let second = self.now.as_second();
-        if let Some(limit) = self.limits.get_mut(kind as usize) {
-            if limit.takes(second) {
-                self.say(&Telling { fact }, 1);
-            }
+        self.settle(Some(second));
+        if self.limits.takes(Subject::of(&fact), second) {
+            self.say(&Telling { fact }, 1);
         }
     }
 
     fn turned(&mut self) {
-        if self.unwritten == 0 && self.limits.iter().all(|limit| limit.is_clear()) {
+        if self.unwritten == 0 && self.limits.is_clear() {
             return;
         }
         self.look();
-        for kind in Kind::ALL {
-            self.settle(kind);
-        }
-        if self.tried != self.now.as_second() {
+        let second = self.now.as_second();
+        self.settle(Some(second));
+        if self.tried != second {
             self.settle_unwritten();
+        }
+    }
+}
+
+/// What runs: the program by the settings in a file, with so many outputs.
+#[derive(Clone, Copy)]
+struct Begun<'a> {
+    path: &'a str,
+    outputs: usize,
+}
+
+impl fmt::Display for Begun<'_> {
+    fn fmt<W: fmt::Write>(&self, f: &mut fmt::Formatter<W>) -> fmt::Result {
+        let Begun { path, outputs } = self;
+        write!(
+            f,
+            "started: forward_relay {VERSION} settings {path} outputs {outputs}"
+        )
+    }
+}
+
+/// Why it runs no more.
+#[derive(Clone, Copy)]
+struct Stopped<'a> {
+    ran: &'a Result<(), RunEnd>,
+}
+
+impl fmt::Display for Stopped<'_> {
+    fn fmt<W: fmt::Write>(&self, f: &mut fmt::Formatter<W>) -> fmt::Result {
+        match self.ran {
+            Ok(()) => f.write_str("stopped: all turns are made"),
+            Err(end) => write!(f, "stopped: {end}"),
         }
     }
 }
@@ -161,16 +206,9 @@ impl fmt::Display for Unwritten {
     }
 }
 
-/// How many lines of a kind were left out.
-#[derive(Clone, Copy)]
-struct LeftOut {
-    kind: Kind,
-    count: u64,
-}
-
 impl fmt::Display for LeftOut {
     fn fmt<W: fmt::Write>(&self, f: &mut fmt::Formatter<W>) -> fmt::Result {
-        let LeftOut { kind, count } = self;
-        write!(f, "{kind}: {count} left out")
+        let LeftOut { subject, count } = self;
+        write!(f, "{subject}, {count} left out")
     }
 }

@@ -4,14 +4,21 @@
 mod asked;
 mod causes;
 mod cautions;
+mod checking;
 mod ending;
 mod errors;
+mod file;
+mod finding;
 mod journal;
 mod line_limit;
+mod line_limits;
 mod program;
 mod running;
 mod saying;
+mod sections;
 mod telling;
+mod unreached;
+mod version;
 
 pub use asked::{Run, asked_run};
 pub use ending::RunEnd;
@@ -19,3 +26,4 @@ pub use errors::Errors;
 pub use journal::{Journal, Log, asked_log};
 pub use program::run_all;
 pub use running::run_file;
+pub use version::VERSION;

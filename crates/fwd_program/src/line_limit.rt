@@ -1,11 +1,11 @@
-//! How many lines of one kind a second has room for.
+//! How many lines of one subject a second has room for.
 
 ghost use Rattle.std.specs.Prelude.{◌≡◌, ◌≢◌, ◌↔◌, ◌≤◌, ◌+◌, ◌-◌, ◌^◌, ◌⊎◌, true, false, IfSome, IfNone};
 
-/// At most so many lines of one kind are told in a second.
+/// At most so many lines of one subject are told in a second.
 const LINES: u64 = 10;
 
-/// The lines of one kind, by the seconds of a clock.
+/// The lines of one subject, by the seconds of a clock.
 #[derive(Clone, Copy)]
 pub struct LineLimit {
     /// The second of the last line that was told.
@@ -29,6 +29,13 @@ impl LineLimit {
         ensures { result ≡ true ↔ self.now.left_out ≡ 0 }
     {
         self.left_out == 0
+    }
+
+    /// Whether a line was told in a second.
+    pub fn is_within(&self, second: i64) -> bool
+        ensures { result ≡ true ↔ (self.now.second ≡ second) × (1 ≤ self.now.told) }
+    {
+        self.second == second && self.told > 0
     }
 
     /// Whether a line is told in a second: the first ten are. One that is not is counted.

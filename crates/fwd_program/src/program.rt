@@ -11,11 +11,11 @@ ghost use Rattle.fwd_program.specs.Ends.{Runs, run_code};
 ghost use Rattle.fwd_program.specs.declared.ending.RunEnd.{RunEnd as TheEnd};
 
 use crate::asked::asked_run;
-use crate::cautions::say_of_check;
+use crate::checking::check_said;
 use crate::ending::RunEnd;
 use crate::journal::Log;
 use crate::running::run_file;
-use fwd_script::{Status, run_program};
+use fwd_script::{Command, End, Status, asked, run_program, tell as tell_end};
 use std::io;
 use std::io::{ErrorKind, Read, Write};
 use std::net::{Net, TcpListener, TcpStream};
@@ -28,6 +28,28 @@ fn tell<E: Write>(errors: &mut E, end: &RunEnd) -> io::Result<()> {
     match end {
         RunEnd::Ran(Status::Done) => Ok(()),
         end => writeln!(errors, "{end}"),
+    }
+}
+
+/// Does what words ask for that ask for no run, and returns the exit status.
+fn do_other<R: Files + AllocGlobal, I: Read, W: Write, E: Write>(
+    rt: &R,
+    words: Vec<String>,
+    input: &mut I,
+    output: &mut W,
+    errors: &mut E,
+) -> u8
+    ensures { (end : End) × (result ≡ end_code end)
+        × Performs (words_behind (map string_bytes words.items))
+        end (I.remaining input.old) (W.contents output.old) (W.contents output.new) }
+{
+    match asked(words.as_slice()) {
+        Some(Command::Check(path)) => {
+            let end = End::Ran(check_said(rt, path, output, errors));
+            let _told = tell_end(errors, &end);
+            end.exit_code()
+        }
+        _ => run_program(rt.alloc(), rt, Ok(words), input, output, errors),
     }
 }
 
@@ -60,16 +82,14 @@ fn run_words<
             let _told = tell(errors, &end);
             end.exit_code()
         }
-        None => {
-            say_of_check(rt, log, words.as_slice(), errors);
-            run_program(rt.alloc(), rt, Ok(words), input, output, errors)
-        }
+        None => do_other(rt, words, input, output, errors),
     }
 }
 
 /// The whole program, but for where its words and streams come from: where the words ask for a run
 /// it runs, as `run_file` does with this log, and tells how that ended; all other words it answers
-/// as `fwd_script::run_program` does. It returns the exit status. An end that cannot be told has
+/// as `fwd_script::run_program` does, and says of a check why the settings are refused, or what is
+/// foolish in them. It returns the exit status. An end that cannot be told has
 /// the same exit status.
 pub fn run_all<
     R: Net<Listener = TcpListener, Stream = TcpStream>

@@ -9,33 +9,36 @@ ghost use Rattle.fwd_program.specs.declared.ending.RunEnd.TheVariants as ends;
 
 use crate::asked::Run;
 use crate::causes::{say_refused, say_unheard};
+use crate::cautions::say_of_relay;
 use crate::ending::RunEnd;
+use crate::file::SettingsFile;
 use crate::journal::{Journal, Log};
 use fwd_loop::{Loop, Watch};
 use fwd_monitor::page;
-use fwd_script::{Status, flush, read_input, settings_in, write_all};
+use fwd_script::{Status, flush, write_all};
 use fwd_settings::{Settings, SettingsFault};
-use std::alloc::Global;
-use std::fs;
 use std::io::Write;
 use std::net::{Net, TcpListener, TcpStream};
 use std::rt::{Clock, Files};
 use std::sync::Wait;
 use std::thread::Threads;
 
-/// The settings in a file. A file that cannot be opened is `Unreadable`.
-pub(crate) fn settings_at<F: Files>(
-    alloc: Global,
-    files: &F,
+/// The settings in a file. It says why they are refused, or that no run by them can start.
+fn settings_at<R: Files + AllocGlobal, E: Write>(
+    rt: &R,
     path: &str,
+    errors: &mut E,
 ) -> Result<Settings, SettingsFault>
     ensures range { IfOk result (λ settings. in_range settings ≡ true) }
     ensures found { (text : List ℕ) × Found result text }
 {
-    match fs::open(files, path) {
-        Ok(mut file) => settings_in(alloc, read_input(alloc, &mut file)),
-        Err(_) => Err(SettingsFault::Unreadable),
+    let file = SettingsFile::read(rt, path);
+    let found = file.settings(rt.alloc());
+    match &found {
+        Ok(settings) => say_of_relay(&settings.relay, errors),
+        Err(fault) => say_refused(rt.alloc(), &file, fault, errors),
     }
+    found
 }
 
 /// Runs by the settings that were found, under a watch, and writes the page of the last reports:
@@ -70,6 +73,46 @@ fn run_found<
     Ok(write_all(output, text.as_bytes())?)
 }
 
+/// The same, under a journal where the log asks for one, which begins with what runs and ends with
+/// why it does no more.
+fn run_told<
+    R: Net<Listener = TcpListener, Stream = TcpStream>
+        + Threads
+        + Wait
+        + Clock
+        + Files
+        + AllocGlobal
+        + Sync,
+    W: Write,
+    E: Write,
+>(
+    rt: &R,
+    found: Result<Settings, SettingsFault>,
+    run: Run<'_>,
+    log: Log,
+    output: &mut W,
+    errors: &mut E,
+) -> Result<(), RunEnd>
+    requires { IfOk found (λ settings. in_range settings ≡ true) }
+    ensures { (text : List ℕ) → Found found text → MatchResult result
+        (λ _. Runs (ends.Ran statuses.Done) text (W.contents output.old) (W.contents output.new))
+        (λ end. Runs end text (W.contents output.old) (W.contents output.new)) }
+{
+    match log {
+        Log::Off => run_found(rt, found, run.turns, &mut (), output),
+        Log::Info => {
+            let mut journal = Journal::new(rt, errors);
+            if let Ok(settings) = &found {
+                journal.begin(run.path, settings.outputs.len());
+            }
+            let ran = run_found(rt, found, run.turns, &mut journal, output);
+            journal.close();
+            journal.end(&ran);
+            ran
+        }
+    }
+}
+
 /// How a run ended, by what came of it.
 fn ended(ran: Result<(), RunEnd>) -> RunEnd
     ensures { MatchResult ran (λ _. result ≡ ends.Ran statuses.Done) (λ end. result ≡ end) }
@@ -81,7 +124,7 @@ fn ended(ran: Result<(), RunEnd>) -> RunEnd
 }
 
 /// Runs by the settings in a file, under a journal where the log asks for one, and writes the page
-/// of the last reports.
+/// of the last reports. It says why a run came to no more.
 fn run_logged<
     R: Net<Listener = TcpListener, Stream = TcpStream>
         + Threads
@@ -96,25 +139,18 @@ fn run_logged<
     ensures { (text : List ℕ)
         × Runs result text (W.contents output.old) (W.contents output.new) }
 {
-    let found = settings_at(rt.alloc(), rt, run.path);
-    match log {
-        Log::Off => ended(run_found(rt, found, run.turns, &mut (), output)),
-        Log::Info => {
-            say_refused(rt, run.path, &found, errors);
-            let mut journal = Journal::new(rt, errors);
-            let ran = run_found(rt, found, run.turns, &mut journal, output);
-            journal.close();
-            say_unheard(rt, &ran, errors);
-            ended(ran)
-        }
-    }
+    let found = settings_at(rt, run.path, errors);
+    let ran = run_told(rt, found, run, log, output, errors);
+    say_unheard(rt, &ran, errors);
+    ended(ran)
 }
 
 /// Runs a relay by the settings in a file, and writes the monitor's page of the last reports, one
 /// of each output. A file that cannot be read is `Ran(BadSettings(Unreadable))`, and so are refused
 /// settings with their own fault; a failed write or flush is `Ran(Output)`, and behind it nothing
 /// was written or a front of the page; out of memory is `Ran(Memory)`. Behind all other ends but
-/// `Done` nothing was written. Where the log asks for it the errors say what the run comes to.
+/// `Done` nothing was written. The errors say why settings or an address are refused and, where the
+/// log asks for it, what the run comes to.
 pub fn run_file<
     R: Net<Listener = TcpListener, Stream = TcpStream>
         + Threads

@@ -6,7 +6,7 @@ use fwd_workers::{AdmitRefusal, LinkFault, Loss};
 use std::fmt;
 
 /// The kinds of facts.
-#[derive(Clone, Copy)]
+#[derive(Clone, Copy, PartialEq, Eq)]
 pub enum Kind {
     Listening = 0,
     SourceClosed = 1,
@@ -70,6 +70,57 @@ impl fmt::Display for Kind {
             Kind::Descriptors => "no descriptor",
             Kind::ChunkRefused => "chunk refused",
         })
+    }
+}
+
+/// What lines are about that are limited together: the kind, and the name and the output where
+/// they have any.
+#[derive(Clone, Copy, PartialEq, Eq)]
+pub struct Subject {
+    pub kind: Kind,
+    name: &'static str,
+    output: Option<u16>,
+}
+
+impl Subject {
+    /// What a fact is about.
+    pub fn of(fact: &Fact) -> Subject {
+        let kind = Kind::of(fact);
+        let (name, output) = match fact {
+            Fact::Listening { caller, .. } => (caller_name(*caller), None),
+            Fact::SourceClosed { why, .. } => (source_end_name(*why), None),
+            Fact::ServerLost { output, why, .. } => (loss_name(*why), Some(*output)),
+            Fact::ServerBack { output, .. } => ("", Some(*output)),
+            Fact::ServerChanged { output, .. } => ("", Some(*output)),
+            Fact::OverLimit { caller, .. } => (caller_name(*caller), None),
+            Fact::Memory(Want::Output(output)) => ("", Some(*output)),
+            Fact::Memory(want) => (want_name(*want), None),
+            Fact::FewFiles { .. } => ("", None),
+            Fact::Descriptors(caller) => (caller_name(*caller), None),
+            Fact::ChunkRefused { output, .. } => ("", Some(*output)),
+        };
+        Subject { kind, name, output }
+    }
+
+    /// Other lines of a kind.
+    pub fn others(kind: Kind) -> Subject {
+        let (name, output) = ("others", None);
+        Subject { kind, name, output }
+    }
+}
+
+/// What lines of the subject have in common.
+impl fmt::Display for Subject {
+    fn fmt<W: fmt::Write>(&self, f: &mut fmt::Formatter<W>) -> fmt::Result {
+        let Subject { kind, name, output } = self;
+        write!(f, "{kind}:")?;
+        if let Some(output) = output {
+            write!(f, " output {output}")?;
+        }
+        if name.is_empty() {
+            return Ok(());
+        }
+        write!(f, " {name}")
     }
 }
 
@@ -145,9 +196,18 @@ fn write_hex<W: fmt::Write>(f: &mut fmt::Formatter<W>, bytes: &[u8]) -> fmt::Res
 fn tell_want<W: fmt::Write>(f: &mut fmt::Formatter<W>, want: Want) -> fmt::Result {
     match want {
         Want::Source(peer) => write!(f, "source {peer}"),
-        Want::Monitor => f.write_str("monitor"),
         Want::Output(output) => write!(f, "output {output}"),
-        Want::News => f.write_str("news of workers"),
+        want => f.write_str(want_name(want)),
+    }
+}
+
+/// What memory was refused for, but for an output.
+fn want_name(want: Want) -> &'static str {
+    match want {
+        Want::Source(_) => "source",
+        Want::Monitor => "monitor",
+        Want::Output(_) => "output",
+        Want::News => "news of workers",
     }
 }
 

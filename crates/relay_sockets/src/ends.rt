@@ -68,9 +68,9 @@ struct Call {
 }
 
 /// Calls: with settings that are not there, that are refused, and of an address that no machine
-/// has; a run that ends behind its turns; words that ask for no run; and outputs that cannot be
+/// has, some of them checked too; a run that ends behind its turns; words that ask for no run; and outputs that cannot be
 /// flushed, or written.
-static CALLS: [Call; 8] = [
+static CALLS: [Call; 10] = [
     Call {
         words: &["run", "missing.toml", "1"],
         manner: Manner::Gives,
@@ -80,7 +80,15 @@ static CALLS: [Call; 8] = [
         manner: Manner::Gives,
     },
     Call {
+        words: &["check", "refused.toml"],
+        manner: Manner::Gives,
+    },
+    Call {
         words: &["run", "taken.toml", "1"],
+        manner: Manner::Gives,
+    },
+    Call {
+        words: &["check", "taken.toml"],
         manner: Manner::Gives,
     },
     Call {

@@ -1,4 +1,4 @@
-//! Many facts of one kind in a second, and facts that cannot be written.
+//! Many facts of one subject in a second, others beside them, and facts that cannot be written.
 
 use crate::hand::{Hand, START};
 use fwd_loop::{Fact, Want, Watch};
@@ -7,35 +7,38 @@ use std::cell::Cell;
 use std::io;
 use std::io::{ErrorKind, Write};
 
-/// So many outputs want memory.
-fn see_outputs<W: Watch>(journal: &mut W, count: u16) {
-    for output in 0..count {
-        journal.see(Fact::Memory(Want::Output(output)));
+/// So many monitors want memory.
+fn see_monitors<W: Watch>(journal: &mut W, count: u16) {
+    for _ in 0..count {
+        journal.see(Fact::Memory(Want::Monitor));
     }
 }
 
-/// Says ten facts of thirteen, and then how many were left out.
+/// Says ten facts of thirteen, those of other subjects too, and then how many were left out of what.
 pub fn say_many(rt: &impl Print) {
     let clock = Hand::new(None);
     let mut out = io::writer(rt);
     let mut journal = Journal::new(&clock, &mut out);
     // The clock cannot be read yet.
-    see_outputs(&mut journal, 1);
+    see_monitors(&mut journal, 1);
     clock.set(Some(START));
-    see_outputs(&mut journal, 13);
+    see_monitors(&mut journal, 13);
+    // Two outputs are subjects of their own.
+    journal.see(Fact::Memory(Want::Output(0)));
+    journal.see(Fact::Memory(Want::Output(1)));
     // The same second is not over.
     clock.set(Some(START + 876));
     journal.turned();
     clock.set(Some(START + 877));
     journal.turned();
     journal.turned();
-    // What was left out is told before the next line of the kind, and at the end.
-    see_outputs(&mut journal, 12);
+    // What was left out is told before the next line, and at the end.
+    see_monitors(&mut journal, 12);
     clock.set(Some(START + 2_000));
-    see_outputs(&mut journal, 11);
+    see_monitors(&mut journal, 11);
     // A clock that cannot be read any more stands.
     clock.set(None);
-    see_outputs(&mut journal, 1);
+    see_monitors(&mut journal, 1);
     journal.close();
     journal.close();
 }
@@ -70,18 +73,18 @@ pub fn say_unwritten(rt: &impl Print) {
         is_full: &is_full,
     };
     let mut journal = Journal::new(&clock, &mut out);
-    see_outputs(&mut journal, 3);
+    see_monitors(&mut journal, 3);
     is_full.set(false);
-    see_outputs(&mut journal, 1);
+    see_monitors(&mut journal, 1);
     is_full.set(true);
-    see_outputs(&mut journal, 2);
+    see_monitors(&mut journal, 2);
     is_full.set(false);
     // The same second is not over.
     journal.turned();
     clock.set(Some(START + 877));
     journal.turned();
     is_full.set(true);
-    see_outputs(&mut journal, 12);
+    see_monitors(&mut journal, 12);
     is_full.set(false);
     journal.close();
 }

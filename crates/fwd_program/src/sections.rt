@@ -1,0 +1,304 @@
+//! The tables of the settings, their keys, and what may stand under each key.
+
+use fwd_settings::ranges::{
+    CHUNK_LIMIT_MAX, CONNECTIONS_MAX, DEPTH_MAX, DEPTH_MIN, MESSAGE_LIMIT_MAX, MESSAGE_LIMIT_MIN,
+    NAME_MAX, OUTPUTS_MAX, RETRY_WAIT_DEFAULT, SERVERS_MAX, SHARED_KEY_MAX, TOTAL_LIMIT_MAX,
+    WAIT_MAX, WINDOW_MAX, WORKERS_MAX,
+};
+use std::fmt;
+
+/// What may stand under a key.
+#[derive(Clone, Copy)]
+pub(crate) enum Allowed {
+    /// A number from a least to a greatest.
+    Count(u64, u64),
+    /// A number of bytes from 1 to a greatest.
+    Bytes(u64, u64),
+    /// A time from a least to a day.
+    Time(u64),
+    /// A time that is no shorter than `retry_wait`.
+    RetryMax,
+    /// A text of a least to a greatest number of bytes.
+    Text(usize, usize),
+    /// So many hexadecimal digits.
+    Digits(usize),
+    Address,
+    Flag,
+    Pattern,
+    RelayTable,
+    Users,
+    Outputs,
+    Servers,
+}
+
+impl fmt::Display for Allowed {
+    fn fmt<W: fmt::Write>(&self, f: &mut fmt::Formatter<W>) -> fmt::Result {
+        match *self {
+            Allowed::Count(least, most) => write!(f, "a whole number from {least} to {most}"),
+            Allowed::Bytes(least, most) => {
+                write!(f, "a whole number of bytes from {least} to {most}")
+            }
+            Allowed::Time(least) => {
+                write!(
+                    f,
+                    "a whole number of milliseconds from {least} to {WAIT_MAX}"
+                )
+            }
+            Allowed::RetryMax => write!(
+                f,
+                "a whole number of milliseconds from retry_wait ({RETRY_WAIT_DEFAULT} where it \
+                is not set) to {WAIT_MAX}"
+            ),
+            Allowed::Text(least, most) => {
+                write!(f, "a text of {least} to {most} bytes, in quotes")
+            }
+            Allowed::Digits(count) => write!(f, "{count} hexadecimal digits, in quotes"),
+            Allowed::Address => f.write_str(
+                "a numeric address and a port from 1 to 65535, in quotes, \
+                as \"192.0.2.1:24224\" or \"[2001:db8::1]:24224\"",
+            ),
+            Allowed::Flag => f.write_str("true or false"),
+            Allowed::Pattern => {
+                f.write_str("a match pattern, in quotes, as \"**\" or \"app.* db.**\"")
+            }
+            Allowed::RelayTable => f.write_str("one table [relay]"),
+            Allowed::Users => f.write_str("one or more tables [[relay.user]]"),
+            Allowed::Outputs => write!(f, "1 to {OUTPUTS_MAX} tables [[output]]"),
+            Allowed::Servers => write!(f, "1 to {SERVERS_MAX} tables [[output.server]]"),
+        }
+    }
+}
+
+/// A key of a table.
+#[derive(Clone, Copy)]
+pub(crate) struct KeyRule {
+    pub name: &'static str,
+    pub allowed: Allowed,
+}
+
+/// A kind of table of the settings.
+#[derive(Clone, Copy, PartialEq, Eq)]
+pub(crate) enum Section {
+    Root,
+    Relay,
+    User,
+    Output,
+    Server,
+}
+
+static ROOT: [KeyRule; 2] = [
+    KeyRule {
+        name: "relay",
+        allowed: Allowed::RelayTable,
+    },
+    KeyRule {
+        name: "output",
+        allowed: Allowed::Outputs,
+    },
+];
+
+static RELAY: [KeyRule; 10] = [
+    KeyRule {
+        name: "listen",
+        allowed: Allowed::Address,
+    },
+    KeyRule {
+        name: "monitor",
+        allowed: Allowed::Address,
+    },
+    KeyRule {
+        name: "hostname",
+        allowed: Allowed::Text(1, NAME_MAX),
+    },
+    KeyRule {
+        name: "shared_key",
+        allowed: Allowed::Text(1, SHARED_KEY_MAX),
+    },
+    KeyRule {
+        name: "run_id",
+        allowed: Allowed::Digits(12),
+    },
+    KeyRule {
+        name: "seed",
+        allowed: Allowed::Digits(64),
+    },
+    KeyRule {
+        name: "connections",
+        allowed: Allowed::Count(1, CONNECTIONS_MAX as u64),
+    },
+    KeyRule {
+        name: "message_limit",
+        allowed: Allowed::Bytes(MESSAGE_LIMIT_MIN, MESSAGE_LIMIT_MAX),
+    },
+    KeyRule {
+        name: "depth",
+        allowed: Allowed::Count(DEPTH_MIN as u64, DEPTH_MAX as u64),
+    },
+    KeyRule {
+        name: "user",
+        allowed: Allowed::Users,
+    },
+];
+
+static USER: [KeyRule; 2] = [
+    KeyRule {
+        name: "name",
+        allowed: Allowed::Text(1, NAME_MAX),
+    },
+    KeyRule {
+        name: "password",
+        allowed: Allowed::Text(1, NAME_MAX),
+    },
+];
+
+static OUTPUT: [KeyRule; 14] = [
+    KeyRule {
+        name: "match",
+        allowed: Allowed::Pattern,
+    },
+    KeyRule {
+        name: "workers",
+        allowed: Allowed::Count(1, WORKERS_MAX as u64),
+    },
+    KeyRule {
+        name: "chunk_limit",
+        allowed: Allowed::Bytes(1, CHUNK_LIMIT_MAX),
+    },
+    KeyRule {
+        name: "total_limit",
+        allowed: Allowed::Bytes(1, TOTAL_LIMIT_MAX),
+    },
+    KeyRule {
+        name: "flush_interval",
+        allowed: Allowed::Time(0),
+    },
+    KeyRule {
+        name: "retry_wait",
+        allowed: Allowed::Time(1),
+    },
+    KeyRule {
+        name: "retry_max",
+        allowed: Allowed::RetryMax,
+    },
+    KeyRule {
+        name: "ack_wait",
+        allowed: Allowed::Time(1),
+    },
+    KeyRule {
+        name: "window",
+        allowed: Allowed::Count(1, WINDOW_MAX as u64),
+    },
+    KeyRule {
+        name: "hostname",
+        allowed: Allowed::Text(1, NAME_MAX),
+    },
+    KeyRule {
+        name: "shared_key",
+        allowed: Allowed::Text(1, SHARED_KEY_MAX),
+    },
+    KeyRule {
+        name: "username",
+        allowed: Allowed::Text(0, NAME_MAX),
+    },
+    KeyRule {
+        name: "password",
+        allowed: Allowed::Text(0, NAME_MAX),
+    },
+    KeyRule {
+        name: "server",
+        allowed: Allowed::Servers,
+    },
+];
+
+static SERVER: [KeyRule; 2] = [
+    KeyRule {
+        name: "address",
+        allowed: Allowed::Address,
+    },
+    KeyRule {
+        name: "standby",
+        allowed: Allowed::Flag,
+    },
+];
+
+/// The tables that have keys which may be misplaced.
+static SECTIONS: [Section; 4] = [
+    Section::Relay,
+    Section::User,
+    Section::Output,
+    Section::Server,
+];
+
+impl Section {
+    /// Its keys.
+    pub fn rules(self) -> &'static [KeyRule] {
+        match self {
+            Section::Root => &ROOT,
+            Section::Relay => &RELAY,
+            Section::User => &USER,
+            Section::Output => &OUTPUT,
+            Section::Server => &SERVER,
+        }
+    }
+
+    /// What may stand under a name in it, if it has that key.
+    pub fn allowed(self, name: &str) -> Option<Allowed> {
+        let rule = self.rules().iter().find(|rule| rule.name == name)?;
+        Some(rule.allowed)
+    }
+
+    /// The table that it stands in, which may have keys that are misplaced in it.
+    pub fn parent(self) -> Option<Section> {
+        match self {
+            Section::User => Some(Section::Relay),
+            Section::Server => Some(Section::Output),
+            _ => None,
+        }
+    }
+
+    /// The first table that has a key of this name.
+    pub fn having(name: &str) -> Option<Section> {
+        let section = SECTIONS
+            .iter()
+            .find(|section| section.allowed(name).is_some())?;
+        Some(*section)
+    }
+
+    /// The table that a key is in, and the key's name there, without its place in a list.
+    pub fn of_key(key: &str) -> (Section, &str) {
+        let Some((table, name)) = key.rsplit_once('.') else {
+            return (Section::Root, unplaced(key));
+        };
+        let section = if table.starts_with("relay.user[") {
+            Section::User
+        } else if table.starts_with("relay") {
+            Section::Relay
+        } else if table.contains(".server[") {
+            Section::Server
+        } else {
+            Section::Output
+        };
+        (section, unplaced(name))
+    }
+}
+
+/// A name without the place in a list behind it.
+fn unplaced(name: &str) -> &str {
+    match name.split_once('[') {
+        Some((list, _)) => list,
+        None => name,
+    }
+}
+
+/// How the table is written.
+impl fmt::Display for Section {
+    fn fmt<W: fmt::Write>(&self, f: &mut fmt::Formatter<W>) -> fmt::Result {
+        f.write_str(match self {
+            Section::Root => "the top",
+            Section::Relay => "[relay]",
+            Section::User => "[[relay.user]]",
+            Section::Output => "[[output]]",
+            Section::Server => "[[output.server]]",
+        })
+    }
+}
