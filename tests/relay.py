@@ -39,6 +39,16 @@ def until(what, said, seconds=DEADLINE, step=0.02):
     return found
 
 
+def steady(look, seconds=0.5):
+    """What a call gives once it has given the same for so long."""
+    seen, since = look(), time.monotonic()
+    while time.monotonic() - since < seconds:
+        time.sleep(0.02)
+        if (now := look()) != seen:
+            seen, since = now, time.monotonic()
+    return seen
+
+
 def free_ports(count):
     """Ports that nobody listens at, and that no other test takes: each stays bound, in a way that lets a listener in.
 

@@ -4,11 +4,11 @@ import contextlib
 import os
 import re
 import resource
-import time
 
 import pytest
 
 from forward import Source, connect
+from relay import steady
 
 pytestmark = pytest.mark.quick
 FILES = 128
@@ -73,16 +73,6 @@ def is_let_in(one):
         return True
     except OSError:
         return False
-
-
-def steady(look, seconds=0.5):
-    """What a call gives once it has given the same for so long."""
-    seen, since = look(), time.monotonic()
-    while time.monotonic() - since < seconds:
-        time.sleep(0.02)
-        if (now := look()) != seen:
-            seen, since = now, time.monotonic()
-    return seen
 
 
 def limit_files(one, files):
