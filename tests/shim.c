@@ -1,7 +1,17 @@
-/* Calls of the C library that fail, or fall short, now and then (LD_PRELOAD): those on TCP sockets, and requests for memory.
- * tools/failing_sockets.sh builds it and says how it is used.
+/* Calls of the C library that fail, or fall short (LD_PRELOAD): requests for memory, and calls on TCP sockets. shim.py builds
+ * it, and has the names of its variables and words.
  *
- * It does only what a kernel can do, as far as the program can tell.
+ * REFUSE_AT=N refuses the Nth request for memory of the process, counted from 1, and no other one. REFUSE_ONE_IN=M refuses one
+ * in M, by a generator over FAIL_SEED and the request's number. With REFUSE_FD=D a byte `r` is written to the file descriptor D
+ * at each refusal. REFUSE_AT=all runs the program again and again, for N = 1, 2, .. until a run meets no refusal, each in a
+ * process of its own that is forked before `main`. Standard input, output and error and D are to be files then: each run reads
+ * the input from its start, and behind each the line `STATUS OUT ERR` is written to D, with the run's exit status (or 128 and
+ * the signal) and where its output and errors end in their files.
+ *
+ * FAIL_BOARD names a file of 4,096 bytes: 64-bit words, of which the first one says whether calls on sockets fail, and now and
+ * then a request for memory (who made the file sets it), and each other one counts calls, or a kind of failure. What fails is
+ * drawn from FAIL_SEED, so that the nth draw is the same each time; which thread draws it is not. No other descriptor is
+ * touched. It does only what a kernel can do, as far as the program can tell.
  *
  * The program waits by edge-triggered epoll: it reads or writes on until EAGAIN, and then waits for an event. Where a socket
  * is ready, and the shim says EAGAIN or moves fewer bytes than it could, no event would come for what is left, and the program
@@ -15,14 +25,7 @@
  * - accept: EMFILE leaves the connection where it is, and no event comes for it, as the kernel does it. ECONNABORTED takes it
  *   and resets it. EINTR leaves it.
  * - socket: EMFILE. connect: ECONNREFUSED or EADDRNOTAVAIL, and nothing was begun.
- * - epoll_wait: EINTR, and no event is taken.
- *
- * Now and then a request for memory fails too; FAILING_MEMORY=N has the Nth one fail. No other descriptor is touched, and but
- * for the Nth request for memory no call fails before the board says so. What fails is drawn from FAILING_SEED, so that the nth
- * draw is the same each time; which thread draws it is not.
- *
- * FAILING_BOARD names a file of 4,096 bytes that the script makes: 64-bit words, of which the first one says whether calls
- * fail (the script sets it), and each other one counts calls, or a kind of failure. */
+ * - epoll_wait: EINTR, and no event is taken. */
 #define _GNU_SOURCE
 #include <dlfcn.h>
 #include <errno.h>
@@ -30,15 +33,17 @@
 #include <netinet/in.h>
 #include <stdatomic.h>
 #include <stdint.h>
+#include <stdio.h>
 #include <stdlib.h>
 #include <string.h>
 #include <sys/epoll.h>
 #include <sys/mman.h>
 #include <sys/socket.h>
 #include <sys/uio.h>
+#include <sys/wait.h>
 #include <unistd.h>
 
-/* Words of the board; the script has their names in this order. */
+/* Words of the board; shim.py has their names in this order. */
 enum word { ON, CALLS, SHORT_READ, SHORT_WRITE, WAIT_READ, WAIT_WRITE, CUT_READ, CUT_WRITE, RESET_READ, RESET_WRITE, REFUSED,
     NO_PORT, NO_SOCKET, NO_ACCEPT, ABORTED, CUT_ACCEPT, CUT_WAIT, REQUESTS, NO_MEMORY, WORDS };
 
@@ -67,17 +72,43 @@ static struct {
 static _Atomic uint64_t none[WORDS];
 static _Atomic uint64_t *board = none;
 static _Atomic uint64_t draws;
-static uint64_t seed;
 static _Atomic uint64_t requests;
-static uint64_t refused_request;
+static uint64_t seed, refused_at, one_in;
+static int told = -1;
 
 #define REAL(name) \
     static __typeof__(name) *real; \
     if (!real) real = (__typeof__(name) *)dlsym(RTLD_NEXT, #name)
 
+static uint64_t number(const char *name, uint64_t absent) {
+    const char *text = getenv(name);
+    return text ? strtoull(text, 0, 10) : absent;
+}
+
+/* Goes on into `main` in a child for each request that is refused, and ends behind the child that met no refusal. */
+static void run_each(void) {
+    for (refused_at = 1;; refused_at++) {
+        lseek(STDIN_FILENO, 0, SEEK_SET);
+        off_t before = lseek(told, 0, SEEK_CUR);
+        int status = 0;
+        pid_t child = fork();
+        if (child == 0) return;
+        if (child < 0 || waitpid(child, &status, 0) < 0) abort();
+        int refused = lseek(told, 0, SEEK_CUR) != before;
+        int ended = WIFEXITED(status) ? WEXITSTATUS(status) : 128 + WTERMSIG(status);
+        char line[80];
+        int size = snprintf(line, sizeof line, "%d %ld %ld\n", ended, (long)lseek(STDOUT_FILENO, 0, SEEK_CUR),
+                            (long)lseek(STDERR_FILENO, 0, SEEK_CUR));
+        if (write(told, line, size) != size) abort();
+        if (!refused) _exit(0);
+    }
+}
+
 __attribute__((constructor)) static void begin(void) {
-    const char *text = getenv("FAILING_SEED"), *path = getenv("FAILING_BOARD"), *request = getenv("FAILING_MEMORY");
-    seed = text ? strtoull(text, 0, 10) : 1;
+    const char *path = getenv("FAIL_BOARD"), *which = getenv("REFUSE_AT");
+    seed = number("FAIL_SEED", 1);
+    one_in = number("REFUSE_ONE_IN", 0);
+    told = (int)number("REFUSE_FD", -1);
     for (int fd = 0; fd < MOST; fd++) known[fd].poll = -1;
     int file = path ? open(path, O_RDWR) : -1;
     if (file >= 0) {
@@ -85,19 +116,22 @@ __attribute__((constructor)) static void begin(void) {
         if (at != MAP_FAILED) board = at;
         close(file);
     }
-    refused_request = request ? strtoull(request, 0, 10) : 0;
+    if (which && !strcmp(which, "all")) run_each();
+    else refused_at = number("REFUSE_AT", 0);
     atomic_store(&requests, 0);
 }
 
 static void count(enum word word) { atomic_fetch_add(&board[word], 1); }
 
-/* The next number (splitmix64). */
-static uint64_t draw(void) {
-    uint64_t x = seed * 0xd1342543de82ef95u + (atomic_fetch_add(&draws, 1) + 1) * 0x9e3779b97f4a7c15u;
+/* The nth number of a generator (splitmix64). */
+static uint64_t drawn(uint64_t from, uint64_t n) {
+    uint64_t x = from + n * 0x9e3779b97f4a7c15u;
     x = (x ^ (x >> 30)) * 0xbf58476d1ce4e5b9u;
     x = (x ^ (x >> 27)) * 0x94d049bb133111ebu;
     return x ^ (x >> 31);
 }
+
+static uint64_t draw(void) { return drawn(seed * 0xd1342543de82ef95u, atomic_fetch_add(&draws, 1) + 1); }
 
 /* Whether something comes that comes so often of 65,536 draws. */
 static int comes(unsigned often) { return atomic_load(&board[ON]) && (draw() & 65535) < often; }
@@ -296,9 +330,11 @@ ssize_t writev(int fd, const struct iovec *from, int count) {
 
 /* Whether a request for memory is refused. */
 static int is_refused(void) {
+    uint64_t request = atomic_fetch_add(&requests, 1) + 1;
     count(REQUESTS);
-    if (atomic_fetch_add(&requests, 1) + 1 != refused_request && !comes(MEMORY)) return 0;
+    if (request != refused_at && !(one_in && drawn(seed, request) % one_in == 0) && !comes(MEMORY)) return 0;
     count(NO_MEMORY);
+    if (told >= 0 && write(told, "r", 1) != 1) abort();
     errno = ENOMEM;
     return 1;
 }

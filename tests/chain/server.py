@@ -12,7 +12,7 @@ import threading
 
 import msgpack
 
-sys.path.insert(0, str(pathlib.Path(__file__).parents[1] / "real_clients"))
+sys.path.insert(0, str(pathlib.Path(__file__).parents[1]))
 from next_hop import NextHop  # noqa: E402
 
 
@@ -25,8 +25,8 @@ def time_text(moment):
 
 def line_of(tag, moment, record):
     """The line of an entry. One whose record has not just a message is no line that a client sent."""
-    message = record[b"message"] if list(record) == [b"message"] else repr(record).encode()
-    return b"%b %b %b\n" % (tag, time_text(moment).encode(), message)
+    message = record["message"] if list(record) == ["message"] else repr(record)
+    return f"{tag} {time_text(moment)} {message}\n".encode()
 
 
 class Kept:
@@ -38,13 +38,16 @@ class Kept:
         self.write(b"\n")
 
     def write(self, text):
+        """Appends a text."""
         with self.lock:
             while text:
                 text = text[os.write(self.file, text) :]
 
-    def take(self, entries):
-        self.write(b"".join(line_of(*entry) for entry in entries))
+    def take(self, frame):
+        """Writes the lines of a chunk."""
+        self.write(b"".join(line_of(*entry) for entry in frame.entries()))
 
 
 if __name__ == "__main__":
-    NextHop(int(sys.argv[1]), Kept(sys.argv[2]).take).run()
+    NextHop(int(sys.argv[1]), take=Kept(sys.argv[2]).take)
+    threading.Event().wait()

@@ -7,18 +7,16 @@ sends each request again until it is acknowledged, and ends once it has been for
 python3-fluent-logger, which never asks. A line is a tag, a time and a message, which ends in the only dot of it.
 """
 
-import base64
 import os
 import pathlib
 import random
 import signal
-import socket
 import sys
 import threading
 import time
 
-import msgpack
-from fluent import sender
+sys.path.insert(0, str(pathlib.Path(__file__).parents[1]))
+from forward import Source, event_time  # noqa: E402
 
 THREADS = 3
 ACK_TIMEOUT = 20  # seconds that an acknowledgement is waited for
@@ -33,6 +31,7 @@ class Note:
         self.file = os.open(path, os.O_WRONLY | os.O_APPEND | os.O_CREAT)
 
     def add(self, lines):
+        """Appends lines."""
         text = "".join(lines).encode()
         assert os.write(self.file, text) == len(text)
 
@@ -42,11 +41,6 @@ def message(name, number):
     return f"{name} {number} {random.randbytes(random.randrange(200)).hex()}."
 
 
-def event_time(seconds, nanoseconds):
-    """An EventTime (Forward Protocol Specification v1, "EventTime Ext Format")."""
-    return msgpack.ExtType(0, seconds.to_bytes(4, "big") + nanoseconds.to_bytes(4, "big"))
-
-
 class Asking(threading.Thread):
     """Sends requests in Forward mode over a connection, one after the other, each until it is acknowledged."""
 
@@ -54,10 +48,10 @@ class Asking(threading.Thread):
         super().__init__()
         self.port, self.name, self.sent, self.held = port, name, sent, held
         self.tag = f"chain.{name}"
-        self.stream = None
-        self.replies = None
+        self.source = None
 
     def run(self):
+        """Until it is stopped."""
         number = 0
         while not stop.is_set():
             lines, entries = [], []
@@ -65,35 +59,22 @@ class Asking(threading.Thread):
                 number += 1
                 text, now, part = message(self.name, number), int(time.time()), random.randrange(10**9)
                 lines.append(f"{self.tag} {now}.{part:09d} {text}\n")
-                entries.append([event_time(now, part), {"message": text}])
+                entries.append((event_time(now, part), {"message": text}))
             self.sent.add(lines)
-            self.deliver(entries)
+            while not self.is_delivered(entries):
+                self.source = None
+                time.sleep(0.2)
             self.held.add(lines)
             time.sleep(0.05)
 
-    def deliver(self, entries):
-        """Sends a request, and again, until it is acknowledged."""
-        chunk = base64.b64encode(os.urandom(16)).decode()
-        request = msgpack.packb([self.tag, entries, {"chunk": chunk}])
-        while not self.is_delivered(request, chunk):
-            self.stream = None
-            time.sleep(0.2)
-
-    def is_delivered(self, request, chunk):
+    def is_delivered(self, entries):
         """Sends a request once, and whether its acknowledgement came."""
         try:
-            if self.stream is None:
-                self.stream = socket.create_connection(("127.0.0.1", self.port), timeout=ACK_TIMEOUT)
-                self.replies = msgpack.Unpacker()
-            self.stream.sendall(request)
-            while piece := self.stream.recv(4096):
-                self.replies.feed(piece)
-                for reply in self.replies:
-                    assert reply == {"ack": chunk}, reply
-                    return True
+            self.source = self.source or Source(self.port, timeout=ACK_TIMEOUT)
+            self.source.ask(self.tag, entries)
+            return True
         except OSError:
-            pass  # it was killed, or is not there, or is late
-        return False
+            return False  # it was killed, or is not there, or is late
 
 
 def be_asking(port, folder):
@@ -108,6 +89,8 @@ def be_asking(port, folder):
 
 def be_silent(port, folder):
     """Integer times. What the logger could not send it keeps, and sends before the next line."""
+    from fluent import sender
+
     sent = Note(folder / "silent.sent")
     logger = sender.FluentSender("chain", host="127.0.0.1", port=port)
     number = 0

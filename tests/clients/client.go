@@ -1,4 +1,4 @@
-// Sends a hundred entries by fluent-logger-golang: its port, whether times have nanoseconds, and whether each entry asks
+// Sends a hundred entries by fluent-logger-golang: a port, whether times have nanoseconds, and whether each entry asks
 // for an acknowledgement. It ends with 1 where the logger says that one was not sent, or not acknowledged.
 package main
 

@@ -1,7 +1,7 @@
 #!/bin/sh
 # Puts a built relay in place on a Linux system with systemd, or takes it away again.
 #
-#     sh tools/install.sh [--prefix P] [--uninstall]
+#     sh packaging/install.sh [--prefix P] [--uninstall]
 #
 # Run at the top of the repository. RELAY names the program, else it is crates/forward_relay/out/forward_relay (README,
 # "Install"). It needs nothing but POSIX tools, and takes no time. P is /usr/local where it is not given. It puts
@@ -33,7 +33,7 @@ while [ $# -gt 0 ]; do
         shift
         ;;
     *)
-        echo "usage: sh tools/install.sh [--prefix P] [--uninstall]" >&2
+        echo "usage: sh packaging/install.sh [--prefix P] [--uninstall]" >&2
         exit 2
         ;;
     esac

@@ -1,0 +1,164 @@
+"""The Forward Protocol v1 as sources and servers speak it, over python3-msgpack."""
+
+import hashlib
+import os
+import socket
+
+import msgpack
+
+HOST = "127.0.0.1"
+MODES = ("message", "forward", "packed")
+
+
+def event_time(seconds, nanoseconds=0):
+    """An EventTime (Forward Protocol Specification v1, "EventTime Ext Format")."""
+    return msgpack.ExtType(0, seconds.to_bytes(4, "big") + nanoseconds.to_bytes(4, "big"))
+
+
+def packed(entries):
+    """The bytes of entries, each a time and a record."""
+    return b"".join(msgpack.packb(entry) for entry in entries)
+
+
+def pieces(joined):
+    """The bytes of each entry of these joined ones."""
+    values, at = msgpack.Unpacker(max_buffer_size=0), 0
+    values.feed(joined)
+    while at < len(joined):
+        values.skip()
+        yield joined[at : values.tell()]
+        at = values.tell()
+
+
+def request(mode, tag, entries, chunk=None):
+    """A request's bytes; with the name of a chunk it asks for an acknowledgement."""
+    option = [] if chunk is None else [{"chunk": chunk}]
+    if mode == "message":
+        ((moment, record),) = entries
+        return msgpack.packb([tag, moment, record, *option])
+    if mode == "forward":
+        return msgpack.packb([tag, [list(entry) for entry in entries], *option])
+    return msgpack.packb([tag, packed(entries), *option])
+
+
+def digest(*parts):
+    """A digest of the handshake, over texts and bytes."""
+    joined = b"".join(part.encode() if isinstance(part, str) else part for part in parts)
+    return hashlib.sha512(joined).hexdigest()
+
+
+class Stream:
+    """The values that go over a connection."""
+
+    def __init__(self, link, timeout=30):
+        self.link, self.values = link, msgpack.Unpacker(strict_map_key=False, max_buffer_size=0)
+        link.setsockopt(socket.IPPROTO_TCP, socket.TCP_NODELAY, 1)
+        link.settimeout(timeout)
+
+    def __enter__(self):
+        return self
+
+    def __exit__(self, *_):
+        self.link.close()
+
+    def send(self, value):
+        """Sends a value."""
+        self.link.sendall(msgpack.packb(value))
+
+    def value(self):
+        """The next value; ConnectionError where the other side closed."""
+        while True:
+            for value in self.values:
+                return value
+            piece = self.link.recv(1 << 18)
+            if not piece:
+                raise ConnectionError("closed by the other side")
+            self.values.feed(piece)
+
+    def is_closed(self, seconds):
+        """Whether the other side closes within so long; what it sends before is passed over."""
+        self.link.settimeout(seconds)
+        try:
+            while self.link.recv(1 << 16):
+                pass
+        except TimeoutError:
+            return False
+        except OSError:
+            pass
+        return True
+
+
+def connect(port, timeout=30):
+    """A connection to a port of this machine."""
+    return Stream(socket.create_connection((HOST, port), timeout=timeout), timeout)
+
+
+def ping(helo, key, user="", password="", salt=b"a salt of its own"):
+    """The PING that answers a HELO (Forward Protocol Specification v1, "Handshake Messages")."""
+    options = helo[1]
+    secret = digest(options["auth"], user, password) if user else ""
+    return ["PING", "client", salt, digest(salt, "client", options["nonce"], key), user, secret]
+
+
+def log_in(stream, key, user="", password=""):
+    """A source's part of the handshake: it is let in, by a relay that knows the key."""
+    helo = stream.value()
+    assert helo[0] == "HELO", helo
+    said = ping(helo, key, user, password)
+    stream.send(said)
+    pong = stream.value()
+    assert pong[:2] == ["PONG", True], pong
+    assert pong[4] == digest(said[2], pong[3], helo[1]["nonce"], key), "a PONG that is not by the key"
+
+
+def let_in(stream, key):
+    """A server's part of the handshake: whether the relay's PING is by the key."""
+    nonce = os.urandom(16)
+    stream.send(["HELO", {"nonce": nonce, "auth": "", "keepalive": True}])
+    said = stream.value()
+    is_good = said[:1] == ["PING"] and said[3] == digest(said[2], said[1], nonce, key)
+    reason = "" if is_good else "shared_key mismatch"
+    stream.send(["PONG", is_good, reason, "next", digest(said[2], "next", nonce, key)])
+    return is_good
+
+
+class Source:
+    """A source's connection to a relay, which it logs in to where there is a key."""
+
+    def __init__(self, port, key=None, user="", password="", timeout=30):
+        self.stream = connect(port, timeout)
+        self.sent = 0
+        if key is not None:
+            log_in(self.stream, key, user, password)
+
+    def __enter__(self):
+        return self
+
+    def __exit__(self, *_):
+        self.close()
+
+    def send(self, tag="app", entries=((1, {"n": 1}),), mode="forward", chunk=None):
+        """Sends a request, which asks for an acknowledgement where its chunk has a name."""
+        self.stream.link.sendall(request(mode, tag, entries, chunk))
+
+    def told(self):
+        """The chunk that the next acknowledgement names."""
+        value = self.stream.value()
+        assert list(value) == ["ack"], value
+        return value["ack"]
+
+    def ask(self, tag="app", entries=((1, {"n": 1}),), mode="forward"):
+        """Sends a request, and waits until it is acknowledged."""
+        self.sent += 1
+        chunk = f"{id(self):x}-{self.sent}"
+        self.send(tag, entries, mode, chunk)
+        told = self.told()
+        assert told == chunk, f"told {told!r} of {chunk!r}"
+
+    def is_closed(self, seconds=30):
+        """Whether the relay closes the connection within so long."""
+        return self.stream.is_closed(seconds)
+
+    def close(self):
+        """Closes the connection."""
+        self.stream.link.close()

@@ -1,0 +1,97 @@
+"""Descriptors and connections run short."""
+
+import contextlib
+import os
+import re
+import resource
+
+import pytest
+
+from forward import Source, connect
+from relay import steady
+
+pytestmark = pytest.mark.quick
+FILES = 128
+CLIENTS = 300
+
+
+def few(files):
+    """What starts a program that may have so many files."""
+    return ["sh", "-c", f'ulimit -n {files}; exec "$@"', "sh"]
+
+
+def is_open(stream):
+    """Whether the relay has not closed a connection."""
+    stream.link.setblocking(False)
+    try:
+        return stream.link.recv(1) != b""
+    except BlockingIOError:
+        return True
+    except OSError:
+        return False
+
+
+def test_more_sources_than_files(relay, next_hop):
+    """The relay says how many sources it takes, closes the others, has its page, and reaches a server that is started again."""
+    hop = next_hop()
+    one = relay([{"servers": [hop.port]}], under=few(FILES), connections=1024)
+    told = one.await_line("few files: ")
+    most = int(re.fullmatch(rf"few files: {FILES} open at most, (\d+) sources", told)[1])
+    assert 50 < most < FILES
+    early = one.source()
+    early.ask()
+    with contextlib.ExitStack() as stack:
+        streams = [stack.enter_context(connect(one.port)) for _ in range(CLIENTS)]
+        one.until(lambda: one.lines("over the limit: ") >= CLIENTS + 1 - most, "too few are over the limit")
+        assert one.lines("over the limit: ") == CLIENTS + 1 - most
+        assert sum(map(is_open, streams)) == most - 1
+        for _ in range(15):
+            stack.enter_context(connect(one.monitor))
+        assert one.page()
+        hop.end()
+        hop.start()
+        early.ask()
+
+
+def test_connections(relay, next_hop):
+    """One source more than `relay.connections` is closed at once, and others are none the worse."""
+    one = relay([{"servers": [next_hop().port]}], connections=2)
+    first, second, third = (one.source() for _ in range(3))
+    first.ask()
+    second.ask()
+    assert third.is_closed()
+    one.await_line("over the limit: source 127.0.0.1:\\d+")
+    first.close()
+    one.until(lambda: is_let_in(one), "no source is let in where another left")
+
+
+def is_let_in(one):
+    """Whether a further source is acknowledged."""
+    try:
+        with Source(one.port) as source:
+            source.ask()
+        return True
+    except OSError:
+        return False
+
+
+def limit_files(one, files):
+    """From now on a relay may have files below this number: what it could have before."""
+    before, most = resource.prlimit(one.process.pid, resource.RLIMIT_NOFILE)
+    resource.prlimit(one.process.pid, resource.RLIMIT_NOFILE, (files, most))
+    return before
+
+
+def test_no_file_for_a_while(relay, next_hop):
+    """No file is left for a source and for a server: it says so, and goes on once there is one."""
+    one = relay([{"servers": [next_hop().port]}])
+    early = one.source(timeout=60)
+    used = steady(lambda: set(os.listdir(f"/proc/{one.process.pid}/fd")))
+    before = limit_files(one, min(number for number in range(999) if str(number) not in used))
+    late = one.source(timeout=60)
+    early.send(chunk="early")
+    one.await_line("no descriptor: source")
+    one.await_line("server lost: output 0 .* Descriptors")
+    limit_files(one, before)
+    assert early.told() == "early"
+    late.ask()
