@@ -5,6 +5,7 @@ mod calls;
 mod collecting;
 mod doubts;
 mod ending;
+mod gating;
 mod laws;
 mod line;
 mod link;

@@ -3,10 +3,9 @@
 ghost use Rattle.std.specs.Prelude.{◌≡◌, ◌<◌, [], None, true, is_some};
 ghost use Rattle.fwd_session.specs.Live.{live_is_ready, live_room};
 ghost use Rattle.fwd_workers.specs.Served.{IsFree, IsOfLink, may_add, seen_in};
-ghost use Rattle.fwd_workers.specs.Working.{place_of};
 
 use crate::ending::Ending;
-use crate::link::{Link, Place};
+use crate::link::Link;
 use fwd_chunks::Carried;
 use fwd_session::Session;
 
@@ -64,21 +63,4 @@ pub(crate) enum Stage<L: Link> {
     Loaded(Line<L>),
     /// A session of which a chunk was settled, and which may have others.
     Settled(Line<L>),
-}
-
-/// Where the gate is asked: nowhere while the server is waited for, and no chunk may be added.
-pub(crate) fn place<L: Link>(stage: &Stage<L>) -> Option<Place>
-    ensures { result ≡ place_of stage.now }
-{
-    match stage {
-        Stage::Idle | Stage::Seeking | Stage::Sought(_) | Stage::Standing(_) => {
-            Some(Place::BeforeTake)
-        }
-        Stage::Took(free, _) if free.line.session.is_ready() => Some(Place::BeforeLoad),
-        Stage::Added(..) => Some(Place::BeforeLoad),
-        Stage::Loaded(line) if line.session.is_acked() => Some(Place::BeforeSettle),
-        Stage::Loaded(line) if line.may_add() => Some(Place::BeforeTake),
-        Stage::Settled(_) => Some(Place::AfterSettle),
-        Stage::Took(..) | Stage::Loaded(_) => None,
-    }
 }

@@ -25,7 +25,8 @@ ghost use Rattle.fwd_workers.specs.Working.{
 
 use crate::doubts::Doubts;
 use crate::ending::{Ending, Unmet};
-use crate::line::{FreeLine, Line, RoomyLine, Stage, place};
+use crate::gating::place;
+use crate::line::{FreeLine, Line, RoomyLine, Stage};
 use crate::link::{Clock, Gate, Hub, Link, Loss, News, Pass};
 use crate::outlook::{Outlook, Picked};
 use crate::parting::{end_free, end_line, finish, give_back, miss, settle_line};

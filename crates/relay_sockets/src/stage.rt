@@ -182,6 +182,22 @@ impl Stage {
         self.told.put(field, &values)
     }
 
+    /// So many frames come, each once the one before it was acknowledged, and are told.
+    fn tell_alone(&mut self, field: &str, number: usize, count: usize) -> Result<()> {
+        let alloc = self.alloc;
+        let line = self.line(number)?;
+        let mut frames = Vec::new(alloc);
+        for _ in 0..count {
+            line.next()?;
+            if !line.is_silent()? {
+                return Err(anyhow!("a frame came beside another"));
+            }
+            frames.push(encode(alloc, line.last())?)?;
+            line.send(&ack(line.last())?)?;
+        }
+        self.told.put(field, &frames)
+    }
+
     /// The last frame of a connection is acknowledged.
     fn acknowledge(&mut self, number: usize) -> Result<()> {
         let line = self.line(number)?;
@@ -296,6 +312,7 @@ impl Stage {
             Step::Told(field, number) => self.tell(field, number),
             Step::Skip(number) => self.line(number)?.next(),
             Step::Values(field, number, count) => self.tell_values(field, number, count),
+            Step::Alone(field, number, count) => self.tell_alone(field, number, count),
             Step::Ack(number) => self.acknowledge(number),
             Step::Acks(number, places) => self.line(number)?.acknowledge(places),
             Step::Await(number) => self.line(number)?.await_more(),

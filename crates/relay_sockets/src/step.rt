@@ -29,6 +29,8 @@ pub enum Step {
     Skip(usize),
     /// So many values come, and are told, the least first.
     Values(&'static str, usize, usize),
+    /// So many frames come, each once the one before it was acknowledged, and are told.
+    Alone(&'static str, usize, usize),
     /// The last value that came over a connection is a frame, whose chunk is acknowledged there.
     Ack(usize),
     /// All of these are, at once.

@@ -49,9 +49,9 @@ const SECOND: &[u8] = b"\x81\xa3ack\xb8AAAAAAAAAAAAAAAAAAAAAg==";
 
 /// A source sends two requests, of which the second is more than the sockets between hold. Its
 /// server reads the first frame and the front of the second one, and acknowledges the second. That
-/// counts for nothing: the server is lost, and both frames come again, of 46 and 8,000,056 bytes.
-/// Nothing is read of the first connection before the relay has ended its session: it may send on
-/// while one reads.
+/// counts for nothing: the server is lost, and both frames come again, of 46 and 8,000,056 bytes,
+/// one after the other, since what was lost goes alone. Nothing is read of the first connection
+/// before the relay has ended its session: it may send on while one reads.
 const EARLY: &[Step] = &[
     Step::Source(MESSAGE),
     Step::Large(0),
@@ -61,14 +61,15 @@ const EARLY: &[Step] = &[
     Step::Send(1, SECOND),
     Step::Accept(0),
     Step::Skip(2),
+    Step::Silent("no_more", 2),
+    Step::Silent("silent", 0),
+    Step::Send(2, FIRST),
+    Step::Told("told", 0),
     Step::Skip(2),
     Step::Size("both", 2),
     Step::Again("again", 1, 2),
-    Step::Silent("no_more", 2),
-    Step::Silent("silent", 0),
+    Step::Silent("silent_again", 0),
     Step::Send(2, SECOND),
-    Step::Told("told", 0),
-    Step::Send(2, FIRST),
     Step::Told("told_then", 0),
     Step::Silent("once", 0),
 ];
@@ -77,7 +78,7 @@ const EARLY: &[Step] = &[
 const STRANGE: &[u8] = b"\x81\xa3ack\xb8no chunk has such a name";
 
 /// The server names no chunk, and is closed with nothing further. The source is told nothing by
-/// that, and all frames come again.
+/// that, and all frames come again, one after the other.
 const WRONG: &[Step] = &[
     Step::Source(EIGHT),
     Step::Accept(0),
@@ -86,15 +87,14 @@ const WRONG: &[Step] = &[
     Step::Rest("left", 1),
     Step::Silent("silent", 0),
     Step::Accept(0),
-    Step::Values("again", 2, 8),
+    Step::Alone("again", 2, 8),
     Step::Silent("no_more", 2),
-    Step::Acks(2, &[0, 1, 2, 3, 4, 5, 6, 7]),
     Step::Values("told", 0, 8),
     Step::Silent("once", 0),
 ];
 
 /// The server acknowledges every third frame and closes. The source is told of their requests, and
-/// the other frames come again.
+/// the other frames come again, one after the other.
 const SOME: &[Step] = &[
     Step::Source(EIGHT),
     Step::Accept(0),
@@ -104,9 +104,8 @@ const SOME: &[Step] = &[
     Step::Values("first", 0, 3),
     Step::Silent("silent", 0),
     Step::Accept(0),
-    Step::Values("again", 2, 5),
+    Step::Alone("again", 2, 5),
     Step::Silent("no_more", 2),
-    Step::Acks(2, &[0, 1, 2, 3, 4]),
     Step::Values("told", 0, 5),
     Step::Silent("once", 0),
 ];

@@ -72,8 +72,8 @@ returns-in_default-go_over-clause-taken g c none =
     c.excuse-free.ensures.ending (sym c.is_some.ensures ∙ c.if-is_some.false) in
     (on.0, sym c.is_ready.ensures ∙ c.if-not-is_ready.false, inl on.1)
 
-pub returns-then-is_claimed-clause-taken : goal.returns-then-is_claimed-clause-taken
-returns-then-is_claimed-clause-taken g c none =
+pub returns-then-outlook-clause-taken : goal.returns-then-outlook-clause-taken
+returns-then-outlook-clause-taken g c none =
     goes-on c.args.free.line.session c.serve_free.result.line.session
     c.excuse-free.result.line.session c.args.round.now.now
     (g.H.Line.Link.calls c.args.free.line.link)
