@@ -4,15 +4,18 @@
 //! took and gave goes on by just what it answers.
 #![tactic(auto)]
 
-mod descriptors;
 mod fault;
 mod link;
 mod mailbox;
+mod reserve;
+mod signs;
 mod waiting;
+mod wants;
 mod wire;
 
-pub use descriptors::lacks_descriptors;
 pub use fault::WaitFault;
 pub use link::{TcpHub, TcpLink};
-pub use mailbox::{Mailbox, Notice, Notices, Refusal, Stop};
+pub use mailbox::{Mailbox, Notice, Notices, Refusal};
+pub use signs::Signs;
 pub use waiting::{Looking, SharedWait, WorkerWait, WorkerWaker};
+pub use wants::lacks_descriptors;

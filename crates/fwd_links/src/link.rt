@@ -2,13 +2,13 @@
 
 ghost use Rattle.std.specs.Prelude.{◌≡◌, [], IfOk};
 
-use crate::descriptors::lacks_descriptors;
-use crate::mailbox::{Mailbox, Stop};
+use crate::wants::{lacks_descriptors, lacks_memory};
+use crate::mailbox::Mailbox;
+use crate::signs::Signs;
 use crate::waiting::SharedWait;
 use crate::wire::Wire;
 use fwd_chunks::Pieces;
 use fwd_workers::{Calls, Hub, Link, LinkFault, Read};
-use std::alloc::Global;
 use std::io;
 use std::net::{Net, SocketAddr};
 use std::sync::{Arc, Wait};
@@ -26,15 +26,14 @@ impl TcpLink {
     fn begin<N: Net, R: Wait>(
         net: &N,
         rt: &R,
-        alloc: Global,
-        stop: Stop,
+        signs: Signs,
         wait: SharedWait,
         addr: SocketAddr,
     ) -> io::Result<TcpLink>
         ensures { IfOk result (λ link. link.calls.list ≡ []) }
     {
         Ok(TcpLink {
-            wire: Wire::begin(net, rt, alloc, stop, wait, addr)?,
+            wire: Wire::begin(net, rt, signs, wait, addr)?,
             calls: Calls::none(),
         })
     }
@@ -97,7 +96,6 @@ impl Link for TcpLink {
 #[derive(Drop)]
 pub struct TcpHub<'a, N: Net> {
     net: &'a N,
-    alloc: Global,
     mailbox: &'a Mailbox,
     wait: &'a SharedWait,
     servers: &'a [SocketAddr],
@@ -107,14 +105,12 @@ impl<'a, N: Net> TcpHub<'a, N> {
     /// Connects to these servers, for the worker of these waits.
     pub fn new(
         net: &'a N,
-        alloc: Global,
         mailbox: &'a Mailbox,
         wait: &'a SharedWait,
         servers: &'a [SocketAddr],
     ) -> Self {
         TcpHub {
             net,
-            alloc,
             mailbox,
             wait,
             servers,
@@ -129,12 +125,13 @@ impl<'a, N: Net> Hub for TcpHub<'a, N> {
         let Some(addr) = self.servers.get(server as usize) else {
             return Err(LinkFault::Connect);
         };
-        let (Ok(stop), Ok(wait)) = (self.mailbox.stop_sign(), Arc::try_clone(self.wait)) else {
-            return Err(LinkFault::Connect);
+        let (Ok(signs), Ok(wait)) = (self.mailbox.signs().share(), Arc::try_clone(self.wait)) else {
+            return Err(LinkFault::Memory);
         };
-        match TcpLink::begin(self.net, rt, self.alloc, stop, wait, *addr) {
+        match TcpLink::begin(self.net, rt, signs, wait, *addr) {
             Ok(link) => Ok(link),
             Err(error) if lacks_descriptors(&error) => Err(LinkFault::Descriptors),
+            Err(error) if lacks_memory(&error) => Err(LinkFault::Memory),
             Err(_) => Err(LinkFault::Connect),
         }
     }

@@ -1,11 +1,12 @@
 //! What the loop and the workers tell each other.
 
+use crate::signs::Signs;
 use fwd_workers::{News, Refused};
 use mio::Waker;
 use std::alloc::{AllocError, Global};
 use std::mem;
 use std::sync::atomic::{AtomicBool, Ordering};
-use std::sync::{Arc, Mutex, Wait};
+use std::sync::{Mutex, Wait};
 
 /// What a worker told: at most once a turn.
 #[derive(Clone, Copy)]
@@ -57,32 +58,7 @@ pub struct Mailbox {
     is_asleep: AtomicBool,
     /// Ends the loop's sleep.
     waker: Waker,
-    stop: Stop,
-}
-
-/// Whether all workers are to end. Who shares it sees it change.
-#[derive(Drop)]
-pub struct Stop {
-    told: Arc<AtomicBool>,
-}
-
-impl Stop {
-    /// Nobody is to end. The only error is out of memory.
-    fn new(alloc: Global) -> Result<Stop, AllocError> {
-        let told = Arc::new(alloc, AtomicBool::new(false))?;
-        Ok(Stop { told })
-    }
-
-    /// The same, shared.
-    fn share(&self) -> Result<Stop, AllocError> {
-        let told = Arc::try_clone(&self.told)?;
-        Ok(Stop { told })
-    }
-
-    /// Whether all workers are to end.
-    pub fn is_told(&self) -> bool {
-        self.told.load(Ordering::SeqCst)
-    }
+    signs: Signs,
 }
 
 impl Mailbox {
@@ -93,7 +69,7 @@ impl Mailbox {
             is_told: AtomicBool::new(false),
             is_asleep: AtomicBool::new(false),
             waker,
-            stop: Stop::new(alloc)?,
+            signs: Signs::new(alloc)?,
         })
     }
 
@@ -155,16 +131,16 @@ impl Mailbox {
 
     /// All workers are to end.
     pub fn stop(&self) {
-        self.stop.told.store(true, Ordering::SeqCst);
+        self.signs.stop();
     }
 
     /// Whether all workers are to end.
     pub fn is_stopped(&self) -> bool {
-        self.stop.is_told()
+        self.signs.is_stopped()
     }
 
-    /// What tells whether all workers are to end. The only error is out of memory.
-    pub fn stop_sign(&self) -> Result<Stop, AllocError> {
-        self.stop.share()
+    /// What the loop and its workers tell each other without a lock.
+    pub fn signs(&self) -> &Signs {
+        &self.signs
     }
 }

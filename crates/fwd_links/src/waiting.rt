@@ -1,7 +1,8 @@
 //! How a worker waits, and how it is woken.
 
 use crate::fault::WaitFault;
-use crate::mailbox::Stop;
+use crate::reserve::Reserve;
+use crate::signs::Signs;
 use mio::net::TcpStream;
 use mio::{Events, Interest, Poll, Token, Waker};
 use std::alloc::Global;
@@ -24,6 +25,13 @@ const PATIENCE: u64 = 100;
 
 /// How long a worker waits for a connection that is neither up nor refused, in milliseconds.
 const CONNECT_WAIT: u64 = 5_000;
+
+/// How long a worker without memory in reserve waits for a server before it takes some again, in
+/// milliseconds: one that is at hand answers sooner.
+const GRACE: u64 = 5;
+
+/// How long a worker waits for the loop to read nothing, in milliseconds.
+const LOOP_WAIT: u64 = 100;
 
 /// What tells that the worker is woken.
 const WAKER: Token = Token(0);
@@ -86,11 +94,19 @@ pub enum Looking {
 /// free.
 pub type SharedWait = Arc<Mutex<WorkerWait>>;
 
-/// How a worker waits: until it is rung, or its stream tells of itself.
+/// How a worker waits: until it is rung, or its stream tells of itself. All that it takes to wait
+/// and to connect is made once, so that it takes no memory later; and memory is kept in reserve for
+/// what a session takes.
 #[derive(Drop)]
 pub struct WorkerWait {
     poll: Poll,
     events: Events,
+    /// Waits for a connection alone.
+    connecting: Poll,
+    connected: Events,
+    reserve: Reserve,
+    /// The worker has given back what is kept in reserve, and the loop was told so.
+    is_lacking: bool,
     signal: Arc<Signal>,
     /// The worker looks for a chunk.
     is_idle: bool,
@@ -104,7 +120,9 @@ impl WorkerWait {
     /// The wait of a worker without a stream, and what rings it.
     pub fn new<R: Net>(rt: &R, alloc: Global) -> Result<(SharedWait, WorkerWaker), WaitFault> {
         let events = Events::with_capacity(alloc, 2)?;
+        let connected = Events::with_capacity(alloc, 1)?;
         let poll = Poll::new(rt).map_err(|_| WaitFault::Poll)?;
+        let connecting = Poll::new(rt).map_err(|_| WaitFault::Poll)?;
         let waker = Waker::new(poll.registry(), WAKER).map_err(|_| WaitFault::Poll)?;
         let signal = Signal {
             is_awaited: AtomicBool::new(false),
@@ -118,6 +136,10 @@ impl WorkerWait {
         let wait = WorkerWait {
             poll,
             events,
+            connecting,
+            connected,
+            reserve: Reserve::none(alloc),
+            is_lacking: false,
             signal,
             is_idle: false,
             is_told: true,
@@ -135,8 +157,30 @@ impl WorkerWait {
         self.poll.registry().register(stream, STREAM, interest)
     }
 
-    /// Waits so long (milliseconds), or until the worker is rung or its stream tells of itself.
-    fn wait(&mut self, longest: u64) {
+    /// Waits for a server that a stream connects to: until it is up or refused, at most
+    /// `CONNECT_WAIT` milliseconds, and hardly longer than a piece of that once all workers are to
+    /// end.
+    pub(crate) fn await_connection(
+        &mut self,
+        stream: &mut TcpStream,
+        signs: &Signs,
+    ) -> io::Result<()> {
+        let registry = self.connecting.registry();
+        registry.register(stream, STREAM, Interest::WRITABLE)?;
+        for _ in 0..CONNECT_WAIT / PATIENCE {
+            self.refill(signs);
+            let patience = Duration::from_millis(PATIENCE);
+            self.connecting.poll(&mut self.connected, Some(patience))?;
+            if !self.connected.is_empty() || signs.is_stopped() {
+                break;
+            }
+        }
+        self.connecting.registry().deregister(stream)
+    }
+
+    /// Waits so long (milliseconds), or until the worker is rung or its stream tells of itself, and
+    /// says whether it was told something.
+    fn wait(&mut self, longest: u64) -> bool {
         let longest = Duration::from_millis(longest);
         let _ = self.poll.poll(&mut self.events, Some(longest));
         for event in self.events.iter() {
@@ -145,6 +189,7 @@ impl WorkerWait {
                 self.is_closing = self.is_closing || event.is_read_closed() || event.is_error();
             }
         }
+        !self.events.is_empty()
     }
 
     /// Whether the stream is to be read: it told of itself since it was last read empty, or the
@@ -166,7 +211,7 @@ impl WorkerWait {
 
     /// The same, once it was rung, or its stream has bytes, or for a while. It says whether it was
     /// rung.
-    pub fn look_later(&mut self, looking: Looking) -> bool {
+    pub fn look_later(&mut self, looking: Looking, signs: &Signs) -> bool {
         self.look();
         let (looks, pause) = match looking {
             Looking::Soon => (LOOKS, PAUSE),
@@ -174,7 +219,7 @@ impl WorkerWait {
             Looking::Idle => (1, LONG_PAUSE),
         };
         if self.is_awaited_for(looks) {
-            self.sleep(pause);
+            self.sleep(pause, signs);
         }
         let was_rung = !self.signal.is_awaited.load(Ordering::SeqCst);
         self.look();
@@ -193,7 +238,8 @@ impl WorkerWait {
     }
 
     /// Sleeps so long (milliseconds), unless it is rung before.
-    fn sleep(&mut self, longest: u64) {
+    fn sleep(&mut self, longest: u64, signs: &Signs) {
+        self.refill(signs);
         self.signal.is_asleep.store(true, Ordering::SeqCst);
         if self.signal.is_awaited.load(Ordering::SeqCst) {
             self.wait(longest);
@@ -216,28 +262,70 @@ impl WorkerWait {
     }
 
     /// Waits a while for the server of a worker that looks for no chunk.
-    pub fn await_server(&mut self) {
+    pub(crate) fn await_server(&mut self, signs: &Signs) {
+        if self.is_lacking {
+            if self.wait(GRACE) {
+                return;
+            }
+            self.refill(signs);
+        }
         self.wait(PATIENCE);
     }
-}
 
-/// Waits for a server that a stream connects to: until it is up or refused, at most
-/// `CONNECT_WAIT` milliseconds, and hardly longer than a piece of that once all workers are to end.
-pub(crate) fn await_connection<R: Net>(
-    rt: &R,
-    alloc: Global,
-    stream: &mut TcpStream,
-    stop: &Stop,
-) -> io::Result<()> {
-    let mut poll = Poll::new(rt)?;
-    let mut events = Events::with_capacity(alloc, 1)?;
-    poll.registry()
-        .register(stream, STREAM, Interest::WRITABLE)?;
-    for _ in 0..CONNECT_WAIT / PATIENCE {
-        poll.poll(&mut events, Some(Duration::from_millis(PATIENCE)))?;
-        if !events.is_empty() || stop.is_told() {
-            break;
+    /// Takes into reserve what is missing there, where that can be had. A worker that waits does so:
+    /// it takes no memory until it goes on.
+    pub fn refill(&mut self, signs: &Signs) {
+        if self.reserve.is_full() {
+            return;
+        }
+        self.reserve.fill();
+        if !self.reserve.is_empty() {
+            self.excuse(signs);
         }
     }
-    Ok(())
+
+    /// The worker lacks no memory, or has nothing to do that takes any.
+    pub fn excuse(&mut self, signs: &Signs) {
+        if self.is_lacking {
+            self.is_lacking = false;
+            signs.have();
+        }
+    }
+
+    /// Whether memory is refused for the worker's next step, beside what is kept in reserve, or may
+    /// be by the time that it is asked for.
+    pub fn is_short(&mut self, signs: &Signs) -> bool {
+        self.is_lacking || signs.is_tight() || !self.reserve.has_step()
+    }
+
+    /// Gives back what is kept in reserve, once the loop takes no memory for what sources send: it
+    /// takes none until the worker waits again, and has its reserve.
+    pub fn give_back(&mut self, signs: &Signs) {
+        if self.is_lacking {
+            return;
+        }
+        self.is_lacking = true;
+        signs.lack();
+        self.await_loop(signs);
+        self.reserve.release();
+    }
+
+    /// Makes sure of memory for the worker's next step: where it is refused, what is kept in reserve
+    /// is given back.
+    pub(crate) fn assure(&mut self, signs: &Signs) {
+        if self.is_short(signs) {
+            self.give_back(signs);
+        }
+    }
+
+    /// Waits until the loop reads nothing, at most `LOOP_WAIT` milliseconds.
+    fn await_loop(&mut self, signs: &Signs) {
+        for _ in 0..LOOP_WAIT {
+            if !signs.is_reading() {
+                return;
+            }
+            let pause = Duration::from_millis(1);
+            let _ = self.connecting.poll(&mut self.connected, Some(pause));
+        }
+    }
 }

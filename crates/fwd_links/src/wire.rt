@@ -5,11 +5,10 @@ ghost use Rattle.std.specs.Io.Slices.{io_slice_bytes, io_slices_bytes};
 ghost use Rattle.std.specs.List.{concat};
 ghost use Rattle.fwd_links.specs.Buffers.{piece_at};
 
-use crate::mailbox::Stop;
-use crate::waiting::{SharedWait, await_connection};
+use crate::signs::Signs;
+use crate::waiting::SharedWait;
 use fwd_chunks::{PIECE_LIMIT, Pieces};
 use mio::net::TcpStream;
-use std::alloc::Global;
 use std::io::{ErrorKind, IoSlice, Read, Write};
 use std::net::{Net, Shutdown, SocketAddr};
 use std::sync::Wait;
@@ -68,7 +67,7 @@ fn buffers<'a>(pieces: &[&'a [u8]]) -> [IoSlice<'a>; PIECE_LIMIT]
 /// A stream to a server, which may not be connected yet.
 #[derive(Drop)]
 pub(crate) struct Wire {
-    stop: Stop,
+    signs: Signs,
     /// The waits of its worker.
     wait: SharedWait,
     stream: TcpStream,
@@ -82,20 +81,19 @@ pub(crate) struct Wire {
 impl Wire {
     /// Connects. It is an error that the connection is refused, or neither up nor refused within
     /// five seconds. Where all workers are to end meanwhile, it goes on as a stream that takes
-    /// nothing yet.
+    /// nothing yet. It takes no memory, and makes sure of it for the session that begins then.
     pub fn begin<N: Net, R: Wait>(
         net: &N,
         rt: &R,
-        alloc: Global,
-        stop: Stop,
+        signs: Signs,
         wait: SharedWait,
         addr: SocketAddr,
     ) -> io::Result<Wire> {
         let mut stream = TcpStream::connect(net, addr)?;
-        await_connection(net, alloc, &mut stream, &stop)?;
+        wait.lock(rt).await_connection(&mut stream, &signs)?;
         wait.lock(rt).start(&mut stream)?;
         let mut wire = Wire {
-            stop,
+            signs,
             wait,
             stream,
             is_up: false,
@@ -103,9 +101,10 @@ impl Wire {
             has_written: false,
         };
         wire.look()?;
-        if !wire.is_up && !wire.stop.is_told() {
+        if !wire.is_up && !wire.signs.is_stopped() {
             return Err(io::Error::from(ErrorKind::TimedOut));
         }
+        wire.wait.lock(rt).assure(&wire.signs);
         Ok(wire)
     }
 
@@ -141,8 +140,8 @@ impl Wire {
         }
         match self.stream.read(room) {
             Ok(count) => {
-                if 0 < count && count < room.len() {
-                    self.wait.lock(rt).is_empty_now();
+                if 0 < count {
+                    self.has_read(rt, count < room.len());
                 }
                 Ok(Some(count))
             }
@@ -155,6 +154,17 @@ impl Wire {
                 _ => Err(Broken),
             },
         }
+    }
+
+    /// Bytes were read: all that is there, or as many as the room takes. Memory is made sure of, for
+    /// hearing them.
+    fn has_read<R: Wait>(&mut self, rt: &R, is_all: bool) {
+        let mut guard = self.wait.lock(rt);
+        let wait = &mut *guard;
+        if is_all {
+            wait.is_empty_now();
+        }
+        wait.assure(&self.signs);
     }
 
     /// Reads until something is there, a few times at the most.
@@ -182,7 +192,7 @@ impl Wire {
     pub fn read<R: Wait>(&mut self, rt: &R, room: &mut [u8]) -> Result<Option<usize>, Broken>
         ensures { IfOk result (λ some. IfSome some (λ n. n ≤ length room.new)) }
     {
-        if self.stop.is_told() && !self.is_shut {
+        if self.signs.is_stopped() && !self.is_shut {
             self.shut();
             return Ok(None);
         }
@@ -201,7 +211,7 @@ impl Wire {
                 return Ok(read);
             }
         }
-        self.wait.lock(rt).await_server();
+        self.wait.lock(rt).await_server(&self.signs);
         self.look()?;
         self.read_once(rt, room)
     }

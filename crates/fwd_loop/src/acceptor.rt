@@ -95,27 +95,31 @@ impl Acceptor {
         }
     }
 
-    /// Takes the connections that wait. One too many is closed at once.
-    pub fn accept<W: Watch>(&mut self, comers: &mut NewComers<'_>, watch: &mut W) {
-        self.accept_sources(comers, watch);
-        self.accept_monitors(comers, watch);
-    }
-
-    /// Takes the sources that wait.
-    fn accept_sources<W: Watch>(&mut self, comers: &mut NewComers<'_>, watch: &mut W) {
+    /// Takes the sources that wait. One too many is closed at once. It says whether memory was
+    /// refused for one.
+    pub fn accept_sources<W: Watch>(
+        &mut self,
+        comers: &mut NewComers<'_>,
+        watch: &mut W,
+    ) -> bool {
         for _ in 0..ACCEPTS {
             let (stream, peer) = match self.sources.next() {
                 Arrival::Came(stream, peer) => (stream, peer),
-                Arrival::Starved => return watch.see(Fact::Descriptors(Caller::Source)),
-                Arrival::None => return,
+                Arrival::Starved => {
+                    watch.see(Fact::Descriptors(Caller::Source));
+                    return false;
+                }
+                Arrival::None => return false,
             };
             if comers.connections.sources() >= self.limit {
                 let caller = Caller::Source;
                 watch.see(Fact::OverLimit { caller, peer });
             } else if self.begin(comers, stream, peer).is_err() {
                 watch.see(Fact::Memory(Want::Source(peer)));
+                return true;
             }
         }
+        false
     }
 
     /// A source begins with the next id, if one is left. The only error is that memory or the
@@ -134,8 +138,8 @@ impl Acceptor {
         comers.add(Connection::Source(SourcePeer::new(id, stream, peer, source)))
     }
 
-    /// Takes the monitors that wait.
-    fn accept_monitors<W: Watch>(&mut self, comers: &mut NewComers<'_>, watch: &mut W) {
+    /// Takes the monitors that wait. One too many is closed at once.
+    pub fn accept_monitors<W: Watch>(&mut self, comers: &mut NewComers<'_>, watch: &mut W) {
         let Some(listener) = &mut self.monitors else {
             return;
         };

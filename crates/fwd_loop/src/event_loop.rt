@@ -4,9 +4,10 @@ use crate::acceptor::{Acceptor, NewComers};
 use crate::fault::StartFault;
 use crate::lost_servers::{LostServers, fact_of};
 use crate::run_clock::RunClock;
-use fwd_links::{Mailbox, Notices};
+use fwd_links::{Mailbox, Notices, Signs};
 use fwd_outlets::{Connection, Connections, Fact, Outlets, Output, Ready, Want, Watch};
-use fwd_peers::{GREETING, SourceEnd, SourcePeer};
+use fwd_peers::{GREETING, PeerEnd, SourceEnd, SourcePeer};
+use fwd_workers::News;
 use mio::event::Event;
 use mio::{Events, Poll, Token};
 use std::alloc::Global;
@@ -29,6 +30,19 @@ const LONGEST: u64 = 100;
 /// How long connections are read in a turn, in milliseconds, but for the one that is read then.
 const READING: u64 = 8;
 
+/// The longest wait while sources that are ready are not read, in milliseconds.
+const PAUSE: u64 = 5;
+
+/// How long no source is read once memory was refused for one, in milliseconds.
+const STARVED: u64 = 1_000;
+
+/// The same where a chunk was settled since, which gives memory back.
+const SETTLED: u64 = 100;
+
+/// How long workers take it that memory may be refused at any moment, once it was for a source, in
+/// milliseconds.
+const TIGHT: u64 = 3_000;
+
 /// How often a loop that was at work in its last turn looks for more before it sleeps: some ten
 /// microseconds.
 const LOOKS: u32 = 24;
@@ -45,6 +59,71 @@ pub(crate) struct EventLoop {
     pub connections: Connections,
     /// Something was ready or told in the last turn.
     pub was_at_work: bool,
+    pub memory: LoopMemory,
+}
+
+/// What the loop knows of memory.
+#[derive(Drop)]
+pub(crate) struct LoopMemory {
+    signs: Signs,
+    /// When it was refused for a source last, in milliseconds, if it was.
+    refused: Option<u64>,
+    /// A chunk was settled since.
+    is_settled: bool,
+    /// No source was read when the loop came to them last, though some were ready.
+    is_paused: bool,
+    /// When that was told last, in milliseconds, if it was.
+    told: Option<u64>,
+}
+
+/// Whether so long (milliseconds) has passed at a moment since another one, if there was any.
+fn is_past(since: Option<u64>, pause: u64, now: u64) -> bool {
+    match since {
+        Some(since) => since.saturating_add(pause) <= now,
+        None => true,
+    }
+}
+
+impl LoopMemory {
+    /// None was refused. The workers tell of theirs by these signs.
+    pub fn new(signs: Signs) -> LoopMemory {
+        LoopMemory {
+            signs,
+            refused: None,
+            is_settled: false,
+            is_paused: false,
+            told: None,
+        }
+    }
+
+    /// Whether sources are not to be read at a moment (milliseconds): a worker lacks memory, or it
+    /// was refused for a source just now.
+    fn is_refused(&self, now: u64) -> bool {
+        let pause = if self.is_settled { SETTLED } else { STARVED };
+        !is_past(self.refused, pause, now) || self.signs.is_lacking()
+    }
+
+    /// Connections are about to be read at a moment (milliseconds).
+    fn begin_reading(&mut self, now: u64) {
+        self.is_paused = false;
+        self.signs.begin_reading(!is_past(self.refused, TIGHT, now));
+    }
+
+    /// Connections were read from a moment on (milliseconds). Where no source was, that is told,
+    /// once a second at the most.
+    fn end_reading<W: Watch>(&mut self, watch: &mut W, start: u64) {
+        self.signs.end_reading();
+        if self.is_paused && is_past(self.told, STARVED, start) {
+            self.told = Some(start);
+            watch.see(Fact::Memory(Want::Pause));
+        }
+    }
+
+    /// Memory was refused for a source at a moment (milliseconds).
+    fn refuse(&mut self, now: u64) {
+        self.refused = Some(now);
+        self.is_settled = false;
+    }
 }
 
 impl EventLoop {
@@ -57,7 +136,21 @@ impl EventLoop {
             connections: &mut self.connections,
             now,
         };
-        self.acceptor.accept(&mut gate, watch);
+        if self.memory.is_refused(now) {
+            self.memory.is_paused |= self.acceptor.sources.is_urgent();
+        } else if self.acceptor.accept_sources(&mut gate, watch) {
+            self.memory.refuse(now);
+        }
+        self.acceptor.accept_monitors(&mut gate, watch);
+    }
+
+    /// A chunk that workers settled gives memory back.
+    pub fn hear(&mut self, notices: &Notices) {
+        for notice in &notices.all {
+            if let News::Settled { .. } = notice.news {
+                self.memory.is_settled = true;
+            }
+        }
     }
 
     /// Hands in all tickets, and writes what that has sources told.
@@ -75,7 +168,7 @@ impl EventLoop {
             };
             if let Some(Connection::Source(source)) = self.connections.at(key) {
                 source.refuse(SourceEnd::NoLogin);
-                tell_end(source, watch);
+                let _ = tell_end(source, watch);
             }
             self.connections.remove(key);
         }
@@ -91,7 +184,9 @@ impl EventLoop {
     ) -> Result<(), StartFault> {
         let connections = &self.connections;
         let is_left = connections.ready() > 0 || connections.told() > 0;
-        let longest = if is_left || self.acceptor.is_urgent() {
+        let longest = if self.memory.is_paused {
+            outlets.patience(now, PAUSE)
+        } else if is_left || self.acceptor.is_urgent() {
             0
         } else {
             outlets.patience(now, LONGEST)
@@ -162,7 +257,7 @@ impl EventLoop {
         };
         match connection {
             Connection::Source(source) => {
-                tell_end(source, watch);
+                let _ = tell_end(source, watch);
                 let stands = source.write();
                 let is_free = source.is_free();
                 if !stands {
@@ -176,7 +271,8 @@ impl EventLoop {
     }
 
     /// Reads each connection that is ready, once, and has what it asks for admitted: for some
-    /// milliseconds, and those that are left in a later turn.
+    /// milliseconds, and those that are left in a later turn. As long as memory is refused no source
+    /// is read, which is told when that begins.
     pub fn read_all<R: Wait + Clock, W: Watch>(
         &mut self,
         rt: &R,
@@ -186,13 +282,15 @@ impl EventLoop {
         clock: &mut RunClock<'_, R>,
     ) {
         let start = clock.moment();
+        self.memory.begin_reading(start);
         for _ in 0..self.connections.ready() {
             let now = clock.moment();
             if now.saturating_sub(start) >= READING {
-                return;
+                break;
             }
             self.read_next(rt, outputs, outlets, watch, now);
         }
+        self.memory.end_reading(watch, start);
     }
 
     /// Reads the next connection that is ready, at a moment (milliseconds).
@@ -213,10 +311,16 @@ impl EventLoop {
             connection,
         } = ready;
         let again = match connection {
+            Connection::Source(_) if self.memory.is_refused(now) => {
+                self.memory.is_paused = true;
+                Some(true)
+            }
             Connection::Source(source) => {
                 let again = hear(source, self.alloc, &mut self.room, to_end);
                 outlets.admit_all(rt, source, now);
-                tell_end(source, watch);
+                if tell_end(source, watch) {
+                    self.memory.refuse(now);
+                }
                 let stands = source.write();
                 let again = again || source.is_free();
                 if stands { Some(again) } else { None }
@@ -263,11 +367,14 @@ fn hear(source: &mut SourcePeer, alloc: Global, room: &mut [u8], to_end: bool) -
     again
 }
 
-/// A watch is told why the relay ends a source, where it does and that was not told yet.
-fn tell_end<W: Watch>(source: &mut SourcePeer, watch: &mut W) {
-    if let Some(end) = source.why_ended() {
-        watch.see(Fact::of_source(source.peer(), end));
-    }
+/// A watch is told why the relay ends a source, where it does and that was not told yet. It says
+/// whether that is for want of memory.
+fn tell_end<W: Watch>(source: &mut SourcePeer, watch: &mut W) -> bool {
+    let Some(end) = source.why_ended() else {
+        return false;
+    };
+    watch.see(Fact::of_source(source.peer(), end));
+    matches!(end, PeerEnd::Memory)
 }
 
 /// A watch is told what workers told.

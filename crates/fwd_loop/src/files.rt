@@ -16,7 +16,7 @@ const NAME: &str = "Max open files";
 /// the listeners, what it waits with, and some to spare.
 const OWN: u64 = 16;
 
-/// The files of a worker at most: two that it waits with, its link, and two more while it connects
+/// The files of a worker at most: three that it waits with, its link, and one more while it connects
 /// to another server.
 const WORKER: u64 = 5;
 

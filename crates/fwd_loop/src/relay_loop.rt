@@ -5,7 +5,7 @@ ghost use Rattle.fwd_settings.specs.Ranges.{in_range};
 ghost use Rattle.fwd_outlets.specs.Ends.{AddUp};
 
 use crate::acceptor::{Acceptor, SourceSetup};
-use crate::event_loop::{EventLoop, MONITORS, SOURCES, WAKER};
+use crate::event_loop::{EventLoop, LoopMemory, MONITORS, SOURCES, WAKER};
 use crate::fault::StartFault;
 use crate::files::{most_files, sources_within};
 use crate::listener::Listener;
@@ -140,6 +140,7 @@ fn event_loop_of<R: Net>(
         limit: address.connections as usize,
         few_files: address.few_files,
     };
+    let mailbox = Mailbox::new(alloc, waker)?;
     let event_loop = EventLoop {
         alloc,
         poll,
@@ -148,8 +149,9 @@ fn event_loop_of<R: Net>(
         acceptor,
         connections: Connections::new(alloc),
         was_at_work: false,
+        memory: LoopMemory::new(mailbox.signs().share()?),
     };
-    Ok((event_loop, Mailbox::new(alloc, waker)?))
+    Ok((event_loop, mailbox))
 }
 
 /// Asks for a large piece of memory, and gives it back.

@@ -144,6 +144,7 @@ impl<'a, R: Wait + Clock> Turns<'a, R> {
         let notices = self.mailbox.take(rt, alloc);
         tell_all(&notices, outputs, &mut self.lost_servers, watch);
         outlets.hear(&notices);
+        event_loop.hear(&notices);
         outlets.collect(rt, &mut event_loop.connections, watch);
         event_loop.write_all(watch);
         event_loop.read_all(rt, outputs, outlets, watch, &mut self.clock);

@@ -33,12 +33,33 @@ struct WorkerGate<'a> {
 }
 
 impl<'a> WorkerGate<'a> {
-    /// The worker comes to a place, and waits there where it found no chunk before.
+    /// The worker comes to a place, and waits there where it found no chunk before. Memory is made
+    /// sure of, where what it does next takes any.
     fn come_to<R: Wait>(&mut self, rt: &R, place: Place) {
-        if place == Place::BeforeTake {
-            self.look(rt);
+        match place {
+            Place::BeforeTake => {
+                self.look(rt);
+                self.assure(rt, place);
+            }
+            Place::BeforeLoad => {
+                self.work(rt);
+                self.assure(rt, place);
+            }
+            Place::BeforeSettle | Place::AfterSettle => self.work(rt),
+        }
+    }
+
+    /// Where memory is refused for what the worker does next, and there is anything to do, it gives
+    /// back what it keeps in reserve.
+    fn assure<R: Wait>(&mut self, rt: &R, place: Place) {
+        let signs = self.mailbox.signs();
+        if !self.wait.lock(rt).is_short(signs) {
+            return;
+        }
+        if place == Place::BeforeTake && self.output.is_empty(rt) {
+            self.wait.lock(rt).excuse(signs);
         } else {
-            self.work(rt);
+            self.wait.lock(rt).give_back(signs);
         }
     }
 
@@ -55,7 +76,7 @@ impl<'a> WorkerGate<'a> {
             Next::Later if self.output.is_empty(rt) => Looking::Idle,
             Next::Later => Looking::Later,
         };
-        let was_rung = self.wait.lock(rt).look_later(looking);
+        let was_rung = self.wait.lock(rt).look_later(looking, self.mailbox.signs());
         self.next = if was_rung { Next::Soon } else { Next::Later };
     }
 
@@ -134,7 +155,7 @@ impl WorkerThread {
         let Some(own) = outputs.get(output as usize) else {
             return;
         };
-        let mut hub = TcpHub::new(rt, rt.alloc(), mailbox, wait, &own.servers);
+        let mut hub = TcpHub::new(rt, mailbox, wait, &own.servers);
         let mut gate = WorkerGate {
             mailbox,
             number: output,
@@ -143,6 +164,8 @@ impl WorkerThread {
             next: Next::Later,
         };
         let mut clock = RunClock::new(rt, start);
+        self.wait.lock(rt).refill(mailbox.signs());
         self.worker.run(rt, &own.shared, (), &mut hub, &mut gate, &mut clock, turns);
+        self.wait.lock(rt).excuse(mailbox.signs());
     }
 }

@@ -22,6 +22,9 @@ pub enum Want {
     Output(u16),
     /// For what workers tell: all outputs are looked at in place of it.
     News,
+    /// For a worker, which goes on with what it keeps in reserve, or for a source: no source is
+    /// read for a while.
+    Pause,
 }
 
 /// What a run tells of itself.

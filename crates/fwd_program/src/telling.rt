@@ -208,6 +208,7 @@ fn want_name(want: Want) -> &'static str {
         Want::Monitor => "monitor",
         Want::Output(_) => "output",
         Want::News => "news of workers",
+        Want::Pause => "no source is read",
     }
 }
 
@@ -246,6 +247,7 @@ fn loss_name(why: Loss) -> &'static str {
         Loss::Link(LinkFault::Read) => "Read",
         Loss::Link(LinkFault::Write) => "Write",
         Loss::Link(LinkFault::Descriptors) => "Descriptors",
+        Loss::Link(LinkFault::Memory) => "Memory",
         Loss::Closed => "Closed",
         Loss::Fault(fault) => session_fault_name(fault),
         Loss::Late => "Late",

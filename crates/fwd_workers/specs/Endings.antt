@@ -6,6 +6,8 @@ use Rattle.fwd_workers.specs.declared.ending.Ending.{Ending}
 use Rattle.fwd_workers.specs.declared.ending.Ending.TheVariants as ending
 use Rattle.fwd_workers.specs.declared.ending.Unmet.{Unmet}
 use Rattle.fwd_workers.specs.declared.ending.Unmet.TheVariants as unmet
+use Rattle.fwd_workers.specs.declared.link.LinkFault.{LinkFault}
+use Rattle.fwd_workers.specs.declared.link.LinkFault.TheVariants as link
 use Rattle.fwd_workers.specs.declared.link.Loss.{Loss}
 use Rattle.fwd_workers.specs.declared.link.Loss.TheVariants as loss
 use Rattle.fwd_workers.specs.declared.link.News.{News}
@@ -59,16 +61,24 @@ news_of ending.Spent server = None
 news_of ending.Left server = None
 news_of (ending.Lost why) server = Some (news.Lost server why)
 
+-- why no session began where no link could be had: want of memory is no fault of a link
+abbrev pub unmet_of : LinkFault → Unmet
+unmet_of link.Connect = unmet.Link link.Connect
+unmet_of link.Read = unmet.Link link.Read
+unmet_of link.Write = unmet.Link link.Write
+unmet_of link.Descriptors = unmet.Link link.Descriptors
+unmet_of link.Memory = unmet.Memory
+
 -- where no session began: the server is lost where no link to it could be had, and no server is
 -- where memory was refused
 abbrev pub blamed : Unmet → (server : ℕ) → Option ℕ
 blamed (unmet.Link fault) server = Some server
 blamed unmet.Memory server = None
 
--- what is told of that
+-- what is told of that: a session with that server could not be had, and why
 abbrev pub unmet_news : Unmet → (server : ℕ) → Option News
 unmet_news (unmet.Link fault) server = Some (news.Lost server (loss.Link fault))
-unmet_news unmet.Memory server = None
+unmet_news unmet.Memory server = Some (news.Lost server loss.Memory)
 
 -- what is told where a chunk is loaded: the server that it goes to, where the worker's last one
 -- went to another

@@ -9,6 +9,7 @@ ghost use Rattle.fwd_workers.specs.Endings.{
   loss_in,
   news_of,
   unmet_news,
+  unmet_of,
 };
 
 use crate::link::{LinkFault, Loss, News};
@@ -96,6 +97,16 @@ pub(crate) enum Unmet {
 }
 
 impl Unmet {
+    /// Why no session began, where no link could be had: no server is to blame for want of memory.
+    pub(crate) fn of(fault: LinkFault) -> Unmet
+        ensures { result ≡ unmet_of fault }
+    {
+        match fault {
+            LinkFault::Memory => Unmet::Memory,
+            _ => Unmet::Link(fault),
+        }
+    }
+
     /// What a worker leaves that may have taken a chunk for that server: the chunk, which is no
     /// loss, and the server, if that is to blame.
     pub(crate) fn leaving(self, alloc: Global, taken: Option<Carried>, server: u16) -> Leaving
@@ -120,7 +131,7 @@ impl Unmet {
     {
         match self {
             Unmet::Link(fault) => Ending::Lost(Loss::Link(fault)).news(server),
-            Unmet::Memory => None,
+            Unmet::Memory => Ending::Lost(Loss::Memory).news(server),
         }
     }
 }

@@ -43,6 +43,8 @@ pub enum LinkFault {
     Write = 3,
     /// It could not be had, since no descriptor is left for it.
     Descriptors = 4,
+    /// It could not be had, since memory was refused for it: no server is to blame.
+    Memory = 5,
 }
 
 /// A link to a server, which tells its calls.

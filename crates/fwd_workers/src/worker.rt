@@ -421,7 +421,7 @@ impl Worker {
     {
         let link = match hub.connect(round.rt, server) {
             Ok(link) => link,
-            Err(fault) => return Err(Unmet::Link(fault)),
+            Err(fault) => return Err(Unmet::of(fault)),
         };
         match self.up(server, round.now) {
             Ok(session) => Ok(free_line(link, session)),

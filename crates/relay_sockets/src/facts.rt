@@ -32,7 +32,7 @@ static ENDS: [SourceEnd; 16] = [
 ];
 
 /// Why servers are lost.
-static LOSSES: [Loss; 13] = [
+static LOSSES: [Loss; 14] = [
     Loss::Link(LinkFault::Connect),
     Loss::Link(LinkFault::Read),
     Loss::Link(LinkFault::Write),
@@ -46,10 +46,11 @@ static LOSSES: [Loss; 13] = [
     Loss::Fault(SessionFault::BadDigest),
     Loss::Late,
     Loss::Memory,
+    Loss::Link(LinkFault::Memory),
 ];
 
 /// What else is told.
-static OTHERS: [Fact; 5] = [
+static OTHERS: [Fact; 6] = [
     Fact::Memory(Want::Monitor),
     Fact::Memory(Want::Output(3)),
     Fact::Memory(Want::News),
@@ -58,6 +59,7 @@ static OTHERS: [Fact; 5] = [
         sources: 92,
     },
     Fact::Descriptors(Caller::Source),
+    Fact::Memory(Want::Pause),
 ];
 
 /// A journal that is told each fact a second after the one before.

@@ -62,6 +62,7 @@ fn fault_name(fault: LinkFault) -> &'static str {
         LinkFault::Read => "read",
         LinkFault::Write => "write",
         LinkFault::Descriptors => "descriptors",
+        LinkFault::Memory => "memory",
     }
 }
 

@@ -1,0 +1,145 @@
+"""Sources use up the memory of a relay whose next hop is away, until it takes no more; and then the next hop is back.
+
+The relay has three outputs of two workers, each with a window of 8, and a limit on its address space. Within ten seconds all
+that it accepted has to be settled.
+"""
+
+import re
+import socket
+import time
+
+import pytest
+
+from forward import HOST, request
+from relay import Relay, free_ports, until
+
+TAGS = ["a", "b", "c"]  # an output each
+DRAINS = 10  # seconds
+SILENT = 2  # seconds in which no source is read
+CLOSED = 200  # sources, after which no more is sent
+SENDS = 60  # seconds that sources send at the most
+REFUSED = re.compile(r"^(?:memory: |source closed: .* Memory$)", re.MULTILINE)
+UNREACHED = re.compile(r"^server lost: .* Connect$", re.MULTILINE)
+WAITS = {"flush_interval": 500, "retry_wait": 200, "retry_max": 1_000, "ack_wait": 60_000}
+SIZES = [100, 3_000]  # bytes of an entry
+
+
+def cases():
+    """Megabytes and sizes as parameters, of which one pair is quick."""
+    for megabytes in (60, 100, 150, 250, 400):
+        for size in SIZES:
+            mark = pytest.mark.quick if (megabytes, size) == (150, 3_000) else pytest.mark.minutes
+            yield pytest.param(megabytes, size, marks=mark)
+
+
+def limited(megabytes):
+    """What starts a program with so much address space, and less than usual for each stack where that is little."""
+    stacks = "ulimit -s 1024; " if megabytes < 100 else ""
+    return ["sh", "-c", f'{stacks}ulimit -v {megabytes * 1_000_000 // 1024}; exec "$@"', "sh"]
+
+
+@pytest.fixture
+def site(program, tmp_path):
+    """Starts a relay in so many megabytes, whose next hop is to listen at a port. It ends with the test."""
+    started = []
+
+    def start(megabytes, server):
+        outputs = [{"match": tag, "servers": [server], "workers": 2, "window": 8, **WAITS} for tag in TAGS]
+        for output in outputs:
+            output["total_limit"] = 1_000_000_000
+        started.append(Relay(program, tmp_path, outputs, under=limited(megabytes)))
+        return begun(started[-1])
+
+    yield start
+    for one in started:
+        one.kill()
+
+
+def begun(one):
+    """Starts a relay; again where the heaps of its first threads left no room for the last one's stack."""
+    for _ in range(20):
+        try:
+            return one.start()
+        except AssertionError:
+            assert "start: thread" in one.journal(), one.journal()
+            one.journal_path.write_text("")
+    raise AssertionError("no thread at each of twenty starts")
+
+
+class Sender:
+    """Requests of one tag, for as long as they are taken."""
+
+    def __init__(self, port, tag, size):
+        self.port, self.link, self.closed = port, None, 0
+        one = request("message", tag, [(1, {"n": bytes(size - 20)})], "chunk")
+        self.data = memoryview(one * max(1, 60_000 // size))
+        self.left = self.data
+
+    def push(self):
+        """How many bytes are taken now."""
+        try:
+            if self.link is None:
+                self.link, self.left = socket.create_connection((HOST, self.port), timeout=1), self.data
+                self.link.setblocking(False)
+            count = self.link.send(self.left)
+        except BlockingIOError:
+            return 0
+        except OSError:
+            self.close()
+            self.closed += 1
+            return 0
+        self.left = self.left[count:] or self.data
+        return count
+
+    def close(self):
+        """Closes the connection."""
+        if self.link is not None:
+            self.link.close()
+        self.link = None
+
+
+def fill(one, size):
+    """A source of each tag sends until none is read for a while, or many were closed."""
+    senders = [Sender(one.port, tag, size) for tag in TAGS]
+    begin = last = time.monotonic()
+    while time.monotonic() < min(begin + SENDS, last + SILENT) and sum(it.closed for it in senders) < CLOSED:
+        if sum(it.push() for it in senders):
+            last = time.monotonic()
+        else:
+            time.sleep(0.005)
+    for sender in senders:
+        sender.close()
+
+
+def is_acknowledged(one, tag):
+    """Whether a new request of a tag is."""
+    try:
+        with one.source(timeout=2) as source:
+            source.ask(tag)
+        return True
+    except OSError:
+        return False
+
+
+@pytest.mark.parametrize("megabytes, size", cases())
+def test_returns(site, next_hop, megabytes, size):
+    """All is settled, the next hop had each entry, nobody says that it is not reached, and a new request is acknowledged."""
+    (port,) = free_ports(1)
+    one = site(megabytes, port)
+    for each in (size, SIZES[0]):  # small ones in what the others leave
+        fill(one, each)
+    assert REFUSED.search(one.journal()), "memory was not refused"
+    sizes = {}
+    next_hop(port=port, take=lambda frame: sizes.update({frame.name: frame.size}))
+    begin, unreached = time.monotonic(), None
+    while held := sum(output.held for output in one.page()):
+        took = time.monotonic() - begin
+        if unreached is None and took > 2:
+            unreached = len(UNREACHED.findall(one.journal()))
+        assert took < DRAINS, f"{held} entries are held, {len(sizes)} chunks came; the journal ends {one.journal()[-2000:]}"
+        time.sleep(0.05)
+    counts = one.page()
+    assert sum(output.accepted for output in counts) == sum(output.settled for output in counts) <= sum(sizes.values())
+    assert unreached in (None, len(UNREACHED.findall(one.journal())))
+    for tag in TAGS:
+        until(lambda: is_acknowledged(one, tag), f"no request of {tag} is taken", DRAINS)
