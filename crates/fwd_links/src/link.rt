@@ -2,10 +2,10 @@
 
 ghost use Rattle.std.specs.Prelude.{◌≡◌, [], IfOk};
 
-use crate::wants::{lacks_descriptors, lacks_memory};
 use crate::mailbox::Mailbox;
 use crate::signs::Signs;
 use crate::waiting::SharedWait;
+use crate::wants::{lacks_descriptors, lacks_memory};
 use crate::wire::Wire;
 use fwd_chunks::Pieces;
 use fwd_workers::{Calls, Hub, Link, LinkFault, Read};

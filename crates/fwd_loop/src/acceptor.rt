@@ -97,11 +97,7 @@ impl Acceptor {
 
     /// Takes the sources that wait. One too many is closed at once. It says whether memory was
     /// refused for one.
-    pub fn accept_sources<W: Watch>(
-        &mut self,
-        comers: &mut NewComers<'_>,
-        watch: &mut W,
-    ) -> bool {
+    pub fn accept_sources<W: Watch>(&mut self, comers: &mut NewComers<'_>, watch: &mut W) -> bool {
         for _ in 0..ACCEPTS {
             let (stream, peer) = match self.sources.next() {
                 Arrival::Came(stream, peer) => (stream, peer),
