@@ -209,6 +209,9 @@ pub(crate) fn say_refused<E: Write>(
     fault: &SettingsFault,
     errors: &mut E,
 ) {
+    if let SettingsFault::Memory = fault {
+        return;
+    }
     let path = file.path;
     match &file.text {
         Ok(text) => {
