@@ -66,11 +66,9 @@ def test_settings():
 
 
 def kinds_in_code():
-    """What the lines begin with that a run or a check says with the journal on."""
-    folder = documents.TOP / "crates" / "fwd_program" / "src"
-    text = "".join(path.read_text() for path in sorted(folder.glob("*.rt")))
-    kinds = set(re.findall(r'Kind::\w+ => "([a-z ]+)"', text))
-    return kinds | set(re.findall(r'"([a-z ]+): [^"]*\{', text)) - {"run"}
+    """What the lines of the journal begin with."""
+    text = "".join(text_of(f"crates/fwd_program/src/{name}.rt") for name in ("telling", "journal"))
+    return set(re.findall(r'Kind::\w+ => "([a-z ]+)"', text)) | set(re.findall(r'"([a-z ]+): [^"]*\{', text))
 
 
 def fronts(lines):
@@ -79,12 +77,12 @@ def fronts(lines):
 
 
 def test_journal():
-    """FORMATS, OPERATING and the manual page have the lines that the program has."""
+    """FORMATS, OPERATING and the manual page have the lines that the program has; OPERATING those beside it too."""
     want = kinds_in_code()
     assert len(want) > 10
     assert fronts(journal_forms()) == want
     table = rows(section(text_of("docs/OPERATING.md"), "## The lines of the journal"))
-    assert fronts(span for row in table for span in spans(row[0])) == want
+    assert fronts(span for row in table for span in spans(row[0])) == want | {"settings", "listen", "caution"}
     man = re.search(r"^\.Sh JOURNAL\n(.*?)^\.Sh ", text_of("packaging/forward_relay.8"), re.MULTILINE | re.DOTALL)[1]
     items = [re.findall(r'Li "?([a-z ]+):', line) for line in man.splitlines() if line.startswith(".It ")]
     assert {front for item in items for front in item} == want

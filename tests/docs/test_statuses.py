@@ -23,7 +23,7 @@ def ended(words, **how):
 
 def write(path, relay, **output):
     """A file of settings."""
-    path.write_text(settings(relay, [{"servers": [9], **output}]))
+    path.write_text(settings(relay, [{"servers": [9], "chunk_limit": 5_000_000, **output}]))
     return path
 
 
@@ -44,11 +44,14 @@ def test_examples_are_those_of_the_tests():
 
 
 def test_refused_settings(program, tmp_path):
-    """Settings that are refused, or cannot be read."""
+    """Settings that are refused, or cannot be read: the text of the status stands below a line that says why."""
     bad = write(tmp_path / "bad.toml", {}, workers=17)
-    assert ended([program, "check", bad]) == (1, "settings: out of range output[0].workers\n")
-    assert ended([program, "run", bad]) == (1, "settings: out of range output[0].workers\n")
-    assert ended([program, "check", tmp_path / "none.toml"]) == (1, "settings: unreadable\n")
+    none = tmp_path / "none.toml"
+    faults = [(bad, "out of range output[0].workers"), (none, "unreadable")]
+    for path, fault in faults:
+        for word in ("check", "run"):
+            status, told = ended([program, word, path])
+            assert status == 1 and re.fullmatch(f"settings: {path}[ :].+\nsettings: {re.escape(fault)}\n", told), told
 
 
 def test_calls(program):
@@ -72,7 +75,9 @@ def test_starts_that_fail(program, relay, next_hop, tmp_path):
     for key in ("listen", "monitor"):
         keys = {"listen": f"127.0.0.1:{free_ports(1)[0]}"} | {key: f"127.0.0.1:{other.port}"}
         path = write(tmp_path / f"{key}.toml", keys)
-        assert ended([program, "run", path, "1"]) == (4, f"listen: 127.0.0.1:{other.port}\n")
+        line = f"listen: 127.0.0.1:{other.port}"
+        status, told = ended([program, "run", path, "1"])
+        assert status == 4 and re.fullmatch(f"{line}: .+\n{line}\n", told), told
 
 
 def test_no_memory(program, shim, tmp_path):

@@ -26,17 +26,18 @@ def told(program):
 
 
 def refused(told, path, status, asked, *words):
-    """A run that is refused says what it is asked to, and with the journal on, before that, why."""
-    assert told("run", path, journal=False) == (status, [asked])
-    ended, lines = told("run", path)
+    """A run that is refused says what it is asked to, and before that why, also without a journal."""
+    ended, lines = told("run", path, journal=False)
     assert ended == status and lines[-1] == asked and len(lines) == 2, lines
     for word in words:
         assert re.search(word, lines[0]), lines[0]
+    ended, journal = told("run", path)
+    assert ended == status and [line for line in journal if not line.startswith(("started: ", "stopped: "))] == lines
 
 
 def written(path, relay, **output):
     """A file of settings."""
-    path.write_text(settings(relay, [{"servers": [9]} | output]))
+    path.write_text(settings(relay, [{"servers": [9], "chunk_limit": 5_000_000} | output]))
     return path
 
 
@@ -60,7 +61,7 @@ def test_address_in_use(told, tmp_path, key):
         _, lines = told("run", path)
         assert lines[-1] == f"listen: {address}", lines
         assert re.search("(?i)in use|addrinuse", lines[-2]), lines
-        assert told("run", path, journal=False) == (4, [f"listen: {address}"])
+        assert told("run", path, journal=False) == (4, lines[-2:])
 
 
 def test_address_of_another_machine(told, tmp_path):
@@ -70,15 +71,15 @@ def test_address_of_another_machine(told, tmp_path):
     refused(told, path, 4, f"listen: {address}", re.escape(address), "(?i)assign|not ?avail")
 
 
-def cautions(told, path):
+def cautions(told, path, journal=True):
     """What `check` warns of."""
-    status, lines = told("check", path)
+    status, lines = told("check", path, journal)
     assert status == 0
     return lines
 
 
 def test_cautions(told, tmp_path):
-    """Each is told once, and of settings that are not foolish nothing is."""
+    """Each is told once, with a journal or without, and of settings that are not foolish nothing is."""
     one, other = (f"127.0.0.1:{port}" for port in free_ports(2))
     path = tmp_path / "settings.toml"
     assert cautions(told, written(path, {"listen": one, "monitor": other})) == []
@@ -86,8 +87,9 @@ def test_cautions(told, tmp_path):
         (f"listen and monitor are both {one}", {"listen": one, "monitor": one}, {}),
         (f"server {one} is the relay itself", {"listen": one}, {"servers": [int(one.rpartition(":")[2])]}),
         ("chunk_limit 2000 above total_limit 1000", {"listen": one}, {"chunk_limit": 2000, "total_limit": 1000}),
-        ("workers 2 for servers 1", {"listen": one}, {"workers": 2}),
+        ("workers 1 for servers 2", {"listen": one}, {"servers": [9, 10]}),
     ]
     for words, relay, output in foolish:
-        lines = cautions(told, written(path, relay, **output))
-        assert len(lines) == 1 and lines[0].startswith("caution: ") and words in lines[0], lines
+        for journal in (False, True):
+            lines = cautions(told, written(path, relay, **output), journal)
+            assert len(lines) == 1 and lines[0].startswith("caution: ") and words in lines[0], lines

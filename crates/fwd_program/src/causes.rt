@@ -3,7 +3,7 @@
 
 use crate::ending::RunEnd;
 use crate::file::SettingsFile;
-use crate::finding::{line_at, line_of, value_at};
+use crate::key_lines::{line_at, line_of, value_at};
 use crate::saying::say;
 use crate::sections::{Allowed, Section};
 use fwd_loop::StartFault;
@@ -95,15 +95,15 @@ fn tell_unknown<W: fmt::Write>(f: &mut fmt::Formatter<W>, key: &str) -> fmt::Res
 
 /// Why the settings in a file are refused, and the line of it, where one is known.
 #[derive(Clone, Copy)]
-struct Refusal<'a> {
+struct Cause<'a> {
     path: &'a str,
     line: Option<usize>,
     why: Why<'a>,
 }
 
-impl fmt::Display for Refusal<'_> {
+impl fmt::Display for Cause<'_> {
     fn fmt<W: fmt::Write>(&self, f: &mut fmt::Formatter<W>) -> fmt::Result {
-        let Refusal { path, line, why } = self;
+        let Cause { path, line, why } = self;
         write!(f, "settings: {path}")?;
         if let Some(line) = line {
             write!(f, " line {line}")?;
@@ -157,12 +157,12 @@ fn table_of(key: &str) -> Option<&str> {
 }
 
 /// Why a text that is TOML is refused with a fault, and where.
-fn key_refusal<'a>(
+fn key_cause<'a>(
     alloc: Global,
     file: (&'a str, &[u8]),
     root: &Table,
     fault: &'a SettingsFault,
-) -> Option<Refusal<'a>> {
+) -> Option<Cause<'a>> {
     let (path, text) = file;
     let (why, place) = match fault {
         SettingsFault::Missing(key) => (Why::Missing(key.as_str()), table_of(key.as_str())),
@@ -182,22 +182,22 @@ fn key_refusal<'a>(
         Some(key) => line_of(alloc, text, key),
         None => None,
     };
-    Some(Refusal { path, line, why })
+    Some(Cause { path, line, why })
 }
 
 /// Why a text is refused with a fault, and where, if that can be found.
-fn refusal<'a>(
+fn cause_of<'a>(
     alloc: Global,
     path: &'a str,
     text: &[u8],
     fault: &'a SettingsFault,
-) -> Option<Refusal<'a>> {
+) -> Option<Cause<'a>> {
     match toml::table_from_slice(alloc, text) {
-        Ok(root) => key_refusal(alloc, (path, text), &root, fault),
+        Ok(root) => key_cause(alloc, (path, text), &root, fault),
         Err(error) => {
             let line = Some(line_at(text, error.span()?.start));
             let why = Why::NotToml(error);
-            Some(Refusal { path, line, why })
+            Some(Cause { path, line, why })
         }
     }
 }
@@ -209,16 +209,19 @@ pub(crate) fn say_refused<E: Write>(
     fault: &SettingsFault,
     errors: &mut E,
 ) {
+    if let SettingsFault::Memory = fault {
+        return;
+    }
     let path = file.path;
     match &file.text {
         Ok(text) => {
-            if let Some(refusal) = refusal(alloc, path, text.as_slice(), fault) {
-                say(errors, &refusal);
+            if let Some(cause) = cause_of(alloc, path, text.as_slice(), fault) {
+                say(errors, &cause);
             }
         }
         Err(error) => {
             let (line, why) = (None, Why::Unread(error));
-            say(errors, &Refusal { path, line, why });
+            say(errors, &Cause { path, line, why });
         }
     }
 }

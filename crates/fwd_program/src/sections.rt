@@ -1,5 +1,8 @@
 //! The tables of the settings, their keys, and what may stand under each key.
 
+ghost use Rattle.std.specs.Prelude.{◌≡◌, map};
+ghost use Rattle.fwd_program.specs.Sections.{names_in};
+
 use fwd_settings::ranges::{
     CHUNK_LIMIT_MAX, CONNECTIONS_MAX, DEPTH_MAX, DEPTH_MIN, MESSAGE_LIMIT_MAX, MESSAGE_LIMIT_MIN,
     NAME_MAX, OUTPUTS_MAX, RETRY_WAIT_DEFAULT, SERVERS_MAX, SHARED_KEY_MAX, TOTAL_LIMIT_MAX,
@@ -231,7 +234,9 @@ static SECTIONS: [Section; 4] = [
 
 impl Section {
     /// Its keys.
-    pub fn rules(self) -> &'static [KeyRule] {
+    pub fn rules(self) -> &'static [KeyRule]
+        ensures { map (λ rule. rule.name.now) result.now ≡ names_in self }
+    {
         match self {
             Section::Root => &ROOT,
             Section::Relay => &RELAY,

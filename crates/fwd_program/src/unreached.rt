@@ -21,6 +21,23 @@ fn match_text(root: &Table, output: usize) -> Option<&str> {
     outputs.get(output)?.as_table()?.get("match")?.as_str()
 }
 
+/// Adds a text to words, with each of the alternatives and then the tail behind it.
+fn add_each(
+    words: &mut Vec<String>,
+    alloc: Global,
+    text: &str,
+    alternatives: &str,
+    tail: &str,
+) -> Result<(), AllocError> {
+    for alternative in alternatives.split(',') {
+        let mut word = String::from_str(alloc, text)?;
+        word.push_str(alternative)?;
+        word.push_str(tail)?;
+        words.push(word)?;
+    }
+    Ok(())
+}
+
 /// The texts, each with one of the alternatives and then the tail behind it.
 fn with_each(
     alloc: Global,
@@ -28,16 +45,11 @@ fn with_each(
     alternatives: &str,
     tail: &str,
 ) -> Result<Vec<String>, AllocError> {
-    let mut all = Vec::new(alloc);
+    let mut words = Vec::new(alloc);
     for text in texts {
-        for alternative in alternatives.split(',') {
-            let mut word = String::from_str(alloc, text.as_str())?;
-            word.push_str(alternative)?;
-            word.push_str(tail)?;
-            all.push(word)?;
-        }
+        add_each(&mut words, alloc, text.as_str(), alternatives, tail)?;
     }
-    Ok(all)
+    Ok(words)
 }
 
 /// The words that a word with braces stands for.
@@ -50,22 +62,26 @@ fn expanded(alloc: Global, word: &str) -> Result<Vec<String>, AllocError> {
     Ok(words)
 }
 
+/// Puts a part behind a tag's front, so many times, each with a dot behind it.
+fn add_part(front: &mut String, part: &str, times: usize) -> Result<(), AllocError> {
+    for _ in 0..times {
+        front.push_str(part)?;
+        front.push_str(".")?;
+    }
+    Ok(())
+}
+
 /// The tag of a word, with so many parts in place of each `**`.
 fn tag_of(alloc: Global, word: &str, count: usize) -> Result<String, AllocError> {
     let mut tag = String::new(alloc);
-    let mut mark = "";
     for part in word.split('.') {
-        let (part, times) = if part == "**" {
-            (OTHER, count)
+        if part == "**" {
+            add_part(&mut tag, OTHER, count)?;
         } else {
-            (part, 1)
-        };
-        for _ in 0..times {
-            tag.push_str(mark)?;
-            tag.push_str(part)?;
-            mark = ".";
+            add_part(&mut tag, part, 1)?;
         }
     }
+    let _last_dot = tag.pop();
     Ok(tag)
 }
 
@@ -96,6 +112,21 @@ fn take_word(
     Ok(true)
 }
 
+/// Whether some of the outputs take each tag that a word stands for, whose braces are not expanded.
+fn take_group(
+    alloc: Global,
+    outputs: &[OutputSettings],
+    group: &str,
+    parts: usize,
+) -> Result<bool, AllocError> {
+    for word in &expanded(alloc, group)? {
+        if !take_word(alloc, outputs, word.as_str(), parts)? {
+            return Ok(false);
+        }
+    }
+    Ok(true)
+}
+
 /// Whether some of the outputs take each tag that a pattern's text stands for.
 fn take_pattern(
     alloc: Global,
@@ -104,12 +135,8 @@ fn take_pattern(
     parts: usize,
 ) -> Result<bool, AllocError> {
     for group in text.split([' ', '\t']) {
-        if !group.is_empty() {
-            for word in &expanded(alloc, group)? {
-                if !take_word(alloc, outputs, word.as_str(), parts)? {
-                    return Ok(false);
-                }
-            }
+        if !group.is_empty() && !take_group(alloc, outputs, group, parts)? {
+            return Ok(false);
         }
     }
     Ok(true)
