@@ -18,45 +18,89 @@ ADDRESS = "a numeric address and a port from 1 to 65535"
 # What is wrong, the text, the line, and words that have to be there beside the key.
 REFUSED = {
     "a bracket that is missing": ('[relay\nlisten = "127.0.0.1:1"\n' + BOTH, 1, ["no TOML", "]"]),
-    "a key twice": ('[relay]\nlisten = "127.0.0.1:1"\nlisten = "127.0.0.1:2"\n' + BOTH, 3, ["no TOML", "duplicate key"]),
+    "a key twice": (
+        '[relay]\nlisten = "127.0.0.1:1"\nlisten = "127.0.0.1:2"\n' + BOTH,
+        3,
+        ["no TOML", "duplicate key"],
+    ),
     "a text without quotes": (OUTPUT + "hostname = relay\n" + SERVER, 3, ["no TOML", "expected a string"]),
     "another encoding": (b'[relay]\nhostname = "caf\xe9"\n' + BOTH.encode(), 2, ["no TOML", "UTF-8"]),
     "nothing": ("", None, ["output is required", "[[output]]"]),
     "one bracket in place of two": ('[output]\nmatch = "**"\n', 1, ["output is refused", "[[output]]"]),
-    "so of a server": (OUTPUT + '[output.server]\naddress = "127.0.0.1:1"\n', 3, ["server is refused", "[[output.server]]"]),
+    "so of a server": (
+        OUTPUT + '[output.server]\naddress = "127.0.0.1:1"\n',
+        3,
+        ["server is refused", "[[output.server]]"],
+    ),
     "two in place of one": ("[[relay]]\ndepth = 8\n" + BOTH, 1, ["relay is refused", "[relay]"]),
     "a name for an address": ('[relay]\nlisten = "localhost:24224"\n' + BOTH, 2, ["relay.listen is refused", ADDRESS]),
     "no port": ('[relay]\nmonitor = "127.0.0.1"\n' + BOTH, 2, ["relay.monitor is refused", ADDRESS]),
-    "a server's name": (BOTH.replace("192.0.2.1", "logs.example"), 4, ["output[0].server[0].address is refused", ADDRESS]),
-    "no match": ("[relay]\n\n[[output]]\nworkers = 1\n" + SERVER, 3, ["output[0].match is required", "a match pattern"]),
+    "a server's name": (
+        BOTH.replace("192.0.2.1", "logs.example"),
+        4,
+        ["output[0].server[0].address is refused", ADDRESS],
+    ),
+    "no match": (
+        "[relay]\n\n[[output]]\nworkers = 1\n" + SERVER,
+        3,
+        ["output[0].match is required", "a match pattern"],
+    ),
     "no server": (OUTPUT + "workers = 2\n", 1, ["output[0].server is required", "1 to 16"]),
-    "no address": (BOTH + "[[output.server]]\nstandby = true\n", 5, ["output[0].server[1].address is required", ADDRESS]),
+    "no address": (
+        BOTH + "[[output.server]]\nstandby = true\n",
+        5,
+        ["output[0].server[1].address is required", ADDRESS],
+    ),
     "too many": (OUTPUT + "workers = 17\n" + SERVER, 3, ["output[0].workers is refused", "1 to 16"]),
     "a number in quotes": (OUTPUT + 'workers = "4"\n' + SERVER, 3, ["output[0].workers is refused", "a whole number"]),
-    "a time with its unit": (OUTPUT + 'ack_wait = "5s"\n' + SERVER, 3, ["output[0].ack_wait", "a whole number of milliseconds"]),
+    "a time with its unit": (
+        OUTPUT + 'ack_wait = "5s"\n' + SERVER,
+        3,
+        ["output[0].ack_wait", "a whole number of milliseconds"],
+    ),
     "a greatest wait below the first": (
-        OUTPUT + "retry_wait = 5000\nretry_max = 1000\n" + SERVER, 4, ["output[0].retry_max is refused", "from retry_wait"],
+        OUTPUT + "retry_wait = 5000\nretry_max = 1000\n" + SERVER,
+        4,
+        ["output[0].retry_max is refused", "from retry_wait"],
     ),
     "standbys alone": (BOTH + "standby = true\n", 3, ["output[0].server has no server that is not a standby"]),
     "a text for a truth": (BOTH + 'standby = "yes"\n', 5, ["output[0].server[0].standby is refused", "true or false"]),
     "users without a key": (
-        '[[relay.user]]\nname = "a"\npassword = "b"\n' + BOTH, 1, ["relay.user needs a shared_key in [relay]"],
+        '[[relay.user]]\nname = "a"\npassword = "b"\n' + BOTH,
+        1,
+        ["relay.user needs a shared_key in [relay]"],
     ),
     "no password": (
-        '[relay]\nshared_key = "k"\n[[relay.user]]\nname = "a"\n' + BOTH, 3, ["relay.user[0].password is required", "1 to 255 bytes"],
+        '[relay]\nshared_key = "k"\n[[relay.user]]\nname = "a"\n' + BOTH,
+        3,
+        ["relay.user[0].password is required", "1 to 255 bytes"],
     ),
     "an empty key": ('[relay]\nshared_key = ""\n' + BOTH, 2, ["relay.shared_key is refused", "1 to 1024 bytes"]),
-    "a star inside a part": (BOTH.replace("**", "app.*.log-*"), 2, ["output[0].match is no match pattern", "`*` inside a part"]),
+    "a star inside a part": (
+        BOTH.replace("**", "app.*.log-*"),
+        2,
+        ["output[0].match is no match pattern", "`*` inside a part"],
+    ),
     "a brace that does not close": (BOTH.replace("**", "a.{b,c"), 2, ["output[0].match is no match pattern", "braces"]),
     "no word": (BOTH.replace("**", ""), 2, ["output[0].match is no match pattern", "no word"]),
-    "a key misspelled": (OUTPUT + "flush_intervall = 5\n" + SERVER, 3, ["output[0].flush_intervall is no key", " flush_interval,"]),
-    "a key in another table": (OUTPUT + "connections = 5\n" + SERVER, 3, ["connections is no key", "stands in [relay]"]),
+    "a key misspelled": (
+        OUTPUT + "flush_intervall = 5\n" + SERVER,
+        3,
+        ["output[0].flush_intervall is no key", " flush_interval,"],
+    ),
+    "a key in another table": (
+        OUTPUT + "connections = 5\n" + SERVER,
+        3,
+        ["connections is no key", "stands in [relay]"],
+    ),
     "a key above all tables": ('listen = "127.0.0.1:1"\n' + BOTH, 1, ["listen is no key", "stands in [relay]"]),
     "a key below the servers": (BOTH + "workers = 3\n", 5, ["stands in [[output]], above [[output.server]]"]),
     "few digits": ('[relay]\nrun_id = "abc"\n' + BOTH, 2, ["relay.run_id is refused", "12 hexadecimal digits"]),
     "a number for digits": ("[relay]\nseed = 12\n" + BOTH, 2, ["relay.seed is refused", "64 hexadecimal digits"]),
     "a list within a line": (
-        OUTPUT + 'server = [\n  { address = "192.0.2.1:1" },\n  { address = "x" },\n]\n', 6, ["output[0].server[1].address", ADDRESS],
+        OUTPUT + 'server = [\n  { address = "192.0.2.1:1" },\n  { address = "x" },\n]\n',
+        6,
+        ["output[0].server[1].address", ADDRESS],
     ),
 }
 
@@ -89,7 +133,9 @@ def checked(program, tmp_path):
         path = tmp_path / "relay.toml"
         path.write_bytes(text if isinstance(text, bytes) else text.encode())
         env = {key: value for key, value in os.environ.items() if key != "FORWARD_RELAY_LOG"}
-        done = subprocess.run([program, "check", path.name], cwd=tmp_path, env=env, capture_output=True, text=True, timeout=60)
+        done = subprocess.run(
+            [program, "check", path.name], cwd=tmp_path, env=env, capture_output=True, text=True, timeout=60
+        )
         return done.returncode, done.stdout, done.stderr.splitlines()
 
     return check
@@ -153,13 +199,19 @@ def test_outputs_that_get_nothing(checked, patterns):
     """An output is cautioned of where each tag that it takes goes to one before it, and nowhere else."""
     status, printed, told = checked("".join(BOTH.replace("**", pattern) for pattern in patterns))
     assert (status, printed) == (0, f"settings are good, outputs: {len(patterns)}\n")
-    assert told == [f"caution: output {output} gets nothing: its tags all go to outputs before it" for output in PATTERNS[patterns]]
+    assert told == [
+        f"caution: output {output} gets nothing: its tags all go to outputs before it" for output in PATTERNS[patterns]
+    ]
 
 
-@pytest.mark.parametrize(("workers", "servers", "standbys", "idle"), [(1, 3, 0, 2), (2, 2, 0, 0), (4, 1, 0, 0), (1, 1, 3, 0)])
+@pytest.mark.parametrize(
+    ("workers", "servers", "standbys", "idle"), [(1, 3, 0, 2), (2, 2, 0, 0), (4, 1, 0, 0), (1, 1, 3, 0)]
+)
 def test_servers_that_get_nothing(checked, workers, servers, standbys, idle):
     """Fewer workers than servers that are no standby are cautioned of, and more are not."""
     text = OUTPUT + f"workers = {workers}\n" + SERVER * servers + (SERVER + "standby = true\n") * standbys
     status, _, told = checked(text)
-    line = f"caution: output 0 workers {workers} for servers {servers}: the last {idle} get nothing until another is lost"
+    line = (
+        f"caution: output 0 workers {workers} for servers {servers}: the last {idle} get nothing until another is lost"
+    )
     assert (status, told) == (0, [line] if idle else [])
