@@ -1,67 +1,40 @@
 #!/usr/bin/env python3
 """How long a request of one entry takes through the relay and back, and what idle workers cost.
 
-    python3 bench/latency.py PROGRAM [REQUESTS]
+    /usr/bin/python3 bench/latency.py PROGRAM [REQUESTS]
 
-PROGRAM is a built forward_relay, as crates/forward_relay/out/forward_relay. It runs on free ports of
+It needs python3-msgpack. PROGRAM is a built forward_relay, as crates/forward_relay/out/forward_relay. It runs on free ports of
 127.0.0.1, and this script plays the one source and the next hop, one request after the other with 20 ms
 between them: `there` is from the source's write until the next hop has the frame, `back` from the next
 hop's acknowledgement until the source has its own. Once chunks are closed by time (flush_interval 0), and
 once by size alone, each by the request behind it. Then 16 workers with sessions stand idle for 10 s.
 """
-import os
+
 import pathlib
 import socket
-import subprocess
 import sys
 import tempfile
 import time
 
-SETTINGS = """[relay]
-listen = "127.0.0.1:{port}"
-[[output]]
-match = "**"
-flush_interval = {interval}
-chunk_limit = {limit}
-workers = {workers}
-[[output.server]]
-address = "127.0.0.1:{server}"
-"""
-
-
-def free_port():
-    with socket.socket() as one:
-        one.bind(("127.0.0.1", 0))
-        return one.getsockname()[1]
-
-
-def quick(stream):
-    stream.setsockopt(socket.IPPROTO_TCP, socket.TCP_NODELAY, 1)
-    stream.settimeout(30)
-    return stream
+sys.path[:0] = [str(pathlib.Path(__file__).resolve().parents[1] / part) for part in ("tests", "tools")]
+from forward import Stream, connect  # noqa: E402
+from relay import Relay  # noqa: E402
 
 
 class Site:
     """A relay, its source, and the listener of its next hop."""
 
     def __init__(self, program, folder, interval, limit, workers):
-        port = free_port()
         self.server = socket.create_server(("127.0.0.1", 0))
         self.server.settimeout(30)
-        path = pathlib.Path(folder) / "relay.toml"
-        server = self.server.getsockname()[1]
-        path.write_text(SETTINGS.format(port=port, interval=interval, limit=limit, workers=workers, server=server))
-        self.relay = subprocess.Popen([*program.split(), "run", str(path)])
-        for _ in range(200):
-            try:
-                self.source = quick(socket.create_connection(("127.0.0.1", port)))
-                return
-            except OSError:
-                time.sleep(0.05)
-        raise SystemExit("the relay does not listen")
+        keys = {"flush_interval": interval, "chunk_limit": limit, "workers": workers}
+        outputs = [{"servers": [self.server.getsockname()[1]], **keys}]
+        self.relay = Relay(program, folder, outputs, environment={"FORWARD_RELAY_LOG": ""}).start()
+        self.source = connect(self.relay.port).link
 
     def accept(self):
-        return quick(self.server.accept()[0])
+        """The next connection of the relay."""
+        return Stream(self.server.accept()[0]).link
 
     def send(self, number):
         """A Message under the tag `a`, whose entry has 47 bytes."""
@@ -69,13 +42,14 @@ class Site:
         self.source.sendall(b"\x94\xa1a\xce\x00\x00\x00\x01" + record + b"\x81\xa5chunk\xa4%04d" % number)
 
     def told(self, number):
+        """Waits for the acknowledgement of a request."""
         got = self.source.recv(4096)
         if got != b"\x81\xa3ack\xa4%04d" % number:
             raise SystemExit(f"told {got!r}")
 
     def close(self):
-        self.relay.terminate()
-        self.relay.wait()
+        """Ends the relay."""
+        self.relay.kill()
 
 
 def frame(link):
@@ -87,6 +61,7 @@ def frame(link):
 
 
 def acknowledge(link, name):
+    """Acknowledges a chunk by its name."""
     link.sendall(b"\x81\xa3ack\xb8" + name)
 
 
@@ -121,11 +96,6 @@ def measure(name, site, count, lag):
     site.close()
 
 
-def processor(pid):
-    fields = pathlib.Path(f"/proc/{pid}/stat").read_text().rsplit(")", 1)[1].split()
-    return (int(fields[11]) + int(fields[12])) / os.sysconf("SC_CLK_TCK")
-
-
 def idle(site, workers):
     links = []
     for number in range(workers):
@@ -136,9 +106,9 @@ def idle(site, workers):
     for link, name in links:
         acknowledge(link, name)
     time.sleep(1)
-    before = processor(site.relay.pid)
+    before = site.relay.processor()
     time.sleep(10)
-    spent = processor(site.relay.pid) - before
+    spent = site.relay.processor() - before
     print(f"{workers} idle workers: %.1f %% of one core" % (10 * spent))
     site.close()
 

@@ -87,6 +87,7 @@ tick=$(getconf CLK_TCK)
     RELAY=$PWD/crates/forward_relay/out/forward_relay
 }
 
+# shellcheck disable=SC3045
 ulimit -n "$(ulimit -H -n)"
 
 folder=$(mktemp -d)
@@ -103,6 +104,7 @@ family() {
 # ends a process and its children, by their ids
 end() {
     [ -z "$1" ] || {
+        # shellcheck disable=SC2046
         kill -TERM $(family "$1") 2>/dev/null || true
         wait "$1" 2>/dev/null || true
     }
@@ -223,6 +225,7 @@ cpu_of() {
 
 memory_of() {
     # one that has ended by now is left out
+    # shellcheck disable=SC2046
     cat $(family "$1" | tr ' ' '\n' | sed '/./!d; s:.*:/proc/&/status:') 2>/dev/null |
         awk '/^VmHWM/ { sum += $2 } END { printf "%.1f", sum * 1024 / 1e6 }'
 }

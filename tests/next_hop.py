@@ -1,10 +1,10 @@
 #!/usr/bin/python3
 """A next hop: what it does with the chunks that it gets is said by a function, as those below.
 
-    /usr/bin/python3 tests/next_hop.py PORT
+    /usr/bin/python3 tests/next_hop.py PORT [quiet|silent]
 
-run so, it shows each entry on a line (its tag, its time, its record), and acknowledges each chunk. It
-needs Debian's python3-msgpack.
+run so, it shows each entry on a line (its tag, its time, its record), and acknowledges each chunk. A quiet one
+shows nothing, and a silent one does not acknowledge either. It needs Debian's python3-msgpack.
 """
 
 import contextlib
@@ -186,6 +186,11 @@ def show(frame):
         print(tag, shown(moment), record, flush=True)
 
 
+def pass_over(_frame):
+    """Shows nothing of a frame."""
+
+
 if __name__ == "__main__":
-    NextHop(int(sys.argv[1]), take=show)
+    words = sys.argv[2:]
+    NextHop(int(sys.argv[1]), keep_silent if words == ["silent"] else acknowledge, take=pass_over if words else show)
     threading.Event().wait()

@@ -196,7 +196,10 @@ def main():
     parser.add_argument("page", type=page_url, help="the monitor's page, as http://127.0.0.1:8080/")
     parser.add_argument("port", nargs="?", type=port_number, help="serve at this port of 127.0.0.1")
     parser.add_argument(
-        "--tags", type=tag_count, default=TAGS, metavar="N",
+        "--tags",
+        type=tag_count,
+        default=TAGS,
+        metavar="N",
         help=f"how many tags of an output make series of their own ({TAGS})",
     )
     arguments = parser.parse_args()

@@ -11,9 +11,7 @@ from urllib.parse import urlsplit
 TIMEOUT = 5  # seconds that a relay has to answer
 
 NUMBER = rb"(0|[1-9][0-9]{0,19})"
-OUTPUT_LINE = re.compile(
-    rb"output %b accepted %b settled %b held %b bytes %b chunks %b" % ((NUMBER,) * 6)
-)
+OUTPUT_LINE = re.compile(rb"output %b accepted %b settled %b held %b bytes %b chunks %b" % ((NUMBER,) * 6))
 TAG_LINE = re.compile(rb"tag (-|(?:[0-9a-f]{2})+) held %b bytes %b" % ((NUMBER,) * 2))
 
 # A relay is asked itself, whatever proxy the environment names.

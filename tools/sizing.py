@@ -174,7 +174,10 @@ def main():
             base = one.files() - a_worker
             a_session = sessions(program, folder)
             print(f"\nA relay with one output and one worker, and nothing held: {one.before:,} bytes.")
-            print(f"Files: {base:.0f}, each connection {a_connection:.0f}, each worker {a_worker:.0f}, with a session", end=" ")
+            print(
+                f"Files: {base:.0f}, each connection {a_connection:.0f}, each worker {a_worker:.0f}, with a session",
+                end=" ",
+            )
             print(f"{a_worker + a_session:.0f}.")
 
 

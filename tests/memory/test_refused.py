@@ -107,7 +107,9 @@ def test_calls(scripts, shim):
         called.update(lines[place] for place in told)
         again = [line for place, line in enumerate(lines) if place not in told]
         assert run.status == 0 and again == wants and len(told) <= 1, f"refused at {number}: {run}"
-        assert all(lines[place + 1].startswith(lines[place][: -len(b"memory")]) for place in told), f"refused at {number}"
+        assert all(
+            lines[place + 1].startswith(lines[place][: -len(b"memory")]) for place in told
+        ), f"refused at {number}"
     names = {line.split(b":")[0] for line in wants}
     assert {name for name in names if name + b": memory" not in called} == set(), "never refused"
 

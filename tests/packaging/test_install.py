@@ -38,7 +38,6 @@ def test_put_in_place_and_taken_away(install, tmp_path):
     checked = [prefix / "sbin/forward_relay", "check", prefix / "etc/forward_relay/relay.toml"]
     assert subprocess.run(checked, capture_output=True).returncode == 0
     assert (prefix / "etc/forward_relay/relay.toml").stat().st_mode & 0o777 == 0o600
-    unit = (prefix / "lib/systemd/system/forward_relay.service").read_text()
     assert install("--uninstall").returncode == 0
     assert files(prefix) == set()
 

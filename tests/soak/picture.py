@@ -1,7 +1,7 @@
 #!/usr/bin/env python3
-"""Draws the lines of tools/soak.sh as a picture.
+"""Draws the lines of a soak (test_soak.py) as a picture.
 
-    python3 tools/soak_picture.py < LINES > PICTURE.svg
+    python3 tests/soak/picture.py < LINES > PICTURE.svg
 
 A panel each for entries a second, resident memory, open files, processor time and what is not acknowledged, over the
 minutes. Lines that are no minute's are passed over. It ends with 1 where there is none.

@@ -17,10 +17,8 @@ USER = '[[relay.user]]\nname = "n"\npassword = "p"\n'
 FRAMES = {
     "relay": ("[relay]\n{}\n" + MATCH + SERVER, "relay."),
     "keyed": ("[relay]\n" + KEY + "{}\n" + MATCH + SERVER, "relay."),
-    "unnamed": ("[relay]\n" + KEY + USER + '[[relay.user]]\npassword = "p"\n{}\n' + MATCH + SERVER,
-                "relay.user[1]."),
-    "named": ("[relay]\n" + KEY + USER + '[[relay.user]]\nname = "n"\n{}\n' + MATCH + SERVER,
-              "relay.user[1]."),
+    "unnamed": ("[relay]\n" + KEY + USER + '[[relay.user]]\npassword = "p"\n{}\n' + MATCH + SERVER, "relay.user[1]."),
+    "named": ("[relay]\n" + KEY + USER + '[[relay.user]]\nname = "n"\n{}\n' + MATCH + SERVER, "relay.user[1]."),
     "output": (MATCH + "{}\n" + SERVER, "output[0]."),
     "unmatched": ("[[output]]\n{}\n" + SERVER, "output[0]."),
     "unserved": (MATCH + "{}\n", "output[0]."),
@@ -63,9 +61,14 @@ def beside(frame, key, good, other_kind):
 
 
 for frame, told in [
-    ("relay", "good"), ("keyed", "good"), ("output", "good"), ("second", "good"),
-    ("unnamed", "missing relay.user[1].name"), ("named", "missing relay.user[1].password"),
-    ("unmatched", "missing output[0].match"), ("unserved", "missing output[0].server"),
+    ("relay", "good"),
+    ("keyed", "good"),
+    ("output", "good"),
+    ("second", "good"),
+    ("unnamed", "missing relay.user[1].name"),
+    ("named", "missing relay.user[1].password"),
+    ("unmatched", "missing output[0].match"),
+    ("unserved", "missing output[0].server"),
     ("unreached", "missing output[0].server[1].address"),
 ]:
     lines(frame, "", told)
@@ -73,29 +76,69 @@ for frame, told in [
 # ---- addresses
 for frame, key in [("relay", "listen"), ("relay", "monitor"), ("unreached", "address")]:
     values(frame, key, ["1", "1.5", "true", "[]", "{}"], "wrong kind")
-    values(frame, key, [f'"{a}"' for a in [
-        "127.0.0.1:1", "127.0.0.1:65535", "[::1]:1", "[::1]:65535", "0.0.0.0:1",
-        "255.255.255.255:1"]], "good")
-    values(frame, key, [f'"{a}"' for a in [
-        "127.0.0.1:0", "127.0.0.1:65536", "[::1]:0", "[::1]:65536", "256.0.0.1:1", "127.0.0.1",
-        "127.0.0.1:", "127.0.0.1:1 ", "[127.0.0.1]:1", "localhost:1", "::1:1", "[::1]",
-        "[fe80::1%1]:1", "[fe80::1%0]:1", ""]], "out of range")
+    values(
+        frame,
+        key,
+        [
+            f'"{a}"'
+            for a in ["127.0.0.1:1", "127.0.0.1:65535", "[::1]:1", "[::1]:65535", "0.0.0.0:1", "255.255.255.255:1"]
+        ],
+        "good",
+    )
+    values(
+        frame,
+        key,
+        [
+            f'"{a}"'
+            for a in [
+                "127.0.0.1:0",
+                "127.0.0.1:65536",
+                "[::1]:0",
+                "[::1]:65536",
+                "256.0.0.1:1",
+                "127.0.0.1",
+                "127.0.0.1:",
+                "127.0.0.1:1 ",
+                "[127.0.0.1]:1",
+                "localhost:1",
+                "::1:1",
+                "[::1]",
+                "[fe80::1%1]:1",
+                "[fe80::1%0]:1",
+                "",
+            ]
+        ],
+        "out of range",
+    )
 
 # ---- texts, whose lengths count bytes
 for frame, key, empty in [
-    ("relay", "hostname", "out of range"), ("unnamed", "name", "out of range"),
-    ("named", "password", "out of range"), ("output", "hostname", "out of range"),
-    ("output", "username", "good"), ("output", "password", "good"),
+    ("relay", "hostname", "out of range"),
+    ("unnamed", "name", "out of range"),
+    ("named", "password", "out of range"),
+    ("output", "hostname", "out of range"),
+    ("output", "username", "good"),
+    ("output", "password", "good"),
 ]:
-    for part, times, flaw in [("a", 0, empty), ("a", 1, "good"), ("a", 255, "good"),
-                              ("a", 256, "out of range"), ("\u00e9", 127, "good"),
-                              ("\u00e9", 128, "out of range")]:
+    for part, times, flaw in [
+        ("a", 0, empty),
+        ("a", 1, "good"),
+        ("a", 255, "good"),
+        ("a", 256, "out of range"),
+        ("\u00e9", 127, "good"),
+        ("\u00e9", 128, "out of range"),
+    ]:
         value(frame, key, f'"{part * times}"', flaw)
     values(frame, key, ["1", "0.5", "false", "[]", "{}"], "wrong kind")
 for frame in ["relay", "output"]:
-    for part, times, flaw in [("a", 0, "out of range"), ("a", 1, "good"), ("a", 1024, "good"),
-                              ("a", 1025, "out of range"), ("\u00e9", 512, "good"),
-                              ("\u00e9", 513, "out of range")]:
+    for part, times, flaw in [
+        ("a", 0, "out of range"),
+        ("a", 1, "good"),
+        ("a", 1024, "good"),
+        ("a", 1025, "out of range"),
+        ("\u00e9", 512, "good"),
+        ("\u00e9", 513, "out of range"),
+    ]:
         value(frame, "shared_key", f'"{part * times}"', flaw)
     values(frame, "shared_key", ["1", "0.5", "false", "[]", "{}"], "wrong kind")
 
@@ -122,11 +165,16 @@ value("relay", "seed", f'"{"0" * 12}"', "out of range")
 
 # ---- numbers: one below the range, at its ends, and one above
 for frame, key, least, most in [
-    ("relay", "connections", 1, 1024), ("relay", "message_limit", 1024, 67108864),
-    ("relay", "depth", 8, 128), ("output", "workers", 1, 16),
-    ("output", "chunk_limit", 1, 16000000), ("output", "total_limit", 1, 1000000000000),
-    ("output", "flush_interval", 0, 86400000), ("output", "retry_wait", 1, 86400000),
-    ("output", "retry_max", 1000, 86400000), ("output", "ack_wait", 1, 86400000),
+    ("relay", "connections", 1, 1024),
+    ("relay", "message_limit", 1024, 67108864),
+    ("relay", "depth", 8, 128),
+    ("output", "workers", 1, 16),
+    ("output", "chunk_limit", 1, 16000000),
+    ("output", "total_limit", 1, 1000000000000),
+    ("output", "flush_interval", 0, 86400000),
+    ("output", "retry_wait", 1, 86400000),
+    ("output", "retry_max", 1000, 86400000),
+    ("output", "ack_wait", 1, 86400000),
     ("output", "window", 1, 8),
 ]:
     value(frame, key, least - 1, "out of range")
@@ -160,21 +208,34 @@ value("unserved", "server", '[{ address = "127.0.0.1:1" }]', "good")
 # ---- unknown keys, which are told only where the key beside them has no flaw
 ADDRESS = '"127.0.0.1:1"'
 for frame, key, good, other_kind in [
-    ("relay", "listen", ADDRESS, "1"), ("relay", "monitor", ADDRESS, "1"),
-    ("relay", "hostname", '"a"', "1"), ("relay", "run_id", f'"{"0" * 12}"', "1"),
-    ("relay", "seed", f'"{"0" * 64}"', "1"), ("relay", "connections", "1", '""'),
-    ("relay", "message_limit", "1024", '""'), ("relay", "depth", "8", '""'),
-    ("relay", "shared_key", '"k"', "1"), ("keyed", "user", USERS, "1"),
-    ("unnamed", "name", '"n"', "1"), ("named", "password", '"p"', "1"),
-    ("unmatched", "match", '"a"', "1"), ("output", "workers", "1", '""'),
-    ("output", "chunk_limit", "1", '""'), ("output", "total_limit", "1", '""'),
-    ("output", "flush_interval", "1", '""'), ("output", "retry_wait", "1", '""'),
-    ("output", "ack_wait", "1", '""'), ("output", "retry_max", "1000", '""'),
+    ("relay", "listen", ADDRESS, "1"),
+    ("relay", "monitor", ADDRESS, "1"),
+    ("relay", "hostname", '"a"', "1"),
+    ("relay", "run_id", f'"{"0" * 12}"', "1"),
+    ("relay", "seed", f'"{"0" * 64}"', "1"),
+    ("relay", "connections", "1", '""'),
+    ("relay", "message_limit", "1024", '""'),
+    ("relay", "depth", "8", '""'),
+    ("relay", "shared_key", '"k"', "1"),
+    ("keyed", "user", USERS, "1"),
+    ("unnamed", "name", '"n"', "1"),
+    ("named", "password", '"p"', "1"),
+    ("unmatched", "match", '"a"', "1"),
+    ("output", "workers", "1", '""'),
+    ("output", "chunk_limit", "1", '""'),
+    ("output", "total_limit", "1", '""'),
+    ("output", "flush_interval", "1", '""'),
+    ("output", "retry_wait", "1", '""'),
+    ("output", "ack_wait", "1", '""'),
+    ("output", "retry_max", "1000", '""'),
     ("output", "window", "1", '""'),
-    ("output", "hostname", '"a"', "1"), ("output", "shared_key", '"k"', "1"),
-    ("output", "username", '"a"', "1"), ("output", "password", '"a"', "1"),
+    ("output", "hostname", '"a"', "1"),
+    ("output", "shared_key", '"k"', "1"),
+    ("output", "username", '"a"', "1"),
+    ("output", "password", '"a"', "1"),
     ("unserved", "server", '[{ address = "127.0.0.1:1" }]', "1"),
-    ("unreached", "address", ADDRESS, "1"), ("second", "standby", "true", "1"),
+    ("unreached", "address", ADDRESS, "1"),
+    ("second", "standby", "true", "1"),
 ]:
     beside(frame, key, good, other_kind)
 for frame, keys in [
@@ -199,8 +260,7 @@ for front, relay, output, server, told in [
     ("z = 1", "b = 1", "c = 1", "d = 1", "unknown output[0].c"),
     ("z = 1", "b = 1", "z = 1", "a = 1", "unknown output[0].server[0].a"),
     ("o = 1", "b = 1", "c = 1", "d = 1", "unknown o"),
-    ("", 'shared_key = "k"\nuser = [{ name = "n", password = "p", b = 1 }]', "", "",
-     "unknown relay.user[0].b"),
+    ("", 'shared_key = "k"\nuser = [{ name = "n", password = "p", b = 1 }]', "", "", "unknown relay.user[0].b"),
     ("z = { a = 1 }", "", "", "", "unknown z"),
     ('"" = 1', "", "", "", "unknown "),
 ]:
@@ -230,14 +290,10 @@ for whole, told in [
     (ONE + "[output.server]", "wrong kind output[0].server"),
     (ONE + 'server = ["b"]', "wrong kind output[0].server[0]"),
     (ONE + AT + "standby = true", "out of range output[0].server"),
-    (ONE + AT + "standby = true\n[[output.server]]\nstandby = true",
-     "out of range output[0].server"),
-    (ONE + '[[output.server]]\naddress = "1.2.3.4"\nstandby = true',
-     "out of range output[0].server"),
-    (ONE + '[[output.server]]\naddress = "1.2.3.4"\nstandby = true\n' + AT,
-     "out of range output[0].server[0].address"),
-    (ONE + AT + "standby = true\n" + AT + 'standby = "true"',
-     "wrong kind output[0].server[1].standby"),
+    (ONE + AT + "standby = true\n[[output.server]]\nstandby = true", "out of range output[0].server"),
+    (ONE + '[[output.server]]\naddress = "1.2.3.4"\nstandby = true', "out of range output[0].server"),
+    (ONE + '[[output.server]]\naddress = "1.2.3.4"\nstandby = true\n' + AT, "out of range output[0].server[0].address"),
+    (ONE + AT + "standby = true\n" + AT + 'standby = "true"', "wrong kind output[0].server[1].standby"),
     ("[monitor]\n[[output]]", "missing output[0].match"),
     ("a = ", "not toml"),
     ("a = 1\na = 2", "not toml"),
@@ -265,21 +321,17 @@ text(MATCH + BOM + SERVER, "not toml")
 # ---- of several faults the first is told, in the order of the table of keys
 for whole, told in [
     ("[relay]\nmonitor = 1\nlisten = 1", "wrong kind relay.listen"),
-    ("[relay]\nconnections = 0\nseed = 1\nrun_id = 1\nhostname = 1\nmonitor = 1",
-     "wrong kind relay.monitor"),
+    ("[relay]\nconnections = 0\nseed = 1\nrun_id = 1\nhostname = 1\nmonitor = 1", "wrong kind relay.monitor"),
     ("[relay]\nconnections = 0", "out of range relay.connections"),
     ("[relay]\nrun_id = 1\nshared_key = 1\nuser = 1", "wrong kind relay.shared_key"),
     ("[relay]\nconnections = 0\nuser = 1", "out of range relay.connections"),
-    ("[relay]\nuser = 1\ndepth = 129\nmessage_limit = 1\nconnections = 0",
-     "out of range relay.connections"),
+    ("[relay]\nuser = 1\ndepth = 129\nmessage_limit = 1\nconnections = 0", "out of range relay.connections"),
     ("[relay]\nuser = 1\ndepth = 129\nmessage_limit = 1", "out of range relay.message_limit"),
     ("[relay]\nuser = 1\ndepth = 129", "out of range relay.depth"),
     ('[relay]\nshared_key = ""\nuser = []', "out of range relay.shared_key"),
     ("[relay]\nuser = [1]\n[[output]]", "out of range relay.user"),
-    ('[relay]\nshared_key = "k"\nuser = [{ name = "" }, 1]\n[[output]]',
-     "out of range relay.user[0].name"),
-    ('[relay]\nshared_key = "k"\nuser = [{ name = "n", password = "p", zz = 1 }, 1]',
-     "wrong kind relay.user[1]"),
+    ('[relay]\nshared_key = "k"\nuser = [{ name = "" }, 1]\n[[output]]', "out of range relay.user[0].name"),
+    ('[relay]\nshared_key = "k"\nuser = [{ name = "n", password = "p", zz = 1 }, 1]', "wrong kind relay.user[1]"),
     ("[[output]]\nmatch = 1\nworkers = 0\n[relay]\nseed = 1", "wrong kind relay.seed"),
     ("[[output]]\nworkers = 0", "missing output[0].match"),
     (ONE + "chunk_limit = 0\nworkers = 0", "out of range output[0].workers"),
@@ -294,66 +346,119 @@ for whole, told in [
     (ONE + "server = 1\npassword = 1", "wrong kind output[0].password"),
     ("a = 1\n" + ONE, "missing output[0].server"),
     (ONE + "[[output.server]]\n[[output]]\nmatch = 1", "missing output[0].server[0].address"),
-    (ONE + AT + "[[output.server]]\naddress = 1\nstandby = 1\n[[output]]",
-     "wrong kind output[0].server[1].address"),
+    (ONE + AT + "[[output.server]]\naddress = 1\nstandby = 1\n[[output]]", "wrong kind output[0].server[1].address"),
     (ONE + AT + "[[output]]\nmatch = 1", "wrong kind output[1].match"),
 ]:
     text(whole, told)
 
 # ---- what each key is set to: its default, or what is written
 RELAY = {
-    "listen": "127.0.0.1:24224", "monitor": "none", "hostname": "relay", "shared_key": "none",
-    "run_id": "none", "seed": "none", "connections": "256",
-    "message_limit": "16777216", "depth": "64",
+    "listen": "127.0.0.1:24224",
+    "monitor": "none",
+    "hostname": "relay",
+    "shared_key": "none",
+    "run_id": "none",
+    "seed": "none",
+    "connections": "256",
+    "message_limit": "16777216",
+    "depth": "64",
 }
 OUTPUT = {
-    "match a.b": "true", "match c": "true", "workers": "1", "chunk_limit": "8000000",
-    "total_limit": "512000000", "flush_interval": "5000", "retry_wait": "1000",
-    "retry_max": "60000", "ack_wait": "190000", "window": "1", "hostname": "relay",
-    "shared_key": "none", "username": "", "password": "",
+    "match a.b": "true",
+    "match c": "true",
+    "workers": "1",
+    "chunk_limit": "8000000",
+    "total_limit": "512000000",
+    "flush_interval": "5000",
+    "retry_wait": "1000",
+    "retry_max": "60000",
+    "ack_wait": "190000",
+    "window": "1",
+    "hostname": "relay",
+    "shared_key": "none",
+    "username": "",
+    "password": "",
 }
 FIRST = {"server[0].address": "127.0.0.1:1", "server[0].standby": "false"}
 SET_RELAY = {
-    "listen": "0.0.0.0:1", "monitor": "[::1]:65535", "hostname": "h", "shared_key": "k",
-    "run_id": "0123456789ab", "seed": "0" * 62 + "ff", "connections": "2",
-    "message_limit": "1025", "depth": "9",
-    "user[0].name": "n", "user[0].password": "p", "user[1].name": "m", "user[1].password": "q",
+    "listen": "0.0.0.0:1",
+    "monitor": "[::1]:65535",
+    "hostname": "h",
+    "shared_key": "k",
+    "run_id": "0123456789ab",
+    "seed": "0" * 62 + "ff",
+    "connections": "2",
+    "message_limit": "1025",
+    "depth": "9",
+    "user[0].name": "n",
+    "user[0].password": "p",
+    "user[1].name": "m",
+    "user[1].password": "q",
 }
 SET_OUTPUT = {
-    "match a.b": "true", "match c": "false", "workers": "3", "chunk_limit": "4",
-    "total_limit": "5", "flush_interval": "6", "retry_wait": "7", "retry_max": "8",
-    "ack_wait": "9", "window": "2", "hostname": "o", "shared_key": "s", "username": "u",
+    "match a.b": "true",
+    "match c": "false",
+    "workers": "3",
+    "chunk_limit": "4",
+    "total_limit": "5",
+    "flush_interval": "6",
+    "retry_wait": "7",
+    "retry_max": "8",
+    "ack_wait": "9",
+    "window": "2",
+    "hostname": "o",
+    "shared_key": "s",
+    "username": "u",
     "password": "p",
-    "server[0].address": "10.0.0.1:2", "server[0].standby": "true",
-    "server[1].address": "10.0.0.2:3", "server[1].standby": "false",
+    "server[0].address": "10.0.0.1:2",
+    "server[0].standby": "true",
+    "server[1].address": "10.0.0.2:3",
+    "server[1].standby": "false",
 }
 C = '[[output]]\nmatch = "c"\n[[output.server]]\naddress = "10.0.0.3:4"\n'
-OUTPUT_C = OUTPUT | {"match a.b": "false", "server[0].address": "10.0.0.3:4",
-                     "server[0].standby": "false"}
+OUTPUT_C = OUTPUT | {"match a.b": "false", "server[0].address": "10.0.0.3:4", "server[0].standby": "false"}
 sets(MATCH + SERVER, RELAY, OUTPUT | FIRST)
-sets('[relay]\nlisten = "0.0.0.0:1"\nmonitor = "[::1]:65535"\nhostname = "h"\n'
-     'shared_key = "k"\nrun_id = "0123456789aB"\n' + f'seed = "{"0" * 62}Ff"\n'
-     'connections = 2\nmessage_limit = 1025\ndepth = 9\n'
-     '[[relay.user]]\nname = "n"\npassword = "p"\n'
-     '[[relay.user]]\nname = "m"\npassword = "q"\n' + C, SET_RELAY, OUTPUT_C)
-sets('[[output]]\nmatch = "a.b"\nworkers = 3\nchunk_limit = 4\ntotal_limit = 5\n'
-     'flush_interval = 6\nretry_wait = 7\nretry_max = 8\nack_wait = 9\nwindow = 2\n'
-     'hostname = "o"\n'
-     'username = "u"\npassword = "p"\nshared_key = "s"\n'
-     '[[output.server]]\naddress = "10.0.0.1:2"\nstandby = true\n'
-     '[[output.server]]\naddress = "10.0.0.2:3"\nstandby = false\n' + C,
-     RELAY, SET_OUTPUT, OUTPUT_C)
+sets(
+    '[relay]\nlisten = "0.0.0.0:1"\nmonitor = "[::1]:65535"\nhostname = "h"\n'
+    'shared_key = "k"\nrun_id = "0123456789aB"\n' + f'seed = "{"0" * 62}Ff"\n'
+    "connections = 2\nmessage_limit = 1025\ndepth = 9\n"
+    '[[relay.user]]\nname = "n"\npassword = "p"\n'
+    '[[relay.user]]\nname = "m"\npassword = "q"\n' + C,
+    SET_RELAY,
+    OUTPUT_C,
+)
+sets(
+    '[[output]]\nmatch = "a.b"\nworkers = 3\nchunk_limit = 4\ntotal_limit = 5\n'
+    "flush_interval = 6\nretry_wait = 7\nretry_max = 8\nack_wait = 9\nwindow = 2\n"
+    'hostname = "o"\n'
+    'username = "u"\npassword = "p"\nshared_key = "s"\n'
+    '[[output.server]]\naddress = "10.0.0.1:2"\nstandby = true\n'
+    '[[output.server]]\naddress = "10.0.0.2:3"\nstandby = false\n' + C,
+    RELAY,
+    SET_OUTPUT,
+    OUTPUT_C,
+)
 # a long wait lengthens the longest
 for wait, longest in [(59_999, 60_000), (60_001, 60_001)]:
-    sets(MATCH + f"retry_wait = {wait}\n" + SERVER, RELAY,
-         OUTPUT | FIRST | {"retry_wait": str(wait), "retry_max": str(longest)})
+    sets(
+        MATCH + f"retry_wait = {wait}\n" + SERVER,
+        RELAY,
+        OUTPUT | FIRST | {"retry_wait": str(wait), "retry_max": str(longest)},
+    )
 # a text of 65,536 bytes with a key of 1,024, 64 outputs, and 16 servers at the first of them
 LARGEST = '[relay]\nshared_key = "' + "k" * 1024 + '"\n' + MATCH + SERVER * 16
 LARGEST += (MATCH + SERVER) * 63
-sets(LARGEST + "#" * (65_536 - 1 - len(LARGEST)), RELAY | {"shared_key": "k" * 1024},
-     OUTPUT | {f"server[{n}].{key}": what for n in range(16)
-               for key, what in [("address", "127.0.0.1:1"), ("standby", "false")]},
-     *[OUTPUT | FIRST] * 63)
+sets(
+    LARGEST + "#" * (65_536 - 1 - len(LARGEST)),
+    RELAY | {"shared_key": "k" * 1024},
+    OUTPUT
+    | {
+        f"server[{n}].{key}": what
+        for n in range(16)
+        for key, what in [("address", "127.0.0.1:1"), ("standby", "false")]
+    },
+    *[OUTPUT | FIRST] * 63,
+)
 
 write_table(
     "settings.txt",

@@ -1,13 +1,13 @@
-#!/usr/bin/env python3
-"""Tests of what tools/watch.py makes of a relay's pages, without a terminal.
-
-    python3 tools/watch_test.py
-"""
+"""Tests of what tools/watch.py makes of a relay's pages, without a terminal."""
 
 import unittest
 
+import pytest
+
 import watch
 from page import Output, Tag
+
+pytestmark = pytest.mark.quick
 
 URL = "http://127.0.0.1:8080/"
 
@@ -141,7 +141,3 @@ class Lines(unittest.TestCase):
                 "1                         0        0     0      0       0",
             ],
         )
-
-
-if __name__ == "__main__":
-    unittest.main()

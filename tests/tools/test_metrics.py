@@ -1,8 +1,4 @@
-#!/usr/bin/env python3
-"""Tests of the parser of a relay's page, and of what tools/metrics.py makes of one.
-
-    python3 tools/metrics_test.py
-"""
+"""Tests of the parser of a relay's page, and of what tools/metrics.py makes of one."""
 
 import threading
 import unittest
@@ -11,13 +7,14 @@ from http.server import BaseHTTPRequestHandler, ThreadingHTTPServer
 from urllib.error import HTTPError
 from urllib.request import ProxyHandler, build_opener
 
+import pytest
+
 from metrics import CONTENT_TYPE, Scrapes, metrics_text, tag_label
 from page import BadPage, NoPage, Output, Tag, parse_page, read_page
 
-EXAMPLE = (
-    b"output 0 accepted 3 settled 2 held 1 bytes 3 chunks 1\n"
-    b"tag 61 held 1 bytes 3\n"
-)
+pytestmark = pytest.mark.quick
+
+EXAMPLE = b"output 0 accepted 3 settled 2 held 1 bytes 3 chunks 1\ntag 61 held 1 bytes 3\n"
 
 # In the second output: no byte, quotes, a backslash, a line feed, no UTF-8 twice, a tag that looks
 # like what is made of such a one, a zero byte, and a letter of two bytes.
@@ -165,11 +162,14 @@ class Metrics(unittest.TestCase):
     def test_tags_that_hold_less_are_counted_together(self):
         lines = metrics_text(parse_page(PAGE), most=2).splitlines()
         of_tags = [line for line in lines if ",tag=" in line and "held_bytes" in line]
-        self.assertEqual(of_tags, [
-            'forward_relay_tag_held_bytes{output="0",tag="a"} 3',
-            'forward_relay_tag_held_bytes{output="1",tag="hex:6865783a66666665"} 17',
-            'forward_relay_tag_held_bytes{output="1",tag="hex:00"} 18',
-        ])
+        self.assertEqual(
+            of_tags,
+            [
+                'forward_relay_tag_held_bytes{output="0",tag="a"} 3',
+                'forward_relay_tag_held_bytes{output="1",tag="hex:6865783a66666665"} 17',
+                'forward_relay_tag_held_bytes{output="1",tag="hex:00"} 18',
+            ],
+        )
         for told in ("other_tags", "other_tags_held_entries", "other_tags_held_bytes"):
             with self.subTest(told):
                 told = f'forward_relay_{told}{{output="1"}} '
@@ -248,7 +248,3 @@ class Served(unittest.TestCase):
             self.assertEqual(fetch(metrics)[0], 404)
         with served(QuietScrapes, relay) as metrics:
             self.assertEqual(fetch(metrics + "metrics"), (200, CONTENT_TYPE, NO_PAGE))
-
-
-if __name__ == "__main__":
-    unittest.main()

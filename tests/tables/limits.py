@@ -1,14 +1,14 @@
 #!/usr/bin/env python3
 """The scripts of crates/relay_scripts/data at both sides of a limit, with the answers that must come.
 
-    /usr/bin/python3 tools/limits.py
+    /usr/bin/python3 tests/tables/limits.py
 
 The limits and the answers follow docs/FORMATS.md. Writes these scripts anew; the limits of a tag and of a request's value have
 scripts of their own there.
 """
 from pathlib import Path
 
-DATA = Path(__file__).resolve().parent.parent / "crates" / "relay_scripts" / "data"
+DATA = Path(__file__).resolve().parents[2] / "crates" / "relay_scripts" / "data"
 
 ACCEPT = f"accept 1 {'0' * 32} {'0' * 32}"
 MESSAGE = "93a1610180"

@@ -1,7 +1,7 @@
 #!/usr/bin/env python3
 """Lists the public functions of the libraries that no other crate and no test calls.
 
-    /usr/bin/python3 tools/uncalled.py [--types]
+    /usr/bin/python3 tests/unused_api.py [--types]
 
 Run at the top of the repository. A body that always answers want of memory meets its contract, so each call that takes memory
 has to be made somewhere with ample memory, and this finds those that are made nowhere. It reads the sources alone: of each
@@ -171,7 +171,9 @@ def main(by_types):
             call, needed = function.calls(aliases)
             callers = [s for s in others if call.search(s.body) and (needed is None or needed.search(s.imports))]
             if by_types and function.takes_self:
-                callers = [s for s in callers if any(s.names(n) for n in [function.owner, *aliases.get(function.owner, [])])]
+                callers = [
+                    s for s in callers if any(s.names(n) for n in [function.owner, *aliases.get(function.owner, [])])
+                ]
             if not callers:
                 print(function)
                 count += 1

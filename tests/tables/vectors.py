@@ -3,7 +3,7 @@
 
 Run with Debian's python3-msgpack:
 
-    /usr/bin/python3 tools/vectors.py
+    /usr/bin/python3 tests/tables/vectors.py
 
 It writes the table and its part of the program's stdout anew. The first lines are values as python3-msgpack spells them;
 what is to be read of each is what the packer was given, and the head that it wrote. Behind them stand a value of every first
@@ -110,7 +110,16 @@ def extensions():
     for size in [*range(20), 127, 255, 256, 257, 65535, 65536]:
         for kind in (0, 5, 127):
             yield packed(msgpack.ExtType(kind, b"\xff" * size))
-    for seconds, nanoseconds in ((0, 0), (1, 0), (2**32 - 1, 0), (2**32, 0), (1, 1), (2**34 - 1, 999999999), (2**34, 1), (-1, 0)):
+    for seconds, nanoseconds in (
+        (0, 0),
+        (1, 0),
+        (2**32 - 1, 0),
+        (2**32, 0),
+        (1, 1),
+        (2**34 - 1, 999999999),
+        (2**34, 1),
+        (-1, 0),
+    ):
         yield packed(msgpack.Timestamp(seconds, nanoseconds))
 
 
@@ -188,6 +197,7 @@ def each_first_byte():
 
 def no_values():
     """Bytes that are no value within 16,777,216 bytes and 64 containers: less than one, or the first fault."""
+
     def nested(arrays):
         return bytes.fromhex("93a1610181a16b") + b"\x91" * arrays + b"\x90"
 

@@ -1,16 +1,18 @@
-"""Descriptors and connections run short."""
+"""Descriptors and connections run short, and what may wait before a login."""
 
 import contextlib
 import os
 import re
 import resource
 
+import msgpack
 import pytest
 
-from forward import Source, connect
+from forward import Source, connect, ping
 from relay import steady
 
 pytestmark = pytest.mark.quick
+KEY = "a key of both sides"
 FILES = 128
 CLIENTS = 300
 
@@ -95,3 +97,19 @@ def test_no_file_for_a_while(relay, next_hop):
     limit_files(one, before)
     assert early.told() == "early"
     late.ask()
+
+
+def test_before_a_ping(relay, next_hop):
+    """A PING of 4,000 bytes may come in two pieces; 5,000 bytes of a longer one may not wait."""
+    one = relay([{"servers": [next_hop().port]}], shared_key=KEY)
+    with connect(one.port) as stream:
+        said = msgpack.packb(ping(stream.value(), KEY, salt=bytes(3_700)))
+        stream.link.sendall(said[:2_000])
+        assert not stream.is_closed(0.2)
+        stream.link.settimeout(30)
+        stream.link.sendall(said[2_000:])
+        assert stream.value()[:2] == ["PONG", True]
+    with connect(one.port) as stream:
+        said = msgpack.packb(ping(stream.value(), KEY, salt=bytes(60_000)))
+        stream.link.sendall(said[:5_000])
+        assert stream.is_closed(30), "5,000 bytes wait before a PING"

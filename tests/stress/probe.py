@@ -1,22 +1,24 @@
 """Asks a relay again and again, and says how long the longest answer took.
 
     python3 probe.py page PORT PIDS
-    python3 probe.py source PORT PIDS [key]
+    python3 probe.py source PORT PIDS [KEY]
 
 `page` asks the monitor for its page, and `source` sends requests of one entry under the tag `probe`, each behind the
-acknowledgement of the one before; with `key` it logs in first. On each line of its standard input it says what was since the
+acknowledgement of the one before; with a KEY it logs in first. On each line of its standard input it says what was since the
 line before, as JSON: how many answers there were, and the longest wait for one, in milliseconds, in two parts. One (`core`) is
 the time that this process and the first threads of PIDS (joined by commas) waited for a core, which on a busy machine is
 nobody's fault; the longest is the one that is the longest without it (`own`). It ends with its input.
 """
 
 import json
+import pathlib
 import select
 import socket
 import sys
 import time
 
-import source
+sys.path.insert(0, str(pathlib.Path(__file__).parents[1]))
+from forward import HOST, Source  # noqa: E402
 
 REST = 0.002  # seconds between two questions
 
@@ -38,36 +40,30 @@ class Cores:
             return 0.0
 
 
-class Page:
-    def __init__(self, port, _):
-        self.port = port
-
-    def ask(self):
-        with socket.create_connection((source.HOST, self.port), timeout=30) as stream:
-            stream.sendall(b"GET / HTTP/1.1\r\nHost: weather\r\n\r\n")
-            page = b""
-            while more := stream.recv(65536):
-                page += more
-        if not page.startswith(b"HTTP/1.1 200"):
-            raise ValueError(f"no page: {page!r:.100}")
+def ask_page(port):
+    """Asks a monitor for its page."""
+    with socket.create_connection((HOST, port), timeout=30) as stream:
+        stream.sendall(b"GET / HTTP/1.1\r\nHost: probe\r\n\r\n")
+        page = b""
+        while more := stream.recv(65536):
+            page += more
+    assert page.startswith(b"HTTP/1.1 200"), page[:100]
 
 
-class Source:
-    def __init__(self, port, key):
-        self.stream = source.logged_in(port) if key else source.connect(port)
-        self.number = 0
-
-    def ask(self):
-        self.number += 1
-        source.ask(self.stream, b"probe", b"%08x" % self.number)
+def asker(kind, port, key):
+    """What asks once."""
+    if kind == "page":
+        return lambda: ask_page(port)
+    source = Source(port, *key)
+    return lambda: source.ask("probe")
 
 
-def phase(asker, cores):
+def phase(ask, cores):
     """What was until the next line of the input, and whether there was one."""
     count, own, core = 0, 0.0, 0.0
     while not select.select([0], [], [], REST)[0]:
         waited, start = cores.waited(), time.perf_counter()
-        asker.ask()
+        ask()
         clock = 1e3 * (time.perf_counter() - start)
         waited = min(clock, cores.waited() - waited)
         count += 1
@@ -77,14 +73,14 @@ def phase(asker, cores):
 
 
 def main(kind, port, pids, *key):
-    asker = {"page": Page, "source": Source}[kind](int(port), key)
-    cores = Cores(pids.split(","))
+    """Asks until the input ends."""
+    ask, cores = asker(kind, int(port), key), Cores(pids.split(","))
     print("{}", flush=True)
     goes_on = True
     while goes_on:
         try:
-            told, goes_on = phase(asker, cores)
-        except (OSError, ValueError, source.Closed) as error:
+            told, goes_on = phase(ask, cores)
+        except (OSError, AssertionError) as error:
             told = {"wrong": f"{type(error).__name__} {error}"}
             goes_on = sys.stdin.buffer.raw.read(1) != b""
         print(json.dumps(told), flush=True)

@@ -1,0 +1,135 @@
+"""Who waits while a relay is under stress, and for how long: what the cases here share."""
+
+import contextlib
+import functools
+import json
+import pathlib
+import struct
+import subprocess
+import sys
+import threading
+
+from forward import connect
+
+HERE = pathlib.Path(__file__).parent
+TIME = b"\xce\x65\x00\x00\x00"
+RECORD = b"\x81\xa1n\xce\x00\x01\x02\x03"
+ENTRY = 14  # bytes of an entry of `requests`, as it is kept
+ACK = 14  # bytes of an acknowledgement of a request of `requests`
+
+
+class Missed(AssertionError):
+    """A limit was missed, for which a busy machine may be to blame."""
+
+
+def within(what, value, most, least=0.0):
+    """Asks that a figure is within its limits."""
+    print(f"{what}: {value:,.4g} (from {least:,g} to {most:,g})")
+    if not least <= value <= most:
+        raise Missed(f"{what}: {value:,.4g}, and not from {least:,g} to {most:,g}")
+
+
+def once_more(test):
+    """Plays a case again where nothing but a limit was missed."""
+
+    @functools.wraps(test)
+    def play(*words, **named):
+        try:
+            test(*words, **named)
+        except Missed as missed:
+            print(f"once more: {missed}")
+            test(*words, **named)
+
+    return play
+
+
+class Child:
+    """A program of Python beside a test, which ends with its block."""
+
+    def __init__(self, *words):
+        words = [sys.executable, *map(str, words)]
+        self.process = subprocess.Popen(words, stdin=subprocess.PIPE, stdout=subprocess.PIPE, bufsize=0)
+
+    def __enter__(self):
+        return self
+
+    def __exit__(self, *_):
+        self.process.kill()
+        self.process.communicate()
+
+
+class Probe(Child):
+    """Who asks again and again (`probe.py`), beside processes that may wait for a core too."""
+
+    def __init__(self, kind, port, parts, *key):
+        pids = ",".join(str(part.process.pid) for part in parts)
+        super().__init__(HERE / "probe.py", kind, port, pids, *key)
+        self.hear()
+
+    def hear(self):
+        """A line of JSON."""
+        return json.loads(self.process.stdout.readline())
+
+    def since(self):
+        """What was since it was asked last."""
+        self.process.stdin.write(b"\n")
+        told = self.hear()
+        assert "wrong" not in told, told
+        return told
+
+    def waited(self, what, most):
+        """Asks that nobody waited for longer since it was asked last, without what they waited for a core."""
+        told = self.since()
+        assert told["count"] > 0, f"{what}: nothing was asked"
+        within(f"{what}, ms", told["own"], most)
+
+
+def text(value):
+    """A str of less than 65,536 bytes (MessagePack specification, "str format family")."""
+    return b"\xda" + struct.pack(">H", len(value)) + value
+
+
+def request(tag, chunk, record=RECORD):
+    """A request of one entry, in Message mode, which asks for an acknowledgement."""
+    return b"\x94" + text(tag) + TIME + record + b"\x81\xa5chunk\xa8" + chunk
+
+
+def filled(size):
+    """A record of so many bytes, 32 at least."""
+    return b"\x81\xa1n\xc6" + struct.pack(">I", size - 8) + bytes(size - 8)
+
+
+def requests(tag, first, count):
+    """So many requests of one entry, from a number on, each with a chunk of eight digits."""
+    front = request(tag, b"")
+    return b"".join([front + b"%08x" % number for number in range(first, first + count)])
+
+
+class Owed(threading.Thread):
+    """A source that sends so many requests, and reads their acknowledgements."""
+
+    def __init__(self, port, count, first=0):
+        super().__init__(daemon=True)
+        self.link = connect(port, 120).link
+        self.count, self.first = count, first
+        self.is_told = False
+
+    def send(self, tag=b"held"):
+        """Sends them all, and reads from now on."""
+        self.link.sendall(requests(tag, self.first, self.count))
+        self.start()
+
+    def run(self):
+        """Reads the acknowledgements: each comes once."""
+        with contextlib.suppress(OSError):
+            data = bytearray()
+            while len(data) < self.count * ACK and (more := self.link.recv(1 << 20)):
+                data += more
+            told = {bytes(data[at + ACK - 8 : at + ACK]) for at in range(0, len(data), ACK)}
+            self.is_told = told == {b"%08x" % number for number in range(self.first, self.first + self.count)}
+
+    def close(self):
+        """Closes the connection."""
+        with contextlib.suppress(OSError):
+            self.link.shutdown(2)
+        self.link.close()
