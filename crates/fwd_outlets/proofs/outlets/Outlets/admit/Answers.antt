@@ -2,8 +2,8 @@ use Rattle.std.proofs.Common.{arith, refl}
 use Rattle.fwd_outlets.proofs.Admitting.{admits}
 use Rattle.fwd_outlets.proofs.outlets.Outlets.admit.Goals as goal
 
-pub returns-in-Ok : goal.returns-in-Ok
-returns-in-Ok c c' =
+pub returns-in-Ok-clause-admitted : goal.returns-in-Ok-clause-admitted
+returns-in-Ok-clause-admitted c c' =
     admits c'.args.self.now.routes.now c'.args.self.now.all.items c'.args.source.now
     c'.next.new.self c'.in-Some.output c'.in-Some-get_mut.outlet.now c'.admit.new.self
     (c'.in-Some-next.origin, c'.in-Some-next.batch) c'.in-Some.ensures
