@@ -7,7 +7,7 @@ use std::collections::VecDeque;
 use std::sync::Wait;
 
 /// The bytes that the unanswered requests of an output may take beside their entries, at least:
-/// where its entries may take more, as many.
+/// where its entries may take more than half of that, twice as many as those.
 const LEAST: u64 = 2_097_152;
 
 /// How long nobody waits at an output that was full before it is said to have room, in
@@ -44,7 +44,7 @@ impl Gate {
     /// The gate of an output without entries.
     pub fn new(alloc: Global, output: &Output) -> Gate {
         Gate {
-            limit: output.total.max(LEAST),
+            limit: output.total.saturating_mul(2).max(LEAST),
             owed: 0,
             room: 0,
             line: VecDeque::new(alloc),
