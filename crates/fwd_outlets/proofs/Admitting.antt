@@ -1,5 +1,5 @@
 -- A request that an outlet admits.
-use Rattle.std.proofs.Common.{arith, ◌≡◌, ◌<◌, ℕ, zero, suc, List, [], ◌∷◌, Some, length, get_or, sym, ap, ◌∙◌}
+use Rattle.std.proofs.Common.{arith, ◌≡◌, ◌<◌, ℕ, zero, suc, List, [], ◌∷◌, Some, length, get_or, sym, subst, ap, ◌∙◌}
 use Rattle.std.specs.Prelude.{slice_set}
 use Rattle.std.specs.List.{slice_get}
 use Rattle.std.specs.Option.{option_and_then}
@@ -36,3 +36,12 @@ admits routes outlets s t number outlet after asked routed lt is gives keeps = r
   keeps = keeps;
   others = map-set (λ o. o.lanes) outlets number after;
 }
+
+-- the same, where the outlets before and behind it are known by other names
+pub admits_on : (routes : List (List (List ℕ))) (before was after since : List Outlet)
+    (s t : PeerShown) → was ≡ before → since ≡ after
+    → Admits routes (stores_of was) s (stores_of after) t
+    → Admits routes (stores_of before) s (stores_of since) t
+admits_on routes before was after since s t same more made =
+    subst (λ x. Admits routes (stores_of before) s (stores_of x) t) (sym more)
+    (subst (λ x. Admits routes (stores_of x) s (stores_of after) t) same made)
