@@ -50,7 +50,7 @@ static LOSSES: [Loss; 14] = [
 ];
 
 /// What else is told.
-static OTHERS: [Fact; 6] = [
+static OTHERS: [Fact; 8] = [
     Fact::Memory(Want::Monitor),
     Fact::Memory(Want::Output(3)),
     Fact::Memory(Want::News),
@@ -60,6 +60,11 @@ static OTHERS: [Fact; 6] = [
     },
     Fact::Descriptors(Caller::Source),
     Fact::Memory(Want::Pause),
+    Fact::Full {
+        output: 63,
+        sources: 1_024,
+    },
+    Fact::Room { output: 63 },
 ];
 
 /// A journal that is told each fact a second after the one before.
