@@ -11,7 +11,7 @@ import time
 import pytest
 
 from forward import HOST, request
-from relay import Relay, free_ports, until
+from relay import Relay, free_ports, steady, until
 
 TAGS = ["a", "b", "c"]  # an output each
 DRAINS = 10  # seconds
@@ -138,7 +138,7 @@ def test_returns(site, next_hop, megabytes, size):
             unreached = len(UNREACHED.findall(one.journal()))
         assert took < DRAINS, f"{held} entries are held, {len(sizes)} chunks came; the journal ends {one.journal()[-2000:]}"
         time.sleep(0.05)
-    counts = one.page()
+    counts = steady(one.page, 1)  # what sources had sent before they closed is read now
     assert sum(output.accepted for output in counts) == sum(output.settled for output in counts) <= sum(sizes.values())
     assert unreached in (None, len(UNREACHED.findall(one.journal())))
     for tag in TAGS:
