@@ -144,7 +144,7 @@ class Relay:
         count = 0
         for line in self.journal().splitlines():
             if line.startswith(front):
-                is_left_out = re.search(r": (\d+) left out$", line)
+                is_left_out = re.search(r"[:,] (\d+) left out$", line)
                 count += int(is_left_out[1]) if is_left_out else 1
         return count
 
