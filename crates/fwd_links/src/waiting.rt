@@ -6,11 +6,11 @@ use mio::net::TcpStream;
 use mio::{Events, Interest, Poll, Token, Waker};
 use std::alloc::Global;
 use std::hint::spin_loop;
-use std::io;
 use std::net::Net;
 use std::sync::atomic::{AtomicBool, Ordering};
 use std::sync::{Arc, Mutex};
 use std::time::Duration;
+use std::{io, mem};
 
 /// How long a worker that looks for a chunk sleeps before it looks again, in milliseconds, where
 /// its output has entries: one that was lost is free again at some moment, of which nobody tells.
@@ -94,6 +94,8 @@ pub struct WorkerWait {
     signal: Arc<Signal>,
     /// The worker looks for a chunk.
     is_idle: bool,
+    /// It was rung before it had its stream, which its gate was not told yet.
+    was_rung: bool,
     /// The stream told of itself since it was last read empty.
     is_told: bool,
     /// The stream told that the other side closed, or that it failed, which it tells once.
@@ -120,6 +122,7 @@ impl WorkerWait {
             events,
             signal,
             is_idle: false,
+            was_rung: false,
             is_told: true,
             is_closing: false,
         };
@@ -128,7 +131,7 @@ impl WorkerWait {
 
     /// The worker has a stream, which ends its waits from now on, and looks for no chunk.
     pub fn start(&mut self, stream: &mut TcpStream) -> io::Result<()> {
-        let _ = self.work();
+        self.was_rung = self.work();
         self.is_told = true;
         self.is_closing = false;
         let interest = Interest::READABLE | Interest::WRITABLE;
@@ -158,16 +161,17 @@ impl WorkerWait {
         self.is_told = self.is_closing;
     }
 
-    /// The worker looks for a chunk. A chunk that is closed from now on rings it.
+    /// The worker looks for a chunk at once. A chunk that is closed from now on rings it.
     pub fn look(&mut self) {
-        self.is_idle = true;
-        self.signal.is_awaited.store(true, Ordering::SeqCst);
+        let _ = self.turn_to(true);
     }
 
     /// The same, once it was rung, or its stream has bytes, or for a while. It says whether it was
     /// rung.
     pub fn look_later(&mut self, looking: Looking) -> bool {
-        self.look();
+        if self.turn_to(true) {
+            return true;
+        }
         let (looks, pause) = match looking {
             Looking::Soon => (LOOKS, PAUSE),
             Looking::Later => (1, PAUSE),
@@ -176,9 +180,17 @@ impl WorkerWait {
         if self.is_awaited_for(looks) {
             self.sleep(pause);
         }
-        let was_rung = !self.signal.is_awaited.load(Ordering::SeqCst);
-        self.look();
-        was_rung
+        self.turn_to(true)
+    }
+
+    /// The worker looks for a chunk from now on, or for none. It says whether it was rung since it
+    /// last began to look, and that was not said yet: in one step with what it turns to, so that no
+    /// ring comes between.
+    fn turn_to(&mut self, is_idle: bool) -> bool {
+        let was_idle = mem::replace(&mut self.is_idle, is_idle);
+        let was_awaited = self.signal.is_awaited.swap(is_idle, Ordering::SeqCst);
+        let was_rung = mem::replace(&mut self.was_rung, false);
+        was_rung || (was_idle && !was_awaited)
     }
 
     /// Whether the worker was not rung while it looked so often.
@@ -204,10 +216,7 @@ impl WorkerWait {
     /// The worker looks for no chunk. It says whether it was rung since it last began to look: the
     /// ring may be for a chunk that it does not take.
     pub fn work(&mut self) -> bool {
-        let was_idle = self.is_idle;
-        self.is_idle = false;
-        let was_awaited = self.signal.is_awaited.swap(false, Ordering::SeqCst);
-        was_idle && !was_awaited
+        self.turn_to(false)
     }
 
     /// Whether the worker looks for a chunk.
