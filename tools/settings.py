@@ -144,9 +144,12 @@ lines("output", "retry_wait = 60001\nretry_max = 60000", SHORTER)
 lines("output", "retry_wait = 86400000\nretry_max = 86400000", "good")
 lines("output", "retry_wait = 86400000\nretry_max = 86399999", SHORTER)
 
-# ---- flags and patterns
+# ---- flags, words and patterns
 values("second", "standby", ["true", "false"], "good")
 values("second", "standby", ["1", "0.0", '"true"', "[true]", "{}"], "wrong kind")
+values("output", "full", ['"close"', '"wait"', "'wait'"], "good")
+values("output", "full", ['""', '"clos"', '"closed"', '"Wait"', '"wait "'], "out of range")
+values("output", "full", ["1", "0.0", "true", '["wait"]', "{}"], "wrong kind")
 values("unmatched", "match", ["1", "0.5", "true", '["a"]', "{}"], "wrong kind")
 SIX = "{a,b}" * 6
 values("unmatched", "match", ['"a"', '"{a,b}.c x"', f'"{SIX}"'], "good")
@@ -170,7 +173,7 @@ for frame, key, good, other_kind in [
     ("output", "chunk_limit", "1", '""'), ("output", "total_limit", "1", '""'),
     ("output", "flush_interval", "1", '""'), ("output", "retry_wait", "1", '""'),
     ("output", "ack_wait", "1", '""'), ("output", "retry_max", "1000", '""'),
-    ("output", "window", "1", '""'),
+    ("output", "window", "1", '""'), ("output", "full", '"wait"', "1"),
     ("output", "hostname", '"a"', "1"), ("output", "shared_key", '"k"', "1"),
     ("output", "username", '"a"', "1"), ("output", "password", '"a"', "1"),
     ("unserved", "server", '[{ address = "127.0.0.1:1" }]', "1"),
@@ -287,6 +290,9 @@ for whole, told in [
     (ONE + "retry_wait = 0\nretry_max = 0", "out of range output[0].retry_wait"),
     (ONE + "window = 0\nack_wait = 0", "out of range output[0].ack_wait"),
     (ONE + "hostname = 1\nwindow = 0", "out of range output[0].window"),
+    (ONE + AT + "standby = 1\n[[output]]", "wrong kind output[0].server[0].standby"),
+    (ONE + "full = 1\n" + AT + "standby = 1", "wrong kind output[0].server[0].standby"),
+    (ONE + "full = 1\n" + AT + "[[output]]", "wrong kind output[0].full"),
     (ONE + "username = 1\nshared_key = 1\nhostname = 1", "wrong kind output[0].hostname"),
     (ONE + "password = 1\nusername = 1\nshared_key = 1", "wrong kind output[0].shared_key"),
     (ONE + 'username = 1\nshared_key = ""', "out of range output[0].shared_key"),
@@ -310,7 +316,7 @@ OUTPUT = {
     "match a.b": "true", "match c": "true", "workers": "1", "chunk_limit": "8000000",
     "total_limit": "512000000", "flush_interval": "5000", "retry_wait": "1000",
     "retry_max": "60000", "ack_wait": "190000", "window": "1", "hostname": "relay",
-    "shared_key": "none", "username": "", "password": "",
+    "shared_key": "none", "username": "", "password": "", "full": "close",
 }
 FIRST = {"server[0].address": "127.0.0.1:1", "server[0].standby": "false"}
 SET_RELAY = {
@@ -323,7 +329,7 @@ SET_OUTPUT = {
     "match a.b": "true", "match c": "false", "workers": "3", "chunk_limit": "4",
     "total_limit": "5", "flush_interval": "6", "retry_wait": "7", "retry_max": "8",
     "ack_wait": "9", "window": "2", "hostname": "o", "shared_key": "s", "username": "u",
-    "password": "p",
+    "password": "p", "full": "wait",
     "server[0].address": "10.0.0.1:2", "server[0].standby": "true",
     "server[1].address": "10.0.0.2:3", "server[1].standby": "false",
 }
@@ -339,7 +345,7 @@ sets('[relay]\nlisten = "0.0.0.0:1"\nmonitor = "[::1]:65535"\nhostname = "h"\n'
 sets('[[output]]\nmatch = "a.b"\nworkers = 3\nchunk_limit = 4\ntotal_limit = 5\n'
      'flush_interval = 6\nretry_wait = 7\nretry_max = 8\nack_wait = 9\nwindow = 2\n'
      'hostname = "o"\n'
-     'username = "u"\npassword = "p"\nshared_key = "s"\n'
+     'username = "u"\npassword = "p"\nshared_key = "s"\nfull = "wait"\n'
      '[[output.server]]\naddress = "10.0.0.1:2"\nstandby = true\n'
      '[[output.server]]\naddress = "10.0.0.2:3"\nstandby = false\n' + C,
      RELAY, SET_OUTPUT, OUTPUT_C)

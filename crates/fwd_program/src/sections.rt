@@ -24,6 +24,8 @@ pub(crate) enum Allowed {
     Digits(usize),
     Address,
     Flag,
+    /// What becomes of a request that an output has no room for.
+    WhenFull,
     Pattern,
     RelayTable,
     Users,
@@ -58,6 +60,7 @@ impl fmt::Display for Allowed {
                 as \"192.0.2.1:24224\" or \"[2001:db8::1]:24224\"",
             ),
             Allowed::Flag => f.write_str("true or false"),
+            Allowed::WhenFull => f.write_str("\"close\" or \"wait\""),
             Allowed::Pattern => {
                 f.write_str("a match pattern, in quotes, as \"**\" or \"app.* db.**\"")
             }
@@ -151,7 +154,7 @@ static USER: [KeyRule; 2] = [
     },
 ];
 
-static OUTPUT: [KeyRule; 14] = [
+static OUTPUT: [KeyRule; 15] = [
     KeyRule {
         name: "match",
         allowed: Allowed::Pattern,
@@ -207,6 +210,10 @@ static OUTPUT: [KeyRule; 14] = [
     KeyRule {
         name: "server",
         allowed: Allowed::Servers,
+    },
+    KeyRule {
+        name: "full",
+        allowed: Allowed::WhenFull,
     },
 ];
 

@@ -11,13 +11,14 @@ use Rattle.fwd_settings.specs.declared.settings.RelaySettings.{RelaySettings}
 use Rattle.fwd_settings.specs.declared.settings.UserSettings.{UserSettings}
 use Rattle.fwd_settings.specs.declared.settings.OutputSettings.{OutputSettings}
 use Rattle.fwd_settings.specs.declared.settings.ServerSettings.{ServerSettings}
+use Rattle.fwd_settings.specs.declared.settings.WhenFull.{WhenFull}
 use Rattle.fwd_settings.specs.declared.output.Sizes.{Sizes}
 use Rattle.fwd_settings.specs.declared.output.Waits.{Waits}
 use Rattle.fwd_settings.specs.declared.output.Login.{Login}
 use Rattle.fwd_settings.specs.declared.ranges.TheConstants.{ACK_WAIT_DEFAULT, CHUNK_LIMIT_DEFAULT, CHUNK_LIMIT_MAX, CONNECTIONS_DEFAULT, CONNECTIONS_MAX, DEPTH_DEFAULT, DEPTH_MAX, DEPTH_MIN, FLUSH_INTERVAL_DEFAULT, MESSAGE_LIMIT_DEFAULT, MESSAGE_LIMIT_MAX, MESSAGE_LIMIT_MIN, NAME_MAX, OUTPUTS_MAX, RETRY_MAX_DEFAULT, RETRY_WAIT_DEFAULT, SERVERS_MAX, SHARED_KEY_MAX, TOTAL_LIMIT_DEFAULT, TOTAL_LIMIT_MAX, WAIT_MAX, WINDOW_DEFAULT, WINDOW_MAX, WORKERS_DEFAULT, WORKERS_MAX}
 use Rattle.fwd_settings.specs.Addresses.{home}
 use Rattle.fwd_settings.specs.Faults.{own_key, key_under}
-use Rattle.fwd_settings.specs.Kinds.{Key, each, fault_at, setting_at, number_key, flag_key, text_key, optional_text_key, required_text_key, digits_key, address_key, address_key_or, required_address_key, required_pattern_key, required_list_key, optional_list_key}
+use Rattle.fwd_settings.specs.Kinds.{Key, each, fault_at, setting_at, number_key, flag_key, when_full_key, text_key, optional_text_key, required_text_key, digits_key, address_key, address_key_or, required_address_key, required_pattern_key, required_list_key, optional_list_key}
 
 -- the first of some faults
 abbrev pub first : List (Option SettingsFault) → Option SettingsFault
@@ -259,7 +260,11 @@ output_names =
     ∷ codes "flush_interval" ∷
     codes "retry_wait" ∷ codes "retry_max" ∷ codes "ack_wait" ∷ codes "window"
     ∷ codes "hostname" ∷ codes "shared_key" ∷
-    codes "username" ∷ codes "password" ∷ codes "server" ∷ []
+    codes "username" ∷ codes "password" ∷ codes "server" ∷ codes "full" ∷ []
+
+-- what becomes of a request that the output has no room for
+abbrev pub full : Key WhenFull
+full = when_full_key (codes "full")
 
 -- the servers of an output, by their keys
 abbrev pub servers_in : Members → List ServerSettings
@@ -311,7 +316,8 @@ abbrev pub output_table : ℕ → Members → List (Option SettingsFault)
 output_table output members =
     fault_at (Output output) members pattern ∷
     (size_table output members
-    ++ (wait_table output members ++ (login_table output members ++ list_table output members)))
+    ++ (wait_table output members ++ (login_table output members
+    ++ (list_table output members ++ fault_at (Output output) members full ∷ []))))
 
 -- how much an output takes, by its keys
 abbrev pub output_sizes : Members → Sizes
@@ -362,4 +368,5 @@ output_settings value = let output = table_of value in record {
   username = setting_at output username;
   password = setting_at output password;
   servers = servers_in output;
+  full = setting_at output full;
 }

@@ -1,6 +1,7 @@
 -- The kinds of values that a key may ask for.
-use Rattle.std.specs.Prelude.{◌≡◌, ◌≢◌, ℕ, ◌&&◌, nat_le, pos, negsuc, Bool, List, [], ◌∷◌, length, ◌+◌, Option, Some, None, is_some, option_map, option_and_then, unwrap_or, Result, Ok, Err, if◌then◌else◌}
+use Rattle.std.specs.Prelude.{◌≡◌, ◌≢◌, ℕ, ◌&&◌, nat_le, pos, negsuc, Bool, List, [], ◌∷◌, codes, length, ◌+◌, Option, Some, None, is_some, option_map, option_and_then, unwrap_or, Result, Ok, Err, if◌then◌else◌}
 use Rattle.std.specs.Result.{is_ok, result_ok}
+use Rattle.std.specs.Str.{bytes_eq}
 use Rattle.std.specs.declared.net.socket_addr.SocketAddr.{SocketAddr}
 use Rattle.toml.specs.Data.{Data, string, integer, boolean, array, Items, no_items, item, Members, get_member, as_str, as_bool}
 use Rattle.hex.specs.Hex.{decode_sized}
@@ -10,6 +11,8 @@ use Rattle.fwd_settings.specs.declared.fault.SettingsFault.TheVariants.{Memory}
 use Rattle.fwd_settings.specs.declared.place.Place.{Place}
 use Rattle.fwd_settings.specs.declared.place.Flaw.{Flaw}
 use Rattle.fwd_settings.specs.declared.place.Flaw.TheVariants.{Missing, WrongKind, OutOfRange, BadPattern}
+use Rattle.fwd_settings.specs.declared.settings.WhenFull.{WhenFull}
+use Rattle.fwd_settings.specs.declared.settings.WhenFull.TheVariants.{Close, Wait}
 use Rattle.fwd_settings.specs.Addresses.{address_of_text, nowhere}
 use Rattle.fwd_settings.specs.Faults.{fault_with, key_under}
 
@@ -75,6 +78,29 @@ flag_flaw _ = Some WrongKind
 unfoldable pub flag_key : List ℕ → (default : Bool) → Key Bool
 flag_key name default =
     record { name = name; flaw = optional flag_flaw; setting = given as_bool default }
+
+-- ---- what becomes of a request that an output has no room for: `close` or `wait`
+
+-- what a word says
+abbrev pub when_full_in : List ℕ → Option WhenFull
+when_full_in word =
+    if bytes_eq word (codes "close") then Some Close
+    else (if bytes_eq word (codes "wait") then Some Wait else None)
+
+-- what a value says
+abbrev pub when_full_of : Data → Option WhenFull
+when_full_of (string text) = when_full_in text
+when_full_of _ = None
+
+-- what is wrong with a value where one of the two words is asked for
+abbrev pub when_full_flaw : Data → Option Flaw
+when_full_flaw (string text) = unless_out (is_some (when_full_in text))
+when_full_flaw _ = Some WrongKind
+
+-- one of the two words, or that its source is closed
+unfoldable pub when_full_key : List ℕ → Key WhenFull
+when_full_key name =
+    record { name = name; flaw = optional when_full_flaw; setting = given when_full_of Close }
 
 -- ---- texts, whose lengths count bytes
 

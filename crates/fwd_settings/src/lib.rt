@@ -18,4 +18,6 @@ mod values;
 pub use fault::SettingsFault;
 pub use laws::{accepted_is_in_range, refusals_are_of_the_text};
 pub use read::read_settings;
-pub use settings::{OutputSettings, RelaySettings, ServerSettings, Settings, UserSettings};
+pub use settings::{
+    OutputSettings, RelaySettings, ServerSettings, Settings, UserSettings, WhenFull,
+};

@@ -21,7 +21,7 @@ use std::alloc::Global;
 use toml::{Table, Value};
 
 /// The keys of an output's table, in the order in which they are judged.
-pub const OUTPUT_KEYS: [&str; 14] = [
+pub const OUTPUT_KEYS: [&str; 15] = [
     "match",
     "workers",
     "chunk_limit",
@@ -36,6 +36,7 @@ pub const OUTPUT_KEYS: [&str; 14] = [
     "username",
     "password",
     "server",
+    "full",
 ];
 
 /// How much an output holds.
@@ -169,6 +170,7 @@ fn output_in(alloc: Global, output: usize, table: &Table) -> Result<OutputSettin
     let waits = waits_in(alloc, output, table)?;
     let login = login_in(alloc, output, table)?;
     let servers = servers_in(alloc, output, table)?;
+    let full = section.when_full(alloc, "full")?;
     Ok(OutputSettings {
         pattern,
         workers: sizes.workers,
@@ -184,6 +186,7 @@ fn output_in(alloc: Global, output: usize, table: &Table) -> Result<OutputSettin
         username: login.username,
         password: login.password,
         servers,
+        full,
     })
 }
 

@@ -3,13 +3,16 @@
 ghost use Rattle.std.specs.Prelude.{◌≡◌, ◌≢◌, ◌≤◌, map, IfOk, IfErr, Some, None, option_map};
 ghost use Rattle.toml.specs.Data.{get_member};
 ghost use Rattle.toml.specs.View.{view, table_view};
-ghost use Rattle.fwd_settings.specs.Kinds.{Reads, number_key, flag_key, text_key, optional_text_key, required_text_key, digits_key, address_key, address_key_or, required_address_key, required_pattern_key, required_list_key, optional_list_key, fault_at, setting_at};
+ghost use Rattle.fwd_settings.specs.Kinds.{Reads, number_key, flag_key, when_full_key, text_key, optional_text_key, required_text_key, digits_key, address_key, address_key_or, required_address_key, required_pattern_key, required_list_key, optional_list_key, fault_at, setting_at};
 ghost use Rattle.fwd_settings.specs.Keys as keys;
 
 use crate::fault::SettingsFault;
 use crate::place::{Flaw, Place};
 use crate::ranges::{RETRY_MAX_DEFAULT, WAIT_MAX};
-use crate::values::{address_in, allowed_list_in, digits_in, flag_in, list_in, number_in, text_in};
+use crate::settings::WhenFull;
+use crate::values::{
+    address_in, allowed_list_in, digits_in, flag_in, list_in, number_in, text_in, when_full_in,
+};
 use fwd_base::Text;
 use fwd_match::{Pattern, PatternFault};
 use std::alloc::Global;
@@ -112,6 +115,26 @@ impl<'a> Section<'a> {
             None => Ok(default),
             Some(value) => match flag_in(value) {
                 Ok(flag) => Ok(flag),
+                Err(flaw) => Err(self.place.fault(alloc, name, flaw)),
+            },
+        }
+    }
+
+    /// What becomes of a request that an output has no room for.
+    #[rattlefmt::skip]
+    #[tactic(auto, unfolding(
+        crate::specs::Kinds::fault_at,
+        crate::specs::Kinds::setting_at,
+        crate::specs::Kinds::when_full_key
+    ))]
+    pub fn when_full(&self, alloc: Global, name: &str) -> Result<WhenFull, SettingsFault>
+        ensures { Reads self.now.place (table_view self.now.table.now)
+            (when_full_key name.now) result }
+    {
+        match self.get(name) {
+            None => Ok(WhenFull::Close),
+            Some(value) => match when_full_in(value) {
+                Ok(full) => Ok(full),
                 Err(flaw) => Err(self.place.fault(alloc, name, flaw)),
             },
         }

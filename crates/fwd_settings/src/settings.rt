@@ -83,6 +83,17 @@ pub struct OutputSettings {
     pub password: Text,
     /// Its servers, from 1 to 16, in the order of the file. At least one is no standby.
     pub servers: Seq<ServerSettings>,
+    /// What becomes of a request that it has no room for.
+    pub full: WhenFull,
+}
+
+/// What becomes of a request that an output has no room for.
+#[derive(Clone, Copy)]
+pub enum WhenFull {
+    /// Its source is closed.
+    Close,
+    /// Its source waits until there is room.
+    Wait,
 }
 
 /// The settings of an output's server.

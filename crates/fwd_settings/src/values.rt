@@ -3,11 +3,12 @@
 ghost use Rattle.std.specs.Prelude.{◌≡◌, ◌≤◌, IfOk, IfErr, Some, None, false, map, option_map};
 ghost use Rattle.toml.specs.Data.{as_str, as_bool};
 ghost use Rattle.toml.specs.View.{view};
-ghost use Rattle.fwd_settings.specs.Kinds.{given, number_flaw, number_of, flag_flaw, text_flaw, digits_flaw, bytes_of, address_flaw, list_of, list_flaw, allowed_list_flaw};
+ghost use Rattle.fwd_settings.specs.Kinds.{given, number_flaw, number_of, flag_flaw, text_flaw, when_full_flaw, when_full_of, digits_flaw, bytes_of, address_flaw, list_of, list_flaw, allowed_list_flaw};
 ghost use Rattle.fwd_settings.specs.Kinds as spec;
 ghost use Rattle.fwd_settings.specs.Addresses.{address_of_text, socket_of};
 
 use crate::place::Flaw;
+use crate::settings::WhenFull;
 use hex::FromHex;
 use std::net::SocketAddr;
 use toml::Value;
@@ -45,6 +46,19 @@ pub fn is_true(value: Option<&Value>) -> bool
     match value {
         Some(value) => value.as_bool().unwrap_or(false),
         None => false,
+    }
+}
+
+/// What becomes of a request that an output has no room for.
+pub fn when_full_in(value: &Value) -> Result<WhenFull, Flaw>
+    ensures ok { IfOk result (λ full. (when_full_of (view value.now) ≡ Some full)
+        × (when_full_flaw (view value.now) ≡ None)) }
+    ensures flaw { IfErr result (λ flaw. when_full_flaw (view value.now) ≡ Some flaw) }
+{
+    match value.as_str().ok_or(Flaw::WrongKind)? {
+        "close" => Ok(WhenFull::Close),
+        "wait" => Ok(WhenFull::Wait),
+        _ => Err(Flaw::OutOfRange),
     }
 }
 

@@ -4,7 +4,7 @@
 use crate::tables::words::word_of_bytes;
 use anyhow::Result;
 use fwd_base::Text;
-use fwd_settings::{OutputSettings, RelaySettings, Settings, UserSettings};
+use fwd_settings::{OutputSettings, RelaySettings, Settings, UserSettings, WhenFull};
 
 /// A text that may be absent.
 fn text_of(text: &Option<Text>) -> &str {
@@ -84,6 +84,14 @@ fn print_numbers<R: Print>(rt: &R, place: usize, output: &OutputSettings) {
     }
 }
 
+/// The word that says what becomes of a request that an output has no room for.
+fn full_name(full: WhenFull) -> &'static str {
+    match full {
+        WhenFull::Close => "close",
+        WhenFull::Wait => "wait",
+    }
+}
+
 /// Prints what the keys of an output that are texts are set to.
 fn print_texts<R: Print>(rt: &R, place: usize, output: &OutputSettings) {
     for (key, text) in [
@@ -91,6 +99,7 @@ fn print_texts<R: Print>(rt: &R, place: usize, output: &OutputSettings) {
         ("shared_key", text_of(&output.shared_key)),
         ("username", output.username.as_str()),
         ("password", output.password.as_str()),
+        ("full", full_name(output.full)),
     ] {
         let _ = println!(rt; "output[{place}].{key} {text}");
     }
