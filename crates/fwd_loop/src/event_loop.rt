@@ -6,7 +6,7 @@ use crate::lost_servers::{LostServers, fact_of};
 use crate::run_clock::RunClock;
 use fwd_links::{Mailbox, Notices};
 use fwd_outlets::{Connection, Connections, Fact, Outlets, Output, Ready, Want, Watch};
-use fwd_peers::{GREETING, SourceEnd, SourcePeer};
+use fwd_peers::{SourceEnd, SourcePeer};
 use mio::event::Event;
 use mio::{Events, Poll, Token};
 use std::alloc::Global;
@@ -27,11 +27,19 @@ pub(crate) const WAKER: Token = Token(usize::MAX - 2);
 const LONGEST: u64 = 100;
 
 /// How long connections are read in a turn, in milliseconds, but for the one that is read then.
-const READING: u64 = 8;
+const READING: u64 = 4;
 
 /// How often a loop that was at work in its last turn looks for more before it sleeps: some ten
 /// microseconds.
 const LOOKS: u32 = 24;
+
+/// Where requests go, and what else the loop looks at while it reads.
+#[derive(Drop)]
+pub(crate) struct Desk<'d, 'a> {
+    pub outputs: &'d [Output],
+    pub outlets: &'d mut Outlets<'a>,
+    pub mailbox: &'d Mailbox,
+}
 
 /// Waits for connections, and reads and writes those that are ready.
 #[derive(Drop)]
@@ -176,22 +184,21 @@ impl EventLoop {
     }
 
     /// Reads each connection that is ready, once, and has what it asks for admitted: for some
-    /// milliseconds, and those that are left in a later turn.
+    /// milliseconds, or until workers tell something, and those that are left in a later turn.
     pub fn read_all<R: Wait + Clock, W: Watch>(
         &mut self,
         rt: &R,
-        outputs: &[Output],
-        outlets: &mut Outlets<'_>,
+        desk: &mut Desk<'_, '_>,
         watch: &mut W,
         clock: &mut RunClock<'_, R>,
     ) {
         let start = clock.moment();
         for _ in 0..self.connections.ready() {
             let now = clock.moment();
-            if now.saturating_sub(start) >= READING {
+            self.read_next(rt, desk, watch, now);
+            if desk.mailbox.is_told() || now.saturating_sub(start) >= READING {
                 return;
             }
-            self.read_next(rt, outputs, outlets, watch, now);
         }
     }
 
@@ -199,8 +206,7 @@ impl EventLoop {
     fn read_next<R: Wait, W: Watch>(
         &mut self,
         rt: &R,
-        outputs: &[Output],
-        outlets: &mut Outlets<'_>,
+        desk: &mut Desk<'_, '_>,
         watch: &mut W,
         now: u64,
     ) {
@@ -212,28 +218,80 @@ impl EventLoop {
             to_end,
             connection,
         } = ready;
-        let again = match connection {
+        let after = match connection {
             Connection::Source(source) => {
-                let again = hear(source, self.alloc, &mut self.room, to_end);
-                outlets.admit_all(rt, source, now);
+                let again = read_source(source, self.alloc, &mut self.room, to_end);
+                let waits = desk.outlets.admit_all(rt, source, now);
                 tell_end(source, watch);
-                let stands = source.write();
-                let again = again || source.is_free();
-                if stands { Some(again) } else { None }
+                after_visit(source, again, waits, to_end)
             }
             Connection::Monitor(monitor) => {
-                let served = monitor.serve(rt, self.alloc, outputs, &mut self.room);
+                let served = monitor.serve(rt, self.alloc, desk.outputs, &mut self.room);
                 if served.is_err() {
                     watch.see(Fact::Memory(Want::Monitor));
                 }
-                served.unwrap_or(None)
+                match served {
+                    Ok(Some(true)) => After::Again,
+                    Ok(Some(false)) => After::Rests,
+                    _ => After::Goes,
+                }
             }
         };
-        match again {
-            Some(true) => self.connections.note_ready(key, false),
-            Some(false) => {}
-            None => self.connections.remove(key),
+        match after {
+            After::Again => self.connections.note_ready(key, false),
+            After::Held => self.connections.note_held(key),
+            After::Rests => {}
+            After::Goes => self.connections.remove(key),
         }
+    }
+}
+
+/// What becomes of a connection behind a visit.
+#[derive(Clone, Copy)]
+enum After {
+    /// It is visited again.
+    Again,
+    /// It is visited once some request was answered, or settled.
+    Held,
+    /// It is visited once the system tells of it.
+    Rests,
+    /// It goes.
+    Goes,
+}
+
+/// Reads a source, and says whether there may be more. One of which requests wait is not read
+/// before they are admitted.
+fn read_source(source: &mut SourcePeer, alloc: Global, room: &mut [u8], to_end: bool) -> bool {
+    if source.waiting() > 0 {
+        return true;
+    }
+    let most = source.portion(room.len());
+    let again = source.hear(alloc, &mut room[..most], to_end);
+    if source.is_too_long() {
+        source.refuse(SourceEnd::NoLogin);
+    }
+    again
+}
+
+/// What becomes of a source behind a visit: there may be more to be read, some of its requests wait
+/// longer, and it is to be read to its end. Where its other side closed, it goes once all are
+/// admitted; or at once, where it asked to be told of the first that waits: it sends that again.
+fn after_visit(source: &mut SourcePeer, again: bool, waits: bool, to_end: bool) -> After {
+    let stands = source.write();
+    if waits {
+        let is_left = to_end || !stands;
+        return if is_left && source.asks() {
+            After::Goes
+        } else {
+            After::Held
+        };
+    }
+    if !stands {
+        After::Goes
+    } else if again || source.is_free() {
+        After::Again
+    } else {
+        After::Rests
     }
 }
 
@@ -246,21 +304,6 @@ fn note(connections: &mut Connections, key: usize, event: &Event) {
     } else {
         connections.note_told(key);
     }
-}
-
-/// Reads a source, and says whether there may be more. One that is still to log in is read no more
-/// than a PING may have in a turn, and ends where it sent more than that.
-fn hear(source: &mut SourcePeer, alloc: Global, room: &mut [u8], to_end: bool) -> bool {
-    let most = if source.awaits_login() {
-        room.len().min(GREETING)
-    } else {
-        room.len()
-    };
-    let again = source.hear(alloc, &mut room[..most], to_end);
-    if source.is_too_long() {
-        source.refuse(SourceEnd::NoLogin);
-    }
-    again
 }
 
 /// A watch is told why the relay ends a source, where it does and that was not told yet.

@@ -11,13 +11,13 @@ use crate::files::{most_files, sources_within};
 use crate::listener::Listener;
 use crate::random_streams::RandomStreams;
 use crate::turns::{Opened, Own, Shared, Turns, WorkerTurns, open};
-use crate::worker_pools::WorkerPools;
+use crate::worker_pools::{NextHop, WorkerPools};
 use fwd_chunks::Report;
 use fwd_config::config_of;
 use fwd_core::{Config, OutputConfig};
 use fwd_links::Mailbox;
 use fwd_outlets::{Connections, Watch, reports_of};
-use fwd_settings::{OutputSettings, Settings};
+use fwd_settings::{OutputSettings, Settings, WhenFull};
 use mio::{Events, Poll, Waker};
 use std::alloc::{AllocError, Global};
 use std::marker::Model;
@@ -83,37 +83,45 @@ fn address_of<R: Files + AllocGlobal>(rt: &R, settings: &Settings) -> Address {
     }
 }
 
-/// Where the servers of each output are reached.
-fn servers_of(alloc: Global, outputs: &[OutputSettings]) -> Result<Vec<Vec<SocketAddr>>, AllocError>
-    ensures { IfOk result (λ servers. length servers.items ≡ length outputs.now) }
+/// Where the servers of each output are reached, and whether sources wait where it is full.
+fn next_hops_of(alloc: Global, outputs: &[OutputSettings]) -> Result<Vec<NextHop>, AllocError>
+    ensures { IfOk result (λ hops. length hops.items ≡ length outputs.now) }
 {
     let mut all = Vec::with_capacity(alloc, outputs.len())?;
     for output in outputs {
-        let own = output.servers.as_slice();
-        all.push(own.iter().map(|server| server.address).collect(alloc)?)?;
+        all.push(next_hop_of(alloc, output)?)?;
     }
     Ok(all)
 }
 
-/// The outputs with their servers and workers, in a run of these bytes.
+/// Where the servers of an output are reached, and whether sources wait where it is full.
+fn next_hop_of(alloc: Global, output: &OutputSettings) -> Result<NextHop, AllocError> {
+    let own = output.servers.as_slice();
+    Ok(NextHop {
+        servers: own.iter().map(|server| server.address).collect(alloc)?,
+        is_patient: output.full == WhenFull::Wait,
+    })
+}
+
+/// The outputs with their next hops and workers, in a run of these bytes.
 fn pools_of<R: Net>(
     rt: &R,
     alloc: Global,
     random: &RandomStreams,
     run: [u8; 6],
     configs: Vec<OutputConfig>,
-    servers: Vec<Vec<SocketAddr>>,
+    hops: Vec<NextHop>,
 ) -> Result<WorkerPools, StartFault>
-    requires each { length servers.items ≡ length configs.items }
+    requires each { length hops.items ≡ length configs.items }
     requires few { length configs.items ≤ 64 }
     ensures { IfOk result (λ pools. length pools.outputs.items ≡ length configs.items) }
 {
     let mut pools = WorkerPools::new(alloc);
     let mut configs = configs.into_iter();
-    let mut servers = servers.into_iter();
-    while let (Some(config), Some(own)) = (configs.next(), servers.next()) {
+    let mut hops = hops.into_iter();
+    while let (Some(config), Some(next)) = (configs.next(), hops.next()) {
         let number = pools.outputs.len() as u16;
-        pools.add(rt, random, run, number, config, own)?;
+        pools.add(rt, random, run, number, config, next)?;
     }
     Ok(pools)
 }
@@ -176,7 +184,7 @@ impl Loop {
             Some(run) => run,
             None => random.run_id(),
         };
-        let servers = servers_of(alloc, settings.outputs.as_slice())?;
+        let hops = next_hops_of(alloc, settings.outputs.as_slice())?;
         let Config {
             run: _,
             routes,
@@ -190,7 +198,7 @@ impl Loop {
             nonces: random.nonces(),
         };
         let (event_loop, mailbox) = event_loop_of(rt, alloc, address, setup)?;
-        let pools = pools_of(rt, alloc, &random, run, outputs.into_vec(), servers)?;
+        let pools = pools_of(rt, alloc, &random, run, outputs.into_vec(), hops)?;
         let WorkerPools {
             alloc: _,
             outputs,

@@ -3,7 +3,7 @@
 ghost use Rattle.std.specs.Prelude.{IfOk};
 ghost use Rattle.fwd_outlets.specs.Ends.{AddUp};
 
-use crate::event_loop::{EventLoop, tell_all};
+use crate::event_loop::{Desk, EventLoop, tell_all};
 use crate::fault::StartFault;
 use crate::lost_servers::LostServers;
 use crate::run_clock::RunClock;
@@ -17,6 +17,13 @@ use std::net::Net;
 use std::rt::Clock;
 use std::sync::Wait;
 use std::time::Instant;
+
+/// How long receipts are collected in a turn, in milliseconds, but for the rounds that are under
+/// way then.
+const COLLECTING: u64 = 4;
+
+/// The most rounds of collecting in a turn.
+const ROUNDS: u16 = 1_024;
 
 /// What a relay's loop and its workers share.
 #[derive(Drop)]
@@ -137,21 +144,47 @@ impl<'a, R: Wait + Clock> Turns<'a, R> {
 
     /// The same, and a watch is told what the turn comes to.
     pub fn turn_watched<W: Watch>(&mut self, rt: &R, watch: &mut W) -> Result<(), StartFault> {
-        let (alloc, outputs) = (self.alloc, self.outputs);
-        let (event_loop, outlets) = (&mut *self.event_loop, &mut self.outlets);
-        event_loop.wait(self.mailbox, outlets, self.clock.moment())?;
         let now = self.clock.moment();
-        let notices = self.mailbox.take(rt, alloc);
-        tell_all(&notices, outputs, &mut self.lost_servers, watch);
-        outlets.hear(&notices);
-        outlets.collect(rt, &mut event_loop.connections, watch);
-        event_loop.write_all(watch);
-        event_loop.read_all(rt, outputs, outlets, watch, &mut self.clock);
-        event_loop.accept(watch, now);
-        event_loop.close_late(watch, now);
-        outlets.flush(rt, self.clock.moment());
+        self.event_loop.wait(self.mailbox, &self.outlets, now)?;
+        let now = self.clock.moment();
+        let notices = self.mailbox.take(rt, self.alloc);
+        tell_all(&notices, self.outputs, &mut self.lost_servers, watch);
+        self.outlets.hear(&notices);
+        self.collect(rt, watch, now);
+        self.event_loop.write_all(watch);
+        if self.outlets.has_moved() {
+            self.event_loop.connections.free_held();
+        }
+        self.read(rt, watch);
+        self.event_loop.accept(watch, now);
+        self.event_loop.close_late(watch, now);
+        let now = self.clock.moment();
+        self.outlets.flush(rt, now);
+        self.outlets.tend(&self.event_loop.connections, watch, now);
         watch.turned();
         Ok(())
+    }
+
+    /// Collects receipts for some milliseconds from a moment on; those that are left in a later
+    /// turn.
+    fn collect<W: Watch>(&mut self, rt: &R, watch: &mut W, start: u64) {
+        let (event_loop, outlets) = (&mut *self.event_loop, &mut self.outlets);
+        for _ in 0..ROUNDS {
+            let is_more = outlets.collect(rt, &mut event_loop.connections, watch);
+            if !is_more || self.clock.moment().saturating_sub(start) >= COLLECTING {
+                return;
+            }
+        }
+    }
+
+    /// Reads the connections that are ready, and has what they ask for admitted.
+    fn read<W: Watch>(&mut self, rt: &R, watch: &mut W) {
+        let mut desk = Desk {
+            outputs: self.outputs,
+            outlets: &mut self.outlets,
+            mailbox: self.mailbox,
+        };
+        self.event_loop.read_all(rt, &mut desk, watch, &mut self.clock);
     }
 
     /// So many turns, of which a watch is told, and first where the relay listens.

@@ -23,6 +23,13 @@ pub(crate) struct WorkerPools {
     pub workers: Vec<WorkerThread>,
 }
 
+/// Where an output's servers are reached, and whether sources wait where it is full.
+#[derive(Drop)]
+pub(crate) struct NextHop {
+    pub servers: Vec<SocketAddr>,
+    pub is_patient: bool,
+}
+
 /// What an output's workers share.
 #[derive(Drop)]
 struct Pool<'a> {
@@ -54,7 +61,7 @@ impl WorkerPools {
         run: [u8; 6],
         number: u16,
         config: OutputConfig,
-        servers: Vec<SocketAddr>,
+        next: NextHop,
     ) -> Result<(), StartFault>
         ensures { OnOk result
             (length self.new.outputs.items ≡ length self.old.outputs.items + 1) }
@@ -77,10 +84,16 @@ impl WorkerPools {
             acks,
         };
         let wakers = self.add_workers(rt, &pool)?;
+        let NextHop {
+            servers,
+            is_patient,
+        } = next;
         self.outputs.push(Output {
             shared,
             servers,
             wakers,
+            total: limits.total,
+            is_patient,
         })?;
         self.timers.push(FlushTimer::new(limits.interval))?;
         Ok(())

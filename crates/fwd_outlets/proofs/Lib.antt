@@ -1,3 +1,4 @@
 pub mod Telling
 pub mod Admitting
 pub mod Told
+pub mod Handing

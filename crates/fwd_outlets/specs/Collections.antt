@@ -1,16 +1,16 @@
 -- What is told: receipts of the tickets that are due, each of them, and each right for its ticket.
-use Rattle.std.specs.Prelude.{◌≡◌, ◌⊎◌, List, [], ◌∷◌, ◌++◌, map, All}
+use Rattle.std.specs.Prelude.{◌≡◌, ◌⊎◌, true, List, [], ◌∷◌, ◌++◌, map, All}
 use Rattle.std.specs.List.Sorted.{IsPermutation}
 use Rattle.fwd_book.specs.History.{BookSetting}
 use Rattle.fwd_book.specs.Receipts.{Receipt}
 use Rattle.fwd_workers.specs.Tickets.{Ticket, IsRight, ticket_of}
-use Rattle.fwd_tickets.specs.Stores.{Stored, HandsOver}
+use Rattle.fwd_tickets.specs.Stores.{Stored, HandsOver, Looks}
+use Rattle.fwd_outlets.specs.declared.lanes.Lanes.{Lanes}
 use Rattle.fwd_outlets.specs.Tellings.{Sources, AreTold}
 
--- tickets come back: they are kept until a chunk is settled; or they are abandoned, since memory
--- was refused for keeping them
+-- tickets come back: they are kept until a chunk is settled
 abbrev pub ComeBack : Stored → List Ticket → Stored → Type 0
-ComeBack s tickets t = (t ≡ record s { late = s.late ++ tickets }) ⊎ (t ≡ s)
+ComeBack s tickets t = t ≡ record s { late = s.late ++ tickets; room = t.room }
 
 -- Tickets that a store handed over are handed in: for each there is a receipt, which is right for
 -- it, or it comes back.
@@ -24,6 +24,24 @@ pub record IsHandedIn (s : Stored) (receipts : List Receipt) (t : Stored) : Type
   pub right : All (λ r. IsRight r (ticket_of setting r)) receipts
   pub rest : ComeBack between back t
 
+-- Memory was refused. Nothing was handed over; or the tickets that were came back, all of them, and
+-- are to be handed in again.
+abbrev pub IsRefused : Stored → Stored → Type 0
+IsRefused s t =
+    Looks s t ⊎ ((taken : List Ticket) × ((between : Stored) × (HandsOver s taken between
+    × (t ≡ record between { late = between.late ++ taken; stirred = true; room = t.room }))))
+
+-- tickets of one of the lanes are handed in, and the other is as it was
+abbrev pub AreHandedIn : Lanes → List Receipt → Lanes → Type 0
+AreHandedIn s receipts t =
+    (IsHandedIn s.few receipts t.few × (t.many ≡ s.many))
+    ⊎ (IsHandedIn s.many receipts t.many × (t.few ≡ s.few))
+
+-- memory was refused for tickets of one of the lanes, and the other is as it was
+abbrev pub AreRefused : Lanes → Lanes → Type 0
+AreRefused s t =
+    (IsRefused s.few t.few × (t.many ≡ s.many)) ⊎ (IsRefused s.many t.many × (t.few ≡ s.few))
+
 -- a receipt is right for a ticket of some output
 abbrev pub IsRightSomewhere : Receipt → Type 0
 IsRightSomewhere r = (setting : BookSetting) × IsRight r (ticket_of setting r)
@@ -36,13 +54,18 @@ pub record TellsRight (s : Sources) (t : Sources) : Type 0 where
 
 -- what an outlet collects in so many rounds: in each tickets are handed in, and each receipt that
 -- there is for them is told
-abbrev pub CollectsBy : List (List Receipt) → Stored → Sources → Stored → Sources → Type 0
+abbrev pub CollectsBy : List (List Receipt) → Lanes → Sources → Lanes → Sources → Type 0
 CollectsBy [] s told t told_then = (t ≡ s) × (told_then ≡ told)
 CollectsBy (receipts ∷ rounds) s told t told_then =
-    (between : Stored) × ((told_between : Sources) × (IsHandedIn s receipts between
+    (between : Lanes) × ((told_between : Sources) × (AreHandedIn s receipts between
     × AreTold told receipts told_between × CollectsBy rounds between told_between t told_then))
 
 -- what it collects in some rounds
-abbrev pub Collects : Stored → Sources → Stored → Sources → Type 0
+abbrev pub Collects : Lanes → Sources → Lanes → Sources → Type 0
 Collects s told t told_then =
     (rounds : List (List Receipt)) × CollectsBy rounds s told t told_then
+
+-- what it collects in some rounds before memory is refused
+abbrev pub CollectsInPart : Lanes → Sources → Lanes → Sources → Type 0
+CollectsInPart s told t told_then =
+    (between : Lanes) × (Collects s told between told_then × AreRefused between t)

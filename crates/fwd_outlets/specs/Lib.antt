@@ -1,9 +1,10 @@
 -- To be believed: Ends, which says how the counts at a run's end fit together; Admissions, where a
 -- source's request goes; Tellings, who is told of receipts; Collections, of which receipts.
--- Standings and Outlets only describe the code.
+-- Standings, Outlets and Laning only describe the code.
 pub mod Ends
 pub mod Admissions
 pub mod Tellings
 pub mod Collections
 pub mod Standings
 pub mod Outlets
+pub mod Laning

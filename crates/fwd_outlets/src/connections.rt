@@ -56,6 +56,8 @@ pub(crate) struct Standing {
     is_ready: bool,
     /// It stands in the queue of those that are told.
     is_told: bool,
+    /// It stands in the queue of those that are held.
+    is_held: bool,
     /// The system told that its other side closed, or that it failed, which it tells once: it is
     /// read to its end from now on.
     is_closing: bool,
@@ -77,8 +79,9 @@ impl Standing {
     }
 }
 
-/// The connections that stand, by keys, with two queues: of those that are ready to be read, or may
-/// have more to be read, and of the sources that have something to be sent, or may take it now.
+/// The connections that stand, by keys, with three queues: of those that are ready to be read, or
+/// may have more to be read; of the sources that have something to be sent, or may take it now; and
+/// of the sources that are held, since their requests wait until others are answered, or settled.
 #[derive(Drop)]
 pub struct Connections {
     standing: Slab<Standing>,
@@ -86,6 +89,8 @@ pub struct Connections {
     ready: VecDeque<usize>,
     /// Each key at most once.
     told: VecDeque<usize>,
+    /// Each key that stands there at most once.
+    held: VecDeque<usize>,
     /// The keys of the sources, by their ids.
     sources: BTreeMap<u64, usize>,
     monitors: usize,
@@ -110,6 +115,7 @@ impl Connections {
             standing: Slab::new(alloc),
             ready: VecDeque::new(alloc),
             told: VecDeque::new(alloc),
+            held: VecDeque::new(alloc),
             sources: BTreeMap::new(alloc),
             monitors: 0,
             logins: Deadlines::new(alloc, LOGIN_LIMIT),
@@ -138,6 +144,7 @@ impl Connections {
         let count = self.standing.len().saturating_add(1);
         self.ready.reserve(count)?;
         self.told.reserve(count)?;
+        self.held.reserve(count)?;
         let id = match &connection {
             Connection::Source(source) => Some(source.id),
             Connection::Monitor(_) => None,
@@ -147,6 +154,7 @@ impl Connections {
             came: now,
             is_ready: false,
             is_told: false,
+            is_held: false,
             is_closing: false,
         };
         let Ok(key) = self.standing.insert(standing) else {
@@ -242,6 +250,46 @@ impl Connections {
             // Room for it was made when the connection came.
             let _ = self.told.push_back(key);
         }
+    }
+
+    /// A source's requests wait until others are answered, or settled.
+    pub fn note_held(&mut self, key: usize) {
+        let Some(standing) = self.standing.get_mut(key) else {
+            return;
+        };
+        if !standing.is_held {
+            // Room for it was made when the connection came, but where keys of others that are gone
+            // stand in the queue still: it may take some then.
+            standing.is_held = self.held.push_back(key).is_ok();
+            if !standing.is_held {
+                self.note_ready(key, false);
+            }
+        }
+    }
+
+    /// The sources that are held are ready, in the order in which they came to be held.
+    pub fn free_held(&mut self) {
+        for _ in 0..self.held.len() {
+            self.free_next();
+        }
+    }
+
+    /// The source that is held first is ready.
+    fn free_next(&mut self) {
+        let Some(key) = self.held.pop_front() else {
+            return;
+        };
+        let Some(standing) = self.standing.get_mut(key) else {
+            return;
+        };
+        if mem::replace(&mut standing.is_held, false) {
+            self.note_ready(key, false);
+        }
+    }
+
+    /// Whether the source of this id stands.
+    pub fn stands(&self, id: u64) -> bool {
+        self.sources.contains_key(&id)
     }
 
     /// How many connections are ready.

@@ -8,6 +8,8 @@
 mod connections;
 mod deadlines;
 mod flush_timer;
+mod gate;
+mod lanes;
 mod monitor_peer;
 mod outlet;
 mod outlets;

@@ -1,36 +1,48 @@
 //! An output as the loop sees it.
 
-ghost use Rattle.std.specs.Prelude.{◌≡◌, IfOk, OnOk, OnErr};
-ghost use Rattle.fwd_tickets.specs.Stores.{IsSame};
+ghost use Rattle.std.specs.Prelude.{◌≡◌, OnOk, OnErr};
 ghost use Rattle.fwd_outlets.specs.Admissions.{KeepsTicketOf};
+ghost use Rattle.fwd_outlets.specs.Laning.{AreSame};
 ghost use Rattle.fwd_outlets.specs.Standings.{sources_in};
-ghost use Rattle.fwd_outlets.specs.Collections.{Collects, ComeBack, IsHandedIn, TellsRight};
+ghost use Rattle.fwd_outlets.specs.Collections.{Collects, CollectsInPart, TellsRight};
 
 use crate::connections::Connections;
 use crate::flush_timer::FlushTimer;
+use crate::lanes::{Lane, Lanes};
 use crate::output::Output;
 use fwd_book::Receipt;
 use fwd_chunks::FlushKind;
 use fwd_modes::{Batch, Origin};
-use fwd_tickets::{TicketStore, abandon_all};
+use fwd_peers::upkeep;
 use fwd_workers::{AdmitRefusal, Ticket};
 use std::alloc::{AllocError, Global};
+use std::mem;
 use std::sync::Wait;
 
-/// How many receipts of an output are told in a turn, but for those of a block more.
-const RECEIPTS: usize = 4_096;
+/// The most blocks of tickets that are handed in to an output at a time: some hundred tickets.
+const BLOCKS: u16 = 16;
 
-/// The most blocks of tickets that are handed in to an output in a turn.
-const BLOCKS: u16 = 1_024;
+/// What requests take beside their entries that are answered by these receipts, in bytes.
+fn upkeep_of(receipts: &[Receipt]) -> u64 {
+    let mut bytes: u64 = 0;
+    for receipt in receipts {
+        let one = upkeep(receipt.tag(), receipt.chunk());
+        bytes = bytes.saturating_add(one as u64);
+    }
+    bytes
+}
 
 /// An output, the tickets that it gave, and when it is flushed. It must be spent: by `close`.
 pub(crate) struct Outlet<'a> {
     alloc: Global,
     output: &'a Output,
-    pub tickets: TicketStore,
+    pub lanes: Lanes,
     pub timer: &'a mut FlushTimer,
     /// The greatest number of a chunk that requests went to.
     newest: Option<u64>,
+    /// What requests took beside their entries that were answered since that was last asked for, in
+    /// bytes.
+    answered: u64,
 }
 
 impl<'a> Outlet<'a> {
@@ -39,24 +51,27 @@ impl<'a> Outlet<'a> {
         Outlet {
             alloc,
             output,
-            tickets: TicketStore::new(alloc),
+            lanes: Lanes::new(alloc),
             timer,
             newest: None,
+            answered: 0,
         }
     }
 
-    /// Admits a connection's request at a moment (milliseconds), and keeps its ticket. Where memory
-    /// is refused for keeping it, its entries stay, and it is as if the request was not admitted.
+    /// Admits a connection's request at a moment (milliseconds), and keeps its ticket in a lane.
+    /// Where memory is refused for keeping it, its entries stay, and it is as if the request was not
+    /// admitted.
     pub fn admit<R: Wait>(
         &mut self,
         rt: &R,
+        lane: Lane,
         origin: Origin,
         batch: Batch,
         now: u64,
     ) -> Result<(), AdmitRefusal>
         ensures kept { OnOk result
-            (KeepsTicketOf self.old.tickets (origin, batch) self.new.tickets) }
-        ensures same { OnErr result (IsSame self.old.tickets self.new.tickets) }
+            (KeepsTicketOf self.old.lanes (origin, batch) self.new.lanes) }
+        ensures same { OnErr result (AreSame self.old.lanes self.new.lanes) }
     {
         let shared = &self.output.shared;
         let ticket = match shared.admit(rt, self.alloc, &mut (), origin, batch, now) {
@@ -65,7 +80,7 @@ impl<'a> Outlet<'a> {
         };
         self.timer.admitted();
         self.ring_for(&ticket);
-        match self.tickets.keep(ticket) {
+        match self.lanes.keep(lane, ticket) {
             Ok(()) => Ok(()),
             Err(ticket) => {
                 shared.abandon(rt, ticket);
@@ -78,7 +93,7 @@ impl<'a> Outlet<'a> {
     /// the next chunk of a tag is opened, which has a greater number than all before it. So has the
     /// first chunk of a tag, which closes none: each chunk rings at most once here.
     fn ring_for(&mut self, ticket: &Ticket)
-        ensures { self.new.tickets ≡ self.old.tickets }
+        ensures { self.new.lanes ≡ self.old.lanes }
     {
         let Some(last) = ticket.spans().last() else {
             return;
@@ -110,8 +125,8 @@ impl<'a> Outlet<'a> {
     }
 
     /// Hands in tickets that are due, block by block, and tells the sources of their receipts: some
-    /// thousands, the others later. The only error is out of memory, and then those that were last
-    /// handed in are handed in again.
+    /// hundred, the others when it is called again. The only error is out of memory, and then those
+    /// that were last handed in are to be handed in still.
     #[tactic(auto, using(crate::proofs::Told::nothing, crate::proofs::Told::no_round))]
     pub fn collect<R: Wait>(
         &mut self,
@@ -119,50 +134,29 @@ impl<'a> Outlet<'a> {
         connections: &mut Connections,
     ) -> Result<(), AllocError>
         ensures each { OnOk result (Collects
-            self.old.tickets (sources_in connections.old)
-            self.new.tickets (sources_in connections.new)) }
+            self.old.lanes (sources_in connections.old)
+            self.new.lanes (sources_in connections.new)) }
+        ensures part { OnErr result (CollectsInPart
+            self.old.lanes (sources_in connections.old)
+            self.new.lanes (sources_in connections.new)) }
         ensures right { TellsRight (sources_in connections.old) (sources_in connections.new) }
     {
-        let mut told: usize = 0;
         for _ in 0..BLOCKS {
-            if told >= RECEIPTS || !self.tickets.is_due() {
+            if !self.lanes.is_due() {
                 break;
             }
-            let receipts = self.hand_in(rt)?;
+            let receipts = self.lanes.hand_in(rt, self.alloc, self.output)?;
             connections.tell_all(&receipts);
-            told = told.saturating_add(receipts.len());
+            self.answered = self.answered.saturating_add(upkeep_of(&receipts));
         }
         Ok(())
     }
 
-    /// Hands in a block of the tickets that are due, and answers what receipts there are: each is
-    /// right for the request of one of these tickets. The others come back. The only error is out
-    /// of memory, and then all come back, and are handed in again.
-    fn hand_in<R: Wait>(&mut self, rt: &R) -> Result<Vec<Receipt>, AllocError>
-        ensures { IfOk result (λ receipts.
-            IsHandedIn self.old.tickets receipts.items self.new.tickets) }
+    /// What requests took beside their entries that were answered since the last call, in bytes.
+    pub fn take_answered(&mut self) -> u64
+        ensures { self.new.lanes ≡ self.old.lanes }
     {
-        let due = self.tickets.take_due();
-        match self.output.shared.collect(rt, self.alloc, due) {
-            Ok((receipts, back)) => {
-                self.put_back(rt, back);
-                Ok(receipts)
-            }
-            Err((error, back)) => {
-                self.put_back(rt, back);
-                self.tickets.stir();
-                Err(error)
-            }
-        }
-    }
-
-    /// Tickets came back. When out of memory they are abandoned: their sources are not told.
-    fn put_back<R: Wait>(&mut self, rt: &R, tickets: Vec<Ticket>)
-        ensures { ComeBack self.old.tickets tickets.items self.new.tickets }
-    {
-        if let Err(tickets) = self.tickets.put_back(tickets) {
-            abandon_all(rt, &self.output.shared, tickets);
-        }
+        mem::replace(&mut self.answered, 0)
     }
 
     /// The tickets that are left are abandoned.
@@ -170,10 +164,11 @@ impl<'a> Outlet<'a> {
         let Outlet {
             alloc: _,
             output,
-            tickets,
+            lanes,
             timer: _,
             newest: _,
+            answered: _,
         } = self;
-        tickets.close(rt, &output.shared);
+        lanes.close(rt, output);
     }
 }

@@ -1,6 +1,6 @@
 //! The outputs as the loop sees them, and which tags go to which.
 
-ghost use Rattle.std.specs.Prelude.{OnOk};
+ghost use Rattle.std.specs.Prelude.{◌≡◌, IfErr, OnOk};
 ghost use Rattle.fwd_outlets.specs.Admissions.{Admits};
 ghost use Rattle.fwd_outlets.specs.Standings.{sources_in};
 ghost use Rattle.fwd_outlets.specs.Collections.{TellsRight};
@@ -8,14 +8,17 @@ ghost use Rattle.fwd_outlets.specs.Outlets.{stores_of};
 
 use crate::connections::Connections;
 use crate::flush_timer::FlushTimer;
+use crate::gate::{Crowd, Gate};
+use crate::lanes::Lane;
 use crate::outlet::Outlet;
 use crate::output::Output;
 use crate::watch::{Fact, Want, Watch};
 use fwd_links::Notices;
 use fwd_match::Routes;
-use fwd_peers::{SourceEnd, SourcePeer};
+use fwd_peers::{SourceEnd, SourcePeer, upkeep};
 use fwd_workers::{AdmitRefusal, News};
 use std::alloc::{AllocError, AllocFailed, Global};
+use std::mem;
 use std::sync::Wait;
 
 /// The most rounds of collecting at the end of a run.
@@ -25,11 +28,26 @@ const ROUNDS: u32 = 1 << 20;
 /// once they are collected.
 const RESERVE: usize = 1 << 20;
 
+/// Why a source's first request that waits is not admitted.
+#[derive(Clone, Copy)]
+enum Stop {
+    /// It ends the source.
+    Ends(SourceEnd),
+    /// It waits until something was answered, or settled.
+    Waits,
+}
+
 /// The outputs, in the settings' order, and which tags go to which. They must be spent: by `close`.
 pub struct Outlets<'a> {
     alloc: Global,
     routes: &'a Routes,
+    outputs: &'a [Output],
     all: Vec<Outlet<'a>>,
+    /// What bounds what waits at each output.
+    gates: Vec<Gate>,
+    /// Something was settled or answered since that was last asked for: requests that wait may be
+    /// admitted now.
+    is_moved: bool,
     /// Nothing is ever put into it: where memory is refused for receipts it is given back.
     reserve: Vec<u8>,
 }
@@ -43,6 +61,16 @@ fn close_all<R: Wait>(rt: &R, outlets: Vec<Outlet<'_>>) {
     rest.destroy_empty();
 }
 
+/// Who waits first for room and is gone waits no more.
+fn let_go(gate: &mut Gate, connections: &Connections) {
+    for _ in 0..u16::MAX {
+        match gate.first() {
+            Some(id) if !connections.stands(id) => gate.leave(),
+            _ => return,
+        }
+    }
+}
+
 impl<'a> Outlets<'a> {
     /// The outputs, and the timer of each, where no ticket is out. The only error is out of memory.
     pub fn new<R: Wait>(
@@ -52,6 +80,10 @@ impl<'a> Outlets<'a> {
         outputs: &'a [Output],
         timers: &'a mut [FlushTimer],
     ) -> Result<Outlets<'a>, AllocError> {
+        let mut gates = Vec::with_capacity(alloc, outputs.len())?;
+        for output in outputs {
+            gates.push(Gate::new(alloc, output))?;
+        }
         let mut all = Vec::new(alloc);
         for (output, timer) in outputs.iter().zip(timers) {
             let outlet = Outlet::new(alloc, output, timer);
@@ -66,40 +98,105 @@ impl<'a> Outlets<'a> {
         Ok(Outlets {
             alloc,
             routes,
+            outputs,
             all,
+            gates,
+            is_moved: false,
             reserve,
         })
     }
 
-    /// Admits the requests that wait at a source at a moment (milliseconds). A request that is not
-    /// admitted ends the source, and what waits behind it is not looked at.
-    pub fn admit_all<R: Wait>(&mut self, rt: &R, source: &mut SourcePeer, now: u64) {
+    /// Admits the requests that wait at a source at a moment (milliseconds), and says whether some
+    /// have to wait longer. A request that is refused ends the source, and what waits behind it is
+    /// not looked at.
+    pub fn admit_all<R: Wait>(&mut self, rt: &R, source: &mut SourcePeer, now: u64) -> bool {
         for _ in 0..source.waiting() {
-            if let Err(why) = self.admit(rt, source, now) {
-                source.refuse(why);
-                return;
+            match self.admit(rt, source, now) {
+                Ok(()) => {}
+                Err(Stop::Waits) => return true,
+                Err(Stop::Ends(why)) => {
+                    source.refuse(why);
+                    return false;
+                }
             }
+        }
+        false
+    }
+
+    /// Admits the first request that waits, at the first output whose pattern matches its tag. Or
+    /// it waits longer, and then nothing has changed.
+    fn admit<R: Wait>(&mut self, rt: &R, source: &mut SourcePeer, now: u64) -> Result<(), Stop>
+        ensures admitted { OnOk result (Admits self.old.routes.now
+            (stores_of self.old.all.items) source.old
+            (stores_of self.new.all.items) source.new) }
+        ensures waits { IfErr result (λ why. why ≡ Stop.Waits
+            → (self.new.all ≡ self.old.all) × (source.new ≡ source.old)) }
+    {
+        let Some(output) = source.route(self.routes) else {
+            return Err(Stop::Ends(SourceEnd::NoRoute));
+        };
+        if !self.lets_in(rt, output, source) {
+            return Err(Stop::Waits);
+        }
+        let Some(outlet) = self.all.get_mut(output as usize) else {
+            return Err(Stop::Ends(SourceEnd::NoRoute));
+        };
+        let lane = Lane::of(source);
+        let Some((origin, batch)) = source.next() else {
+            return Err(Stop::Ends(SourceEnd::Refused(AdmitRefusal::Memory)));
+        };
+        let bytes = upkeep(batch.tag(), batch.chunk());
+        match outlet.admit(rt, lane, origin, batch, now) {
+            Ok(()) => {
+                self.owes(output, bytes);
+                Ok(())
+            }
+            Err(refusal) => Err(Stop::Ends(SourceEnd::Refused(refusal))),
         }
     }
 
-    /// Admits the first request that waits, at the first output whose pattern matches its tag.
-    fn admit<R: Wait>(&mut self, rt: &R, source: &mut SourcePeer, now: u64) -> Result<(), SourceEnd>
-        ensures { OnOk result (Admits self.old.routes.now
-            (stores_of self.old.all.items) source.old
-            (stores_of self.new.all.items) source.new) }
+    /// Whether the first request that waits at a source may be handed in at the output of this
+    /// number.
+    fn lets_in<R: Wait>(&mut self, rt: &R, output: u16, source: &SourcePeer) -> bool
+        ensures same { self.new.all ≡ self.old.all }
+        ensures routes { self.new.routes ≡ self.old.routes }
     {
-        let Some(output) = source.route(self.routes) else {
-            return Err(SourceEnd::NoRoute);
+        let Some(own) = self.outputs.get(output as usize) else {
+            return true;
         };
-        let Some(outlet) = self.all.get_mut(output as usize) else {
-            return Err(SourceEnd::NoRoute);
-        };
-        let Some((origin, batch)) = source.next() else {
-            return Err(SourceEnd::Refused(AdmitRefusal::Memory));
-        };
-        match outlet.admit(rt, origin, batch, now) {
-            Ok(()) => Ok(()),
-            Err(refusal) => Err(SourceEnd::Refused(refusal)),
+        match self.gates.get_mut(output as usize) {
+            None => true,
+            Some(gate) => gate.lets_in(rt, own, source),
+        }
+    }
+
+    /// The output of this number owes an answer to a request more, which takes so many bytes beside
+    /// its entries.
+    fn owes(&mut self, output: u16, bytes: usize)
+        ensures same { self.new.all ≡ self.old.all }
+        ensures routes { self.new.routes ≡ self.old.routes }
+    {
+        if let Some(gate) = self.gates.get_mut(output as usize) {
+            gate.owes(bytes);
+        }
+    }
+
+    /// Whether something was settled or answered since the last call: requests that wait may be
+    /// admitted now.
+    pub fn has_moved(&mut self) -> bool {
+        mem::replace(&mut self.is_moved, false)
+    }
+
+    /// Who waits first for room at an output and is gone waits no more, at a moment (milliseconds);
+    /// and a watch is told at which outputs sources wait.
+    pub fn tend<W: Watch>(&mut self, connections: &Connections, watch: &mut W, now: u64) {
+        for (output, gate) in (0..u16::MAX).zip(&mut self.gates) {
+            let_go(gate, connections);
+            match gate.crowd(now) {
+                None => {}
+                Some(Crowd::Waits(sources)) => watch.see(Fact::Full { output, sources }),
+                Some(Crowd::Gone) => watch.see(Fact::Room { output }),
+            }
         }
     }
 
@@ -108,7 +205,7 @@ impl<'a> Outlets<'a> {
     pub fn patience(&self, now: u64, longest: u64) -> u64 {
         let mut wait = longest;
         for outlet in &self.all {
-            if outlet.tickets.is_due() {
+            if outlet.lanes.is_due() {
                 return 0;
             }
             if let Some(due) = outlet.timer.due() {
@@ -132,8 +229,9 @@ impl<'a> Outlets<'a> {
         }
         for notice in &notices.all {
             if let News::Settled { number, server: _ } = notice.news {
+                self.is_moved = true;
                 if let Some(outlet) = self.all.get_mut(notice.output as usize) {
-                    outlet.tickets.settle(number);
+                    outlet.lanes.settle(number);
                 }
             }
         }
@@ -141,32 +239,50 @@ impl<'a> Outlets<'a> {
 
     /// All tickets are to be handed in.
     pub(crate) fn settle_all(&mut self) {
+        self.is_moved = true;
         for outlet in &mut self.all {
-            outlet.tickets.settle_all();
+            outlet.lanes.settle_all();
         }
     }
 
     /// Hands in tickets that are due, each at its output, and tells the sources of their receipts:
-    /// of each output some thousands, the others later. Where memory is refused for them what is
-    /// kept in reserve is given back, and they are collected again.
+    /// of each output some hundred. Where memory is refused for them what is kept in reserve is
+    /// given back, and they are collected again. It says whether more are due, but for those that
+    /// memory was refused for.
     #[tactic(auto, using(crate::proofs::Told::nothing, crate::proofs::Told::on))]
     pub fn collect<R: Wait, W: Watch>(
         &mut self,
         rt: &R,
         connections: &mut Connections,
         watch: &mut W,
-    )
+    ) -> bool
         ensures { TellsRight (sources_in connections.old) (sources_in connections.new) }
     {
         if self.reserve.capacity() == 0 {
             let _ = self.reserve.reserve(RESERVE);
         }
+        let mut is_more = false;
         for (number, outlet) in (0..u16::MAX).zip(&mut self.all) {
+            if outlet.collect(rt, connections).is_ok() {
+                is_more = is_more || outlet.lanes.is_due();
+                continue;
+            }
+            self.reserve = Vec::new(self.alloc);
             if outlet.collect(rt, connections).is_err() {
-                self.reserve = Vec::new(self.alloc);
-                if outlet.collect(rt, connections).is_err() {
-                    watch.see(Fact::Memory(Want::Output(number)));
-                }
+                watch.see(Fact::Memory(Want::Output(number)));
+            }
+        }
+        self.note_answered();
+        is_more
+    }
+
+    /// What was answered is owed no more.
+    fn note_answered(&mut self) {
+        for (gate, outlet) in self.gates.iter_mut().zip(&mut self.all) {
+            let bytes = outlet.take_answered();
+            if bytes > 0 {
+                gate.answered(bytes);
+                self.is_moved = true;
             }
         }
     }
@@ -189,7 +305,7 @@ impl<'a> Outlets<'a> {
 
     /// Whether there are tickets to be handed in.
     fn is_due(&self) -> bool {
-        self.all.iter().any(|outlet| outlet.tickets.is_due())
+        self.all.iter().any(|outlet| outlet.lanes.is_due())
     }
 
     /// The tickets that are left are abandoned.
@@ -197,7 +313,10 @@ impl<'a> Outlets<'a> {
         let Outlets {
             alloc: _,
             routes: _,
+            outputs: _,
             all,
+            gates: _,
+            is_moved: _,
             reserve: _,
         } = self;
         close_all(rt, all);

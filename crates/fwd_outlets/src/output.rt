@@ -16,6 +16,10 @@ pub struct Output {
     pub shared: SharedOutput<Plain, Plain>,
     pub servers: Vec<SocketAddr>,
     pub wakers: Vec<WorkerWaker>,
+    /// The most bytes of entries that it holds.
+    pub total: u64,
+    /// Sources wait where it is full, and are not closed.
+    pub is_patient: bool,
 }
 
 impl Output {

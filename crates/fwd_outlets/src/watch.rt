@@ -72,6 +72,15 @@ pub enum Fact {
         caller: Caller,
         peer: SocketAddr,
     },
+    /// The output of this number is full, and so many sources wait until it has room.
+    Full {
+        output: u16,
+        sources: usize,
+    },
+    /// None has waited there for a while.
+    Room {
+        output: u16,
+    },
     /// Memory was refused.
     Memory(Want),
     /// The process may have so many files open, which leaves room for so many sources at a time,

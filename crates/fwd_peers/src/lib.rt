@@ -3,13 +3,15 @@
 #![tactic(auto)]
 
 mod calls;
+mod cost;
 mod limits;
 mod source_end;
 mod source_peer;
 mod stage;
 mod stream;
 
-pub use limits::GREETING;
+pub use cost::upkeep;
+pub use limits::{GREETING, SMALL_PIECE};
 pub use source_end::{PeerEnd, SourceEnd};
 pub use source_peer::SourcePeer;
 pub use stage::Stage;

@@ -23,7 +23,8 @@ ghost use Rattle.fwd_source.specs.Live.{source_appends};
 ghost use Rattle.fwd_peers.specs.Streams.{IsReading};
 ghost use Rattle.fwd_peers.specs.Peers as peers;
 
-use crate::limits::{ACK_FRONT, GREETING, UNSENT};
+use crate::cost::upkeep;
+use crate::limits::{ACK_FRONT, GREETING, SHORT_REQUEST, SMALL_PIECE, UNSENT};
 use crate::source_end::{PeerEnd, SourceEnd};
 use crate::stage::Stage;
 use crate::stream::{PeerStream, Visit};
@@ -52,6 +53,11 @@ pub struct SourcePeer {
     promised: usize,
     /// It was not read when it was visited last, since too many bytes wait to be sent to it.
     is_held: bool,
+    /// So many bytes its requests take beside their entries that it gave, and of which it was not
+    /// told yet.
+    owed: usize,
+    /// Its requests are short, by those that it was read last, or none is known yet.
+    is_dense: bool,
 }
 
 impl Model for SourcePeer {
@@ -129,6 +135,8 @@ impl SourcePeer {
             why: None,
             promised: 0,
             is_held: false,
+            owed: 0,
+            is_dense: true,
         }
     }
 
@@ -183,7 +191,10 @@ impl SourcePeer {
         if bytes.is_empty() {
             return;
         }
-        match self.source.piece(alloc, bytes) {
+        let told = self.source.piece(alloc, bytes);
+        let shortest = self.source.waiting().saturating_mul(SHORT_REQUEST);
+        self.is_dense = bytes.len() < shortest;
+        match told {
             Ok(told) => match told.piece {
                 Piece::Waiting(_) => {}
                 Piece::Fault(fault) => self.linger(fault),
@@ -248,6 +259,42 @@ impl SourcePeer {
         self.source.awaits_login() && self.source.unfinished() > GREETING
     }
 
+    /// How many bytes it is to be read in a visit, of so many at most: few where its requests are
+    /// short, and before it has logged in as many as show that its PING is too long.
+    pub fn portion(&self, most: usize) -> usize
+        ensures { result ≤ most }
+    {
+        let portion = if self.source.awaits_login() {
+            (GREETING + 1).saturating_sub(self.source.unfinished())
+        } else if self.is_dense {
+            SMALL_PIECE
+        } else {
+            most
+        };
+        portion.min(most)
+    }
+
+    /// How many bytes its requests take beside their entries of which it was not told yet.
+    pub fn owed(&self) -> usize {
+        self.owed
+    }
+
+    /// How many bytes the entries have of the first request that waits.
+    pub fn asked_bytes(&self) -> usize {
+        match self.source.peek() {
+            None => 0,
+            Some((_, batch)) => batch.entries().len(),
+        }
+    }
+
+    /// Whether a request waits, and the first that does asks for an acknowledgement.
+    pub fn asks(&self) -> bool {
+        match self.source.peek() {
+            None => false,
+            Some((_, batch)) => batch.chunk().is_some(),
+        }
+    }
+
     /// How many requests wait to be admitted.
     pub fn waiting(&self) -> usize
         ensures { result ≡ length self.now.live.waiting }
@@ -270,8 +317,10 @@ impl SourcePeer {
     {
         let (_, batch) = self.source.peek()?;
         let promised = self.promised.checked_add(ack_size(batch))?;
+        let owed = upkeep(batch.tag(), batch.chunk());
         self.source.reserve(promised).ok()?;
         self.promised = promised;
+        self.owed = self.owed.saturating_add(owed);
         self.source.next()
     }
 
@@ -296,6 +345,8 @@ impl SourcePeer {
         if receipt.origin().conn != self.id {
             return;
         }
+        let owed = upkeep(receipt.tag(), receipt.chunk());
+        self.owed = self.owed.saturating_sub(owed);
         let Some(chunk) = receipt.chunk() else {
             return;
         };

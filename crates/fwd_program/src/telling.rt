@@ -18,14 +18,15 @@ pub enum Kind {
     FewFiles = 7,
     Descriptors = 8,
     ChunkRefused = 9,
+    OutputFull = 10,
 }
 
 impl Kind {
     /// How many kinds there are.
-    pub const COUNT: usize = 10;
+    pub const COUNT: usize = 11;
 
     /// Each kind once.
-    pub const ALL: [Kind; 10] = [
+    pub const ALL: [Kind; 11] = [
         Kind::Listening,
         Kind::SourceClosed,
         Kind::ServerLost,
@@ -36,6 +37,7 @@ impl Kind {
         Kind::FewFiles,
         Kind::Descriptors,
         Kind::ChunkRefused,
+        Kind::OutputFull,
     ];
 
     /// The kind of a fact.
@@ -51,6 +53,7 @@ impl Kind {
             Fact::FewFiles { .. } => Kind::FewFiles,
             Fact::Descriptors(_) => Kind::Descriptors,
             Fact::ChunkRefused { .. } => Kind::ChunkRefused,
+            Fact::Full { .. } | Fact::Room { .. } => Kind::OutputFull,
         }
     }
 }
@@ -69,6 +72,7 @@ impl fmt::Display for Kind {
             Kind::FewFiles => "few files",
             Kind::Descriptors => "no descriptor",
             Kind::ChunkRefused => "chunk refused",
+            Kind::OutputFull => "output full",
         })
     }
 }
@@ -98,6 +102,7 @@ impl Subject {
             Fact::FewFiles { .. } => ("", None),
             Fact::Descriptors(caller) => (caller_name(*caller), None),
             Fact::ChunkRefused { output, .. } => ("", Some(*output)),
+            Fact::Full { output, .. } | Fact::Room { output } => ("", Some(*output)),
         };
         Subject { kind, name, output }
     }
@@ -133,7 +138,9 @@ pub struct Telling {
 impl fmt::Display for Telling {
     fn fmt<W: fmt::Write>(&self, f: &mut fmt::Formatter<W>) -> fmt::Result {
         let kind = Kind::of(&self.fact);
-        write!(f, "{kind}: ")?;
+        if kind != Kind::OutputFull {
+            write!(f, "{kind}: ")?;
+        }
         match self.fact {
             Fact::Listening { caller, address } => {
                 let caller = caller_name(caller);
@@ -180,6 +187,10 @@ impl fmt::Display for Telling {
                 let name = loss_name(why);
                 write!(f, " bytes {size} losses {losses} server {server} {name}")
             }
+            Fact::Full { output, sources } => {
+                write!(f, "output {output} full: {sources} sources wait")
+            }
+            Fact::Room { output } => write!(f, "output {output} has room"),
         }
     }
 }

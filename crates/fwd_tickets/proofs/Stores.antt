@@ -1,11 +1,11 @@
 -- What a store's calls make of what it holds, from what they make of its parts.
-use Rattle.std.proofs.Common.{◌≡◌, ◌++◌, [], ◌∷◌, ℕ, List, Some, Result, Ok, Err, OnOk, refl, sym, subst}
+use Rattle.std.proofs.Common.{◌≡◌, ◌++◌, [], ◌∷◌, ℕ, List, Some, Result, Ok, Err, OnOk, inl, inr, refl, sym, subst}
 use Rattle.fwd_workers.specs.Tickets.{Ticket}
 use Rattle.fwd_tickets.specs.Stores.{
   AreHeld,
-  Finds,
   HandsOver,
   IsKept,
+  Looks,
   Stored,
   held_in,
   last_chunk,
@@ -35,16 +35,44 @@ kept_at s t ticket chunk last waits due late stirred all = record {
 
 -- what is taken off the front of those that are due is handed over
 pub handed : (s m t : Stored) (taken : List Ticket)
-    → Finds (held_in s) (held_in m) → m.due ≡ taken ++ t.due → t.lists ≡ m.lists
-    → t.late ≡ m.late → (taken ≡ [] → t.due ≡ []) → HandsOver s taken t
-handed s m t taken finds first lists late some = record {
-  found = held_in m;
-  finds = finds;
+    → Looks s m → m.due ≡ taken ++ t.due → t.lists ≡ m.lists
+    → t.late ≡ m.late → t.stirred ≡ m.stirred → t.all_due ≡ m.all_due
+    → (taken ≡ [] → t.due ≡ []) → HandsOver s taken t
+handed s m t taken looks first lists late stirred all some = record {
+  found = m;
+  looks = looks;
   first = first;
   rest = record {
     waits = λ chunk. subst (λ l. waiting_in l chunk ≡ waiting_in m.lists chunk) (sym lists) refl;
     due = refl;
     late = late;
   };
+  stirred = stirred;
+  all_due = all;
   some = some;
 }
+
+-- a look comes to the same whatever room there is
+looks_on : (s m : Stored) (room : ℕ) → Looks s m → Looks s (record m { room = room })
+looks_on s m room (inl none) = inl (
+  record { held = none.0.held; stirred = none.0.stirred; all_due = none.0.all_due },
+  none.1,
+)
+looks_on s m room (inr (inl back)) = inr (inl back)
+looks_on s m room (inr (inr all)) = inr (inr all)
+
+-- and so where nothing is handed over behind it
+pub kept_due : (s m t : Stored) → Looks s m → t.lists ≡ m.lists → t.due ≡ m.due
+    → t.late ≡ m.late → t.stirred ≡ m.stirred → t.all_due ≡ m.all_due → Looks s t
+kept_due s m t looks lists due late stirred all =
+    subst (Looks s) same (looks_on s m t.room looks)
+  where
+    same : record m { room = t.room } ≡ t
+    same = λ i. record {
+      lists = sym lists i;
+      due = sym due i;
+      late = sym late i;
+      stirred = sym stirred i;
+      all_due = sym all i;
+      room = t.room;
+    }

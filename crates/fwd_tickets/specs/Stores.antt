@@ -12,6 +12,7 @@ use Rattle.std.specs.Prelude.{
   ◌∷◌,
   ◌++◌,
   ◌-◌,
+  ◌<◌,
   length,
   Option,
   Some,
@@ -28,13 +29,15 @@ use Rattle.fwd_workers.specs.Tickets.{Ticket}
 
 -- what a store holds: lists of tickets, each with the number of the chunk that they wait for; those
 -- that are to be handed in, in their order; those that were handed in and came back; whether a
--- chunk was settled since; and whether all are to be handed in
+-- chunk was settled since; whether all are to be handed in; and how many blocks of tickets may come
+-- back before that takes memory
 pub record Stored : Type 0 where
   pub lists : List (ℕ × List Ticket)
   pub due : List Ticket
   pub late : List Ticket
   pub stirred : Bool
   pub all_due : Bool
+  pub room : ℕ
 
 -- which tickets it holds: who waits for a chunk, by its number; who is due; and who came back
 pub record Held : Type 0 where
@@ -73,7 +76,14 @@ pub record IsSame (s : Stored) (t : Stored) : Type 0 where
 
 -- a store that holds none, and of which nothing is to be handed in
 abbrev pub none_kept : Stored
-none_kept = record { lists = []; due = []; late = []; stirred = false; all_due = false }
+none_kept = record {
+  lists = [];
+  due = [];
+  late = [];
+  stirred = false;
+  all_due = false;
+  room = 0;
+}
 
 -- what waits, but that these tickets wait for this chunk
 abbrev pub waits_with : (ℕ → List Ticket) → (chunk : ℕ) → List Ticket → ℕ → List Ticket
@@ -114,17 +124,44 @@ pub record IsSettled (s : Stored) (chunk : ℕ) (t : Stored) : Type 0 where
   pub all_stay : s.all_due ≡ true → t.all_due ≡ true
   pub again : s.late ≢ [] → t.stirred ≡ true
 
--- Where none is due, some are looked for: those that came back, or those that wait for a chunk.
-abbrev pub Finds : Held → Held → Type 0
-Finds s t =
-    AreHeld s t
-    ⊎ ((s.due ≡ []) × AreHeld (record s { due = s.late; late = [] }) t)
-    ⊎ ((s.due ≡ []) × ((chunk : ℕ) × AreHeld (with_due s chunk) t))
+-- Where none is due and all are to be handed in, those that wait for some chunk are due, and wait no
+-- more. Where none waits, not all are to be handed in any more.
+abbrev pub FindsLeast : Stored → Stored → Type 0
+FindsLeast s t =
+    ((t.all_due ≡ true) × (length t.lists < length s.lists)
+    × ((chunk : ℕ) × AreHeld (with_due (held_in s) chunk) (held_in t)))
+    ⊎ ((t.all_due ≡ false) × ((chunk : ℕ) → waiting_in s.lists chunk ≡ [])
+    × AreHeld (held_in s) (held_in t))
+
+-- nothing is looked for: some are due, or nothing else is to be handed in
+abbrev pub LooksForNone : Stored → Stored → Type 0
+LooksForNone s t =
+    IsSame s t × (s.due ≡ [] → (s.stirred ≡ false) × (s.all_due ≡ false))
+
+-- those that came back are due, where none is, and a chunk was settled since
+abbrev pub LooksBack : Stored → Stored → Type 0
+LooksBack s t =
+    (s.due ≡ []) × (s.stirred ≡ true)
+    × AreHeld (record (held_in s) { due = s.late; late = [] }) (held_in t)
+    × (t.stirred ≡ false) × (t.all_due ≡ s.all_due)
+
+-- all are to be handed in, and none is due, nor to be handed in again
+abbrev pub LooksForAll : Stored → Stored → Type 0
+LooksForAll s t =
+    (s.due ≡ []) × (s.stirred ≡ false) × (s.all_due ≡ true) × FindsLeast s t
+    × (t.stirred ≡ false)
+
+-- Where none is due, tickets to be handed in are looked for: those that came back, if a chunk was
+-- settled since, and else, where all are to be handed in, those that wait for some chunk.
+abbrev pub Looks : Stored → Stored → Type 0
+Looks s t = LooksForNone s t ⊎ (LooksBack s t ⊎ LooksForAll s t)
 
 -- The first of the tickets that are due are handed over: none only where none is due then.
 pub record HandsOver (s : Stored) (taken : List Ticket) (t : Stored) : Type 0 where
-  pub found : Held
-  pub finds : Finds (held_in s) found
+  pub found : Stored
+  pub looks : Looks s found
   pub first : found.due ≡ taken ++ t.due
-  pub rest : AreHeld (record found { due = t.due }) (held_in t)
+  pub rest : AreHeld (record (held_in found) { due = t.due }) (held_in t)
+  pub stirred : t.stirred ≡ found.stirred
+  pub all_due : t.all_due ≡ found.all_due
   pub some : taken ≡ [] → t.due ≡ []

@@ -1,6 +1,21 @@
 //! A list of tickets that is handed on in blocks.
 
-ghost use Rattle.std.specs.Prelude.{◌≡◌, ◌≢◌, ◌++◌, [], ◌∷◌, true, IfErr, IfSome, IfNone, OnOk, OnErr};
+ghost use Rattle.std.specs.Prelude.{
+  ◌≡◌,
+  ◌≢◌,
+  ◌++◌,
+  [],
+  ◌∷◌,
+  true,
+  false,
+  All,
+  IfErr,
+  IfSome,
+  IfNone,
+  OnOk,
+  OnErr,
+};
+ghost use Rattle.std.specs.List.{flat_map};
 
 use fwd_workers::{Plain, SharedOutput, Ticket};
 use std::alloc::{AllocError, AllocFailed, Global};
@@ -9,8 +24,9 @@ use std::marker::Model;
 use std::mem;
 use std::sync::Wait;
 
-/// The most tickets of a block: so few that where memory is short their receipts find room.
-const BLOCK: usize = 256;
+/// The most tickets of a block: so few that where memory is short their receipts find room, and
+/// that a list of few is small.
+const BLOCK: usize = 16;
 
 /// Tickets, in their order. They lie in blocks, so that no ticket is moved where lists are joined,
 /// and that few are handed on at a time. In contracts it is the list of its tickets. It must be
@@ -47,8 +63,10 @@ impl TicketList {
     }
 
     /// Whether there is no block, and so no ticket.
+    #[tactic(auto, using(crate::proofs::Blocks::no_ticket))]
     pub fn is_empty(&self) -> bool
-        ensures { result ≡ true → self.now ≡ [] }
+        ensures none { result ≡ true → self.now ≡ [] }
+        ensures some { result ≡ false → self.now ≢ [] }
     {
         self.full.is_empty() && self.last.is_empty()
     }
@@ -108,6 +126,16 @@ impl TicketList {
         Ok(())
     }
 
+    /// Takes over these blocks of tickets, and leaves none there. It takes no memory.
+    pub(crate) fn take_blocks(&mut self, blocks: &mut VecDeque<Vec<Ticket>>)
+        requires none { self.old ≡ [] }
+        requires filled { All (λ block. block.items ≢ []) blocks.old.items }
+        ensures taken { self.new ≡ flat_map (λ block. block.items) blocks.old.items }
+        ensures left { blocks.new.items ≡ [] }
+    {
+        mem::swap(&mut self.full, blocks);
+    }
+
     /// Takes out the first tickets, a block of them: none only where none is left.
     pub fn pop_block(&mut self) -> Option<Vec<Ticket>>
         ensures some { IfSome result (λ block.
@@ -144,15 +172,25 @@ impl TicketList {
     pub fn abandon<R: Wait>(self, rt: &R, output: &SharedOutput<Plain, Plain>) {
         let TicketList {
             alloc: _,
-            mut full,
+            full,
             last,
         } = self;
-        while let Some(block) = full.pop_front() {
-            abandon_all(rt, output, block);
-        }
-        full.destroy_empty();
+        abandon_blocks(rt, output, full);
         abandon_all(rt, output, last);
     }
+}
+
+/// Nobody is to be told of the requests of the tickets of these blocks any more.
+pub(crate) fn abandon_blocks<R: Wait>(
+    rt: &R,
+    output: &SharedOutput<Plain, Plain>,
+    blocks: VecDeque<Vec<Ticket>>,
+) {
+    let mut rest = blocks;
+    while let Some(block) = rest.pop_front() {
+        abandon_all(rt, output, block);
+    }
+    rest.destroy_empty();
 }
 
 /// Nobody is to be told of the requests of these tickets any more.

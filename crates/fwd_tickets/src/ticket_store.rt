@@ -1,25 +1,39 @@
 //! The tickets of an output whose requests are owed an answer.
 
-ghost use Rattle.std.specs.Prelude.{◌≡◌, ◌++◌, [], ◌∷◌, ℕ, Some, true, false, IfErr, OnOk, OnErr};
+ghost use Rattle.std.specs.Prelude.{
+  ◌≡◌,
+  ◌<◌,
+  ◌++◌,
+  [],
+  ◌∷◌,
+  ℕ,
+  Some,
+  true,
+  false,
+  IfOk,
+  IfErr,
+  OnOk,
+  OnErr,
+};
 ghost use Rattle.fwd_tickets.specs.Stores.{
-  Finds,
+  FindsLeast,
   HandsOver,
   IsKept,
   IsQuiet,
   IsSame,
   IsSettled,
-  held_in,
+  Looks,
   last_chunk,
   waiting_in,
   waits_with,
   none_kept,
 };
 
-use crate::ticket_list::TicketList;
+use crate::ticket_list::{TicketList, abandon_blocks};
 use fwd_chunks::Span;
 use fwd_workers::{Plain, SharedOutput, Ticket};
 use std::alloc::{AllocError, AllocFailed, Global};
-use std::collections::BTreeMap;
+use std::collections::{BTreeMap, VecDeque};
 use std::marker::Model;
 use std::mem;
 use std::sync::Wait;
@@ -35,8 +49,9 @@ pub struct TicketStore {
     waiting: BTreeMap<u64, TicketList>,
     /// They are to be handed in.
     due: TicketList,
-    /// They were handed in and came back: another chunk of their request is not settled yet.
-    late: TicketList,
+    /// They were handed in and came back, in blocks: another chunk of their request is not settled
+    /// yet.
+    late: VecDeque<Vec<Ticket>>,
     /// A chunk was settled since some came back: it may be that one.
     is_stirred: bool,
     /// It is not known what was settled, or memory was refused for it: all are to be handed in.
@@ -44,6 +59,9 @@ pub struct TicketStore {
 }
 
 impl Model for TicketStore {
+    ghost use Rattle.std.specs.Prelude.{◌-◌, ◌≢◌, [], All};
+    ghost use Rattle.std.specs.List.{flat_map};
+    ghost use Rattle.std.specs.VecDeque.{deque_len, deque_capacity};
     ghost use Rattle.fwd_tickets.specs.Stores.{Stored};
 
     ghost Value = { Stored };
@@ -51,10 +69,13 @@ impl Model for TicketStore {
     ghost view = { λ s. record {
       lists = s.waiting.entries;
       due = s.due;
-      late = s.late;
+      late = flat_map (λ block. block.items) s.late.items;
       stirred = s.is_stirred;
       all_due = s.are_all_due;
+      room = deque_capacity s.late - deque_len s.late;
     } };
+
+    ghost invariant = { λ s. All (λ block. block.items ≢ []) s.late.items };
 }
 
 impl TicketStore {
@@ -66,7 +87,7 @@ impl TicketStore {
             alloc,
             waiting: BTreeMap::new(alloc),
             due: TicketList::new(alloc),
-            late: TicketList::new(alloc),
+            late: VecDeque::new(alloc),
             is_stirred: false,
             are_all_due: false,
         }
@@ -97,6 +118,7 @@ impl TicketStore {
 
     /// A chunk is settled: the tickets that wait for it are to be handed in, and those that came
     /// back.
+    #[tactic(auto, using(crate::proofs::Blocks::some_blocks))]
     pub fn settle(&mut self, chunk: u64)
         ensures { IsSettled self.old chunk self.new }
     {
@@ -128,49 +150,75 @@ impl TicketStore {
         self.are_all_due || !self.due.is_empty() || (self.is_stirred && !self.late.is_empty())
     }
 
-    /// Takes out the first tickets that are to be handed in: a block of them.
-    #[tactic(auto, using(crate::proofs::Stores::handed))]
-    pub fn take_due(&mut self) -> Vec<Ticket>
-        ensures { HandsOver self.old result.items self.new }
+    /// Takes out the first tickets that are to be handed in: a block of them, and none only where
+    /// none is to be handed in, but that where all are each list of those that wait takes a call.
+    /// There is room then for them to come back. The only error is out of memory: none is handed
+    /// over, and they are to be handed in still.
+    #[tactic(auto, using(crate::proofs::Stores::handed, crate::proofs::Stores::kept_due))]
+    pub fn take_due(&mut self) -> Result<Vec<Ticket>, AllocError>
+        ensures handed { IfOk result (λ block. HandsOver self.old block.items self.new) }
+        ensures room { OnOk result (0 < self.new.room) }
+        ensures kept { OnErr result (Looks self.old self.new) }
     {
         self.find_due();
-        if let Some(block) = self.due.pop_block() {
-            return block;
+        if self.late.reserve(1).is_err() {
+            return Err(AllocError);
         }
-        Vec::new(self.alloc)
+        if let Some(block) = self.due.pop_block() {
+            return Ok(block);
+        }
+        Ok(Vec::new(self.alloc))
     }
 
     /// Looks for tickets to be handed in where none is due: those that came back, if a chunk was
     /// settled since; else, where all are to be handed in, those that wait for the least chunk.
     fn find_due(&mut self)
-        ensures { Finds (held_in self.old) (held_in self.new) }
+        ensures { Looks self.old self.new }
     {
         if !self.due.is_empty() {
             return;
         }
         if mem::replace(&mut self.is_stirred, false) {
-            mem::swap(&mut self.due, &mut self.late);
+            self.due.take_blocks(&mut self.late);
         } else if self.are_all_due {
-            match self.waiting.pop_first() {
-                Some((_, list)) => mem::replace(&mut self.due, list).destroy_empty(),
-                None => self.are_all_due = false,
-            }
+            self.find_least();
+        }
+    }
+
+    /// Those that wait for the least chunk are due, where none is; or none waits for any.
+    fn find_least(&mut self)
+        requires none { self.old.due ≡ [] }
+        requires all { self.old.all_due ≡ true }
+        ensures found { FindsLeast self.old self.new }
+        ensures stirred { self.new.stirred ≡ self.old.stirred }
+    {
+        match self.waiting.pop_first() {
+            Some((_, list)) => mem::replace(&mut self.due, list).destroy_empty(),
+            None => self.are_all_due = false,
         }
     }
 
     /// Tickets that were handed in came back: another chunk of their requests is not settled yet.
-    /// They are handed in again once a chunk is settled. When out of memory they come back.
+    /// They are handed in again once a chunk is settled. It takes no memory: where `take_due` made
+    /// no room for them they come back.
     pub fn put_back(&mut self, tickets: Vec<Ticket>) -> Result<(), Vec<Ticket>>
-        ensures put { OnOk result (self.new
-            ≡ record self.old { late = self.old.late ++ tickets.items }) }
+        ensures put { OnOk result (self.new ≡ record self.old {
+          late = self.old.late ++ tickets.items;
+          room = self.new.room;
+        }) }
         ensures back { IfErr result (λ block. block.items ≡ tickets.items) }
         ensures same { OnErr result (self.new ≡ self.old) }
+        ensures no_room { OnErr result (self.old.room ≡ 0) }
     {
         if tickets.is_empty() {
             tickets.destroy_empty();
             return Ok(());
         }
-        self.late.push_block(tickets)
+        if self.late.len() >= self.late.capacity() {
+            return Err(tickets);
+        }
+        self.late.push_back_reserved(tickets);
+        Ok(())
     }
 
     /// The tickets that are left are abandoned.
@@ -188,7 +236,7 @@ impl TicketStore {
         }
         waiting.destroy_empty();
         due.abandon(rt, output);
-        late.abandon(rt, output);
+        abandon_blocks(rt, output, late);
     }
 }
 

@@ -49,7 +49,7 @@ static LOSSES: [Loss; 13] = [
 ];
 
 /// What else is told.
-static OTHERS: [Fact; 5] = [
+static OTHERS: [Fact; 7] = [
     Fact::Memory(Want::Monitor),
     Fact::Memory(Want::Output(3)),
     Fact::Memory(Want::News),
@@ -58,6 +58,11 @@ static OTHERS: [Fact; 5] = [
         sources: 92,
     },
     Fact::Descriptors(Caller::Source),
+    Fact::Full {
+        output: 63,
+        sources: 1_024,
+    },
+    Fact::Room { output: 63 },
 ];
 
 /// A journal that is told each fact a second after the one before.

@@ -42,6 +42,22 @@ const BACKWARDS: &[Step] = &[
     Step::Silent("once", 0),
 ];
 
+/// Two entries under the tag `a`, in Forward mode, that ask to be acknowledged as `x`.
+const TWO: &[u8] = b"\x93\xa1a\x92\x92\x01\x80\x92\x02\x80\x81\xa5chunk\xa1x";
+
+/// A request has its entries in two chunks, and the later one is acknowledged first: its source is
+/// told behind the other.
+const LATER_FIRST: &[Step] = &[
+    Step::Source(TWO),
+    Step::Accept(0),
+    Step::Values("frames", 1, 2),
+    Step::Acks(1, &[1]),
+    Step::Silent("silent", 0),
+    Step::Acks(1, &[0]),
+    Step::Told("told", 0),
+    Step::Silent("once", 0),
+];
+
 /// The acknowledgements of the output's first chunk, and of its second one.
 const FIRST: &[u8] = b"\x81\xa3ack\xb8AAAAAAAAAAAAAAAAAAAAAQ==";
 
@@ -122,7 +138,7 @@ const WINDOW: Scene = Scene {
 };
 
 /// The scenes.
-pub static WINDOWS: [Scene; 4] = [
+pub static WINDOWS: [Scene; 5] = [
     Scene {
         title: "a window that is acknowledged backwards",
         host: 36,
@@ -145,6 +161,12 @@ pub static WINDOWS: [Scene; 4] = [
         title: "a window of which some is acknowledged",
         host: 39,
         play: Play::Steps(SOME),
+        ..WINDOW
+    },
+    Scene {
+        title: "a request in two chunks, of which the later is acknowledged first",
+        host: 70,
+        play: Play::Steps(LATER_FIRST),
         ..WINDOW
     },
 ];

@@ -6,7 +6,7 @@ pub loop-config-init : goal.loop-config-init
 loop-config-init g c =
     let configs : into_iter_len c.into_iter-configs.result ≡ length c.args.configs.items =
     c.into_iter-configs.ensures.len ∙ c.args.configs.ok.0 in
-    let servers : into_iter_len c.into_iter-servers.result ≡ length c.args.servers.items =
-    c.into_iter-servers.ensures.len ∙ c.args.servers.ok.0 in
+    let hops : into_iter_len c.into_iter-hops.result ≡ length c.args.hops.items =
+    c.into_iter-hops.ensures.len ∙ c.args.hops.ok.0 in
     let none : length c.new-pools.result.outputs.items ≡ 0 = ap length c.new-pools.ensures in
-    (servers ∙ c.requires.each ∙ sym configs, omega (arith, configs, none))
+    (hops ∙ c.requires.each ∙ sym configs, omega (arith, configs, none))

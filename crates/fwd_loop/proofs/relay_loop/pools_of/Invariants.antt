@@ -5,8 +5,8 @@ use Rattle.fwd_loop.proofs.relay_loop.pools_of.Given as goal
 abbrev pub decreases-loop-config : goal.decreases-loop-config
 decreases-loop-config g l = into_iter_len l.configs
 
--- what is left has servers for each, and makes up for the outputs that are not there yet
+-- what is left has a next hop for each, and makes up for the outputs that are not there yet
 abbrev pub invariant-loop-config : goal.invariant-loop-config
 invariant-loop-config g l =
-    (into_iter_len l.servers ≡ into_iter_len l.configs)
+    (into_iter_len l.hops ≡ into_iter_len l.configs)
     × (length l.pools.outputs.items + into_iter_len l.configs ≡ length l.fn.configs.items)

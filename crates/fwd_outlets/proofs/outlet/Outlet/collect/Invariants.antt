@@ -1,4 +1,4 @@
-use Rattle.fwd_tickets.specs.Stores.{Stored}
+use Rattle.fwd_outlets.specs.declared.lanes.Lanes.{Lanes}
 use Rattle.fwd_outlets.specs.Standings.{sources_in}
 use Rattle.fwd_outlets.specs.Tellings.{Sources}
 use Rattle.fwd_outlets.specs.Collections.{Collects, TellsRight}
@@ -8,6 +8,6 @@ abbrev pub invariant-loop : goal.invariant-loop
 invariant-loop g l =
     ((t : Sources) → TellsRight (sources_in l.connections) t
     → TellsRight (sources_in l.fn.connections) t)
-    × ((t : Stored) (told : Sources)
-    → Collects l.self.tickets (sources_in l.connections) t told
-    → Collects l.fn.self.tickets (sources_in l.fn.connections) t told)
+    × ((t : Lanes) (told : Sources)
+    → Collects l.self.lanes (sources_in l.connections) t told
+    → Collects l.fn.self.lanes (sources_in l.fn.connections) t told)

@@ -1,0 +1,141 @@
+//! Whose requests may come to an output: what waits there is bounded.
+
+use crate::output::Output;
+use fwd_peers::SourcePeer;
+use std::alloc::Global;
+use std::collections::VecDeque;
+use std::sync::Wait;
+
+/// The bytes that the unanswered requests of an output may take beside their entries, at least:
+/// where its entries may take more than half of that, twice as many as those.
+const LEAST: u64 = 2_097_152;
+
+/// How long nobody waits at an output that was full before it is said to have room, in
+/// milliseconds.
+const QUIET: u64 = 1_000;
+
+/// What there is to tell of an output that sources wait at.
+#[derive(Clone, Copy)]
+pub(crate) enum Crowd {
+    /// So many wait for room.
+    Waits(usize),
+    /// None has waited for a while.
+    Gone,
+}
+
+/// What an output owes, and who waits for room there.
+#[derive(Drop)]
+pub(crate) struct Gate {
+    /// The most bytes that unanswered requests may take beside their entries.
+    limit: u64,
+    /// So many they take.
+    owed: u64,
+    /// So many bytes of entries have room, as far as is known: no fewer have.
+    room: u64,
+    /// The ids of the sources that wait for room, in the order in which they came.
+    line: VecDeque<u64>,
+    /// It was told that sources wait.
+    is_told: bool,
+    /// When sources were last seen to wait, in milliseconds.
+    seen: u64,
+}
+
+impl Gate {
+    /// The gate of an output without entries.
+    pub fn new(alloc: Global, output: &Output) -> Gate {
+        Gate {
+            limit: output.total.saturating_mul(2).max(LEAST),
+            owed: 0,
+            room: 0,
+            line: VecDeque::new(alloc),
+            is_told: false,
+            seen: 0,
+        }
+    }
+
+    /// Whether a source's first request that waits may be handed in: what it is owed already takes
+    /// less than half of what is still free; and where sources wait until an output has room, it
+    /// has its turn, and room. Where it has not, it is in line from now on.
+    pub fn lets_in<R: Wait>(&mut self, rt: &R, output: &Output, source: &SourcePeer) -> bool {
+        let free = self.limit.saturating_sub(self.owed);
+        if free / 2 <= source.owed() as u64 {
+            return false;
+        }
+        if !output.is_patient {
+            return true;
+        }
+        let bytes = source.asked_bytes() as u64;
+        match self.line.front() {
+            None => {}
+            Some(first) if *first == source.id => {}
+            Some(_) => {
+                self.stand_in_line(source.id);
+                return false;
+            }
+        }
+        if !self.has_room(rt, output, bytes) {
+            self.stand_in_line(source.id);
+            return false;
+        }
+        self.line.pop_front();
+        true
+    }
+
+    /// A source waits for room, behind those that do. Where memory is refused it has no place in
+    /// the line, and asks again.
+    fn stand_in_line(&mut self, id: u64) {
+        if !self.line.contains(&id) {
+            let _ = self.line.push_back(id);
+        }
+    }
+
+    /// Whether so many bytes of entries have room, or would not have it in an empty output either.
+    fn has_room<R: Wait>(&mut self, rt: &R, output: &Output, bytes: u64) -> bool {
+        if self.room < bytes {
+            let held = output.shared.counts(rt).bytes;
+            self.room = output.total.saturating_sub(held);
+        }
+        let has_room = bytes <= self.room || output.total < bytes;
+        if has_room {
+            self.room = self.room.saturating_sub(bytes);
+        }
+        has_room
+    }
+
+    /// Whose turn it is, if somebody waits for room.
+    pub fn first(&self) -> Option<u64> {
+        Some(*self.line.front()?)
+    }
+
+    /// Who would be the next to have room is gone.
+    pub fn leave(&mut self) {
+        self.line.pop_front();
+    }
+
+    /// A request was admitted that takes so many bytes beside its entries.
+    pub fn owes(&mut self, bytes: usize) {
+        self.owed = self.owed.saturating_add(bytes as u64);
+    }
+
+    /// Requests were answered that took so many bytes beside their entries.
+    pub fn answered(&mut self, bytes: u64) {
+        self.owed = self.owed.saturating_sub(bytes);
+    }
+
+    /// What there is to tell at a moment (milliseconds).
+    pub fn crowd(&mut self, now: u64) -> Option<Crowd> {
+        if !self.line.is_empty() {
+            self.seen = now;
+            if self.is_told {
+                return None;
+            }
+            self.is_told = true;
+            return Some(Crowd::Waits(self.line.len()));
+        }
+        if !self.is_told || now.saturating_sub(self.seen) < QUIET {
+            return None;
+        }
+        self.is_told = false;
+        Some(Crowd::Gone)
+    }
+}

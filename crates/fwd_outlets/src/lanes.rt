@@ -1,0 +1,155 @@
+//! The tickets of an output, in two lanes: those of sources with few unanswered requests are handed
+//! in first, so that who has many waits for itself and not the others for it.
+
+ghost use Rattle.std.specs.Prelude.{◌≡◌, ◌<◌, IfErr, IfOk, OnOk, OnErr};
+ghost use Rattle.fwd_outlets.specs.Laning.{AreSame, Keeps};
+ghost use Rattle.fwd_outlets.specs.Collections.{
+  AreHandedIn,
+  AreRefused,
+  ComeBack,
+  IsHandedIn,
+  IsRefused,
+};
+
+use crate::output::Output;
+use fwd_book::Receipt;
+use fwd_peers::SourcePeer;
+use fwd_tickets::TicketStore;
+use fwd_workers::Ticket;
+use std::alloc::{AllocError, Global};
+use std::sync::Wait;
+
+/// Whose unanswered requests take fewer bytes than this beside their entries has few: some hundred.
+const FEW: usize = 131_072;
+
+/// The lane that a ticket is kept in.
+#[derive(Clone, Copy)]
+pub(crate) enum Lane {
+    /// Its source had few unanswered requests.
+    Few,
+    /// It had many.
+    Many,
+}
+
+impl Lane {
+    /// The lane of a source's next ticket.
+    pub fn of(source: &SourcePeer) -> Lane {
+        if source.owed() < FEW {
+            Lane::Few
+        } else {
+            Lane::Many
+        }
+    }
+}
+
+/// The tickets that an output gave and that no receipt answered yet. They must be spent: by
+/// receipts, or by `close`.
+pub(crate) struct Lanes {
+    pub few: TicketStore,
+    pub many: TicketStore,
+}
+
+impl Lanes {
+    /// No tickets.
+    pub fn new(alloc: Global) -> Lanes {
+        Lanes {
+            few: TicketStore::new(alloc),
+            many: TicketStore::new(alloc),
+        }
+    }
+
+    /// Keeps a ticket in a lane. When out of memory it comes back.
+    pub fn keep(&mut self, lane: Lane, ticket: Ticket) -> Result<(), Ticket>
+        ensures kept { OnOk result (Keeps self.old ticket self.new) }
+        ensures back { IfErr result (λ t. t ≡ ticket) }
+        ensures same { OnErr result (AreSame self.old self.new) }
+    {
+        match lane {
+            Lane::Few => self.few.keep(ticket),
+            Lane::Many => self.many.keep(ticket),
+        }
+    }
+
+    /// A chunk is settled: the tickets that wait for it are to be handed in, and those that came
+    /// back.
+    pub fn settle(&mut self, chunk: u64) {
+        self.few.settle(chunk);
+        self.many.settle(chunk);
+    }
+
+    /// All tickets are to be handed in.
+    pub fn settle_all(&mut self) {
+        self.few.settle_all();
+        self.many.settle_all();
+    }
+
+    /// Whether there are tickets to be handed in.
+    pub fn is_due(&self) -> bool {
+        self.few.is_due() || self.many.is_due()
+    }
+
+    /// Hands in a block of the tickets that are due, of sources with many unanswered requests only
+    /// where none of the others is, and answers what receipts there are: each is right for the
+    /// request of one of these tickets. The others come back. The only error is out of memory, and
+    /// then all come back, and are to be handed in still.
+    pub fn hand_in<R: Wait>(
+        &mut self,
+        rt: &R,
+        alloc: Global,
+        output: &Output,
+    ) -> Result<Vec<Receipt>, AllocError>
+        ensures given { IfOk result (λ receipts.
+            AreHandedIn self.old receipts.items self.new) }
+        ensures kept { OnErr result (AreRefused self.old self.new) }
+    {
+        if self.few.is_due() {
+            hand_in(rt, alloc, output, &mut self.few)
+        } else {
+            hand_in(rt, alloc, output, &mut self.many)
+        }
+    }
+
+    /// The tickets that are left are abandoned.
+    pub fn close<R: Wait>(self, rt: &R, output: &Output) {
+        let Lanes { few, many } = self;
+        few.close(rt, &output.shared);
+        many.close(rt, &output.shared);
+    }
+}
+
+/// Hands in a block of the tickets of a lane that are due.
+#[tactic(auto, using(crate::proofs::Handing::refused, crate::proofs::Handing::none_handed))]
+fn hand_in<R: Wait>(
+    rt: &R,
+    alloc: Global,
+    output: &Output,
+    tickets: &mut TicketStore,
+) -> Result<Vec<Receipt>, AllocError>
+    ensures given { IfOk result (λ receipts.
+        IsHandedIn tickets.old receipts.items tickets.new) }
+    ensures kept { OnErr result (IsRefused tickets.old tickets.new) }
+{
+    let due = tickets.take_due()?;
+    match output.shared.collect(rt, alloc, due) {
+        Ok((receipts, back)) => {
+            put_back(tickets, back);
+            Ok(receipts)
+        }
+        Err((error, back)) => {
+            put_back(tickets, back);
+            tickets.stir();
+            Err(error)
+        }
+    }
+}
+
+/// Tickets come back, for which there is room.
+fn put_back(tickets: &mut TicketStore, back: Vec<Ticket>)
+    requires { 0 < tickets.old.room }
+    ensures { ComeBack tickets.old back.items tickets.new }
+{
+    match tickets.put_back(back) {
+        Ok(()) => {}
+        Err(_) => unreachable!(),
+    }
+}
