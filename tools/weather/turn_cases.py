@@ -111,7 +111,8 @@ class Owed(threading.Thread):
         self.stream.close()
 
 
-HELD = {"match": "held", "chunk_limit": 8_000_000, "flush_interval": 2_000, "window": 8}
+# one source may be owed a third of what all together may, which is twice the total limit
+HELD = {"match": "held", "chunk_limit": 8_000_000, "total_limit": 2_000_000_000, "flush_interval": 2_000, "window": 8}
 
 
 def hold_all(relay, sink, owed, before):
