@@ -74,8 +74,8 @@ def kinds_in_code():
 
 
 def fronts(lines):
-    """What lines begin with."""
-    return {line.partition(":")[0] for line in lines if ":" in line}
+    """What lines begin with, but for the number of an output that stands there (`output O full:`)."""
+    return {re.sub(r" [A-Z]\b", "", line.partition(":")[0]) for line in lines if ":" in line}
 
 
 def test_journal():
@@ -86,6 +86,7 @@ def test_journal():
     table = rows(section(text_of("docs/OPERATING.md"), "## The lines of the journal"))
     assert fronts(span for row in table for span in spans(row[0])) == want
     man = re.search(r"^\.Sh JOURNAL\n(.*?)^\.Sh ", text_of("packaging/forward_relay.8"), re.MULTILINE | re.DOTALL)[1]
+    man = re.sub(r'Li (\w+) Ar o Li "(\w+):', r'Li "\1 \2:', man)
     items = [re.findall(r'Li "?([a-z ]+):', line) for line in man.splitlines() if line.startswith(".It ")]
     assert {front for item in items for front in item} == want
 
