@@ -13,14 +13,14 @@ import time
 
 import pytest
 
-from relay import free_ports, until
+from documents import journal_pattern
+from relay import STAMP, free_ports, until
 
 PIPE = 4096  # bytes
 QUEUE = 65_536  # bytes that the relay keeps (docs/FORMATS.md, "What a run says as it goes on")
 SET_PIPE_SIZE = 1031  # F_SETPIPE_SZ
 CONNECTIONS = 8
-KINDS = "listening|source closed|server lost|server changed|over the limit|journal"
-LINE = re.compile(rf"20\d\d-\d\d-\d\dT\d\d:\d\d:\d\d\.\d{{3}}Z ({KINDS}): .+\n")
+LINE = re.compile(f"{STAMP.pattern}(?:{journal_pattern().pattern})\n")
 LEFT_OUT = re.compile(r" journal: ([1-9]\d*) left out$", re.MULTILINE)
 
 
