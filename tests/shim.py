@@ -48,7 +48,7 @@ def runs(shim, words, text=b"", folder=None):
         feed.seek(0)
         env = os.environ | environment(shim, refuse_at="all", refuse_fd=told.fileno())
         streams = {"stdin": feed, "stdout": out, "stderr": errors, "pass_fds": [told.fileno()]}
-        subprocess.run(words, env=env, cwd=folder, check=True, timeout=900, **streams)
+        subprocess.run(words, env=env, cwd=folder, check=True, timeout=3600, **streams)
         for file in (out, errors, told):
             file.seek(0)
         return parted(out.read(), errors.read(), told.read())

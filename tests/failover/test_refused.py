@@ -1,5 +1,7 @@
 """A chunk that its server refuses: others go on, it is tried again by its own waits, and the journal says which it is."""
 
+import re
+
 import pytest
 
 from next_hop import acknowledge, close, refuse_above
@@ -34,7 +36,7 @@ def test_others_go_on(relay, next_hop, keys, count):
     sources = large(one, count)
     ask_all(one)
     line = one.await_line(f"chunk refused: output 0 tag {HEX}")
-    assert f" bytes 60011 losses 3 server 127.0.0.1:{hop.port} Closed" in line
+    assert re.search(rf" bytes 60011 losses \d+ server 127.0.0.1:{hop.port} Closed$", line), line
     assert not any(source.is_closed(0.1) for source in sources)
     one.await_page(lambda it: it.held == count)
     tries = [frame for frame in hop.frames if frame.tag == "large.0"]
