@@ -35,7 +35,7 @@ def found():
             yield pytest.param(name, block, marks=mark, id=f"{name}: {block.splitlines()[0][:40]}")
 
 
-def alone(script, folder):
+def alone(script, folder, longest):
     """Types lines into a shell at the top of the repository: its status, and what it printed.
 
     The shell has a network of its own, with every port free, where the system gives one.
@@ -51,10 +51,11 @@ def alone(script, folder):
             words, cwd=TOP, stdin=subprocess.DEVNULL, stdout=printed, stderr=subprocess.STDOUT, start_new_session=True
         )
         try:
-            status = typed.wait(600)
-        finally:
-            with contextlib.suppress(ProcessLookupError):
-                os.killpg(typed.pid, signal.SIGKILL)
+            status = typed.wait(longest)
+        except subprocess.TimeoutExpired:
+            status = f"it had not ended after {longest} s"
+        with contextlib.suppress(ProcessLookupError):
+            os.killpg(typed.pid, signal.SIGKILL)
     return status, (folder / "printed").read_text()
 
 
@@ -67,8 +68,8 @@ def test_block(program, tmp_path, name, block):
     assert words, f"say in this test what this block shows:\n{block}"
     for synopsis, chosen in CHOSEN.items():
         block = block.replace(synopsis, chosen.format(folder=tmp_path))
-    status, printed = alone(block, tmp_path)
-    assert status == 0, printed
+    status, printed = alone(block, tmp_path, 7200 if re.search(r"\brt ", block) else 120)
+    assert status == 0, f"{status}: {printed}"
     for line in SHOWN[words[0]]:
         assert line in printed, printed
         assert line in text_of(name), f"{name} does not say that it shows {line!r}"

@@ -4,7 +4,6 @@ import re
 
 import pytest
 
-import documents
 from documents import journal_forms, rows, section, spans, text_of
 
 pytestmark = pytest.mark.quick

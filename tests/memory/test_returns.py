@@ -136,7 +136,9 @@ def test_returns(site, next_hop, megabytes, size):
         took = time.monotonic() - begin
         if unreached is None and took > 2:
             unreached = len(UNREACHED.findall(one.journal()))
-        assert took < DRAINS, f"{held} entries are held, {len(sizes)} chunks came; the journal ends {one.journal()[-2000:]}"
+        assert (
+            took < DRAINS
+        ), f"{held} entries are held, {len(sizes)} chunks came; the journal ends {one.journal()[-2000:]}"
         time.sleep(0.05)
     counts = steady(one.page, 1)  # what sources had sent before they closed is read now
     assert sum(output.accepted for output in counts) == sum(output.settled for output in counts) <= sum(sizes.values())
