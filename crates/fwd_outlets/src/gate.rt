@@ -59,6 +59,7 @@ impl Gate {
     pub fn lets_in<R: Wait>(&mut self, rt: &R, output: &Output, source: &SourcePeer) -> bool {
         let free = self.limit.saturating_sub(self.owed);
         if free / 2 <= source.owed() as u64 {
+            self.give_way(source.id);
             return false;
         }
         if !output.is_patient {
@@ -79,6 +80,19 @@ impl Gate {
         }
         self.line.pop_front();
         true
+    }
+
+    /// A source that has its turn and may not use it gives it up, since it may be owed what another
+    /// output cannot settle.
+    fn give_way(&mut self, id: u64) {
+        if self.first() == Some(id) {
+            self.leave();
+        }
+    }
+
+    /// Whether somebody waits for room.
+    pub fn is_awaited(&self) -> bool {
+        !self.line.is_empty()
     }
 
     /// A source waits for room, behind those that do. Where memory is refused it has no place in

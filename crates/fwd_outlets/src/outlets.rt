@@ -61,14 +61,17 @@ fn close_all<R: Wait>(rt: &R, outlets: Vec<Outlet<'_>>) {
     rest.destroy_empty();
 }
 
-/// Who waits first for room and is gone waits no more.
-fn let_go(gate: &mut Gate, connections: &Connections) {
+/// Who waits first for room and is gone waits no more. It says whether somebody else is first then.
+fn let_go(gate: &mut Gate, connections: &Connections) -> bool {
+    let mut has_left = false;
     for _ in 0..u16::MAX {
         match gate.first() {
             Some(id) if !connections.stands(id) => gate.leave(),
-            _ => return,
+            _ => break,
         }
+        has_left = true;
     }
+    has_left && gate.is_awaited()
 }
 
 impl<'a> Outlets<'a> {
@@ -164,10 +167,13 @@ impl<'a> Outlets<'a> {
         let Some(own) = self.outputs.get(output as usize) else {
             return true;
         };
-        match self.gates.get_mut(output as usize) {
-            None => true,
-            Some(gate) => gate.lets_in(rt, own, source),
-        }
+        let Some(gate) = self.gates.get_mut(output as usize) else {
+            return true;
+        };
+        let lets_in = gate.lets_in(rt, own, source);
+        // Whoever is next in line may have room too.
+        self.is_moved = self.is_moved || (lets_in && gate.is_awaited());
+        lets_in
     }
 
     /// The output of this number owes an answer to a request more, which takes so many bytes beside
@@ -191,7 +197,7 @@ impl<'a> Outlets<'a> {
     /// and a watch is told at which outputs sources wait.
     pub fn tend<W: Watch>(&mut self, connections: &Connections, watch: &mut W, now: u64) {
         for (output, gate) in (0..u16::MAX).zip(&mut self.gates) {
-            let_go(gate, connections);
+            self.is_moved = let_go(gate, connections) || self.is_moved;
             match gate.crowd(now) {
                 None => {}
                 Some(Crowd::Waits(sources)) => watch.see(Fact::Full { output, sources }),
@@ -203,6 +209,9 @@ impl<'a> Outlets<'a> {
     /// How long the loop may wait from a moment on, at most so long: until the next flush (all in
     /// milliseconds).
     pub fn patience(&self, now: u64, longest: u64) -> u64 {
+        if self.is_moved {
+            return 0;
+        }
         let mut wait = longest;
         for outlet in &self.all {
             if outlet.lanes.is_due() {
