@@ -15,9 +15,8 @@ from relay import Relay, free_ports, steady, until
 
 TAGS = ["a", "b", "c"]  # an output each
 DRAINS = 10  # seconds
-SILENT = 2  # seconds in which no source is read
-CLOSED = 200  # sources, after which no more is sent
-SENDS = 60  # seconds that sources send at the most
+MORE = 3  # seconds that sources send on once memory was refused
+SENDS = 60  # seconds that they send at the most
 REFUSED = re.compile(r"^(?:memory: |source closed: .* Memory$)", re.MULTILINE)
 UNREACHED = re.compile(r"^server lost: .* Connect$", re.MULTILINE)
 WAITS = {"flush_interval": 500, "retry_wait": 200, "retry_max": 1_000, "ack_wait": 60_000}
@@ -70,7 +69,7 @@ class Sender:
     """Requests of one tag, for as long as they are taken."""
 
     def __init__(self, port, tag, size):
-        self.port, self.link, self.closed = port, None, 0
+        self.port, self.link = port, None
         one = request("message", tag, [(1, {"n": bytes(size - 20)})], "chunk")
         self.data = memoryview(one * max(1, 60_000 // size))
         self.left = self.data
@@ -86,7 +85,6 @@ class Sender:
             return 0
         except OSError:
             self.close()
-            self.closed += 1
             return 0
         self.left = self.left[count:] or self.data
         return count
@@ -99,16 +97,22 @@ class Sender:
 
 
 def fill(one, size):
-    """A source of each tag sends until none is read for a while, or many were closed."""
+    """A source of each tag sends, until memory was refused and for a while more."""
     senders = [Sender(one.port, tag, size) for tag in TAGS]
-    begin = last = time.monotonic()
-    while time.monotonic() < min(begin + SENDS, last + SILENT) and sum(it.closed for it in senders) < CLOSED:
-        if sum(it.push() for it in senders):
-            last = time.monotonic()
-        else:
-            time.sleep(0.005)
+    end = time.monotonic() + SENDS
+    while time.monotonic() < end and not REFUSED.search(one.journal()):
+        send_for(senders, 0.2)
+    send_for(senders, MORE)
     for sender in senders:
         sender.close()
+
+
+def send_for(senders, seconds):
+    """They send for so long."""
+    end = time.monotonic() + seconds
+    while time.monotonic() < end:
+        if not sum(sender.push() for sender in senders):
+            time.sleep(0.005)
 
 
 def is_acknowledged(one, tag):
