@@ -3,6 +3,7 @@
 import os
 import pathlib
 import shutil
+import signal
 import subprocess
 
 import pytest
@@ -29,7 +30,7 @@ def program():
 def relay(program, tmp_path, request):
     """Starts relays by settings: `relay([{"servers": [hop.port]}], connections=2)`.
 
-    They end with the test, and may have said only lines that docs/FORMATS.md has.
+    They end with the test, and not before, and may have said only lines that docs/FORMATS.md has.
     """
     started = []
 
@@ -38,13 +39,14 @@ def relay(program, tmp_path, request):
         return started[-1].start(errors, stdout)
 
     yield start
-    for one in started:
-        one.kill()
-        strange = [line for line in one.journal().splitlines() if not JOURNAL.fullmatch(line)]
-        assert not strange, f"docs/FORMATS.md has no such lines: {strange[:5]}"
+    statuses = [one.kill() for one in started]
     if getattr(request.node, "failed", False):
         for one in started:
             print(f"the end of the journal of {one.path.name}:\n{one.journal()[-3000:]}")
+    for one, status in zip(started, statuses):
+        assert one.turns or status == -signal.SIGKILL, f"it ended with {status}: {one.journal()[-3000:]}"
+        strange = [line for line in one.journal().splitlines() if not JOURNAL.fullmatch(line)]
+        assert not strange, f"docs/FORMATS.md has no such lines: {strange[:5]}"
 
 
 @pytest.fixture

@@ -63,7 +63,4 @@ def pattern_of(form):
 
 def journal_pattern():
     """The pattern of any line of the journal."""
-    forms = journal_forms()
-    kinds = {form.partition(":")[0] for form in forms}
-    left_out = [f"{kind}: N left out" for kind in kinds]
-    return re.compile("|".join(map(pattern_of, [*forms, *left_out])))
+    return re.compile("|".join(map(pattern_of, journal_forms())))

@@ -64,21 +64,6 @@ def parted(out, errors, told):
     return parts
 
 
-class Refusals:
-    """A file with a byte for each refusal."""
-
-    def __init__(self):
-        self.file = tempfile.TemporaryFile()
-
-    def fileno(self):
-        """The descriptor that a program is handed."""
-        return self.file.fileno()
-
-    def count(self):
-        """How many there were."""
-        return os.fstat(self.fileno()).st_size
-
-
 class Board:
     """The words that the shim shares with who started the program."""
 
