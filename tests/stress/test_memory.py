@@ -12,7 +12,13 @@ from stress.waits import ENTRY, Owed, filled, once_more, request, requests, with
 
 pytestmark = pytest.mark.minutes
 MANY, WARM, SOURCES = 1_000_000, 10_000, 8
-HELD = {"chunk_limit": 8_000_000, "total_limit": 2_000_000_000, "flush_interval": 2_000, "window": 8, "ack_wait": 120_000}
+HELD = {
+    "chunk_limit": 8_000_000,
+    "total_limit": 2_000_000_000,
+    "flush_interval": 2_000,
+    "window": 8,
+    "ack_wait": 120_000,
+}
 TAGS, TAG = 100_000, 1_024
 SPARE = 400  # megabytes
 UNFINISHED = b"\x92\xa1a\xc6\x00\xf0\x00\x00"  # the front of a request of 15 MB

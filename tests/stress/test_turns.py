@@ -17,7 +17,14 @@ ZEROS = 16_000_000
 DRIP = 3  # seconds of single bytes
 MANY = 1_000_000
 LEAST = 100  # ms that others may wait
-HELD = {"match": "held", "chunk_limit": 8_000_000, "total_limit": 2_000_000_000, "flush_interval": 2_000, "window": 8, "ack_wait": 120_000}
+HELD = {
+    "match": "held",
+    "chunk_limit": 8_000_000,
+    "total_limit": 2_000_000_000,
+    "flush_interval": 2_000,
+    "window": 8,
+    "ack_wait": 120_000,
+}
 
 
 @pytest.fixture
