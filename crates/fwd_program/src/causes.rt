@@ -1,5 +1,5 @@
-//! Why a run or a check came to no more: what the system or the reader of TOML says of it, and where
-//! a key stands and what may stand under it.
+//! Why a run or a check came to no more: what the system or the reader of TOML says of it, and
+//! where a key stands and what may stand under it.
 
 use crate::ending::RunEnd;
 use crate::file::SettingsFile;

@@ -10,8 +10,8 @@ use std::io::Write;
 use std::net::SocketAddr;
 use toml::Table;
 
-/// The most bytes of a chunk that is short enough for the servers of other makers by their defaults:
-/// Fluent Bit takes messages of 6,144,000 bytes, and a frame has a head and a tail.
+/// The most bytes of a chunk that is short enough for the servers of other makers by their
+/// defaults: Fluent Bit takes messages of 6,144,000 bytes, and a frame has a head and a tail.
 const COMMON_CHUNK: u64 = 6_000_000;
 
 /// What is lawful in settings, and foolish.
@@ -141,8 +141,8 @@ fn say_of_limits<E: Write>(output: usize, settings: &OutputSettings, errors: &mu
     }
 }
 
-/// Says where the output of this number has fewer workers than servers. Standbys are used only where
-/// the others fail.
+/// Says where the output of this number has fewer workers than servers. Standbys are used only
+/// where the others fail.
 fn say_of_workers<E: Write>(output: usize, settings: &OutputSettings, errors: &mut E) {
     let all = settings.servers.as_slice();
     let servers = all.iter().filter(|server| !server.standby).count();

@@ -16,8 +16,8 @@ use std::{env, fmt};
 /// The variable of the environment that has a run say what it comes to.
 const VARIABLE: &str = "FORWARD_RELAY_LOG";
 
-/// The most bytes of a line but the first, with its line feed: the longest has 24 of time, 15 of its
-/// kind, 128 of a tag, and below 150 of numbers, an address and a name.
+/// The most bytes of a line but the first, with its line feed: the longest has 24 of time, 15 of
+/// its kind, 128 of a tag, and below 150 of numbers, an address and a name.
 const LINE: usize = 400;
 
 /// Whether a run says what it comes to.

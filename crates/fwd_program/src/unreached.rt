@@ -1,9 +1,9 @@
 //! Outputs that get nothing, since each tag that they take goes to one before them.
 //!
-//! An output's words are tried as tags at the patterns of the outputs before it: a `*` as a part that
-//! only a `*` or a `**` of theirs takes, and a `**` as no, one, two and more such parts. One part more
-//! than any word of theirs has is enough: then a `**` of theirs takes one of the parts at least, and
-//! would take any further ones.
+//! An output's words are tried as tags at the patterns of the outputs before it: a `*` as a part
+//! that only a `*` or a `**` of theirs takes, and a `**` as no, one, two and more such parts. One
+//! part more than any word of theirs has is enough: then a `**` of theirs takes one of the parts at
+//! least, and would take any further ones.
 
 use fwd_settings::OutputSettings;
 use std::alloc::{AllocError, Global};

@@ -68,8 +68,8 @@ struct Call {
 }
 
 /// Calls: with settings that are not there, that are refused, and of an address that no machine
-/// has, some of them checked too; a run that ends behind its turns; words that ask for no run; and outputs that cannot be
-/// flushed, or written.
+/// has, some of them checked too; a run that ends behind its turns; words that ask for no run; and
+/// outputs that cannot be flushed, or written.
 static CALLS: [Call; 10] = [
     Call {
         words: &["run", "missing.toml", "1"],

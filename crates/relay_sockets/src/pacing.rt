@@ -14,7 +14,8 @@ fn see_monitors<W: Watch>(journal: &mut W, count: u16) {
     }
 }
 
-/// Says ten facts of thirteen, those of other subjects too, and then how many were left out of what.
+/// Says ten facts of thirteen, those of other subjects too, and then how many were left out of
+/// what.
 pub fn say_many(rt: &impl Print) {
     let clock = Hand::new(None);
     let mut out = io::writer(rt);
