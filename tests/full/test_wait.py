@@ -13,6 +13,13 @@ def send(source, chunk, size):
     source.send("a", [(1, {"n": "x" * size})], "message", chunk)
 
 
+def leave(one, source):
+    """A source closes, and the relay has seen it."""
+    files = one.files()
+    source.close()
+    one.until(lambda: one.files() < files, "the source is kept")
+
+
 @pytest.mark.minutes
 def test_each_is_told_and_none_comes_twice(relay):
     """Twenty sources that send more than a server takes in time."""
@@ -65,8 +72,23 @@ def test_a_source_that_gives_up_leaves_its_place(relay, next_hop):
     send(gone, "gone", 700)
     one.await_line("output 0 full")
     send(next_one, "next", 900)
-    gone.close()
     hop.await_entries(1)
+    leave(one, gone)
     hop.release()
     assert next_one.told() == "next"
     assert one.await_settled(2).accepted == 2
+
+
+@pytest.mark.quick
+def test_who_is_behind_it_goes_on(relay, next_hop):
+    """Once the first that waits has gone, the next one is taken that has room, though nothing is settled."""
+    hop = next_hop(answer=hold)
+    one = relay([{"servers": [hop.port], "full": "wait", "total_limit": 1_000}])
+    first, gone, small = one.source(), one.source(), one.source()
+    send(first, "first", 600)
+    one.await_page(lambda it: it.accepted == 1)
+    send(gone, "gone", 700)
+    one.await_line("output 0 full")
+    send(small, "small", 200)
+    leave(one, gone)
+    one.await_page(lambda it: it.accepted == 2, 10)
