@@ -416,7 +416,7 @@ fn tell_end<W: Watch>(source: &mut SourcePeer, watch: &mut W) -> bool {
     let Some(end) = source.why_ended() else {
         return false;
     };
-    watch.see(Fact::of_source(source.peer(), end));
+    watch.see(Fact::of_source(source.peer(), end, source.first_tag()));
     matches!(end, PeerEnd::Memory)
 }
 

@@ -146,7 +146,8 @@ impl<'a> Outlets<'a> {
         };
         let lane = Lane::of(source);
         let Some((origin, batch)) = source.next() else {
-            return Err(Stop::Ends(SourceEnd::Refused(AdmitRefusal::Memory)));
+            let refusal = AdmitRefusal::Memory;
+            return Err(Stop::Ends(SourceEnd::Refused(output, refusal)));
         };
         let bytes = upkeep(batch.tag(), batch.chunk());
         match outlet.admit(rt, lane, origin, batch, now) {
@@ -154,7 +155,7 @@ impl<'a> Outlets<'a> {
                 self.owes(output, bytes);
                 Ok(())
             }
-            Err(refusal) => Err(Stop::Ends(SourceEnd::Refused(refusal))),
+            Err(refusal) => Err(Stop::Ends(SourceEnd::Refused(output, refusal))),
         }
     }
 

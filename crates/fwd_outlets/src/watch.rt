@@ -40,6 +40,11 @@ pub enum Fact {
         peer: SocketAddr,
         why: SourceEnd,
     },
+    /// It closes a source, since no output takes the tag of its request, which begins so.
+    Unrouted {
+        peer: SocketAddr,
+        tag: TagFront,
+    },
     /// A server of the output of this number is lost.
     ServerLost {
         output: u16,
@@ -97,9 +102,14 @@ pub enum Fact {
 }
 
 impl Fact {
-    /// What there is to tell of a source that the relay closed.
-    pub fn of_source(peer: SocketAddr, end: PeerEnd) -> Fact {
+    /// What there is to tell of a source that the relay closed, whose first request that waits has
+    /// this tag.
+    pub fn of_source(peer: SocketAddr, end: PeerEnd, tag: Option<&[u8]>) -> Fact {
         match end {
+            PeerEnd::Closed(SourceEnd::NoRoute) => {
+                let tag = TagFront::of(tag.unwrap_or(&[]));
+                Fact::Unrouted { peer, tag }
+            }
             PeerEnd::Closed(why) => Fact::SourceClosed { peer, why },
             PeerEnd::Memory => Fact::Memory(Want::Source(peer)),
         }

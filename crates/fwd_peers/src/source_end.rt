@@ -8,8 +8,8 @@ use fwd_workers::AdmitRefusal;
 pub enum SourceEnd {
     /// What it sent is no request, or it is not let in.
     Fault(SourceFault),
-    /// An output does not admit its request.
-    Refused(AdmitRefusal),
+    /// The output of this number does not admit its request.
+    Refused(u16, AdmitRefusal),
     /// No output takes its request's tag.
     NoRoute,
     /// It has not logged in: not in time, or not within 4,096 bytes.

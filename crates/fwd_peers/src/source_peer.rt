@@ -225,7 +225,7 @@ impl SourcePeer {
         ensures { self.new ≡ record self.old { stage = Stage.Over } }
     {
         match why {
-            SourceEnd::Refused(AdmitRefusal::Memory) => self.starve(),
+            SourceEnd::Refused(_, AdmitRefusal::Memory) => self.starve(),
             why => {
                 self.end();
                 self.why = Some(PeerEnd::Closed(why));
@@ -308,6 +308,12 @@ impl SourcePeer {
     {
         let (_, batch) = self.source.peek()?;
         routes.first(batch.tag())
+    }
+
+    /// The tag of the first request that waits, if one waits.
+    pub fn first_tag(&self) -> Option<&[u8]> {
+        let (_, batch) = self.source.peek()?;
+        Some(batch.tag())
     }
 
     /// Takes the first request that waits, once there is room for its acknowledgement. Where there

@@ -44,7 +44,7 @@ impl Kind {
     pub fn of(fact: &Fact) -> Kind {
         match fact {
             Fact::Listening { .. } => Kind::Listening,
-            Fact::SourceClosed { .. } => Kind::SourceClosed,
+            Fact::SourceClosed { .. } | Fact::Unrouted { .. } => Kind::SourceClosed,
             Fact::ServerLost { .. } => Kind::ServerLost,
             Fact::ServerBack { .. } => Kind::ServerBack,
             Fact::ServerChanged { .. } => Kind::ServerChanged,
@@ -92,7 +92,8 @@ impl Subject {
         let kind = Kind::of(fact);
         let (name, output) = match fact {
             Fact::Listening { caller, .. } => (caller_name(*caller), None),
-            Fact::SourceClosed { why, .. } => (source_end_name(*why), None),
+            Fact::SourceClosed { why, .. } => (source_end_name(*why), output_of(*why)),
+            Fact::Unrouted { .. } => (source_end_name(SourceEnd::NoRoute), None),
             Fact::ServerLost { output, why, .. } => (loss_name(*why), Some(*output)),
             Fact::ServerBack { output, .. } => ("", Some(*output)),
             Fact::ServerChanged { output, .. } => ("", Some(*output)),
@@ -148,7 +149,16 @@ impl fmt::Display for Telling {
             }
             Fact::SourceClosed { peer, why } => {
                 let name = source_end_name(why);
-                write!(f, "{peer} {name}")
+                write!(f, "{peer} {name}")?;
+                match output_of(why) {
+                    Some(output) => write!(f, " output {output}"),
+                    None => Ok(()),
+                }
+            }
+            Fact::Unrouted { peer, tag } => {
+                let name = source_end_name(SourceEnd::NoRoute);
+                write!(f, "{peer} {name} tag ")?;
+                write_hex(f, tag.as_slice())
             }
             Fact::ServerLost {
                 output,
@@ -235,9 +245,17 @@ fn caller_name(caller: Caller) -> &'static str {
 fn source_end_name(why: SourceEnd) -> &'static str {
     match why {
         SourceEnd::Fault(fault) => source_fault_name(fault),
-        SourceEnd::Refused(refusal) => admit_refusal_name(refusal),
+        SourceEnd::Refused(_, refusal) => admit_refusal_name(refusal),
         SourceEnd::NoRoute => "NoRoute",
         SourceEnd::NoLogin => "NoLogin",
+    }
+}
+
+/// The output that closes a source, where one does.
+fn output_of(why: SourceEnd) -> Option<u16> {
+    match why {
+        SourceEnd::Refused(output, _) => Some(output),
+        _ => None,
     }
 }
 

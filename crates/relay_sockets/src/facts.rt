@@ -7,12 +7,12 @@ use fwd_msgpack::ScanFault;
 use fwd_program::Journal;
 use fwd_session::SessionFault;
 use fwd_source::SourceFault;
-use fwd_workers::{AdmitRefusal, LinkFault, Loss};
+use fwd_workers::{AdmitRefusal, LinkFault, Loss, TagFront};
 use std::io;
 use std::net::{Ipv4Addr, Ipv6Addr, SocketAddr};
 
 /// Why sources are closed.
-static ENDS: [SourceEnd; 16] = [
+static ENDS: [SourceEnd; 15] = [
     SourceEnd::Fault(SourceFault::Scan(ScanFault::Reserved)),
     SourceEnd::Fault(SourceFault::Scan(ScanFault::TooDeep)),
     SourceEnd::Fault(SourceFault::Scan(ScanFault::TooLong)),
@@ -24,10 +24,9 @@ static ENDS: [SourceEnd; 16] = [
     SourceEnd::Fault(SourceFault::NotPing),
     SourceEnd::Fault(SourceFault::Denied),
     SourceEnd::Fault(SourceFault::Closed),
-    SourceEnd::Refused(AdmitRefusal::NotNow),
-    SourceEnd::Refused(AdmitRefusal::Full),
-    SourceEnd::Refused(AdmitRefusal::NumbersSpent),
-    SourceEnd::NoRoute,
+    SourceEnd::Refused(0, AdmitRefusal::NotNow),
+    SourceEnd::Refused(65_534, AdmitRefusal::Full),
+    SourceEnd::Refused(3, AdmitRefusal::NumbersSpent),
     SourceEnd::NoLogin,
 ];
 
@@ -103,6 +102,8 @@ pub fn say_each(rt: &impl Print) {
     for why in &ENDS {
         teller.tell(Fact::SourceClosed { peer, why: *why });
     }
+    let tag = TagFront::of(b"app.\n");
+    teller.tell(Fact::Unrouted { peer, tag });
     for why in &LOSSES {
         teller.tell(Fact::ServerLost {
             output: 65_534,

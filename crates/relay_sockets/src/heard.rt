@@ -131,6 +131,9 @@ impl Watch for Heard {
             Fact::SourceClosed { peer: _, why } => {
                 let _ = self.closings.push(why);
             }
+            Fact::Unrouted { .. } => {
+                let _ = self.closings.push(SourceEnd::NoRoute);
+            }
             Fact::ServerLost {
                 output,
                 server,
