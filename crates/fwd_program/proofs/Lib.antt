@@ -1,3 +1,4 @@
+pub mod Checked
 pub mod Finding
 pub mod Words
 pub mod Unwritten

@@ -112,6 +112,11 @@ impl<'a, R: Clock, E: Write> Journal<'a, R, E> {
         }
     }
 
+    /// Whether there is nothing to tell beside facts.
+    fn is_quiet(&self) -> bool {
+        self.unwritten == 0 && self.limits.is_clear()
+    }
+
     /// Says how many lines were left out, if any were: the run is over.
     pub fn close(&mut self) {
         self.look();
@@ -149,7 +154,7 @@ impl<'a, R: Clock, E: Write> Watch for Journal<'a, R, E> {
     }
 
     fn turned(&mut self) {
-        if self.unwritten == 0 && self.limits.is_clear() {
+        if self.is_quiet() {
             return;
         }
         self.look();
