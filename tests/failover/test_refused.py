@@ -20,11 +20,10 @@ def large(relay, count=1):
     return sources
 
 
-def ask_all(relay, count=30):
-    """Small requests, each of a tag of its own, that are all acknowledged."""
+def ask_until_told(relay):
+    """Small requests, one behind the other, each of which is acknowledged, until a chunk is told as refused."""
     source = relay.source()
-    for number in range(count):
-        source.ask(f"small.{number}", [(number, {"n": number})])
+    relay.until(lambda: source.ask("small") or relay.lines("chunk refused: "), "no chunk is told as refused")
 
 
 @pytest.mark.quick
@@ -35,7 +34,7 @@ def test_others_go_on(relay, next_hop, keys, count):
     hop = next_hop(answer=refuse_above(20_000))
     one = relay([{"servers": [hop.port], **keys}])
     sources = large(one, count)
-    ask_all(one)
+    ask_until_told(one)
     line = one.await_line(f"chunk refused: output 0 tag {HEX}")
     assert re.search(rf" bytes 60011 losses \d+ server 127.0.0.1:{hop.port} Closed$", line), line
     assert not any(source.is_closed(0.1) for source in sources)
