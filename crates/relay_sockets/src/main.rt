@@ -69,7 +69,7 @@ fn main(rt: HostRuntime) {
     say_next(&rt);
     pacing::say_many(&rt);
     say_next(&rt);
-    pacing::say_unwritten(&rt);
+    let _ = pacing::say_unwritten(&rt, rt.alloc());
     say_next(&rt);
     asking::say_asked(&rt);
     say_next(&rt);

@@ -3,9 +3,11 @@
 use crate::hand::{Hand, START};
 use fwd_loop::{Fact, Want, Watch};
 use fwd_program::Journal;
-use std::cell::Cell;
+use std::alloc::{AllocError, Global};
 use std::io;
 use std::io::{ErrorKind, Write};
+use std::sync::Arc;
+use std::sync::atomic::{AtomicBool, Ordering};
 
 /// So many monitors want memory.
 fn see_monitors<W: Watch>(journal: &mut W, count: u16) {
@@ -46,14 +48,14 @@ pub fn say_many(rt: &impl Print) {
 
 /// A writer that takes nothing while it is full.
 #[derive(Drop)]
-struct Tap<'a, W: Write> {
+struct Tap<W: Write> {
     out: W,
-    is_full: &'a Cell<bool>,
+    is_full: Arc<AtomicBool>,
 }
 
-impl<W: Write> Write for Tap<'_, W> {
+impl<W: Write> Write for Tap<W> {
     fn write(&mut self, buf: &[u8]) -> io::Result<usize> {
-        if self.is_full.get() {
+        if self.is_full.load(Ordering::SeqCst) {
             return Err(io::Error::from(ErrorKind::WouldBlock));
         }
         self.out.write(buf)
@@ -66,26 +68,27 @@ impl<W: Write> Write for Tap<'_, W> {
 
 /// Says how many lines could not be written: before the next line, in the next second, and at the
 /// end.
-pub fn say_unwritten(rt: &impl Print) {
+pub fn say_unwritten(rt: &impl Print, alloc: Global) -> Result<(), AllocError> {
     let clock = Hand::new(Some(START));
-    let is_full = Cell::new(true);
+    let is_full = Arc::new(alloc, AtomicBool::new(true))?;
     let mut out = Tap {
         out: io::writer(rt),
-        is_full: &is_full,
+        is_full: Arc::try_clone(&is_full)?,
     };
     let mut journal = Journal::new(&clock, &mut out);
     see_monitors(&mut journal, 3);
-    is_full.set(false);
+    is_full.store(false, Ordering::SeqCst);
     see_monitors(&mut journal, 1);
-    is_full.set(true);
+    is_full.store(true, Ordering::SeqCst);
     see_monitors(&mut journal, 2);
-    is_full.set(false);
+    is_full.store(false, Ordering::SeqCst);
     // The same second is not over.
     journal.turned();
     clock.set(Some(START + 877));
     journal.turned();
-    is_full.set(true);
+    is_full.store(true, Ordering::SeqCst);
     see_monitors(&mut journal, 12);
-    is_full.set(false);
+    is_full.store(false, Ordering::SeqCst);
     journal.close();
+    Ok(())
 }
