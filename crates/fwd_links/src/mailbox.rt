@@ -80,14 +80,15 @@ impl Mailbox {
         self.call();
     }
 
-    /// A worker tells that a server seems to refuse a chunk. Where memory is refused it is not told.
+    /// A worker tells that a server seems to refuse a chunk. Where memory is refused it is not
+    /// told.
     pub fn tell_refused<R: Wait>(&self, rt: &R, refusal: Refusal) {
         let _ = self.notices.lock(rt).refused.push(refusal);
         self.call();
     }
 
-    /// Something was told: the loop is woken where it sleeps.
-    fn call(&self) {
+    /// Something was told, or is to be looked at: the loop is woken where it sleeps.
+    pub fn call(&self) {
         self.is_told.store(true, Ordering::SeqCst);
         if self.is_asleep.swap(false, Ordering::SeqCst) {
             let _ = self.waker.wake();

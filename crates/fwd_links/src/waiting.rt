@@ -281,8 +281,8 @@ impl WorkerWait {
         self.wait(PATIENCE);
     }
 
-    /// Takes into reserve what is missing there, where that can be had. A worker that waits does so:
-    /// it takes no memory until it goes on.
+    /// Takes into reserve what is missing there, where that can be had. A worker that waits does
+    /// so: it takes no memory until it goes on.
     pub fn refill(&mut self, signs: &Signs) {
         if self.reserve.is_full() {
             return;
@@ -319,8 +319,8 @@ impl WorkerWait {
         self.reserve.release();
     }
 
-    /// Makes sure of memory for the worker's next step: where it is refused, what is kept in reserve
-    /// is given back.
+    /// Makes sure of memory for the worker's next step: where it is refused, what is kept in
+    /// reserve is given back.
     pub(crate) fn assure(&mut self, signs: &Signs) {
         if self.is_short(signs) {
             self.give_back(signs);

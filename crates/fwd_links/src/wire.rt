@@ -156,8 +156,8 @@ impl Wire {
         }
     }
 
-    /// Bytes were read: all that is there, or as many as the room takes. Memory is made sure of, for
-    /// hearing them.
+    /// Bytes were read: all that is there, or as many as the room takes. Memory is made sure of,
+    /// for hearing them.
     fn has_read<R: Wait>(&mut self, rt: &R, is_all: bool) {
         let mut guard = self.wait.lock(rt);
         let wait = &mut *guard;

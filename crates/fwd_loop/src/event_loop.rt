@@ -5,12 +5,14 @@ use crate::fault::StartFault;
 use crate::lost_servers::{LostServers, fact_of};
 use crate::run_clock::RunClock;
 use fwd_links::{Mailbox, Notices, Signs};
-use fwd_outlets::{Connection, Connections, Fact, Outlets, Output, Ready, Want, Watch};
+use fwd_outlets::{
+    Connection, Connections, Fact, MonitorPeer, Outlets, Output, Ready, Served, Want, Watch,
+};
 use fwd_peers::{PeerEnd, SourceEnd, SourcePeer};
 use fwd_workers::News;
 use mio::event::Event;
 use mio::{Events, Poll, Token};
-use std::alloc::Global;
+use std::alloc::{AllocError, Global};
 use std::rt::Clock;
 use std::sync::Wait;
 use std::time::Duration;
@@ -53,6 +55,10 @@ pub(crate) struct Desk<'d, 'a> {
     pub outputs: &'d [Output],
     pub outlets: &'d mut Outlets<'a>,
     pub mailbox: &'d Mailbox,
+    /// Pages are made by a thread of their own.
+    pub are_pages_ordered: bool,
+    /// The moment, in milliseconds.
+    pub now: u64,
 }
 
 /// Waits for connections, and reads and writes those that are ready.
@@ -291,23 +297,17 @@ impl EventLoop {
         let start = clock.moment();
         self.memory.begin_reading(start);
         for _ in 0..self.connections.ready() {
-            let now = clock.moment();
-            self.read_next(rt, desk, watch, now);
-            if desk.mailbox.is_told() || now.saturating_sub(start) >= READING {
+            desk.now = clock.moment();
+            self.read_next(rt, desk, watch);
+            if desk.mailbox.is_told() || desk.now.saturating_sub(start) >= READING {
                 break;
             }
         }
         self.memory.end_reading(watch, start);
     }
 
-    /// Reads the next connection that is ready, at a moment (milliseconds).
-    fn read_next<R: Wait, W: Watch>(
-        &mut self,
-        rt: &R,
-        desk: &mut Desk<'_, '_>,
-        watch: &mut W,
-        now: u64,
-    ) {
+    /// Reads the next connection that is ready.
+    fn read_next<R: Wait, W: Watch>(&mut self, rt: &R, desk: &mut Desk<'_, '_>, watch: &mut W) {
         let Some(ready) = self.connections.next_ready() else {
             return;
         };
@@ -317,27 +317,25 @@ impl EventLoop {
             connection,
         } = ready;
         let after = match connection {
-            Connection::Source(_) if self.memory.is_refused(now) => {
+            Connection::Source(_) if self.memory.is_refused(desk.now) => {
                 self.memory.is_paused = true;
                 After::Again
             }
             Connection::Source(source) => {
                 let again = read_source(source, self.alloc, &mut self.room, to_end);
-                let waits = desk.outlets.admit_all(rt, source, now);
+                let waits = desk.outlets.admit_all(rt, source, desk.now);
                 if tell_end(source, watch) {
-                    self.memory.refuse(now);
+                    self.memory.refuse(desk.now);
                 }
                 after_visit(source, again, waits, to_end)
             }
             Connection::Monitor(monitor) => {
-                let served = monitor.serve(rt, self.alloc, desk.outputs, &mut self.room);
-                if served.is_err() {
-                    watch.see(Fact::Memory(Want::Monitor));
-                }
-                match served {
-                    Ok(Some(true)) => After::Again,
-                    Ok(Some(false)) => After::Rests,
-                    _ => After::Goes,
+                match serve_monitor(rt, self.alloc, desk, monitor, &mut self.room) {
+                    Ok(after) => after,
+                    Err(_) => {
+                        watch.see(Fact::Memory(Want::Monitor));
+                        After::Goes
+                    }
                 }
             }
         };
@@ -361,6 +359,27 @@ enum After {
     Rests,
     /// It goes.
     Goes,
+}
+
+/// Serves a monitor. Where no thread makes pages, one is made at once. The only error is out of
+/// memory.
+fn serve_monitor<R: Wait>(
+    rt: &R,
+    alloc: Global,
+    desk: &Desk<'_, '_>,
+    monitor: &mut MonitorPeer,
+    room: &mut [u8],
+) -> Result<After, AllocError> {
+    let served = monitor.serve(alloc, room, desk.now)?;
+    if monitor.wants() && !desk.are_pages_ordered {
+        monitor.hand_now(rt, alloc, desk.outputs, desk.now)?;
+        return Ok(After::Again);
+    }
+    Ok(match served {
+        Served::Again => After::Again,
+        Served::Rests => After::Rests,
+        Served::Ended => After::Goes,
+    })
 }
 
 /// Reads a source, and says whether there may be more. One of which requests wait is not read

@@ -16,8 +16,8 @@ const NAME: &str = "Max open files";
 /// the listeners, what it waits with, and some to spare.
 const OWN: u64 = 16;
 
-/// The files of a worker at most: three that it waits with, its link, and one more while it connects
-/// to another server.
+/// The files of a worker at most: three that it waits with, its link, and one more while it
+/// connects to another server.
 const WORKER: u64 = 5;
 
 /// How many files the process may have open, where the system tells and there is a limit.

@@ -16,7 +16,7 @@ use fwd_chunks::Report;
 use fwd_config::config_of;
 use fwd_core::{Config, OutputConfig};
 use fwd_links::Mailbox;
-use fwd_outlets::{Connections, Watch, reports_of};
+use fwd_outlets::{Connections, PageDesk, Watch, reports_of};
 use fwd_settings::{OutputSettings, Settings, WhenFull};
 use mio::{Events, Poll, Waker};
 use std::alloc::{AllocError, Global};
@@ -211,6 +211,7 @@ impl Loop {
             routes,
             outputs,
             mailbox,
+            pages: PageDesk::new(),
         };
         let own = Own {
             event_loop,
@@ -274,7 +275,7 @@ impl Loop {
 }
 
 /// Makes so many turns in this thread, and has each worker make as many in a thread of its own,
-/// until all have ended.
+/// until all have ended; and has monitors' pages made in another one, where there can be one.
 fn serve<
     R: Net<Listener = TcpListener, Stream = TcpStream>
         + Threads
@@ -291,8 +292,15 @@ fn serve<
     count: u64,
 ) -> Result<(), StartFault> {
     thread::scope(thread::scope_env(), rt, move |scope| {
-        let mut children = Vec::with_capacity(rt.alloc(), workers.len())?;
+        let mut children = Vec::with_capacity(rt.alloc(), workers.len().saturating_add(1))?;
         let mut served = Ok(());
+        let maker = turns.page_maker();
+        if let Some(maker) = maker {
+            if let Ok(child) = scope.spawn(move || maker.work(rt)) {
+                let _ = children.push(child);
+                turns.order_pages();
+            }
+        }
         for worker in workers {
             if served.is_ok() {
                 match scope.spawn(move || worker.work(rt, count)) {
@@ -308,6 +316,9 @@ fn serve<
         }
         if served.is_err() {
             turns.stop();
+        }
+        if let Some(maker) = maker {
+            maker.stop(rt);
         }
         for child in children {
             child.join(rt);

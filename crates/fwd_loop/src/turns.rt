@@ -11,7 +11,7 @@ use crate::worker_thread::WorkerThread;
 use fwd_chunks::Report;
 use fwd_links::Mailbox;
 use fwd_match::Routes;
-use fwd_outlets::{FlushTimer, Outlets, Output, Watch, reports_of};
+use fwd_outlets::{Fact, FlushTimer, Outlets, Output, PageDesk, Want, Watch, reports_of};
 use std::alloc::Global;
 use std::net::Net;
 use std::rt::Clock;
@@ -31,6 +31,7 @@ pub(crate) struct Shared {
     pub routes: Routes,
     pub outputs: Vec<Output>,
     pub mailbox: Mailbox,
+    pub pages: PageDesk,
 }
 
 /// What a relay has beside: the loop's own, and the workers.
@@ -64,6 +65,32 @@ impl<'a> WorkerTurns<'a> {
     }
 }
 
+/// Makes the pages that monitors wait for, beside the relay's turns, in a thread of its own.
+#[derive(Clone, Copy)]
+pub(crate) struct PageMaker<'a> {
+    alloc: Global,
+    outputs: &'a [Output],
+    mailbox: &'a Mailbox,
+    pages: &'a PageDesk,
+}
+
+impl<'a> PageMaker<'a> {
+    /// Makes each page that is ordered, until no more are made.
+    pub fn work<R: Wait>(self, rt: &R) {
+        for _ in rt.forever() {
+            if !self.pages.make_next(rt, self.alloc, self.outputs) {
+                return;
+            }
+            self.mailbox.call();
+        }
+    }
+
+    /// No more pages are made.
+    pub fn stop<R: Wait>(self, rt: &R) {
+        self.pages.close(rt);
+    }
+}
+
 /// The workers of a relay.
 fn workers_of<'a>(
     alloc: Global,
@@ -88,6 +115,9 @@ pub struct Turns<'a, R: Clock> {
     alloc: Global,
     outputs: &'a [Output],
     mailbox: &'a Mailbox,
+    pages: &'a PageDesk,
+    /// A thread makes pages: else one is made when it is asked for.
+    are_pages_ordered: bool,
     event_loop: &'a mut EventLoop,
     outlets: Outlets<'a>,
     lost_servers: LostServers,
@@ -120,6 +150,8 @@ pub(crate) fn open<'a, R: Wait + Clock>(
         alloc,
         outputs: &shared.outputs,
         mailbox: &shared.mailbox,
+        pages: &shared.pages,
+        are_pages_ordered: false,
         event_loop,
         outlets,
         lost_servers,
@@ -130,12 +162,13 @@ pub(crate) fn open<'a, R: Wait + Clock>(
 
 impl<'a, R: Wait + Clock> Turns<'a, R> {
     /// One turn, in this order. It waits until something is ready or told, at most 100 ms; hears
-    /// what workers told, collects receipts of what they settled, of each output some thousands,
-    /// tells the sources of those, and writes what is to be sent; reads connections that are ready,
-    /// for some milliseconds, a source at most 65,536 bytes, admits its whole requests, and serves
-    /// monitors; takes the connections that wait, and closes those that had their time and did not
-    /// show what they are; and flushes what is due, and rings workers for it. What is not done yet
-    /// is done in a later turn.
+    /// what workers told, collects receipts of what they settled, for some milliseconds, tells the
+    /// sources of those, and writes what is to be sent; reads connections that are ready, for some
+    /// milliseconds or until workers tell more, a source at most 65,536 bytes, admits its whole
+    /// requests, and serves monitors; takes the connections that wait, and closes those that had
+    /// their time and did not show what they are; flushes what is due, and rings workers for it;
+    /// and sends the monitors that wait the page that was made. What is not done yet is done in a
+    /// later turn.
     ///
     /// It fails with `Poll` where the wait failed.
     pub fn turn(&mut self, rt: &R) -> Result<(), StartFault> {
@@ -162,8 +195,44 @@ impl<'a, R: Wait + Clock> Turns<'a, R> {
         let now = self.clock.moment();
         self.outlets.flush(rt, now);
         self.outlets.tend(&self.event_loop.connections, watch, now);
+        self.tend_monitors(rt, watch, now);
         watch.turned();
         Ok(())
+    }
+
+    /// Monitors that took nothing for long are closed, at a moment (milliseconds); those that wait
+    /// for a page that was made are sent it, and a further one is ordered for those that want it.
+    fn tend_monitors<W: Watch>(&mut self, rt: &R, watch: &mut W, now: u64) {
+        let connections = &mut self.event_loop.connections;
+        if connections.monitors() == 0 {
+            return;
+        }
+        connections.remove_stalled(now);
+        if !self.are_pages_ordered {
+            return;
+        }
+        if let Some(page) = self.pages.take(rt) {
+            for _ in 0..connections.hand_page(&page, now) {
+                watch.see(Fact::Memory(Want::Monitor));
+            }
+        }
+        connections.order_page(rt, self.pages);
+    }
+
+    /// What makes pages in a thread of its own, where monitors are listened for.
+    pub(crate) fn page_maker(&self) -> Option<PageMaker<'a>> {
+        self.event_loop.acceptor.monitors.as_ref()?;
+        Some(PageMaker {
+            alloc: self.alloc,
+            outputs: self.outputs,
+            mailbox: self.mailbox,
+            pages: self.pages,
+        })
+    }
+
+    /// Pages are ordered from that thread from now on.
+    pub(crate) fn order_pages(&mut self) {
+        self.are_pages_ordered = true;
     }
 
     /// Collects receipts for some milliseconds from a moment on; those that are left in a later
@@ -184,6 +253,8 @@ impl<'a, R: Wait + Clock> Turns<'a, R> {
             outputs: self.outputs,
             outlets: &mut self.outlets,
             mailbox: self.mailbox,
+            are_pages_ordered: self.are_pages_ordered,
+            now: 0,
         };
         self.event_loop
             .read_all(rt, &mut desk, watch, &mut self.clock);
@@ -228,6 +299,8 @@ impl<'a, R: Wait + Clock> Turns<'a, R> {
             alloc: _,
             outputs: _,
             mailbox: _,
+            pages: _,
+            are_pages_ordered: _,
             event_loop,
             mut outlets,
             lost_servers: _,

@@ -23,7 +23,7 @@ pub admits : (routes : List (List (List ℕ))) (outlets : List Outlet) (s t : Pe
     (number : ℕ) (outlet after : Outlet) (asked : Origin × Request)
     → Some number ≡ first_route routes s → number < length outlets
     → outlet ≡ get_or outlets number outlet → Gives s (Some asked) t
-    → KeepsTicketOf outlet.lanes asked after.lanes
+    → KeepsTicketOf number outlet.lanes asked after.lanes
     → Admits routes (stores_of outlets) s (stores_of (slice_set outlets number after)) t
 admits routes outlets s t number outlet after asked routed lt is gives keeps = record {
   asked = asked;

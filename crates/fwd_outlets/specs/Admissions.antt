@@ -11,15 +11,17 @@ use Rattle.fwd_outlets.specs.declared.lanes.Lanes.{Lanes}
 use Rattle.fwd_outlets.specs.Laning.{Keeps}
 
 -- an output keeps one ticket more, in one of its lanes, which shows just this request of this
--- connection
-pub record KeepsTicketOf (s : Lanes) (asked : Origin × Request) (t : Lanes) : Type 0 where
+-- connection, at the output of this number
+pub record KeepsTicketOf (n : ℕ) (s : Lanes) (asked : Origin × Request) (t : Lanes) : Type 0 where
   pub ticket : Ticket
+  pub output : ticket.setting.output ≡ n
   pub origin : ticket.origin ≡ asked.0
   pub batch : ticket.batch ≡ asked.1
   pub kept : Keeps s ticket t
 
 -- The first request that waits at a source is given, and the output that the routes name first for
--- its tag keeps a ticket of it. No other output's tickets change.
+-- its tag keeps a ticket of it, which tells the number of just that output. No other output's
+-- tickets change.
 pub record Admits (routes : List (List (List ℕ))) (stores : List Lanes) (s : PeerShown)
     (after : List Lanes) (t : PeerShown) : Type 0 where
   pub asked : Origin × Request
@@ -29,5 +31,5 @@ pub record Admits (routes : List (List (List ℕ))) (stores : List Lanes) (s : P
   pub store : Lanes
   pub there : slice_get stores number ≡ Some store
   pub with_ticket : Lanes
-  pub keeps : KeepsTicketOf store asked with_ticket
+  pub keeps : KeepsTicketOf number store asked with_ticket
   pub others : after ≡ slice_set stores number with_ticket

@@ -93,7 +93,8 @@ pub struct Connections {
     held: VecDeque<usize>,
     /// The keys of the sources, by their ids.
     sources: BTreeMap<u64, usize>,
-    monitors: usize,
+    /// The keys of the monitors.
+    monitors: Vec<usize>,
     /// Sources that may have yet to log in.
     logins: Deadlines,
     /// Monitors that may have yet to send their heads.
@@ -117,7 +118,7 @@ impl Connections {
             told: VecDeque::new(alloc),
             held: VecDeque::new(alloc),
             sources: BTreeMap::new(alloc),
-            monitors: 0,
+            monitors: Vec::new(alloc),
             logins: Deadlines::new(alloc, LOGIN_LIMIT),
             heads: Deadlines::new(alloc, HEAD_LIMIT),
         }
@@ -130,7 +131,12 @@ impl Connections {
 
     /// How many monitors stand.
     pub fn monitors(&self) -> usize {
-        self.monitors
+        self.monitors.len()
+    }
+
+    /// The key of the monitor at a place among those that stand.
+    pub(crate) fn monitor_key(&self, place: usize) -> Option<usize> {
+        Some(*self.monitors.get(place)?)
     }
 
     /// A connection comes at a moment (milliseconds), is registered, and is ready. Where the system
@@ -189,7 +195,7 @@ impl Connections {
             }
             None => {
                 self.heads.add(young)?;
-                self.monitors = self.monitors.saturating_add(1);
+                self.monitors.push(key)?;
             }
         }
         Ok(())
@@ -357,7 +363,7 @@ impl Connections {
             Connection::Source(source) => {
                 self.sources.remove(&source.id);
             }
-            Connection::Monitor(_) => self.monitors = self.monitors.saturating_sub(1),
+            Connection::Monitor(_) => self.monitors.retain(|monitor| *monitor != key),
         }
     }
 }

@@ -11,14 +11,17 @@ mod flush_timer;
 mod gate;
 mod lanes;
 mod monitor_peer;
+mod monitors;
 mod outlet;
 mod outlets;
 mod output;
+mod page_desk;
 mod watch;
 
 pub use connections::{Connection, Connections, Ready};
 pub use flush_timer::FlushTimer;
-pub use monitor_peer::MonitorPeer;
+pub use monitor_peer::{MonitorPeer, Served};
 pub use outlets::Outlets;
 pub use output::{Output, reports_of};
+pub use page_desk::{MadePage, PageDesk};
 pub use watch::{Caller, Fact, Want, Watch};

@@ -1,20 +1,49 @@
 //! A monitor's connection over its stream.
 
 ghost use Rattle.std.specs.Prelude.{◌≤◌, length};
+ghost use Rattle.std.specs.Arc.{arc_value};
 
-use crate::output::{Output, reports_of};
+use crate::output::Output;
+use crate::page_desk::{MadePage, page_of};
 use fwd_monitor::{Reply, answer, wants_page};
 use fwd_peers::{PeerStream, Visit};
 use mio::net::TcpStream;
 use std::alloc::{AllocError, Global};
-use std::sync::Wait;
+use std::sync::{Arc, Wait};
+
+/// How long a monitor may take nothing of what it is sent, in milliseconds.
+const STALL: u64 = 30_000;
 
 /// What a monitor is sent, and how much of it was sent.
 #[derive(Drop)]
 struct Sending {
-    reply: Vec<u8>,
+    reply: Arc<Vec<u8>>,
     sent: usize,
-    ghost within: { sent ≤ length reply.items },
+    ghost within: { sent ≤ length (arc_value reply).items },
+}
+
+/// What a monitor waits for.
+#[derive(Clone, Copy)]
+enum Stage {
+    /// Its request's head has not come yet.
+    Asking,
+    /// It is to be sent the page, which is not ordered yet.
+    Wanting,
+    /// It is to be sent a page of this number or a later one.
+    Waiting(u64),
+    /// It is sent a page of this number, or another reply as 0.
+    Taking(u64),
+}
+
+/// How a visit to a monitor ended.
+#[derive(Clone, Copy)]
+pub enum Served {
+    /// There may be more to be read.
+    Again,
+    /// The system tells once it is ready again.
+    Rests,
+    /// It is over.
+    Ended,
 }
 
 /// A monitor's connection: its stream, what it sent so far, and what it is sent.
@@ -22,7 +51,10 @@ struct Sending {
 pub struct MonitorPeer {
     pub(crate) stream: PeerStream,
     heard: Vec<u8>,
+    stage: Stage,
     sending: Option<Sending>,
+    /// When it took something last, in milliseconds.
+    since: u64,
 }
 
 impl MonitorPeer {
@@ -31,63 +63,133 @@ impl MonitorPeer {
         MonitorPeer {
             stream: PeerStream::new(stream),
             heard: Vec::new(alloc),
+            stage: Stage::Asking,
             sending: None,
+            since: 0,
         }
     }
 
     /// Whether its request's head has not come yet.
     pub(crate) fn awaits_head(&self) -> bool {
-        self.sending.is_none()
+        match self.stage {
+            Stage::Asking => true,
+            _ => false,
+        }
     }
 
-    /// Reads what is there, and writes the reply once there is one. It says whether the connection
-    /// is to be looked at again, where it stands. The only error is out of memory.
-    pub fn serve<R: Wait>(
-        &mut self,
-        rt: &R,
-        alloc: Global,
-        outputs: &[Output],
-        room: &mut [u8],
-    ) -> Result<Option<bool>, AllocError> {
-        let (count, visit) = self.stream.fill(room, true);
-        if count > 0 && self.sending.is_none() {
-            self.take_in(rt, alloc, outputs, &room[..count])?;
+    /// Whether the page is to be ordered for it.
+    pub fn wants(&self) -> bool {
+        match self.stage {
+            Stage::Wanting => true,
+            _ => false,
         }
-        if self.write() || (visit == Visit::Ended && self.sending.is_none()) {
-            return Ok(None);
-        }
-        Ok(Some(visit == Visit::Full))
     }
 
-    /// Takes in bytes, and makes the reply where one is due. The only error is out of memory.
-    fn take_in<R: Wait>(
-        &mut self,
-        rt: &R,
-        alloc: Global,
-        outputs: &[Output],
-        bytes: &[u8],
-    ) -> Result<(), AllocError> {
-        self.heard.extend_from_slice(bytes)?;
-        let reports = if wants_page(&self.heard) {
-            reports_of(rt, alloc, outputs)?
-        } else {
-            Vec::new(alloc)
+    /// The page of this number was ordered for it.
+    pub fn waits_for(&mut self, number: u64) {
+        self.stage = Stage::Waiting(number);
+    }
+
+    /// The number of the page that it is sent, if it is sent one.
+    pub fn page(&self) -> Option<u64> {
+        match self.stage {
+            Stage::Taking(number) if number > 0 => Some(number),
+            _ => None,
+        }
+    }
+
+    /// Whether it took nothing for long by a moment (milliseconds) of what it is sent.
+    pub fn is_stalled(&self, now: u64) -> bool {
+        match self.stage {
+            Stage::Taking(_) => now.saturating_sub(self.since) >= STALL,
+            _ => false,
+        }
+    }
+
+    /// It is sent a page from a moment on (milliseconds), if it waits for it: whether it is to be
+    /// visited. The only error is that memory was refused for the page.
+    pub fn hand(&mut self, page: &MadePage, now: u64) -> Result<bool, AllocError> {
+        match self.stage {
+            Stage::Waiting(number) if number <= page.number => {}
+            _ => return Ok(false),
+        }
+        let Some(reply) = &page.reply else {
+            return Err(AllocError);
         };
-        if let Reply::Bytes(reply) = answer(alloc, &self.heard, &reports)? {
-            self.sending = Some(Sending { reply, sent: 0 });
+        let reply = Arc::try_clone(reply)?;
+        self.send(reply, page.number, now);
+        Ok(true)
+    }
+
+    /// It is sent the page of these outputs from a moment on (milliseconds), which is made at once.
+    /// The only error is out of memory.
+    pub fn hand_now<R: Wait>(
+        &mut self,
+        rt: &R,
+        alloc: Global,
+        outputs: &[Output],
+        now: u64,
+    ) -> Result<(), AllocError> {
+        let reply = page_of(rt, alloc, outputs)?;
+        self.send(reply, 0, now);
+        Ok(())
+    }
+
+    /// It is sent a reply from a moment on (milliseconds): a page of this number, or another as 0.
+    fn send(&mut self, reply: Arc<Vec<u8>>, number: u64, now: u64) {
+        self.sending = Some(Sending { reply, sent: 0 });
+        self.stage = Stage::Taking(number);
+        self.since = now;
+    }
+
+    /// Reads what is there, and writes the reply once there is one, at a moment (milliseconds). The
+    /// only error is out of memory.
+    pub fn serve(
+        &mut self,
+        alloc: Global,
+        room: &mut [u8],
+        now: u64,
+    ) -> Result<Served, AllocError> {
+        let (count, visit) = self.stream.fill(room, true);
+        if count > 0 && self.awaits_head() {
+            self.take_in(alloc, &room[..count], now)?;
+        }
+        Ok(if self.write(now) || (visit == Visit::Ended && self.sending.is_none()) {
+            Served::Ended
+        } else if visit == Visit::Full {
+            Served::Again
+        } else {
+            Served::Rests
+        })
+    }
+
+    /// Takes in bytes, and makes the reply where one is due but the page. The only error is out of
+    /// memory.
+    fn take_in(&mut self, alloc: Global, bytes: &[u8], now: u64) -> Result<(), AllocError> {
+        self.heard.extend_from_slice(bytes)?;
+        if wants_page(&self.heard) {
+            self.stage = Stage::Wanting;
+            return Ok(());
+        }
+        if let Reply::Bytes(reply) = answer(alloc, &self.heard, &[])? {
+            let reply = Arc::new(alloc, reply)?;
+            self.send(reply, 0, now);
         }
         Ok(())
     }
 
-    /// Writes what is left of the reply as far as the stream takes it, and says whether nothing is
-    /// to be written any more.
-    fn write(&mut self) -> bool {
+    /// Writes what is left of the reply as far as the stream takes it, at a moment (milliseconds),
+    /// and says whether nothing is to be written any more.
+    fn write(&mut self, now: u64) -> bool {
         let Some(sending) = &mut self.sending else {
             return false;
         };
         let from = sending.sent;
         let (count, visit) = self.stream.send(&sending.reply[from..]);
         sending.sent = from + count;
+        if count > 0 {
+            self.since = now;
+        }
         visit == Visit::Ended || sending.sent == sending.reply.len()
     }
 }

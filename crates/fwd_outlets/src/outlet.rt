@@ -58,27 +58,33 @@ impl<'a> Outlet<'a> {
         }
     }
 
-    /// Admits a connection's request at a moment (milliseconds), and keeps its ticket in a lane.
-    /// Where memory is refused for keeping it, its entries stay, and it is as if the request was not
-    /// admitted.
+    /// Admits a connection's request at a moment (milliseconds), as the output of this number, and
+    /// keeps its ticket in a lane. Where memory is refused for keeping it, its entries stay, and it
+    /// is as if the request was not admitted. So it is where the ticket tells another number: an
+    /// output that stands at another's place answers nobody.
     pub fn admit<R: Wait>(
         &mut self,
         rt: &R,
+        number: u16,
         lane: Lane,
-        origin: Origin,
-        batch: Batch,
+        asked: (Origin, Batch),
         now: u64,
     ) -> Result<(), AdmitRefusal>
         ensures kept { OnOk result
-            (KeepsTicketOf self.old.lanes (origin, batch) self.new.lanes) }
+            (KeepsTicketOf number self.old.lanes asked self.new.lanes) }
         ensures same { OnErr result (AreSame self.old.lanes self.new.lanes) }
     {
         let shared = &self.output.shared;
+        let (origin, batch) = asked;
         let ticket = match shared.admit(rt, self.alloc, &mut (), origin, batch, now) {
             Ok(ticket) => ticket,
             Err((refusal, _)) => return Err(refusal),
         };
         self.timer.admitted();
+        if ticket.output() != number {
+            shared.abandon(rt, ticket);
+            return Err(AdmitRefusal::NotNow);
+        }
         self.ring_for(&ticket);
         match self.lanes.keep(lane, ticket) {
             Ok(()) => Ok(()),

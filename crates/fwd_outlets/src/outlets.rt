@@ -145,12 +145,12 @@ impl<'a> Outlets<'a> {
             return Err(Stop::Ends(SourceEnd::NoRoute));
         };
         let lane = Lane::of(source);
-        let Some((origin, batch)) = source.next() else {
+        let Some(asked) = source.next() else {
             let refusal = AdmitRefusal::Memory;
             return Err(Stop::Ends(SourceEnd::Refused(output, refusal)));
         };
-        let bytes = upkeep(batch.tag(), batch.chunk());
-        match outlet.admit(rt, lane, origin, batch, now) {
+        let bytes = upkeep(asked.1.tag(), asked.1.chunk());
+        match outlet.admit(rt, output, lane, asked, now) {
             Ok(()) => {
                 self.owes(output, bytes);
                 Ok(())

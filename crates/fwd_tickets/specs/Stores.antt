@@ -124,8 +124,8 @@ pub record IsSettled (s : Stored) (chunk : ℕ) (t : Stored) : Type 0 where
   pub all_stay : s.all_due ≡ true → t.all_due ≡ true
   pub again : s.late ≢ [] → t.stirred ≡ true
 
--- Where none is due and all are to be handed in, those that wait for some chunk are due, and wait no
--- more. Where none waits, not all are to be handed in any more.
+-- Where none is due and all are to be handed in, those that wait for some chunk are due, and wait
+-- no more. Where none waits, not all are to be handed in any more.
 abbrev pub FindsLeast : Stored → Stored → Type 0
 FindsLeast s t =
     ((t.all_due ≡ true) × (length t.lists < length s.lists)

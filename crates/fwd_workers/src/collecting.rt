@@ -47,7 +47,7 @@ fn is_due(state: &OutputState, ticket: &Ticket) -> bool
     ensures due { result ≡ true → IsDue state.now.book ticket.now }
     ensures other { result ≡ false → ¬ (IsDue state.now.book ticket.now) }
 {
-    shows(state, ticket) && state.is_settled(ticket.origin())
+    state.is_settled(ticket.origin()) && shows(state, ticket)
 }
 
 /// Which of some tickets are due, and the origins of those.

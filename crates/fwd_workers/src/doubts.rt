@@ -9,8 +9,8 @@ use std::mem;
 pub(crate) struct Doubts {
     /// How often the chunk that it took last was lost before.
     pub losses: u8,
-    /// No chunk is added to those of its session: one of them was lost before, or one that was waits
-    /// until they are acknowledged.
+    /// No chunk is added to those of its session: one of them was lost before, or one that was
+    /// waits until they are acknowledged.
     pub alone: bool,
     /// The server that it asks once more, with the next free chunk: it took the connection and a
     /// chunk that was lost.

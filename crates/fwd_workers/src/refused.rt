@@ -32,8 +32,8 @@ impl TagFront {
     }
 }
 
-/// A chunk that was lost three times or more, the last time at a server that had acknowledged others
-/// since it was lost before: the server seems to refuse just this chunk.
+/// A chunk that was lost three times or more, the last time at a server that had acknowledged
+/// others since it was lost before: the server seems to refuse just this chunk.
 #[derive(Clone, Copy)]
 pub struct Refused {
     /// The server, by its place in the output's list.

@@ -2,7 +2,7 @@
 //! memory is refused to a call the line `NAME: memory` says so, and it is made again. Meanwhile
 //! nothing has changed, as far as the value's own calls tell; else a line says that too.
 //!
-//! `tools/refused_memory.py` has memory refused to each in turn. What is no call of the list is
+//! `tests/memory/test_refused.py` has memory refused to each in turn. What is no call of the list is
 //! made again where it is refused memory, and nothing is said of it.
 
 use crate::digits::Hex;

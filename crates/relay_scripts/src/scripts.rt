@@ -1,6 +1,6 @@
-//! The scripts of a folder, and whether they have their answers: as the script stands, with the bytes
-//! of each piece in two at each byte (of a piece above 4,096 bytes near its ends alone), and with
-//! the bytes of two pieces in one. `NAME.script` is what `forward_relay replay` reads.
+//! The scripts of a folder, and whether they have their answers: as the script stands, with the
+//! bytes of each piece in two at each byte (of a piece above 4,096 bytes near its ends alone), and
+//! with the bytes of two pieces in one. `NAME.script` is what `forward_relay replay` reads.
 //! `NAME.answers` is what must come: what the program writes on standard output, and behind that
 //! what it tells on standard error. A script is these two files and nothing else.
 

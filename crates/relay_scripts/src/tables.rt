@@ -1,5 +1,5 @@
 //! The tables: files of cases, and what is told of each case behind a line `== FILE`. What a
-//! table's lines are says the module that reads them. Scripts of tools/ compute all tables anew but
+//! table's lines are says the module that reads them. Scripts of tests/tables compute all anew but
 //! those of the pieces and of the patterns.
 
 mod handshakes;

@@ -9,6 +9,6 @@ returns-in-Ok-clause-admitted c c' =
     c'.next.new.self (grind arith) (grind arith)
     (admits c'.args.self.now.routes.now c'.lets_in.new.self.all.items c'.args.source.now
     c'.next.new.self c'.in-Some.output c'.in-Some-get_mut.outlet.now c'.admit.new.self
-    (c'.in-Some-next.origin, c'.in-Some-next.batch) c'.in-Some.ensures
+    c'.in-Some-next.asked c'.in-Some.ensures
     (omega (arith, c'.in-Some-get_mut.ensures.variant.0 refl)) c'.in-Some-get_mut.ensures.value
     c'.in-Some-next.ensures c'.in-Ok.ensures.kept)
