@@ -2,3 +2,4 @@ pub mod Telling
 pub mod Admitting
 pub mod Told
 pub mod Handing
+pub mod Routed

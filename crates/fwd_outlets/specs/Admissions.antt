@@ -19,17 +19,22 @@ pub record KeepsTicketOf (n : ℕ) (s : Lanes) (asked : Origin × Request) (t : 
   pub batch : ticket.batch ≡ asked.1
   pub kept : Keeps s ticket t
 
--- The first request that waits at a source is given, and the output that the routes name first for
--- its tag keeps a ticket of it, which tells the number of just that output. No other output's
--- tickets change.
+-- a request of a connection is entered at the output of this number, which keeps a ticket of it; no
+-- other output's tickets change
+pub record Enters (stores : List Lanes) (number : ℕ) (asked : Origin × Request)
+    (after : List Lanes) : Type 0 where
+  pub store : Lanes
+  pub there : slice_get stores number ≡ Some store
+  pub with_ticket : Lanes
+  pub keeps : KeepsTicketOf number store asked with_ticket
+  pub others : after ≡ slice_set stores number with_ticket
+
+-- The first request that waits at a source is given, and entered at the output that the routes name
+-- first for its tag: the ticket that is kept of it tells the number of just that output.
 pub record Admits (routes : List (List (List ℕ))) (stores : List Lanes) (s : PeerShown)
     (after : List Lanes) (t : PeerShown) : Type 0 where
   pub asked : Origin × Request
   pub given : Gives s (Some asked) t
   pub number : ℕ
   pub named : route routes asked.1.tag ≡ Some number
-  pub store : Lanes
-  pub there : slice_get stores number ≡ Some store
-  pub with_ticket : Lanes
-  pub keeps : KeepsTicketOf number store asked with_ticket
-  pub others : after ≡ slice_set stores number with_ticket
+  pub entered : Enters stores number asked after

@@ -42,16 +42,6 @@ abbrev pub AreRefused : Lanes → Lanes → Type 0
 AreRefused s t =
     (IsRefused s.few t.few × (t.many ≡ s.many)) ⊎ (IsRefused s.many t.many × (t.few ≡ s.few))
 
--- a receipt is right for a ticket of some output
-abbrev pub IsRightSomewhere : Receipt → Type 0
-IsRightSomewhere r = (setting : BookSetting) × IsRight r (ticket_of setting r)
-
--- sources are told of receipts alone, each of which is right for a ticket
-pub record TellsRight (s : Sources) (t : Sources) : Type 0 where
-  pub receipts : List Receipt
-  pub told : AreTold s receipts t
-  pub right : All IsRightSomewhere receipts
-
 -- what an outlet collects in so many rounds: in each tickets are handed in, and each receipt that
 -- there is for them is told
 abbrev pub CollectsBy : List (List Receipt) → Lanes → Sources → Lanes → Sources → Type 0

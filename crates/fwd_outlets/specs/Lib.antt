@@ -1,10 +1,11 @@
 -- To be believed: Ends, which says how the counts at a run's end fit together; Admissions, where a
--- source's request goes; Tellings, who is told of receipts; Collections, of which receipts.
--- Standings, Outlets and Laning only describe the code.
+-- source's request goes; Tellings, who is told of receipts; Collections, of which receipts;
+-- Promises, what is promised of each. Standings, Outlets and Laning only describe the code.
 pub mod Ends
 pub mod Admissions
 pub mod Tellings
 pub mod Collections
+pub mod Promises
 pub mod Standings
 pub mod Outlets
 pub mod Laning

@@ -2,7 +2,8 @@
 //! in first, so that who has many waits for itself and not the others for it.
 
 ghost use Rattle.std.specs.Prelude.{◌≡◌, ◌<◌, IfErr, IfOk, OnOk, OnErr};
-ghost use Rattle.fwd_outlets.specs.Laning.{AreSame, Keeps};
+ghost use Rattle.fwd_tickets.specs.Stores.{IsSame, IsSettled, none_kept};
+ghost use Rattle.fwd_outlets.specs.Laning.{AreSame, AreStirred, Keeps};
 ghost use Rattle.fwd_outlets.specs.Collections.{
   AreHandedIn,
   AreRefused,
@@ -51,7 +52,9 @@ pub(crate) struct Lanes {
 
 impl Lanes {
     /// No tickets.
-    pub fn new(alloc: Global) -> Lanes {
+    pub fn new(alloc: Global) -> Lanes
+        ensures { IsSame none_kept result.few × IsSame none_kept result.many }
+    {
         Lanes {
             few: TicketStore::new(alloc),
             many: TicketStore::new(alloc),
@@ -72,13 +75,18 @@ impl Lanes {
 
     /// A chunk is settled: the tickets that wait for it are to be handed in, and those that came
     /// back.
-    pub fn settle(&mut self, chunk: u64) {
+    pub fn settle(&mut self, chunk: u64)
+        ensures few { IsSettled self.old.few chunk self.new.few }
+        ensures many { IsSettled self.old.many chunk self.new.many }
+    {
         self.few.settle(chunk);
         self.many.settle(chunk);
     }
 
     /// All tickets are to be handed in.
-    pub fn settle_all(&mut self) {
+    pub fn settle_all(&mut self)
+        ensures { AreStirred self.old self.new }
+    {
         self.few.settle_all();
         self.many.settle_all();
     }

@@ -1,10 +1,11 @@
 //! An output as the loop sees it.
 
-ghost use Rattle.std.specs.Prelude.{◌≡◌, OnOk, OnErr};
+ghost use Rattle.std.specs.Prelude.{◌≡◌, ℕ, List, OnOk, OnErr};
 ghost use Rattle.fwd_outlets.specs.Admissions.{KeepsTicketOf};
 ghost use Rattle.fwd_outlets.specs.Laning.{AreSame};
 ghost use Rattle.fwd_outlets.specs.Standings.{sources_in};
-ghost use Rattle.fwd_outlets.specs.Collections.{Collects, CollectsInPart, TellsRight};
+ghost use Rattle.fwd_outlets.specs.Collections.{Collects, CollectsInPart};
+ghost use Rattle.fwd_outlets.specs.Promises.{HoldsRouted, TellsPromised};
 
 use crate::connections::Connections;
 use crate::flush_timer::FlushTimer;
@@ -47,7 +48,9 @@ pub(crate) struct Outlet<'a> {
 
 impl<'a> Outlet<'a> {
     /// An output that gave no tickets yet.
-    pub fn new(alloc: Global, output: &'a Output, timer: &'a mut FlushTimer) -> Outlet<'a> {
+    pub fn new(alloc: Global, output: &'a Output, timer: &'a mut FlushTimer) -> Outlet<'a>
+        ensures { (routes : List (List (List ℕ))) → HoldsRouted routes result.lanes }
+    {
         Outlet {
             alloc,
             output,
@@ -117,7 +120,9 @@ impl<'a> Outlet<'a> {
     /// Closes the chunks that are due at a moment (milliseconds) after all admissions, and rings a
     /// worker for each. Where no worker looks for a chunk, what is due is left open for more
     /// entries: the next worker to look closes it.
-    pub fn flush<R: Wait>(&mut self, rt: &R, now: u64) {
+    pub fn flush<R: Wait>(&mut self, rt: &R, now: u64)
+        ensures { self.new.lanes ≡ self.old.lanes }
+    {
         self.timer.look(now);
         let is_due = self.timer.due().is_some_and(|due| due <= now);
         if !is_due {
@@ -145,7 +150,10 @@ impl<'a> Outlet<'a> {
         ensures part { OnErr result (CollectsInPart
             self.old.lanes (sources_in connections.old)
             self.new.lanes (sources_in connections.new)) }
-        ensures right { TellsRight (sources_in connections.old) (sources_in connections.new) }
+        ensures routed { (routes : List (List (List ℕ))) → HoldsRouted routes self.old.lanes
+            → HoldsRouted routes self.new.lanes }
+        ensures promised { (routes : List (List (List ℕ))) → HoldsRouted routes self.old.lanes
+            → TellsPromised routes (sources_in connections.old) (sources_in connections.new) }
     {
         for _ in 0..BLOCKS {
             if !self.lanes.is_due() {

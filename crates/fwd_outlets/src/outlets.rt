@@ -1,10 +1,10 @@
 //! The outputs as the loop sees them, and which tags go to which.
 
-ghost use Rattle.std.specs.Prelude.{◌≡◌, IfErr, OnOk};
-ghost use Rattle.fwd_outlets.specs.Admissions.{Admits};
+ghost use Rattle.std.specs.Prelude.{◌≡◌, ◌≢◌, Some, IfErr, OnOk};
+ghost use Rattle.fwd_match.specs.Patterns.{route};
+ghost use Rattle.fwd_outlets.specs.Admissions.{Admits, Enters};
 ghost use Rattle.fwd_outlets.specs.Standings.{sources_in};
-ghost use Rattle.fwd_outlets.specs.Collections.{TellsRight};
-ghost use Rattle.fwd_outlets.specs.Outlets.{stores_of};
+ghost use Rattle.fwd_outlets.specs.Promises.{TellsPromised};
 
 use crate::connections::Connections;
 use crate::flush_timer::FlushTimer;
@@ -15,9 +15,11 @@ use crate::output::Output;
 use crate::watch::{Fact, Want, Watch};
 use fwd_links::Notices;
 use fwd_match::Routes;
+use fwd_modes::{Batch, Origin};
 use fwd_peers::{SourceEnd, SourcePeer, upkeep};
 use fwd_workers::{AdmitRefusal, News};
 use std::alloc::{AllocError, AllocFailed, Global};
+use std::marker::Model;
 use std::mem;
 use std::sync::Wait;
 
@@ -50,6 +52,18 @@ pub struct Outlets<'a> {
     is_moved: bool,
     /// Nothing is ever put into it: where memory is refused for receipts it is given back.
     reserve: Vec<u8>,
+}
+
+impl<'a> Model for Outlets<'a> {
+    ghost use Rattle.std.specs.Prelude.{All};
+    ghost use Rattle.fwd_outlets.specs.Outlets.{OutletsShown, stores_of};
+    ghost use Rattle.fwd_outlets.specs.Promises.{HoldsRouted};
+
+    ghost Value = { OutletsShown };
+
+    ghost view = { λ o. record { routes = o.routes.now; stores = stores_of o.all.items } };
+
+    ghost invariant = { λ o. All (HoldsRouted o.routes.now) (stores_of o.all.items) };
 }
 
 /// The outputs' tickets are abandoned.
@@ -129,11 +143,10 @@ impl<'a> Outlets<'a> {
     /// Admits the first request that waits, at the first output whose pattern matches its tag. Or
     /// it waits longer, and then nothing has changed.
     fn admit<R: Wait>(&mut self, rt: &R, source: &mut SourcePeer, now: u64) -> Result<(), Stop>
-        ensures admitted { OnOk result (Admits self.old.routes.now
-            (stores_of self.old.all.items) source.old
-            (stores_of self.new.all.items) source.new) }
+        ensures admitted { OnOk result (Admits self.old.routes self.old.stores source.old
+            self.new.stores source.new) }
         ensures waits { IfErr result (λ why. why ≡ Stop.Waits
-            → (self.new.all ≡ self.old.all) × (source.new ≡ source.old)) }
+            → (self.new ≡ self.old) × (source.new ≡ source.old)) }
     {
         let Some(output) = source.route(self.routes) else {
             return Err(Stop::Ends(SourceEnd::NoRoute));
@@ -141,29 +154,45 @@ impl<'a> Outlets<'a> {
         if !self.lets_in(rt, output, source) {
             return Err(Stop::Waits);
         }
-        let Some(outlet) = self.all.get_mut(output as usize) else {
-            return Err(Stop::Ends(SourceEnd::NoRoute));
-        };
         let lane = Lane::of(source);
         let Some(asked) = source.next() else {
             let refusal = AdmitRefusal::Memory;
             return Err(Stop::Ends(SourceEnd::Refused(output, refusal)));
         };
         let bytes = upkeep(asked.1.tag(), asked.1.chunk());
-        match outlet.admit(rt, output, lane, asked, now) {
-            Ok(()) => {
-                self.owes(output, bytes);
-                Ok(())
-            }
-            Err(refusal) => Err(Stop::Ends(SourceEnd::Refused(output, refusal))),
+        self.enter(rt, output, lane, asked, now)?;
+        self.owes(output, bytes);
+        Ok(())
+    }
+
+    /// Enters a request at a moment (milliseconds) at the output of this number, which the routes
+    /// name first for its tag: that output keeps its ticket in a lane.
+    fn enter<R: Wait>(
+        &mut self,
+        rt: &R,
+        output: u16,
+        lane: Lane,
+        asked: (Origin, Batch),
+        now: u64,
+    ) -> Result<(), Stop>
+        requires { route self.old.routes asked.1.tag ≡ Some output }
+        ensures entered { OnOk result
+            (Enters self.old.stores output asked self.new.stores) }
+        ensures ends { IfErr result (λ why. why ≢ Stop.Waits) }
+    {
+        let Some(outlet) = self.all.get_mut(output as usize) else {
+            return Err(Stop::Ends(SourceEnd::NoRoute));
+        };
+        if let Err(refusal) = outlet.admit(rt, output, lane, asked, now) {
+            return Err(Stop::Ends(SourceEnd::Refused(output, refusal)));
         }
+        Ok(())
     }
 
     /// Whether the first request that waits at a source may be handed in at the output of this
     /// number.
     fn lets_in<R: Wait>(&mut self, rt: &R, output: u16, source: &SourcePeer) -> bool
-        ensures same { self.new.all ≡ self.old.all }
-        ensures routes { self.new.routes ≡ self.old.routes }
+        ensures { self.new ≡ self.old }
     {
         let Some(own) = self.outputs.get(output as usize) else {
             return true;
@@ -173,19 +202,20 @@ impl<'a> Outlets<'a> {
         };
         let lets_in = gate.lets_in(rt, own, source);
         // Whoever is next in line may have room too.
-        self.is_moved = self.is_moved || (lets_in && gate.is_awaited());
+        let is_awaited = gate.is_awaited();
+        self.is_moved = self.is_moved || (lets_in && is_awaited);
         lets_in
     }
 
     /// The output of this number owes an answer to a request more, which takes so many bytes beside
     /// its entries.
     fn owes(&mut self, output: u16, bytes: usize)
-        ensures same { self.new.all ≡ self.old.all }
-        ensures routes { self.new.routes ≡ self.old.routes }
+        ensures { self.new ≡ self.old }
     {
-        if let Some(gate) = self.gates.get_mut(output as usize) {
-            gate.owes(bytes);
-        }
+        let Some(gate) = self.gates.get_mut(output as usize) else {
+            return;
+        };
+        gate.owes(bytes);
     }
 
     /// Whether something was settled or answered since the last call: requests that wait may be
@@ -227,9 +257,17 @@ impl<'a> Outlets<'a> {
 
     /// Closes the chunks that are due at a moment (milliseconds) after all admissions.
     pub fn flush<R: Wait>(&mut self, rt: &R, now: u64) {
-        for outlet in &mut self.all {
-            outlet.flush(rt, now);
+        for place in 0..self.all.len() {
+            self.flush_at(rt, place, now);
         }
+    }
+
+    /// Closes those of the output at a place.
+    fn flush_at<R: Wait>(&mut self, rt: &R, place: usize, now: u64) {
+        let Some(outlet) = self.all.get_mut(place) else {
+            return;
+        };
+        outlet.flush(rt, now);
     }
 
     /// Workers settled chunks: the tickets that waited for those are to be handed in.
@@ -240,19 +278,33 @@ impl<'a> Outlets<'a> {
         for notice in &notices.all {
             if let News::Settled { number, server: _ } = notice.news {
                 self.is_moved = true;
-                if let Some(outlet) = self.all.get_mut(notice.output as usize) {
-                    outlet.lanes.settle(number);
-                }
+                self.settle(notice.output as usize, number);
             }
         }
+    }
+
+    /// A chunk of the output at a place is settled.
+    fn settle(&mut self, place: usize, chunk: u64) {
+        let Some(outlet) = self.all.get_mut(place) else {
+            return;
+        };
+        outlet.lanes.settle(chunk);
     }
 
     /// All tickets are to be handed in.
     pub(crate) fn settle_all(&mut self) {
         self.is_moved = true;
-        for outlet in &mut self.all {
-            outlet.lanes.settle_all();
+        for place in 0..self.all.len() {
+            self.settle_at(place);
         }
+    }
+
+    /// All tickets of the output at a place are to be handed in.
+    fn settle_at(&mut self, place: usize) {
+        let Some(outlet) = self.all.get_mut(place) else {
+            return;
+        };
+        outlet.lanes.settle_all();
     }
 
     /// Hands in tickets that are due, each at its output, and tells the sources of their receipts:
@@ -266,35 +318,101 @@ impl<'a> Outlets<'a> {
         connections: &mut Connections,
         watch: &mut W,
     ) -> bool
-        ensures { TellsRight (sources_in connections.old) (sources_in connections.new) }
+        ensures promised { TellsPromised self.old.routes
+            (sources_in connections.old) (sources_in connections.new) }
+        ensures routes { self.new.routes ≡ self.old.routes }
     {
-        if self.reserve.capacity() == 0 {
-            let _ = self.reserve.reserve(RESERVE);
-        }
+        self.refill();
         let mut is_more = false;
-        for (number, outlet) in (0..u16::MAX).zip(&mut self.all) {
-            if outlet.collect(rt, connections).is_ok() {
-                is_more = is_more || outlet.lanes.is_due();
-                continue;
+        for number in 0..u16::MAX {
+            if self.all.len() <= number as usize {
+                break;
             }
-            self.reserve = Vec::new(self.alloc);
-            if outlet.collect(rt, connections).is_err() {
-                watch.see(Fact::Memory(Want::Output(number)));
-            }
+            is_more = self.collect_at(rt, number, connections, watch) || is_more;
+            self.note_answered(number);
         }
-        self.note_answered();
         is_more
     }
 
-    /// What was answered is owed no more.
-    fn note_answered(&mut self) {
-        for (gate, outlet) in self.gates.iter_mut().zip(&mut self.all) {
-            let bytes = outlet.take_answered();
-            if bytes > 0 {
-                gate.answered(bytes);
-                self.is_moved = true;
+    /// Memory is taken into reserve where none is there.
+    fn refill(&mut self)
+        ensures { self.new ≡ self.old }
+    {
+        if self.reserve.capacity() > 0 {
+            return;
+        }
+        let _ = self.reserve.reserve(RESERVE);
+    }
+
+    /// The same of the output of this number, if there is one.
+    #[tactic(auto, using(crate::proofs::Told::on))]
+    fn collect_at<R: Wait, W: Watch>(
+        &mut self,
+        rt: &R,
+        number: u16,
+        connections: &mut Connections,
+        watch: &mut W,
+    ) -> bool
+        ensures promised { TellsPromised self.old.routes
+            (sources_in connections.old) (sources_in connections.new) }
+        ensures routes { self.new.routes ≡ self.old.routes }
+    {
+        if let Ok(is_more) = self.try_collect(rt, number, connections) {
+            return is_more;
+        }
+        self.reserve = Vec::new(self.alloc);
+        match self.try_collect(rt, number, connections) {
+            Ok(is_more) => is_more,
+            Err(_) => {
+                watch.see(Fact::Memory(Want::Output(number)));
+                false
             }
         }
+    }
+
+    /// The same, with the memory that is to be had. The only error is out of memory.
+    #[tactic(auto, using(crate::proofs::Told::nothing))]
+    fn try_collect<R: Wait>(
+        &mut self,
+        rt: &R,
+        number: u16,
+        connections: &mut Connections,
+    ) -> Result<bool, AllocError>
+        ensures promised { TellsPromised self.old.routes
+            (sources_in connections.old) (sources_in connections.new) }
+        ensures routes { self.new.routes ≡ self.old.routes }
+    {
+        let Some(outlet) = self.all.get_mut(number as usize) else {
+            return Ok(false);
+        };
+        outlet.collect(rt, connections)?;
+        Ok(outlet.lanes.is_due())
+    }
+
+    /// What was answered at the output of this number is owed no more.
+    fn note_answered(&mut self, number: u16)
+        ensures { self.new ≡ self.old }
+    {
+        let bytes = self.take_answered(number);
+        if bytes == 0 {
+            return;
+        }
+        self.is_moved = true;
+        let Some(gate) = self.gates.get_mut(number as usize) else {
+            return;
+        };
+        gate.answered(bytes);
+    }
+
+    /// What requests took beside their entries that the output of this number answered since the
+    /// last call, in bytes.
+    fn take_answered(&mut self, number: u16) -> u64
+        ensures { self.new ≡ self.old }
+    {
+        let Some(outlet) = self.all.get_mut(number as usize) else {
+            return 0;
+        };
+        outlet.take_answered()
     }
 
     /// Hands in all tickets, and tells the sources of their receipts.
