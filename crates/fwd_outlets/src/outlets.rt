@@ -126,7 +126,9 @@ impl<'a> Outlets<'a> {
     /// Admits the requests that wait at a source at a moment (milliseconds), and says whether some
     /// have to wait longer. A request that is refused ends the source, and what waits behind it is
     /// not looked at.
-    pub fn admit_all<R: Wait>(&mut self, rt: &R, source: &mut SourcePeer, now: u64) -> bool {
+    pub fn admit_all<R: Wait>(&mut self, rt: &R, source: &mut SourcePeer, now: u64) -> bool
+        ensures { self.new.routes ≡ self.old.routes }
+    {
         for _ in 0..source.waiting() {
             match self.admit(rt, source, now) {
                 Ok(()) => {}
@@ -147,6 +149,7 @@ impl<'a> Outlets<'a> {
             self.new.stores source.new) }
         ensures waits { IfErr result (λ why. why ≡ Stop.Waits
             → (self.new ≡ self.old) × (source.new ≡ source.old)) }
+        ensures routes { self.new.routes ≡ self.old.routes }
     {
         let Some(output) = source.route(self.routes) else {
             return Err(Stop::Ends(SourceEnd::NoRoute));
@@ -179,6 +182,7 @@ impl<'a> Outlets<'a> {
         ensures entered { OnOk result
             (Enters self.old.stores output asked self.new.stores) }
         ensures ends { IfErr result (λ why. why ≢ Stop.Waits) }
+        ensures routes { self.new.routes ≡ self.old.routes }
     {
         let Some(outlet) = self.all.get_mut(output as usize) else {
             return Err(Stop::Ends(SourceEnd::NoRoute));
@@ -220,13 +224,17 @@ impl<'a> Outlets<'a> {
 
     /// Whether something was settled or answered since the last call: requests that wait may be
     /// admitted now.
-    pub fn has_moved(&mut self) -> bool {
+    pub fn has_moved(&mut self) -> bool
+        ensures { self.new ≡ self.old }
+    {
         mem::replace(&mut self.is_moved, false)
     }
 
     /// Who waits first for room at an output and is gone waits no more, at a moment (milliseconds);
     /// and a watch is told at which outputs sources wait.
-    pub fn tend<W: Watch>(&mut self, connections: &Connections, watch: &mut W, now: u64) {
+    pub fn tend<W: Watch>(&mut self, connections: &Connections, watch: &mut W, now: u64)
+        ensures { self.new.routes ≡ self.old.routes }
+    {
         for (output, gate) in (0..u16::MAX).zip(&mut self.gates) {
             self.is_moved = let_go(gate, connections) || self.is_moved;
             match gate.crowd(now) {
@@ -256,14 +264,18 @@ impl<'a> Outlets<'a> {
     }
 
     /// Closes the chunks that are due at a moment (milliseconds) after all admissions.
-    pub fn flush<R: Wait>(&mut self, rt: &R, now: u64) {
+    pub fn flush<R: Wait>(&mut self, rt: &R, now: u64)
+        ensures { self.new.routes ≡ self.old.routes }
+    {
         for place in 0..self.all.len() {
             self.flush_at(rt, place, now);
         }
     }
 
     /// Closes those of the output at a place.
-    fn flush_at<R: Wait>(&mut self, rt: &R, place: usize, now: u64) {
+    fn flush_at<R: Wait>(&mut self, rt: &R, place: usize, now: u64)
+        ensures { self.new.routes ≡ self.old.routes }
+    {
         let Some(outlet) = self.all.get_mut(place) else {
             return;
         };
@@ -271,7 +283,9 @@ impl<'a> Outlets<'a> {
     }
 
     /// Workers settled chunks: the tickets that waited for those are to be handed in.
-    pub fn hear(&mut self, notices: &Notices) {
+    pub fn hear(&mut self, notices: &Notices)
+        ensures { self.new.routes ≡ self.old.routes }
+    {
         if notices.missed {
             self.settle_all();
         }
@@ -284,7 +298,9 @@ impl<'a> Outlets<'a> {
     }
 
     /// A chunk of the output at a place is settled.
-    fn settle(&mut self, place: usize, chunk: u64) {
+    fn settle(&mut self, place: usize, chunk: u64)
+        ensures { self.new.routes ≡ self.old.routes }
+    {
         let Some(outlet) = self.all.get_mut(place) else {
             return;
         };
@@ -292,7 +308,9 @@ impl<'a> Outlets<'a> {
     }
 
     /// All tickets are to be handed in.
-    pub(crate) fn settle_all(&mut self) {
+    pub(crate) fn settle_all(&mut self)
+        ensures { self.new.routes ≡ self.old.routes }
+    {
         self.is_moved = true;
         for place in 0..self.all.len() {
             self.settle_at(place);
@@ -300,7 +318,9 @@ impl<'a> Outlets<'a> {
     }
 
     /// All tickets of the output at a place are to be handed in.
-    fn settle_at(&mut self, place: usize) {
+    fn settle_at(&mut self, place: usize)
+        ensures { self.new.routes ≡ self.old.routes }
+    {
         let Some(outlet) = self.all.get_mut(place) else {
             return;
         };
@@ -416,12 +436,17 @@ impl<'a> Outlets<'a> {
     }
 
     /// Hands in all tickets, and tells the sources of their receipts.
+    #[tactic(auto, using(crate::proofs::Told::nothing, crate::proofs::Told::on))]
     pub fn collect_all<R: Wait, W: Watch>(
         &mut self,
         rt: &R,
         connections: &mut Connections,
         watch: &mut W,
-    ) {
+    )
+        ensures promised { TellsPromised self.old.routes
+            (sources_in connections.old) (sources_in connections.new) }
+        ensures routes { self.new.routes ≡ self.old.routes }
+    {
         self.settle_all();
         for _ in 0..ROUNDS {
             if !self.is_due() {
