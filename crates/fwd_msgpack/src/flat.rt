@@ -49,6 +49,7 @@ impl ShortText {
 /// What the keys of the maps before began with, each at its place: a guess at those of the next
 /// map. A key's size is then known before its first byte is there. Whatever was guessed, the
 /// answers are the same.
+#[derive(Drop)]
 pub struct Shape {
     keys: [ShortText; MOST_PAIRS],
     patience: u8,
@@ -101,11 +102,12 @@ impl Shape {
     }
 }
 
-/// An array of two at the front of some bytes, whose second value is a map: its first value, and
-/// how many bytes the array takes.
+/// An array of two at the front of some bytes, whose second value is a map.
 #[derive(Clone, Copy)]
 pub struct FlatPair<'a> {
+    /// The first value: an item that opens nothing.
     pub first: Value<'a>,
+    /// How many bytes the array takes.
     pub len: usize,
 }
 
