@@ -8,13 +8,14 @@ use Rattle.std.proofs.lemmas.Option.{same_Some}
 use Rattle.fwd_msgpack.specs.declared.head.Head.{Head}
 use Rattle.fwd_msgpack.specs.declared.head.Head.TheVariants.{Arr}
 use Rattle.fwd_msgpack.specs.Heads.{reading_of, row_of, named_rows}
-use Rattle.fwd_msgpack.specs.Scans.{IsWhole, Whole, first_of, most_bytes, parts_of, elements_in, row_of_values}
+use Rattle.fwd_msgpack.specs.Scans.{Split, Open, Broken, IsWhole, IsRow, Whole, first_of, most_bytes, most_deep, split_of, rest_of, values_of, parts_of, elements_in, row_of_values}
+use Rattle.fwd_msgpack.specs.Flat.{BeginsWithPair}
 use Rattle.fwd_msgpack.proofs.Parts.{parts_row}
 use Rattle.fwd_msgpack.proofs.Pieces.{take_further}
 use Rattle.fwd_msgpack.proofs.Splittings.{row_values}
-use Rattle.fwd_modes.specs.Kinds.{is_map}
+use Rattle.fwd_modes.specs.Kinds.{is_map, is_map_head}
 use Rattle.fwd_modes.specs.Times.{is_time}
-use Rattle.fwd_modes.specs.Entries.{AreCut, before, cut_at, kept_entry, entry_in, entry_of, packed_entries}
+use Rattle.fwd_modes.specs.Entries.{AreCut, BeginsKept, before, cut_at, kept_entry, entry_in, entry_of, entries_of, values_to_the_end, packed_entries}
 use Rattle.fwd_modes.proofs.EntryLemmas.{AreCut-push, behind, behind-more, cut_push, packed_whole}
 
 -- what stands behind the head of an array of two
@@ -55,7 +56,35 @@ kept_spelled bytes first rest e f whole (Some entry) same some =
     let is : bytes ≡ 0x92 ∷ rest = e ∙ ap (λ (b : ℕ). b ∷ rest) f in
     sym same ∙ ap Some (as_spelled rest entry (subst IsWhole is whole) (ap entry_of (sym is) ∙ sym same) ∙ sym is)
 
+-- a pair of a time and a map is an entry, and is kept as it is spelled
+pub pair_kept : (limit deep : ℕ) (bytes first : List ℕ) (len : ℕ)
+    → BeginsWithPair limit deep bytes first len → is_time first ≡ true
+    → BeginsKept limit deep bytes len
+unfolding entry_of
+pair_kept limit deep bytes first len p time =
+    let fields : is_map p.second ≡ true = ap is_map_head p.map in
+    let both : is_time first && is_map p.second ≡ true = ap (λ (b : Bool). b && is_map p.second) time ∙ fields in
+    let spelled = p.spelled in
+    record {
+      whole = p.whole;
+      kept = ap (option_and_then entry_in) p.members ∙ ap (λ (b : Bool). cond b (Some (kept_entry first p.second)) None) both ∙ ap Some (sym spelled);
+      some = p.some;
+      within = p.within;
+    }
+
 -- ---- entries one after the other
+
+-- the values of a row are those that stand one after the other to the last byte
+row_by : (split : Split) → rest_of split ≡ Some []
+    → option_and_then entries_of (values_to_the_end split) ≡ entries_of (values_of split)
+row_by (Open values []) e = refl
+row_by (Open values (b ∷ rest)) e = absurd cc
+row_by (Broken values fault) e = absurd cc
+
+pub packed_row : (bytes : List ℕ) → IsRow bytes
+    → packed_entries most_deep bytes ≡ entries_of (row_of_values bytes)
+unfolding packed_entries row_of_values
+packed_row bytes row = row_by (split_of most_bytes most_deep bytes) row
 
 -- one entry more, which is kept as it is spelled
 module _ (deep : ℕ) (packed ends : List ℕ) (used len : ℕ) (inside : used ≤ length packed)

@@ -1,9 +1,9 @@
 -- Entries (Forward Protocol Specification v1, "Message Modes"):
 -- what is one, how it is kept, and where many of them stand.
-use Rattle.std.specs.Prelude.{◌≡◌, ℕ, ◌+◌, ◌-◌, ◌<◌, ◌&&◌, List, [], ◌∷◌, ◌++◌, length, take, drop, Option, Some, None, option_and_then, if◌then◌else◌}
+use Rattle.std.specs.Prelude.{◌≡◌, ℕ, ◌+◌, ◌-◌, ◌<◌, ◌≤◌, ◌&&◌, List, [], ◌∷◌, ◌++◌, length, take, drop, Option, Some, None, option_and_then, if◌then◌else◌}
 use Rattle.std.specs.List.{concat, AllByRecursion}
 use Rattle.std.specs.Option.{option_map}
-use Rattle.fwd_msgpack.specs.Scans.{Split, Open, Broken, split_of, most_bytes, elements_of}
+use Rattle.fwd_msgpack.specs.Scans.{Whole, Split, Open, Broken, first_of, split_of, most_bytes, elements_of}
 use Rattle.fwd_modes.specs.Kinds.{is_map}
 use Rattle.fwd_modes.specs.Times.{is_time}
 
@@ -44,6 +44,14 @@ abbrev pub values_to_the_end : Split → Option (List (List ℕ))
 values_to_the_end (Open values []) = Some values
 values_to_the_end (Open values (byte ∷ rest)) = None
 values_to_the_end (Broken values fault) = None
+
+-- The bytes begin, within the limits, with a value of so many bytes that is an entry, spelled as it
+-- is kept.
+pub record BeginsKept (limit deep : ℕ) (bytes : List ℕ) (len : ℕ) : Type 0 where
+  pub whole : first_of limit deep bytes ≡ Whole len
+  pub kept : entry_of (take len bytes) ≡ Some (take len bytes)
+  pub some : 0 < len
+  pub within : len ≤ length bytes
 
 -- the members of an array, if each is an entry
 unfoldable pub listed_entries : List ℕ → Option (List (List ℕ))

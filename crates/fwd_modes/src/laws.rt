@@ -1,11 +1,11 @@
 //! Laws of the definitions: each is the contract of a function that does nothing.
 
-ghost use Rattle.std.specs.Prelude.{◌≡◌, ◌<◌, ◌≤◌, ◌^◌, ℕ, List, Some, length};
+ghost use Rattle.std.specs.Prelude.{◌≡◌, ◌<◌, ◌≤◌, ◌^◌, ◌++◌, ℕ, List, Some, length};
 ghost use Rattle.std.specs.List.{AllByRecursion};
 ghost use Rattle.fwd_msgpack.specs.Scans.{IsWhole, most_deep};
 ghost use Rattle.fwd_msgpack.specs.Texts.{text};
 ghost use Rattle.fwd_msgpack.specs.Values.{IsValue};
-ghost use Rattle.fwd_modes.specs.Frames.{IsKept, chunk_frame, Frame, IsFrame};
+ghost use Rattle.fwd_modes.specs.Frames.{IsKept, chunk_frame, packed_frame, frame_head, frame_option, Frame, IsFrame};
 ghost use Rattle.fwd_modes.specs.Requests.{Request, Asks, request_of};
 
 use crate::limits::{CHUNK_LIMIT, TAG_LIMIT};
@@ -14,6 +14,13 @@ use crate::limits::{CHUNK_LIMIT, TAG_LIMIT};
 pub fn frame_is_value()
     ensures { (deep : ℕ) (frame : Frame) → IsFrame deep frame
         → IsValue 2 (chunk_frame frame.tag frame.entries frame.name) }
+{}
+
+/// What stands before a frame's entries, the entries, and what stands behind them are the frame.
+pub fn frame_is_joined()
+    ensures { (tag packed name : List ℕ) (count : ℕ)
+        → frame_head tag (length packed) ++ packed ++ frame_option count name
+        ≡ packed_frame tag packed count name }
 {}
 
 /// A frame is a request for the tag, the entries and the name that it was written from.

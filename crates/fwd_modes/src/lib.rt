@@ -27,8 +27,8 @@ pub use entries::Entries;
 pub use fault::InputFault;
 pub use frame::{chunk_name, write_chunk, write_chunk_head, write_chunk_tail};
 pub use laws::{
-    entries_are_kept, frame_is_value, frame_reads_back, frames_differ, only_its_frame,
-    request_limits,
+    entries_are_kept, frame_is_joined, frame_is_value, frame_reads_back, frames_differ,
+    only_its_frame, request_limits,
 };
 pub use limits::{CHUNK_LIMIT, TAG_LIMIT};
 pub use origin::Origin;

@@ -1,36 +1,53 @@
 //! The entries of a request that has many (Forward Protocol
 //! Specification v1, "Forward Mode" and "PackedForward Mode").
 
-ghost use Rattle.std.specs.Prelude.{◌≡◌, ◌<◌, ◌≤◌, ◌^◌, Some, length, IfOk, IfSome};
-ghost use Rattle.std.specs.List.{concat};
-ghost use Rattle.fwd_msgpack.specs.Values.{bytes_of, members_left};
-ghost use Rattle.fwd_modes.specs.Entries.{AreCut, cut_at, ends_of, entries_of, listed_entries, packed_entries};
+ghost use Rattle.std.specs.Prelude.{◌≡◌, ◌<◌, ◌≤◌, ◌^◌, [], ◌∷◌, ◌++◌, Some, length, IfOk, IfSome, OnOk};
+ghost use Rattle.fwd_msgpack.specs.Values.{bytes_of};
+ghost use Rattle.fwd_modes.specs.Entries.{AreCut, BeginsKept, cut_at, listed_entries, packed_entries};
 
 use crate::entry::{Entry, is_kept};
 use crate::kept::{KeptEntries, copied};
-use fwd_msgpack::{Cut, Limits, Members, Value, cut};
+use crate::time::is_time;
+use fwd_msgpack::{Cut, Limits, MAX_DEPTH, Shape, Value, cut, flat_pair};
 use smallvec::SmallVec;
 use std::alloc::{AllocError, Global};
 
-/// Where the members of an array end, behind its head, if each is an entry that is spelled as it is
-/// kept.
-fn ends_listed(alloc: Global, members: Members<'_>) -> Result<Option<SmallVec<u32, 2>>, AllocError>
-    requires { length (concat (members_left members)) < 2 ^ 32 }
-    ensures ends { IfOk result (λ found. IfSome found (λ ends.
-        ends.items ≡ ends_of (members_left members.entry))) }
-    ensures entries { IfOk result (λ found. IfSome found (λ ends.
-        entries_of (members_left members.entry) ≡ Some (members_left members.entry))) }
+/// The most entries for whose ends room is made before they are known.
+const MOST_AHEAD: usize = 256;
+
+/// How many bytes the value at the front takes, if it is an entry that is spelled as it is kept.
+fn cut_kept(bytes: &[u8], limits: Limits) -> Option<usize>
+    ensures { IfSome result (λ len. BeginsKept limits.bytes limits.depth bytes.now len) }
 {
-    let mut ends = SmallVec::new(alloc);
-    let mut used = 0;
-    for entry in members {
-        if !is_kept(entry) {
-            return Ok(None);
-        }
-        used += entry.bytes().len();
-        ends.push(used as u32)?;
+    let Cut::Whole(value, len) = cut(bytes, limits) else {
+        return None;
+    };
+    if is_kept(value) { Some(len) } else { None }
+}
+
+/// The same, with a guess at the entry's keys. It is not read twice where it is as most are.
+#[inline(always)]
+fn kept_len(bytes: &[u8], limits: Limits, shape: &mut Shape) -> Option<usize>
+    ensures { IfSome result (λ len. BeginsKept limits.bytes limits.depth bytes.now len) }
+{
+    match flat_pair(bytes, limits, shape) {
+        Some(pair) if is_time(pair.first) => Some(pair.len),
+        _ => cut_kept(bytes, limits),
     }
-    Ok(Some(ends))
+}
+
+/// Adds where an entry ends. With the first comes room for as many as there are if all are as long
+/// as this one, of so many bytes.
+#[inline(always)]
+fn add_end(ends: &mut SmallVec<u32, 2>, end: u32, all: usize) -> Result<(), AllocError>
+    requires { 0 < end }
+    ensures { OnOk result (ends.new.items ≡ ends.old.items ++ end ∷ []) }
+{
+    if ends.is_empty() {
+        ends.reserve((all / end as usize).min(MOST_AHEAD))?;
+    }
+    ends.push(end)?;
+    Ok(())
 }
 
 /// The same, entry by entry: where some are not spelled as they are kept.
@@ -64,10 +81,11 @@ pub(crate) fn read_list(
     let Some(members) = list.items() else {
         return Ok(None);
     };
-    let Some(ends) = ends_listed(alloc, members)? else {
+    let packed = members.bytes();
+    let Some(ends) = ends_of_kept(alloc, packed, MAX_DEPTH)? else {
         return list_each(alloc, list, more);
     };
-    let bytes = copied(alloc, members.bytes(), more)?;
+    let bytes = copied(alloc, packed, more)?;
     Ok(Some(KeptEntries::of(bytes, ends)))
 }
 
@@ -88,17 +106,15 @@ fn ends_of_kept(
         bytes: u32::MAX,
         depth,
     };
+    let mut shape = Shape::new();
     let mut ends = SmallVec::new(alloc);
     let mut used = 0;
     'entries: while used < packed.len() {
-        let Cut::Whole(value, len) = cut(&packed[used..], limits) else {
+        let Some(len) = kept_len(&packed[used..], limits, &mut shape) else {
             return Ok(None);
         };
-        if !is_kept(value) {
-            return Ok(None);
-        }
         used += len;
-        ends.push(used as u32)?;
+        add_end(&mut ends, used as u32, packed.len())?;
     }
     Ok(Some(ends))
 }

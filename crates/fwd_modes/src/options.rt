@@ -79,7 +79,9 @@ pub(crate) fn read_option<'a>(option: Option<Value<'a>>) -> Result<Said<'a>, Inp
     let Some(pairs) = option.pairs() else {
         return Err(InputFault::BadOption);
     };
-    let chunk = read_chunk(pairs.last_under(b"chunk"))?;
-    let compressed = is_compression(pairs.last_under(b"compressed"));
-    Ok(Said { chunk, compressed })
+    let (chunk, compression) = pairs.last_under_each(b"chunk", b"compressed");
+    Ok(Said {
+        chunk: read_chunk(chunk)?,
+        compressed: is_compression(compression),
+    })
 }

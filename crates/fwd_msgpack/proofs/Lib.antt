@@ -3,6 +3,7 @@ pub mod Counts
 mod Examples
 pub mod Faults
 pub mod Fillings
+pub mod Flats
 pub mod Fronts
 pub mod History
 pub mod Openings

@@ -1,8 +1,9 @@
--- To be believed: Heads, Scans, Cuts, Scanners, Walks, Streams, Values and Texts, of which public
--- clauses speak.
+-- To be believed: Heads, Scans, Cuts, Scanners, Walks, Streams, Values, Texts and Flat, of which
+-- public clauses speak.
 -- Extents, Plain, Stacks and Stages only describe how the code scans a value.
 pub mod Cuts
 pub mod Extents
+pub mod Flat
 pub mod Heads
 pub mod Plain
 pub mod Scanners

@@ -108,6 +108,25 @@ impl<'a> Pairs<'a> {
         }
         last
     }
+
+    /// The values under two keys, each as by `last_under`, in one walk.
+    pub fn last_under_each(self, one: &[u8], other: &[u8]) -> (Option<Value<'a>>, Option<Value<'a>>)
+        ensures one { option_map bytes_of result.0 ≡ last_under one.now (pairs_left self.entry) }
+        ensures other { option_map bytes_of result.1
+            ≡ last_under other.now (pairs_left self.entry) }
+    {
+        let mut under_one = None;
+        let mut under_other = None;
+        for (name, value) in self {
+            if name.is_text(one) {
+                under_one = Some(value);
+            }
+            if name.is_text(other) {
+                under_other = Some(value);
+            }
+        }
+        (under_one, under_other)
+    }
 }
 
 impl<'a> Iterator for Pairs<'a> {

@@ -1,6 +1,8 @@
 -- What the parts of a hearing show, in the words of the definitions.
 use Rattle.std.specs.Prelude.{◌≡◌, if◌then◌else◌, option_map, ℕ, ◌+◌, ◌-◌, ◌≤◌, false, List, [], length, drop, Option, Some, None}
 use Rattle.fwd_msgpack.specs.declared.limits.Limits.{Limits}
+use Rattle.fwd_msgpack.specs.declared.fault.ScanFault.{ScanFault}
+use Rattle.fwd_msgpack.specs.Scans.{Verdict, Whole, Short, Bad}
 use Rattle.fwd_msgpack.specs.Scanners.{Standing, IsBehind, fresh}
 use Rattle.fwd_modes.specs.Requests.{Request, Reading}
 use Rattle.fwd_handshake.specs.declared.verdict.PingVerdict.{PingVerdict}
@@ -24,6 +26,12 @@ shown h = record {
   awaits = h.awaits;
   fault = h.fault;
 }
+
+-- the fault of a verdict, if it is one
+abbrev pub fault_in : Verdict → Option ScanFault
+fault_in (Bad fault) = Some fault
+fault_in Short = None
+fault_in (Whole n) = None
 
 -- a source as before the bytes that it keeps
 abbrev pub emptied : LiveSource → LiveSource

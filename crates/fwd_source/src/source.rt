@@ -6,6 +6,7 @@ ghost use Rattle.std.specs.Prelude.{
   ◌≤◌,
   ◌<◌,
   ◌^◌,
+  ◌++◌,
   true,
   false,
   [],
@@ -20,6 +21,7 @@ ghost use Rattle.std.specs.Prelude.{
 ghost use Rattle.std.specs.Option.{option_map};
 ghost use Rattle.std.specs.Arc.{arc_value};
 ghost use Rattle.fwd_source.specs.History.{Setup, opening_text, told};
+ghost use Rattle.fwd_source.specs.Hearing.{fault_in};
 ghost use Rattle.fwd_source.specs.Live.{
   opened_source,
   live_piece_next,
@@ -32,7 +34,8 @@ ghost use Rattle.fwd_source.specs.Live.{
   source_shuts,
 };
 ghost use Rattle.fwd_msgpack.specs.Scanners.{IsBehind, standing_behind};
-ghost use Rattle.fwd_msgpack.specs.Scans.{verdict_of, whole_len};
+ghost use Rattle.fwd_msgpack.specs.Scans.{Bad, first_of, verdict_of, whole_len};
+ghost use Rattle.fwd_msgpack.specs.declared.fault.ScanFault.{ScanFault};
 
 use crate::fault::SourceFault;
 use crate::hearing::Unjudged;
@@ -41,7 +44,7 @@ use crate::taking::{Asker, Taken, take_all};
 use fwd_base::Bytes;
 use fwd_handshake::{Nonces, Security, write_helo};
 use fwd_modes::{Batch, Origin};
-use fwd_msgpack::{Limits, Scanner};
+use fwd_msgpack::{Fed, Limits, ScanFault, Scanner};
 use std::alloc::{AllocError, AllocFailed, Global};
 use std::collections::VecDeque;
 use std::marker::Model;
@@ -154,6 +157,22 @@ fn scan_again(scanner: &mut Scanner, bytes: &[u8])
 {
     scanner.restart();
     scanner.feed(bytes);
+}
+
+/// The fault of MessagePack in the value that bytes begin, or go on with behind those of an
+/// unfinished one. Where there is none the scanner is put behind those anew.
+fn fault_of(scanner: &mut Scanner, rest: &[u8], bytes: &[u8]) -> Option<ScanFault>
+    requires { IsBehind scanner.old.limits rest.now scanner.old }
+    ensures fault { let limits = scanner.old.limits in
+        result ≡ fault_in (first_of limits.bytes limits.depth (rest.now ++ bytes.now)) }
+    ensures behind { result ≡ None → IsBehind scanner.old.limits rest.now scanner.new }
+    ensures limits { scanner.new.limits ≡ scanner.old.limits }
+{
+    let Fed::Bad(fault) = scanner.feed(bytes) else {
+        scan_again(scanner, rest);
+        return None;
+    };
+    Some(fault)
 }
 
 impl Source {
@@ -393,8 +412,55 @@ impl Source {
         }
     }
 
-    /// More bytes come. After a fault and once shut, each further
-    /// piece is refused. On an error nothing has changed.
+    /// Bytes come. On an error nothing has changed.
+    #[tactic(auto, unfolding(crate::specs::Live::source_hears))]
+    fn hears(&mut self, alloc: Global, bytes: &[u8]) -> Result<SourceTold, AllocError>
+        requires open { self.old.live.closed ≡ false }
+        ensures answer { IfOk result (λ told.
+            told.piece ≡ live_piece_answer self.old.live bytes.now) }
+        ensures out { IfOk result (λ told. told.out ≡ live_piece_out self.old.live bytes.now) }
+        ensures live { OnOk result (self.new.live ≡ live_piece_next self.old.live bytes.now) }
+        ensures err { OnErr result (self.new.live ≡ self.old.live) }
+        ensures room { length self.old.live.unsent + self.old.room
+            ≤ length self.new.live.unsent + self.new.room }
+    {
+        if self.rest.is_empty() {
+            self.hears_alone(alloc, bytes)
+        } else {
+            self.hears_behind(alloc, bytes)
+        }
+    }
+
+    /// Bytes come for which there is no memory. A fault at their front, or in the unfinished value
+    /// that they go on with, needs none. On an error nothing has changed.
+    #[tactic(auto, unfolding(crate::specs::Live::source_hears))]
+    fn hears_a_fault(&mut self, alloc: Global, bytes: &[u8]) -> Result<SourceTold, AllocError>
+        requires open { self.old.live.closed ≡ false }
+        ensures answer { IfOk result (λ told.
+            told.piece ≡ live_piece_answer self.old.live bytes.now) }
+        ensures out { IfOk result (λ told. told.out ≡ live_piece_out self.old.live bytes.now) }
+        ensures live { OnOk result (self.new.live ≡ live_piece_next self.old.live bytes.now) }
+        ensures err { OnErr result (self.new.live ≡ self.old.live) }
+        ensures faulty { let limits = self.old.live.setup.limits in
+            (fault : ScanFault)
+            → first_of limits.bytes limits.depth (self.old.live.rest ++ bytes.now) ≡ Bad fault
+            → IsOk result }
+        ensures room { length self.old.live.unsent + self.old.room
+            ≤ length self.new.live.unsent + self.new.room }
+    {
+        let Some(fault) = fault_of(&mut self.scanner, &self.rest, bytes) else {
+            return Err(AllocError);
+        };
+        self.rest.clear();
+        self.awaits = false;
+        self.closed = true;
+        let fault = Some(SourceFault::Scan(fault));
+        Ok(told_of(self.waiting.len(), Bytes::new(alloc), fault))
+    }
+
+    /// More bytes come. After a fault and once shut, each further piece is refused. On an error
+    /// nothing has changed. A fault of MessagePack in the value that was unfinished, or in the
+    /// first one of the piece, is never answered as out of memory.
     #[tactic(auto, unfolding(crate::specs::Live::source_hears))]
     pub fn piece(&mut self, alloc: Global, bytes: &[u8]) -> Result<SourceTold, AllocError>
         ensures answer { IfOk result (λ told.
@@ -403,6 +469,10 @@ impl Source {
         ensures live { OnOk result (self.new.live ≡ live_piece_next self.old.live bytes.now) }
         ensures closed { self.old.live.closed ≡ true → IsOk result × (self.new ≡ self.old) }
         ensures err { OnErr result (self.new.live ≡ self.old.live) }
+        ensures faulty { let limits = self.old.live.setup.limits in
+            (fault : ScanFault)
+            → first_of limits.bytes limits.depth (self.old.live.rest ++ bytes.now) ≡ Bad fault
+            → IsOk result }
         // What may wait to be sent without more memory is as much as before.
         ensures room { length self.old.live.unsent + self.old.room
             ≤ length self.new.live.unsent + self.new.room }
@@ -413,10 +483,9 @@ impl Source {
                 out: Bytes::new(alloc),
             });
         }
-        if self.rest.is_empty() {
-            self.hears_alone(alloc, bytes)
-        } else {
-            self.hears_behind(alloc, bytes)
+        match self.hears(alloc, bytes) {
+            Ok(told) => Ok(told),
+            Err(_) => self.hears_a_fault(alloc, bytes),
         }
     }
 }

@@ -1,32 +1,36 @@
-use Rattle.std.proofs.Common.{◌≡◌, Some, sym, ap, subst, ◌∙◌}
+use Rattle.std.proofs.Common.{◌≡◌, List, ℕ, Some, sym, ap, subst, ◌∙◌}
 use Rattle.std.specs.Prelude.{IfSome, option_and_then}
-use Rattle.std.specs.List.{concat}
-use Rattle.fwd_msgpack.specs.Values.{members_left}
-use Rattle.fwd_modes.specs.Entries.{AreCut, AreFull, cut_at, ends_of, entries_of, listed_entries}
-use Rattle.fwd_modes.proofs.EntryLemmas.{cut_joined, cut_whole, full_entries}
+use Rattle.fwd_msgpack.specs.Scans.{most_deep}
+use Rattle.fwd_msgpack.proofs.Splittings.{row_values}
+use Rattle.fwd_modes.specs.Entries.{AreCut, AreFull, cut_at, entries_of, listed_entries, packed_entries}
+use Rattle.fwd_modes.proofs.EntryLemmas.{full_packed}
+use Rattle.fwd_modes.proofs.Spelled.{packed_row}
 use Rattle.fwd_modes.proofs.lists.read_list.Goals as goal
 
 pub of-requires-clause-cut : goal.of-requires-clause-cut
 of-requires-clause-cut c =
-    let all = members_left c.in-Some.members in
-    let ends : c.in-Some-2.ends.items ≡ ends_of all = subst (λ f. IfSome f (λ ends. ends.items ≡ ends_of all)) c.in-Some-2.is c.in_ok-ends.ensures.ends in
-    let bytes : c.in_ok-bytes.bytes.items ≡ concat all = c.in_ok-bytes.ensures ∙ c.bytes.ensures in
-    subst (λ xs. AreCut 0 xs c.in_ok-bytes.bytes.items) (sym ends) (subst (AreCut 0 (ends_of all)) (sym bytes) (cut_whole all))
+    let ends = c.in-Some-2.ends.items in
+    let packed = c.bytes-packed.result.now in
+    let bytes : c.in_ok-bytes.bytes.items ≡ packed = c.in_ok-bytes.ensures in
+    subst (AreCut 0 ends) (sym bytes) (subst (λ f. IfSome f (λ ends. AreCut 0 ends.items packed)) c.in-Some-2.is c.in_ok-ends.ensures.cut)
 
 pub of-requires-clause-full : goal.of-requires-clause-full
 of-requires-clause-full c =
-    let all = members_left c.in-Some.members in
-    let ends : c.in-Some-2.ends.items ≡ ends_of all = subst (λ f. IfSome f (λ ends. ends.items ≡ ends_of all)) c.in-Some-2.is c.in_ok-ends.ensures.ends in
-    let kept : entries_of all ≡ Some all = subst (λ f. IfSome f (λ ends. entries_of all ≡ Some all)) c.in-Some-2.is c.in_ok-ends.ensures.entries in
-    let bytes : c.in_ok-bytes.bytes.items ≡ concat all = c.in_ok-bytes.ensures ∙ c.bytes.ensures in
-    subst AreFull (sym (cut_joined 0 all) ∙ (λ i. cut_at 0 (sym ends i) (sym bytes i))) (full_entries all all kept)
+    let ends = c.in-Some-2.ends.items in
+    let packed = c.bytes-packed.result.now in
+    let bytes : c.in_ok-bytes.bytes.items ≡ packed = c.in_ok-bytes.ensures in
+    let said : packed_entries most_deep packed ≡ Some (cut_at 0 ends packed) = subst (λ f. IfSome f (λ ends. packed_entries most_deep packed ≡ Some (cut_at 0 ends.items packed))) c.in-Some-2.is c.in_ok-ends.ensures.entries in
+    subst (λ (xs : List ℕ). AreFull (cut_at 0 ends xs)) (sym bytes) (full_packed most_deep packed (cut_at 0 ends packed) said)
 
 pub returns : goal.returns
 unfolding listed_entries
 returns c =
-    let all = members_left c.in-Some.members in
-    let ends : c.in-Some-2.ends.items ≡ ends_of all = subst (λ f. IfSome f (λ ends. ends.items ≡ ends_of all)) c.in-Some-2.is c.in_ok-ends.ensures.ends in
-    let kept : entries_of all ≡ Some all = subst (λ f. IfSome f (λ ends. entries_of all ≡ Some all)) c.in-Some-2.is c.in_ok-ends.ensures.entries in
-    let bytes : c.in_ok-bytes.bytes.items ≡ concat all = c.in_ok-bytes.ensures ∙ c.bytes.ensures in
-    ap Some (c.of.ensures ∙ (λ i. cut_at 0 (ends i) (bytes i)) ∙ cut_joined 0 all)
-    ∙ sym kept ∙ ap (option_and_then entries_of) c.in-Some.ensures.value
+    let ends = c.in-Some-2.ends.items in
+    let packed = c.bytes-packed.result.now in
+    let members = c.in-Some.members in
+    let bytes : c.in_ok-bytes.bytes.items ≡ packed = c.in_ok-bytes.ensures in
+    let said : packed_entries most_deep packed ≡ Some (cut_at 0 ends packed) = subst (λ f. IfSome f (λ ends. packed_entries most_deep packed ≡ Some (cut_at 0 ends.items packed))) c.in-Some-2.is c.in_ok-ends.ensures.entries in
+    let all : packed ≡ members.rest.now = c.bytes-packed.ensures ∙ (row_values members.rest.now members.row).0 in
+    ap Some (c.of.ensures ∙ ap (cut_at 0 ends) bytes) ∙ sym said
+    ∙ ap (packed_entries most_deep) all ∙ packed_row members.rest.now members.row
+    ∙ ap (option_and_then entries_of) c.in-Some.ensures.value

@@ -1,4 +1,4 @@
-use Rattle.std.proofs.Common.{◌≡◌, Some, sym, ap, subst, ◌∙◌}
+use Rattle.std.proofs.Common.{◌≡◌, Some, sym, subst}
 use Rattle.std.specs.Prelude.{IfSome}
 use Rattle.fwd_modes.specs.Entries.{AreFull, cut_at, packed_entries}
 use Rattle.fwd_modes.proofs.EntryLemmas.{full_packed}
