@@ -1,6 +1,6 @@
 //! A stream to a server.
 
-ghost use Rattle.std.specs.Prelude.{◌≡◌, ◌≤◌, ℕ, length, map, IfOk, IfSome};
+ghost use Rattle.std.specs.Prelude.{◌≡◌, ◌≤◌, ℕ, length, IfOk, IfSome};
 ghost use Rattle.std.specs.Io.Slices.{io_slice_bytes, io_slices_bytes};
 ghost use Rattle.std.specs.List.{concat};
 ghost use Rattle.fwd_links.specs.Buffers.{piece_at};
@@ -51,11 +51,13 @@ fn buffer<'a>(pieces: &[&'a [u8]], place: usize) -> IoSlice<'a>
     }
 }
 
-/// The first of these pieces, as the buffers of one write.
-fn buffers<'a>(pieces: &[&'a [u8]]) -> [IoSlice<'a>; PIECE_LIMIT]
-    ensures { length (io_slices_bytes result)
-        ≤ length (concat (map (λ piece. piece.now) pieces.now)) }
+/// All these pieces, as the buffers of one write: their bytes, in their order.
+fn buffers<'a>(pieces: &Pieces<'a>) -> [IoSlice<'a>; PIECE_LIMIT]
+    ensures { io_slices_bytes result ≡ concat pieces.now }
 {
+    // For the contract alone: it tells that there are no more pieces than buffers.
+    let _ = pieces.is_full();
+    let pieces = pieces.as_slice();
     [
         buffer(pieces, 0),
         buffer(pieces, 1),
@@ -235,6 +237,6 @@ impl Wire {
             return Ok(0);
         }
         self.has_written = true;
-        taken(self.stream.write_vectored(&buffers(pieces.as_slice())))
+        taken(self.stream.write_vectored(&buffers(pieces)))
     }
 }
