@@ -1,5 +1,7 @@
 //! Where connections come in.
 
+ghost use Rattle.std.specs.Prelude.{◌≡◌, IfOk};
+
 use crate::listener::{Arrival, Listener};
 use fwd_handshake::{Nonces, Security};
 use fwd_msgpack::Limits;
@@ -63,8 +65,10 @@ impl<'a> NewComers<'a> {
 }
 
 impl SourceSetup {
-    /// The next source, before its first byte. The only error is out of memory.
-    fn source(&mut self, alloc: Global, id: u64) -> Result<Source, AllocError> {
+    /// The source of this id, before its first byte. The only error is out of memory.
+    fn source(&mut self, alloc: Global, id: u64) -> Result<Source, AllocError>
+        ensures { IfOk result (λ source. source.live.setup.conn ≡ id) }
+    {
         let security = Arc::try_clone(&self.security)?;
         let nonces = Nonces::draw(&mut self.nonces);
         Ok(Source::new(alloc, id, security, nonces, self.limits)?)
