@@ -141,8 +141,9 @@ impl Wire {
         given(answer)
     }
 
-    /// A read of room for so many bytes answered so. Where it did not fill the room, or had to wait,
-    /// all that is there was read. Where it gave bytes, memory is made sure of, for hearing them.
+    /// A read of room for so many bytes answered so. Where it did not fill the room, or had to
+    /// wait, all that is there was read. Where it gave bytes, memory is made sure of, for hearing
+    /// them.
     fn has_read<R: Wait>(&mut self, rt: &R, answer: &io::Result<usize>, room: usize)
         ensures { self.new.calls ≡ self.old.calls }
     {

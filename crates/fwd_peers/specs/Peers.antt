@@ -68,8 +68,8 @@ stage_visited s visit.Full = s
 stage_visited s visit.Ended = stage.Over
 
 -- Bytes come to a connection, and this is its live part then, how far it has come, and why the
--- relay ended it. They are taken in, and a fault has it linger, and is why. Or none of them is, when
--- out of memory, which is why it is over.
+-- relay ended it. They are taken in, and a fault has it linger, and is why. Or none of them is,
+-- when out of memory, which is why it is over.
 abbrev pub IsPiece : PeerShown → (bytes : List ℕ) → LiveSource → Stage → Option PeerEnd → Type 0
 IsPiece s bytes live come why =
     ((live ≡ live_piece_next s.live bytes)
