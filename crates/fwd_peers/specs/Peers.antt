@@ -128,9 +128,9 @@ promised_with s request = s.promised + ack_size request.chunk
 abbrev pub LacksRoom : PeerShown → (bytes : ℕ) → Type 0
 LacksRoom s bytes = (s.room < bytes) ⊎ (2 ^ 64 ≤ bytes)
 
--- The first request that waits is given, and there is room for its acknowledgement and for all that
--- were promised before. Or none is given, and it is as it was: none waits, or there is not that
--- room.
+-- The first request that waits is given, under the connection's own id, and there is room for its
+-- acknowledgement and for all that were promised before. Or none is given, and it is as it was:
+-- none waits, or there is not that room.
 abbrev pub Gives : PeerShown → Option (Origin × Request) → PeerShown → Type 0
 Gives s None t =
     (t ≡ s) × ((first_asked s ≡ None)
@@ -143,6 +143,7 @@ Gives s (Some asked) t =
       promised = promised_with s asked.1;
       room = t.room;
     })
+    × (asked.0.conn ≡ s.id)
 
 -- ---- what it is told
 

@@ -16,7 +16,6 @@ ghost use Rattle.std.specs.Prelude.{
   length,
   nat_lt,
   take,
-  IfSome,
   None,
   Some,
 };
@@ -351,8 +350,7 @@ impl SourcePeer {
     /// Takes the first request that waits, once there is room for its acknowledgement. Where there
     /// is none, when out of memory, nothing has changed.
     pub fn next(&mut self) -> Option<(Origin, Batch)>
-        ensures given { peers.Gives self.old result self.new }
-        ensures own { IfSome result (λ asked. asked.0.conn ≡ self.old.id) }
+        ensures { peers.Gives self.old result self.new }
     {
         let (_, batch) = self.source.peek()?;
         let promised = self.promised.checked_add(ack_size(batch))?;
