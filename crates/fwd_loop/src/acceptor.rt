@@ -1,6 +1,6 @@
 //! Where connections come in.
 
-ghost use Rattle.std.specs.Prelude.{◌≡◌, IfOk};
+ghost use Rattle.std.specs.Prelude.{◌≡◌, ◌<◌, None, IfOk, IfSome};
 
 use crate::listener::{Arrival, Listener};
 use fwd_handshake::{Nonces, Security};
@@ -122,6 +122,17 @@ impl Acceptor {
         false
     }
 
+    /// The id of the next source, if one is left. They rise, so that none is given twice.
+    fn give_id(&mut self) -> Option<u64>
+        ensures given { result ≡ self.old.next_id }
+        ensures rises { IfSome result (λ id. IfSome self.new.next_id (λ next. id < next)) }
+        ensures last { result ≡ None → self.new.next_id ≡ None }
+    {
+        let id = self.next_id?;
+        self.next_id = id.checked_add(1);
+        Some(id)
+    }
+
     /// A source begins with the next id, if one is left. The only error is that memory or the
     /// system refuses it.
     fn begin(
@@ -130,10 +141,9 @@ impl Acceptor {
         stream: TcpStream,
         peer: SocketAddr,
     ) -> Result<(), AllocError> {
-        let Some(id) = self.next_id else {
+        let Some(id) = self.give_id() else {
             return Ok(());
         };
-        self.next_id = id.checked_add(1);
         let source = self.setup.source(comers.alloc, id)?;
         comers.add(Connection::Source(SourcePeer::new(id, stream, peer, source)))
     }
