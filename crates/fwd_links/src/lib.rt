@@ -4,6 +4,7 @@
 //! took and gave goes on by just what it answers.
 #![tactic(auto)]
 
+mod answer;
 mod fault;
 mod link;
 mod mailbox;

@@ -1,5 +1,8 @@
 //! What the loop and the workers tell each other.
 
+ghost use Rattle.std.specs.Prelude.{◌≡◌, [], false};
+ghost use Rattle.fwd_links.specs.Noting as noting;
+
 use crate::signs::Signs;
 use fwd_workers::{News, Refused};
 use mio::Waker;
@@ -39,12 +42,33 @@ pub struct Notices {
 
 impl Notices {
     /// Nothing.
-    fn none(alloc: Global) -> Notices {
+    fn none(alloc: Global) -> Notices
+        ensures all { result.all.items ≡ [] }
+        ensures refused { result.refused.items ≡ [] }
+        ensures missed { result.missed ≡ false }
+    {
         Notices {
             all: Vec::new(alloc),
             refused: Vec::new(alloc),
             missed: false,
         }
+    }
+
+    /// A worker told something. Where memory is refused, that is missed.
+    fn note(&mut self, notice: Notice)
+        ensures { noting.Notes self.old notice self.new }
+    {
+        if self.all.push(notice).is_err() {
+            self.missed = true;
+        }
+    }
+
+    /// A worker told of a chunk that a server seems to refuse. Where memory is refused, it is as if
+    /// it had not.
+    fn note_refused(&mut self, refusal: Refusal)
+        ensures { noting.NotesRefusal self.old refusal self.new }
+    {
+        let _ = self.refused.push(refusal);
     }
 }
 
@@ -76,14 +100,14 @@ impl Mailbox {
     /// A worker tells something, and wakes the loop where that sleeps: only then it costs a call of
     /// the system.
     pub fn tell<R: Wait>(&self, rt: &R, notice: Notice) {
-        self.note(rt, notice);
+        self.notices.lock(rt).note(notice);
         self.call();
     }
 
     /// A worker tells that a server seems to refuse a chunk. Where memory is refused it is not
     /// told.
     pub fn tell_refused<R: Wait>(&self, rt: &R, refusal: Refusal) {
-        let _ = self.notices.lock(rt).refused.push(refusal);
+        self.notices.lock(rt).note_refused(refusal);
         self.call();
     }
 
@@ -110,15 +134,6 @@ impl Mailbox {
     /// The loop sleeps no more.
     pub fn awake(&self) {
         self.is_asleep.store(false, Ordering::SeqCst);
-    }
-
-    /// Notes what a worker tells.
-    fn note<R: Wait>(&self, rt: &R, notice: Notice) {
-        let mut guard = self.notices.lock(rt);
-        let notices = &mut *guard;
-        if notices.all.push(notice).is_err() {
-            notices.missed = true;
-        }
     }
 
     /// What workers told since the last call.

@@ -1,15 +1,18 @@
 //! A stream to a server.
 
-ghost use Rattle.std.specs.Prelude.{◌≡◌, ◌≤◌, ℕ, length, map, IfOk, IfSome};
+ghost use Rattle.std.specs.Prelude.{◌≡◌, ◌≤◌, ◌∷◌, ◌++◌, [], length, IfErr, IfOk};
 ghost use Rattle.std.specs.Io.Slices.{io_slice_bytes, io_slices_bytes};
 ghost use Rattle.std.specs.List.{concat};
 ghost use Rattle.fwd_links.specs.Buffers.{piece_at};
+ghost use Rattle.fwd_workers.specs.Links.{DidWrite, count_read, read_into};
 
+use crate::answer::{given, written};
 use crate::signs::Signs;
 use crate::waiting::SharedWait;
 use fwd_chunks::{PIECE_LIMIT, Pieces};
+use fwd_workers::{Calls, LinkFault, Read};
 use mio::net::TcpStream;
-use std::io::{ErrorKind, IoSlice, Read, Write};
+use std::io::{ErrorKind, IoSlice, Read as ReadBytes, Write};
 use std::net::{Net, Shutdown, SocketAddr};
 use std::sync::Wait;
 use std::{io, mem};
@@ -17,29 +20,6 @@ use std::{io, mem};
 /// How often a stream is read behind a write before its worker sleeps until the server answers:
 /// some ten microseconds, as one that is at hand takes to answer.
 const READS: u32 = 16;
-
-/// The stream failed.
-#[derive(Clone, Copy)]
-pub(crate) struct Broken;
-
-impl From<io::Error> for Broken {
-    fn from(_error: io::Error) -> Broken {
-        Broken
-    }
-}
-
-/// How many bytes a stream took: none where it would have to wait.
-fn taken(written: io::Result<usize>) -> Result<usize, Broken>
-    ensures { (most : ℕ) → IfOk written (λ n. n ≤ most) → IfOk result (λ n. n ≤ most) }
-{
-    match written {
-        Ok(count) => Ok(count),
-        Err(error) => match error.kind() {
-            ErrorKind::WouldBlock | ErrorKind::Interrupted => Ok(0),
-            _ => Err(Broken),
-        },
-    }
-}
 
 /// The piece at a place, as a buffer of a write: an empty one where there is none.
 fn buffer<'a>(pieces: &[&'a [u8]], place: usize) -> IoSlice<'a>
@@ -51,11 +31,13 @@ fn buffer<'a>(pieces: &[&'a [u8]], place: usize) -> IoSlice<'a>
     }
 }
 
-/// The first of these pieces, as the buffers of one write.
-fn buffers<'a>(pieces: &[&'a [u8]]) -> [IoSlice<'a>; PIECE_LIMIT]
-    ensures { length (io_slices_bytes result)
-        ≤ length (concat (map (λ piece. piece.now) pieces.now)) }
+/// All these pieces, as the buffers of one write: their bytes, in their order.
+fn buffers<'a>(pieces: &Pieces<'a>) -> [IoSlice<'a>; PIECE_LIMIT]
+    ensures { io_slices_bytes result ≡ concat pieces.now }
 {
+    // For the contract alone: it tells that there are no more pieces than buffers.
+    let _ = pieces.is_full();
+    let pieces = pieces.as_slice();
     [
         buffer(pieces, 0),
         buffer(pieces, 1),
@@ -64,7 +46,14 @@ fn buffers<'a>(pieces: &[&'a [u8]]) -> [IoSlice<'a>; PIECE_LIMIT]
     ]
 }
 
-/// A stream to a server, which may not be connected yet.
+/// Whether a read gave bytes, or is the last one.
+fn has_come(read: Read) -> bool {
+    !matches!(read, Read::Nothing)
+}
+
+/// A stream to a server, which may not be connected yet. What it told of its calls is kept for
+/// contracts alone, and takes no memory: they claim that it told so, and nothing of what the server
+/// sent or got.
 #[derive(Drop)]
 pub(crate) struct Wire {
     signs: Signs,
@@ -76,6 +65,7 @@ pub(crate) struct Wire {
     is_shut: bool,
     /// Bytes were written since it was last waited for.
     has_written: bool,
+    calls: Calls,
 }
 
 impl Wire {
@@ -88,7 +78,9 @@ impl Wire {
         signs: Signs,
         wait: SharedWait,
         addr: SocketAddr,
-    ) -> io::Result<Wire> {
+    ) -> io::Result<Wire>
+        ensures { IfOk result (λ wire. wire.calls.list ≡ []) }
+    {
         let mut stream = TcpStream::connect(net, addr)?;
         wait.lock(rt).await_connection(&mut stream, &signs)?;
         wait.lock(rt).start(&mut stream)?;
@@ -99,6 +91,7 @@ impl Wire {
             is_up: false,
             is_shut: false,
             has_written: false,
+            calls: Calls::none(),
         };
         wire.look()?;
         if !wire.is_up && !wire.signs.is_stopped() {
@@ -109,7 +102,9 @@ impl Wire {
     }
 
     /// Looks whether a connection that began is up. It is an error that it was refused.
-    fn look(&mut self) -> io::Result<()> {
+    fn look(&mut self) -> io::Result<()>
+        ensures { self.new.calls ≡ self.old.calls }
+    {
         if self.is_up {
             return Ok(());
         }
@@ -125,59 +120,64 @@ impl Wire {
 
     /// Shuts the stream for reading, so that its next reads do not wait: the socket itself tells
     /// them what came before, and then that no more comes, or that it cannot be read.
-    fn shut(&mut self) {
+    fn shut(&mut self)
+        ensures { self.new.calls ≡ self.old.calls }
+    {
         self.is_shut = true;
         let _ = self.stream.shutdown(Shutdown::Read);
     }
 
-    /// Reads what is there: how many bytes, 0 where no more comes, and nothing where nothing is
-    /// there yet.
-    fn read_once<R: Wait>(&mut self, rt: &R, room: &mut [u8]) -> Result<Option<usize>, Broken>
-        ensures { IfOk result (λ some. IfSome some (λ n. n ≤ length room.new)) }
+    /// Reads what is there.
+    fn read_once<R: Wait>(&mut self, rt: &R, room: &mut [u8]) -> Result<Read, LinkFault>
+        ensures within { count_read result ≤ length room.new }
+        ensures fault { IfErr result (λ fault. fault ≡ LinkFault.Read) }
+        ensures calls { self.new.calls ≡ self.old.calls }
     {
         if !self.is_up && !self.is_shut {
-            return Ok(None);
+            return Ok(Read::Nothing);
         }
-        match self.stream.read(room) {
-            Ok(count) => {
-                if 0 < count {
-                    self.has_read(rt, count < room.len());
-                }
-                Ok(Some(count))
-            }
-            Err(error) => match error.kind() {
-                ErrorKind::WouldBlock => {
-                    self.wait.lock(rt).is_empty_now();
-                    Ok(None)
-                }
-                ErrorKind::Interrupted => Ok(None),
-                _ => Err(Broken),
-            },
-        }
+        let answer = self.stream.read(room);
+        self.has_read(rt, &answer, room.len());
+        given(answer)
     }
 
-    /// Bytes were read: all that is there, or as many as the room takes. Memory is made sure of,
-    /// for hearing them.
-    fn has_read<R: Wait>(&mut self, rt: &R, is_all: bool) {
+    /// A read of room for so many bytes answered so. Where it did not fill the room, or had to
+    /// wait, all that is there was read. Where it gave bytes, memory is made sure of, for hearing
+    /// them.
+    fn has_read<R: Wait>(&mut self, rt: &R, answer: &io::Result<usize>, room: usize)
+        ensures { self.new.calls ≡ self.old.calls }
+    {
         let mut guard = self.wait.lock(rt);
         let wait = &mut *guard;
-        if is_all {
-            wait.is_empty_now();
+        match answer {
+            Ok(0) => {}
+            Ok(count) => {
+                if *count < room {
+                    wait.is_empty_now();
+                }
+                wait.assure(&self.signs);
+            }
+            Err(error) => {
+                if error.kind() == ErrorKind::WouldBlock {
+                    wait.is_empty_now();
+                }
+            }
         }
-        wait.assure(&self.signs);
     }
 
     /// Reads until something is there, a few times at the most.
-    fn read_soon<R: Wait>(&mut self, rt: &R, room: &mut [u8]) -> Result<Option<usize>, Broken>
-        ensures { IfOk result (λ some. IfSome some (λ n. n ≤ length room.new)) }
+    fn read_soon<R: Wait>(&mut self, rt: &R, room: &mut [u8]) -> Result<Read, LinkFault>
+        ensures within { count_read result ≤ length room.new }
+        ensures fault { IfErr result (λ fault. fault ≡ LinkFault.Read) }
+        ensures calls { self.new.calls ≡ self.old.calls }
     {
         for _ in 0..READS {
             let read = self.read_once(rt, room)?;
-            if read.is_some() {
+            if has_come(read) {
                 return Ok(read);
             }
         }
-        Ok(None)
+        Ok(Read::Nothing)
     }
 
     /// The same, and waits where nothing is there yet: a while for a server that owes something.
@@ -189,52 +189,82 @@ impl Wire {
     /// it shuts the stream. A worker that waits for a server does not ask its gate, and would read
     /// on until the server is late. Behind that read its next ones are told the stream's end, so
     /// that its session ends, and the gate, which it then asks, stops it.
-    pub fn read<R: Wait>(&mut self, rt: &R, room: &mut [u8]) -> Result<Option<usize>, Broken>
-        ensures { IfOk result (λ some. IfSome some (λ n. n ≤ length room.new)) }
+    fn read_in_time<R: Wait>(&mut self, rt: &R, room: &mut [u8]) -> Result<Read, LinkFault>
+        ensures within { count_read result ≤ length room.new }
+        ensures fault { IfErr result (λ fault. fault ≡ LinkFault.Read) }
+        ensures calls { self.new.calls ≡ self.old.calls }
     {
         if self.signs.is_stopped() && !self.is_shut {
             self.shut();
-            return Ok(None);
+            return Ok(Read::Nothing);
         }
         if self.is_shut || self.wait.lock(rt).is_to_be_read() {
             let read = self.read_once(rt, room)?;
-            if read.is_some() {
+            if has_come(read) {
                 return Ok(read);
             }
         }
         if self.wait.lock(rt).is_idle() {
-            return Ok(None);
+            return Ok(Read::Nothing);
         }
         if mem::replace(&mut self.has_written, false) {
             let read = self.read_soon(rt, room)?;
-            if read.is_some() {
+            if has_come(read) {
                 return Ok(read);
             }
         }
         self.wait.lock(rt).await_server(&self.signs);
-        self.look()?;
+        if self.look().is_err() {
+            return Err(LinkFault::Read);
+        }
         self.read_once(rt, room)
     }
 
-    /// Writes as far as the stream takes it: how many bytes, none before it is connected.
-    pub fn write(&mut self, bytes: &[u8]) -> Result<usize, Broken>
-        ensures { IfOk result (λ n. n ≤ length bytes.now) }
+    /// Reads once, into this room, and tells it. It may wait.
+    pub fn read<R: Wait>(&mut self, rt: &R, room: &mut [u8]) -> Result<Read, LinkFault>
+        ensures told { self.new.calls.list
+            ≡ self.old.calls.list ++ read_into room.new result ∷ [] }
+        ensures within { count_read result ≤ length room.new }
+        ensures fault { IfErr result (λ fault. fault ≡ LinkFault.Read) }
     {
-        if !self.is_up {
-            return Ok(0);
-        }
-        self.has_written = true;
-        taken(self.stream.write(bytes))
+        let answer = self.read_in_time(rt, room);
+        let room = &*room;
+        self.calls = self.calls.and_read(&room, &answer);
+        answer
+    }
+
+    /// Writes as far as the stream takes it, and tells it: how many bytes, none before it is
+    /// connected.
+    pub fn write(&mut self, bytes: &[u8]) -> Result<usize, LinkFault>
+        ensures told { self.new.calls.list
+            ≡ self.old.calls.list ++ DidWrite bytes.now result ∷ [] }
+        ensures within { IfOk result (λ n. n ≤ length bytes.now) }
+        ensures fault { IfErr result (λ fault. fault ≡ LinkFault.Write) }
+    {
+        let answer = if self.is_up {
+            self.has_written = true;
+            written(self.stream.write(bytes))
+        } else {
+            Ok(0)
+        };
+        self.calls = self.calls.and_write(&bytes, &answer);
+        answer
     }
 
     /// The same of pieces, as if they were one.
-    pub fn write_pieces(&mut self, pieces: &Pieces<'_>) -> Result<usize, Broken>
-        ensures { IfOk result (λ n. n ≤ length (concat pieces.now)) }
+    pub fn write_pieces(&mut self, pieces: &Pieces<'_>) -> Result<usize, LinkFault>
+        ensures told { self.new.calls.list
+            ≡ self.old.calls.list ++ DidWrite (concat pieces.now) result ∷ [] }
+        ensures within { IfOk result (λ n. n ≤ length (concat pieces.now)) }
+        ensures fault { IfErr result (λ fault. fault ≡ LinkFault.Write) }
     {
-        if !self.is_up {
-            return Ok(0);
-        }
-        self.has_written = true;
-        taken(self.stream.write_vectored(&buffers(pieces.as_slice())))
+        let answer = if self.is_up {
+            self.has_written = true;
+            written(self.stream.write_vectored(&buffers(pieces)))
+        } else {
+            Ok(0)
+        };
+        self.calls = self.calls.and_write_pieces(pieces, &answer);
+        answer
     }
 }

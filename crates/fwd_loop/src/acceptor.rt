@@ -1,5 +1,7 @@
 //! Where connections come in.
 
+ghost use Rattle.std.specs.Prelude.{◌≡◌, ◌<◌, None, IfOk, IfSome};
+
 use crate::listener::{Arrival, Listener};
 use fwd_handshake::{Nonces, Security};
 use fwd_msgpack::Limits;
@@ -63,8 +65,10 @@ impl<'a> NewComers<'a> {
 }
 
 impl SourceSetup {
-    /// The next source, before its first byte. The only error is out of memory.
-    fn source(&mut self, alloc: Global, id: u64) -> Result<Source, AllocError> {
+    /// The source of this id, before its first byte. The only error is out of memory.
+    fn source(&mut self, alloc: Global, id: u64) -> Result<Source, AllocError>
+        ensures { IfOk result (λ source. source.live.setup.conn ≡ id) }
+    {
         let security = Arc::try_clone(&self.security)?;
         let nonces = Nonces::draw(&mut self.nonces);
         Ok(Source::new(alloc, id, security, nonces, self.limits)?)
@@ -118,6 +122,17 @@ impl Acceptor {
         false
     }
 
+    /// The id of the next source, if one is left. They rise, so that none is given twice.
+    fn give_id(&mut self) -> Option<u64>
+        ensures given { result ≡ self.old.next_id }
+        ensures rises { IfSome result (λ id. IfSome self.new.next_id (λ next. id < next)) }
+        ensures last { result ≡ None → self.new.next_id ≡ None }
+    {
+        let id = self.next_id?;
+        self.next_id = id.checked_add(1);
+        Some(id)
+    }
+
     /// A source begins with the next id, if one is left. The only error is that memory or the
     /// system refuses it.
     fn begin(
@@ -126,10 +141,9 @@ impl Acceptor {
         stream: TcpStream,
         peer: SocketAddr,
     ) -> Result<(), AllocError> {
-        let Some(id) = self.next_id else {
+        let Some(id) = self.give_id() else {
             return Ok(());
         };
-        self.next_id = id.checked_add(1);
         let source = self.setup.source(comers.alloc, id)?;
         comers.add(Connection::Source(SourcePeer::new(id, stream, peer, source)))
     }

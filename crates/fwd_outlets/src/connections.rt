@@ -152,7 +152,7 @@ impl Connections {
         self.told.reserve(count)?;
         self.held.reserve(count)?;
         let id = match &connection {
-            Connection::Source(source) => Some(source.id),
+            Connection::Source(source) => Some(source.id()),
             Connection::Monitor(_) => None,
         };
         let standing = Standing {
@@ -361,7 +361,7 @@ impl Connections {
         };
         match standing.connection {
             Connection::Source(source) => {
-                self.sources.remove(&source.id);
+                self.sources.remove(&source.id());
             }
             Connection::Monitor(_) => self.monitors.retain(|monitor| *monitor != key),
         }

@@ -59,7 +59,7 @@ impl Gate {
     pub fn lets_in<R: Wait>(&mut self, rt: &R, output: &Output, source: &SourcePeer) -> bool {
         let free = self.limit.saturating_sub(self.owed);
         if free / 2 <= source.owed() as u64 {
-            self.give_way(source.id);
+            self.give_way(source.id());
             return false;
         }
         if !output.is_patient {
@@ -68,14 +68,14 @@ impl Gate {
         let bytes = source.asked_bytes() as u64;
         match self.line.front() {
             None => {}
-            Some(first) if *first == source.id => {}
+            Some(first) if *first == source.id() => {}
             Some(_) => {
-                self.stand_in_line(source.id);
+                self.stand_in_line(source.id());
                 return false;
             }
         }
         if !self.has_room(rt, output, bytes) {
-            self.stand_in_line(source.id);
+            self.stand_in_line(source.id());
             return false;
         }
         self.line.pop_front();

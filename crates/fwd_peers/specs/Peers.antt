@@ -6,6 +6,7 @@ use Rattle.fwd_modes.specs.Requests.{Request}
 use Rattle.fwd_modes.specs.declared.origin.Origin.{Origin}
 use Rattle.fwd_source.specs.declared.piece.Piece.{Piece}
 use Rattle.fwd_source.specs.declared.piece.Piece.TheVariants as piece
+use Rattle.fwd_source.specs.declared.fault.SourceFault.TheVariants as fault
 use Rattle.fwd_source.specs.Live.{
   LiveSource,
   first_waiting,
@@ -16,25 +17,35 @@ use Rattle.fwd_source.specs.Live.{
   source_gives_first,
 }
 use Rattle.fwd_book.specs.Receipts.{Receipt}
+use Rattle.fwd_workers.specs.declared.refusal.AdmitRefusal.TheVariants as refusal
+use Rattle.fwd_peers.specs.declared.source_end.PeerEnd.{PeerEnd}
+use Rattle.fwd_peers.specs.declared.source_end.PeerEnd.TheVariants as peer_end
+use Rattle.fwd_peers.specs.declared.source_end.SourceEnd.{SourceEnd}
+use Rattle.fwd_peers.specs.declared.source_end.SourceEnd.TheVariants as source_end
 use Rattle.fwd_peers.specs.declared.stage.Stage.{Stage}
 use Rattle.fwd_peers.specs.declared.stage.Stage.TheVariants as stage
 use Rattle.fwd_peers.specs.declared.stream.Visit.{Visit}
 use Rattle.fwd_peers.specs.declared.stream.Visit.TheVariants as visit
 use Rattle.fwd_peers.specs.Streams.{Call, IsReading, IsVisit, is_full}
 
--- what is seen of a source's connection: its id; how far it has come; whether it was left unread
--- when it was visited last, since too many bytes wait to be sent to it; its live part; how many
--- bytes of acknowledgements are promised, and for how many bytes there is room; and what its stream
--- answered to all reads, and to all writes
+-- what is seen of a source's connection: its id; how far it has come; why the relay ended it, until
+-- that was told; whether it was left unread when it was visited last, since too many bytes wait to
+-- be sent to it; its live part; how many bytes of acknowledgements are promised, and for how many
+-- bytes there is room; and what its stream answered to all reads, and to all writes
 pub record PeerShown : Type 0 where
   pub id : ℕ
   pub stage : Stage
+  pub why : Option PeerEnd
   pub held : Bool
   pub live : LiveSource
   pub promised : ℕ
   pub room : ℕ
   pub reads : List Call
   pub writes : List Call
+
+-- its id is its source's: the one under which its requests go
+abbrev pub HasOwnId : PeerShown → Type 0
+HasOwnId s = s.id ≡ s.live.setup.conn
 
 -- ---- what it hears
 
@@ -44,29 +55,37 @@ stage_told s (piece.Waiting count) = s
 stage_told s (piece.Fault fault) = stage.Lingering
 stage_told s piece.Closed = stage.Lingering
 
+-- why the relay ended it, once it was told of a piece: by that fault
+abbrev pub why_told : Option PeerEnd → Piece → Option PeerEnd
+why_told why (piece.Waiting count) = why
+why_told why (piece.Fault f) = Some (peer_end.Closed (source_end.Fault f))
+why_told why piece.Closed = Some (peer_end.Closed (source_end.Fault fault.Closed))
+
 -- how far it has come once a visit to its stream ended: it is over where the stream ended
 abbrev pub stage_visited : Stage → Visit → Stage
 stage_visited s visit.Waits = s
 stage_visited s visit.Full = s
 stage_visited s visit.Ended = stage.Over
 
--- Bytes come to a connection, and this is its live part then, and how far it has come. They are
--- taken in, and a fault has it linger. Or none of them is, when out of memory, and it is over.
-abbrev pub IsPiece : PeerShown → (bytes : List ℕ) → LiveSource → Stage → Type 0
-IsPiece s bytes live come =
+-- Bytes come to a connection, and this is its live part then, how far it has come, and why the
+-- relay ended it. They are taken in, and a fault has it linger, and is why. Or none of them is,
+-- when out of memory, which is why it is over.
+abbrev pub IsPiece : PeerShown → (bytes : List ℕ) → LiveSource → Stage → Option PeerEnd → Type 0
+IsPiece s bytes live come why =
     ((live ≡ live_piece_next s.live bytes)
-    × (come ≡ stage_told s.stage (live_piece_answer s.live bytes)))
-    ⊎ ((live ≡ s.live) × (come ≡ stage.Over))
+    × (come ≡ stage_told s.stage (live_piece_answer s.live bytes))
+    × (why ≡ why_told s.why (live_piece_answer s.live bytes)))
+    ⊎ ((live ≡ s.live) × (come ≡ stage.Over) × (why ≡ Some peer_end.Memory))
 
 -- the same where there may be no byte, which changes nothing
-abbrev pub TakesIn : PeerShown → (bytes : List ℕ) → LiveSource → Stage → Type 0
-TakesIn s [] live come = (live ≡ s.live) × (come ≡ s.stage)
-TakesIn s (byte ∷ bytes) live come = IsPiece s (byte ∷ bytes) live come
+abbrev pub TakesIn : PeerShown → (bytes : List ℕ) → LiveSource → Stage → Option PeerEnd → Type 0
+TakesIn s [] live come why = (live ≡ s.live) × (come ≡ s.stage) × (why ≡ s.why)
+TakesIn s (byte ∷ bytes) live come why = IsPiece s (byte ∷ bytes) live come why
 
 -- what a visit to its stream gave is taken in, and then it is over where the stream ended
 abbrev pub Hears : PeerShown → (bytes : List ℕ) → (end : Visit) → PeerShown → Type 0
 Hears s bytes end t =
-    (come : Stage) × (TakesIn s bytes t.live come × (t.stage ≡ stage_visited come end))
+    (come : Stage) × (TakesIn s bytes t.live come t.why × (t.stage ≡ stage_visited come end))
 
 -- its stream is read in one visit, for so many bytes at most, and to its end where it is to be;
 -- what that gives is heard, and it says whether there may be more
@@ -79,6 +98,7 @@ pub record Reads (to_end : Bool) (most : ℕ) (s : PeerShown) (more : Bool) (t :
   pub again : more ≡ is_full end
   pub rest : t ≡ record s {
     stage = t.stage;
+    why = t.why;
     held = false;
     live = t.live;
     room = t.room;
@@ -108,9 +128,9 @@ promised_with s request = s.promised + ack_size request.chunk
 abbrev pub LacksRoom : PeerShown → (bytes : ℕ) → Type 0
 LacksRoom s bytes = (s.room < bytes) ⊎ (2 ^ 64 ≤ bytes)
 
--- The first request that waits is given, and there is room for its acknowledgement and for all that
--- were promised before. Or none is given, and it is as it was: none waits, or there is not that
--- room.
+-- The first request that waits is given, under the connection's own id, and there is room for its
+-- acknowledgement and for all that were promised before. Or none is given, and it is as it was:
+-- none waits, or there is not that room.
 abbrev pub Gives : PeerShown → Option (Origin × Request) → PeerShown → Type 0
 Gives s None t =
     (t ≡ s) × ((first_asked s ≡ None)
@@ -123,6 +143,7 @@ Gives s (Some asked) t =
       promised = promised_with s asked.1;
       room = t.room;
     })
+    × (asked.0.conn ≡ s.id)
 
 -- ---- what it is told
 
@@ -142,12 +163,14 @@ IsPut s ack t =
       room = t.room;
     })
 
--- it does not, for there was no room for it, or what waits was dropped; and the connection is over
+-- it does not, for there was no room for it, or what waits was dropped; and the connection is over,
+-- for want of memory
 abbrev pub IsNotPut : PeerShown → (ack : List ℕ) → PeerShown → Type 0
 IsNotPut s ack t =
     ((s.room < length ack) ⊎ (s.live.shut ≡ true))
     × (t ≡ record s {
       stage = stage.Over;
+      why = Some peer_end.Memory;
       promised = s.promised - length ack;
       room = t.room;
     })
@@ -156,6 +179,13 @@ IsNotPut s ack t =
 abbrev pub IsTold : PeerShown → Option (List ℕ) → PeerShown → Type 0
 IsTold s None t = t ≡ s
 IsTold s (Some ack) t = IsPut s ack t ⊎ IsNotPut s ack t
+
+-- ---- why it is ended
+
+-- that its request was not admitted: for want of memory, or because the relay closes it
+abbrev pub end_by : SourceEnd → PeerEnd
+end_by (source_end.Refused output refusal.Memory) = peer_end.Memory
+end_by why = peer_end.Closed why
 
 -- ---- what it is sent
 

@@ -16,6 +16,7 @@ ghost use Rattle.std.specs.Prelude.{
   length,
   nat_lt,
   take,
+  None,
   Some,
 };
 ghost use Rattle.fwd_modes.specs.Acks.{ack_text};
@@ -41,7 +42,8 @@ use std::net::SocketAddr;
 /// A source's connection: its stream, and what it sent and is sent.
 #[derive(Drop)]
 pub struct SourcePeer {
-    pub id: u64,
+    /// The source's own.
+    id: u64,
     pub stream: PeerStream,
     /// Whose it is.
     peer: SocketAddr,
@@ -61,6 +63,7 @@ pub struct SourcePeer {
 }
 
 impl Model for SourcePeer {
+    ghost use Rattle.std.specs.Prelude.{◌≡◌};
     ghost use Rattle.fwd_peers.specs.Peers.{PeerShown};
 
     ghost Value = { PeerShown };
@@ -68,6 +71,7 @@ impl Model for SourcePeer {
     ghost view = { λ p. record {
       id = p.id;
       stage = p.stage;
+      why = p.why;
       held = p.is_held;
       live = p.source.live;
       promised = p.promised;
@@ -75,6 +79,8 @@ impl Model for SourcePeer {
       reads = p.stream.reads;
       writes = p.stream.writes;
     } };
+
+    ghost invariant = { λ p. p.id ≡ p.source.live.setup.conn };
 }
 
 /// How many bytes the acknowledgement of a request has, where its sender asked for one.
@@ -115,9 +121,11 @@ impl SourcePeer {
     /// A source's connection over its stream, at the address that it comes from. `id` is the
     /// source's.
     pub fn new(id: u64, stream: TcpStream, peer: SocketAddr, source: Source) -> SourcePeer
+        requires { source.live.setup.conn ≡ id }
         ensures { result ≡ record {
           id = id;
           stage = Stage.Open;
+          why = None;
           held = false;
           live = source.live;
           promised = 0;
@@ -138,6 +146,14 @@ impl SourcePeer {
             owed: 0,
             is_dense: true,
         }
+    }
+
+    /// Its id: the one of its source.
+    pub fn id(&self) -> u64
+        ensures value { result ≡ self.now.id }
+        ensures own { peers.HasOwnId self.now }
+    {
+        self.id
     }
 
     /// Reads what is there, as far as the room goes, and to its end where the other side is said to
@@ -181,9 +197,14 @@ impl SourcePeer {
 
     /// Takes in bytes, if there are any.
     fn take_in(&mut self, alloc: Global, bytes: &[u8])
-        ensures taken { peers.TakesIn self.old bytes.now self.new.live self.new.stage }
+        ensures taken { peers.TakesIn self.old
+            bytes.now
+            self.new.live
+            self.new.stage
+            self.new.why }
         ensures others { self.new ≡ record self.old {
           stage = self.new.stage;
+          why = self.new.why;
           live = self.new.live;
           room = self.new.room;
         } }
@@ -206,7 +227,10 @@ impl SourcePeer {
 
     /// It had a fault: it is read no more.
     fn linger(&mut self, fault: SourceFault)
-        ensures { self.new ≡ record self.old { stage = Stage.Lingering } }
+        ensures { self.new ≡ record self.old {
+          stage = Stage.Lingering;
+          why = Some (PeerEnd.Closed (SourceEnd.Fault fault));
+        } }
     {
         self.stage = Stage::Lingering;
         self.why = Some(PeerEnd::Closed(SourceEnd::Fault(fault)));
@@ -214,7 +238,10 @@ impl SourcePeer {
 
     /// It is over when out of memory.
     fn starve(&mut self)
-        ensures { self.new ≡ record self.old { stage = Stage.Over } }
+        ensures { self.new ≡ record self.old {
+          stage = Stage.Over;
+          why = Some PeerEnd.Memory;
+        } }
     {
         self.end();
         self.why = Some(PeerEnd::Memory);
@@ -222,7 +249,10 @@ impl SourcePeer {
 
     /// It is over, since a request of it is not admitted.
     pub fn refuse(&mut self, why: SourceEnd)
-        ensures { self.new ≡ record self.old { stage = Stage.Over } }
+        ensures { self.new ≡ record self.old {
+          stage = Stage.Over;
+          why = Some (peers.end_by why);
+        } }
     {
         match why {
             SourceEnd::Refused(_, AdmitRefusal::Memory) => self.starve(),
@@ -235,7 +265,8 @@ impl SourcePeer {
 
     /// Why it ended by the relay's doing, where it did and that was not told yet.
     pub fn why_ended(&mut self) -> Option<PeerEnd>
-        ensures { self.new ≡ self.old }
+        ensures told { result ≡ self.old.why }
+        ensures once { self.new ≡ record self.old { why = None } }
     {
         self.why.take()
     }
