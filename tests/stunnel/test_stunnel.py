@@ -70,9 +70,7 @@ def to_servers(tunnel):
     """Starts the stunnel that a relay's chunks go through, to a port of this machine, which it looks up by its name."""
 
     def start(port):
-        return tunnel(
-            "servers", "relay.example", {"connect = collector.example:24284": f"connect = localhost:{port}"}
-        )
+        return tunnel("servers", "relay.example", {"connect = collector.example:24284": f"connect = localhost:{port}"})
 
     return start
 
