@@ -1,4 +1,4 @@
-"""This machine's files under a layer of a test's own, over which root may install what it likes."""
+"""This machine's files under a layer of a test's own, where root may install what it likes."""
 
 import subprocess
 
@@ -41,8 +41,8 @@ class Machine:
         return said
 
     def written(self):
-        """The files that were made in it, or changed, and are there."""
-        return set(self.enter(["find", self.upper, "-type", "f", "-printf", "/%P\n"])[1].splitlines())
+        """The files and links that were made in it, or changed, and are there."""
+        return set(self.enter(["find", self.upper, "-type", "f,l", "-printf", "/%P\n"])[1].splitlines())
 
     def end(self):
         """Nothing of it is left."""

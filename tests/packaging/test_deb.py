@@ -14,6 +14,7 @@ from machine import Machine
 
 SETTINGS = "/etc/forward_relay/relay.toml"
 PROGRAM = "/usr/sbin/forward_relay"
+ENABLED = "/etc/systemd/system/multi-user.target.wants/forward_relay.service"
 
 
 def done(words, **how):
@@ -40,6 +41,8 @@ def make(needed, program, tmp_path):
 @pytest.fixture
 def machine(tmp_path):
     """A machine to install packages on: what is in the folder `given` is in its /mnt."""
+    if not shutil.which("systemd-sysusers"):
+        pytest.skip("missing: systemd, which the package stands on")
     for name in ("layers", "given"):
         (tmp_path / name).mkdir()
     one = Machine(str(tmp_path / "layers"), str(tmp_path / "given"))
@@ -88,12 +91,14 @@ def test_installed_to_purged(make, machine, tmp_path):
 
     said = machine.run("dpkg", "--install", "/mnt/first.deb")
     assert "systemctl enable --now forward_relay" in said
+    assert ENABLED not in machine.written()
     assert "settings are good, outputs: 1" in machine.run(PROGRAM, "check", SETTINGS)
     assert machine.run("stat", "-c", "%U %a", SETTINGS) == "root 600\n"
     assert machine.run("getent", "passwd", "_forward_relay").endswith(":/nonexistent:/usr/sbin/nologin\n")
     machine.run("ls", "/lib/systemd/system/forward_relay.service", "/usr/share/doc/forward-relay/examples/haproxy.cfg")
 
-    machine.run("sh", "-c", f"sed -i 's/^connections = 256/connections = 300/' {SETTINGS}")
+    machine.run("systemctl", "enable", "forward_relay")
+    machine.run("sed", "-i", "s/^connections = 256/connections = 300/", SETTINGS)
     # the settings of both changed: dpkg asks, and keeps those that are there
     said = machine.run("dpkg", "--install", "/mnt/later.deb", text="\n")
     assert "systemctl restart forward_relay" in said
@@ -101,9 +106,10 @@ def test_installed_to_purged(make, machine, tmp_path):
     assert "connections = 300" in machine.run("cat", SETTINGS)
     assert "the later version's" not in machine.run("cat", SETTINGS)
     assert "settings are good, outputs: 1" in machine.run(PROGRAM, "check", SETTINGS)
+    assert ENABLED in machine.written()
 
     machine.run("dpkg", "--remove", "forward-relay")
-    assert PROGRAM not in machine.written()
+    assert not {PROGRAM, ENABLED} & machine.written()
     assert "connections = 300" in machine.run("cat", SETTINGS)
 
     machine.run("dpkg", "--purge", "forward-relay")
