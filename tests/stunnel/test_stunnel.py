@@ -7,10 +7,10 @@ import ssl
 
 import pytest
 
-from stunnel.certificates import Authority
 from forward import Source
 from recipes import Tool, recipe
 from relay import free_ports, until
+from stunnel.certificates import Authority
 from traffic import Traffic
 
 pytestmark = pytest.mark.quick
@@ -113,8 +113,8 @@ def test_without_a_certificate(relay, next_hop, from_sources, over_tls):
     assert hop.count() == 1
 
 
-@pytest.mark.parametrize(("key", "name"), [("a key", "Closed"), (None, "(Closed|Read|Write|Connect)")])
-def test_another_name(relay, next_hop, from_sources, to_servers, key, name):
+@pytest.mark.parametrize(("key", "reason"), [("a key", "Closed"), (None, "(Closed|Read|Write|Connect)")])
+def test_another_name(relay, next_hop, from_sources, to_servers, key, reason):
     """A server whose certificate has another name is refused, and told as lost; the one that is meant gets the chunk.
 
     Without a key a chunk is under way before stunnel knows, and what it leaves unread has the connection break.
@@ -125,7 +125,7 @@ def test_another_name(relay, next_hop, from_sources, to_servers, key, name):
     one = relay([{"servers": [far.port], **({"shared_key": key} if key else {})}])
     source = one.source()
     source.send("app", [ENTRY], chunk="x")
-    one.await_line(f"server lost: output 0 127.0.0.1:{far.port} {name}$")
+    one.await_line(f"server lost: output 0 127.0.0.1:{far.port} {reason}$")
     until(lambda: "CN=other.example" in far.said(), far.said)
     assert hop.count() == 0 and one.page()[0].held == 1
     other.kill()
