@@ -30,7 +30,7 @@ class Machine:
     def enter(self, words, text=""):
         """Runs a command among its mounts: its status, and what it said."""
         words = ["nsenter", f"--target={self.process.pid}", "--mount", *words]
-        how = {"stdout": subprocess.PIPE, "stderr": subprocess.STDOUT, "text": True, "timeout": 120}
+        how = {"stdout": subprocess.PIPE, "stderr": subprocess.STDOUT, "text": True, "timeout": 300}
         done = subprocess.run(words, input=text, **how)
         return done.returncode, done.stdout
 

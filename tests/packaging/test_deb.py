@@ -19,7 +19,7 @@ ENABLED = "/etc/systemd/system/multi-user.target.wants/forward_relay.service"
 
 def done(words, **how):
     """What a command says that ends well."""
-    ran = subprocess.run(words, cwd=TOP, capture_output=True, text=True, timeout=120, **how)
+    ran = subprocess.run(words, cwd=TOP, capture_output=True, text=True, timeout=300, **how)
     assert ran.returncode == 0, f"{words}: {ran.stdout}{ran.stderr}"
     return ran.stdout
 
