@@ -16,6 +16,8 @@
 #     P/etc/forward_relay/relay.toml   the example settings, readable by root alone, and never over an existing file;
 #                                      where P is /usr or /usr/local it is /etc/forward_relay/relay.toml
 #
+# Where DESTDIR is set all of it goes below that folder, as for a package, and the paths in the texts stay those above.
+#
 # It neither starts nor stops a service, makes no user (the unit has systemd make one), and says what to do next.
 # --uninstall takes away these files, but settings that are not the example any more, and the folders that were made and
 # are empty then. Stop the service first: systemctl disable --now forward_relay.
@@ -50,7 +52,9 @@ esac
 program=${RELAY:-crates/forward_relay/out/forward_relay}
 bin=$prefix/bin sbin=$prefix/sbin lib=$prefix/lib/forward_relay man=$prefix/share/man/man8
 doc=$prefix/share/doc/forward_relay unit=$prefix/lib/systemd/system
-folders=$doc/folders
+root=${DESTDIR:-}
+folders=$root$doc/folders
+examples='examples/*.toml examples/*.conf examples/*.cfg'
 version=$(sed -n 's/^pub const VERSION: &str = "\(.*\)";$/\1/p' crates/fwd_program/src/version.rt)
 
 # makes a folder and those above it, and notes each that was not there
@@ -65,18 +69,19 @@ $made"
 
 # installs a file with a mode: FILE MODE TARGET, which is replaced in one step, also where it is a program that runs
 put() {
-    make "${3%/*}"
-    cp "$1" "$3.new"
-    chmod "$2" "$3.new"
-    mv -f "$3.new" "$3"
-    echo "installed $3"
+    target=$root$3
+    make "${target%/*}"
+    cp "$1" "$target.new"
+    chmod "$2" "$target.new"
+    mv -f "$target.new" "$target"
+    echo "installed $target"
 }
 
 # takes a file away, where it is there
 take() {
-    [ ! -e "$1" ] || {
-        rm "$1"
-        echo "removed $1"
+    [ ! -e "$root$1" ] || {
+        rm "$root$1"
+        echo "removed $root$1"
     }
 }
 
@@ -108,17 +113,18 @@ TEXT
     done
     put tools/page.py 644 "$lib/page.py"
     put_filled packaging/forward_relay.8 644 "$man/forward_relay.8"
-    for file in docs/OPERATING.md docs/FORMATS.md CHANGELOG.md examples/*.toml examples/*.conf; do
+    for file in docs/OPERATING.md docs/FORMATS.md CHANGELOG.md $examples; do
         put "$file" 644 "$doc/${file##*/}"
     done
     put_filled packaging/forward_relay.service 644 "$unit/forward_relay.service"
-    if [ -e "$etc/relay.toml" ]; then
-        echo "kept $etc/relay.toml"
+    if [ -e "$root$etc/relay.toml" ]; then
+        echo "kept $root$etc/relay.toml"
     else
         put examples/relay.toml 600 "$etc/relay.toml"
     fi
     printf %s "$made" | cat - "$folders" 2>/dev/null >"$folders.new" || :
     mv -f "$folders.new" "$folders"
+    [ -z "$root" ] || return 0
     # systemd looks for units in these two alone, and is told of any other by its path
     case $prefix in
     /usr | /usr/local) name=forward_relay ;;
@@ -140,14 +146,14 @@ uninstall_all() {
     done
     take "$lib/page.py"
     take "$man/forward_relay.8"
-    for file in docs/OPERATING.md docs/FORMATS.md CHANGELOG.md examples/*.toml examples/*.conf; do
+    for file in docs/OPERATING.md docs/FORMATS.md CHANGELOG.md $examples; do
         take "$doc/${file##*/}"
     done
     take "$unit/forward_relay.service"
-    if [ ! -e "$etc/relay.toml" ] || cmp -s examples/relay.toml "$etc/relay.toml"; then
+    if [ ! -e "$root$etc/relay.toml" ] || cmp -s examples/relay.toml "$root$etc/relay.toml"; then
         take "$etc/relay.toml"
     else
-        echo "kept $etc/relay.toml, which is not the example"
+        echo "kept $root$etc/relay.toml, which is not the example"
     fi
     [ -e "$folders" ] || return 0
     made=$(cat "$folders")

@@ -88,9 +88,10 @@ class Stream:
         return True
 
 
-def connect(port, timeout=30):
-    """A connection to a port of this machine."""
-    return Stream(socket.create_connection((HOST, port), timeout=timeout), timeout)
+def connect(port, timeout=30, wrap=None):
+    """A connection to a port of this machine, over what `wrap` makes of it, as TLS."""
+    link = socket.create_connection((HOST, port), timeout=timeout)
+    return Stream(wrap(link) if wrap else link, timeout)
 
 
 def ping(helo, key, user="", password="", salt=b"a salt of its own"):
@@ -125,8 +126,8 @@ def let_in(stream, key):
 class Source:
     """A source's connection to a relay, which it logs in to where there is a key."""
 
-    def __init__(self, port, key=None, user="", password="", timeout=30):
-        self.stream = connect(port, timeout)
+    def __init__(self, port, key=None, user="", password="", timeout=30, wrap=None):
+        self.stream = connect(port, timeout, wrap)
         self.sent = 0
         if key is not None:
             log_in(self.stream, key, user, password)

@@ -53,9 +53,9 @@ class Source(threading.Thread):
     rest = 50  # requests behind which it waits until it is told of all
     silence = 20  # seconds that a connection stands which owes something and tells nothing
 
-    def __init__(self, notes, number, port, login=None):
+    def __init__(self, notes, number, port, login=None, wrap=None):
         super().__init__(daemon=True)
-        self.notes, self.number, self.port, self.login = notes, number, port, login
+        self.notes, self.number, self.port, self.login, self.wrap = notes, number, port, login, wrap
         self.draw = random.Random(number)
         self.owed = {}  # by its chunk: a request's bytes, its entries, and when it was sent last
         self.made = 0
@@ -66,7 +66,7 @@ class Source(threading.Thread):
         """Connects again and again, until all is told."""
         while not self.is_done():
             try:
-                with connect(self.port, self.silence) as stream:
+                with connect(self.port, self.silence, self.wrap) as stream:
                     if self.login:
                         log_in(stream, *self.login)
                     self.talk(stream)
@@ -160,9 +160,9 @@ class Traffic:
         self.servers = [honest_server(self.notes, key) for _ in range(servers)]
         self.sources = []
 
-    def begin(self, port, login=None, count=4):
+    def begin(self, port, login=None, count=4, wrap=None):
         """Sources send to a port."""
-        self.sources += [Source(self.notes, number, port, login) for number in range(count)]
+        self.sources += [Source(self.notes, number, port, login, wrap) for number in range(count)]
 
     def is_well(self):
         """Nothing wrong was seen so far."""

@@ -1,0 +1,13 @@
+#!/bin/sh
+# Makes the service's user. It starts nothing: the settings are to be written first, and a relay that runs holds entries,
+# which sources that do not ask for acknowledgements would lose.
+set -e
+
+[ "$1" = configure ] || exit 0
+systemd-sysusers ${DPKG_ROOT:+--root="$DPKG_ROOT"} forward-relay.conf
+[ ! -d /run/systemd/system ] || systemctl --system daemon-reload || true
+if [ -z "$2" ]; then
+    echo "forward_relay: write /etc/forward_relay/relay.toml, and then: systemctl enable --now forward_relay"
+else
+    echo "forward_relay: a relay that runs is still the old one, until: systemctl restart forward_relay"
+fi
