@@ -5,7 +5,7 @@ pub mod Ends
 pub mod Admits
 pub mod Steps
 use Rattle.std.proofs.Common.{◌≡◌, ℕ, ◌+◌, ◌≤◌, Bool, true, false, eqb, List, [], ◌∷◌, ◌++◌, Option, Some, refl, sym, ap, subst, ◌∙◌, inl, inr, arith}
-use Rattle.std.specs.Prelude.{◌⊎◌, ◌<◌, is_some, map, ◌&&◌, ◌==◌, slice_get, slice_set}
+use Rattle.std.specs.Prelude.{◌⊎◌, ◌<◌, length, is_some, map, ◌&&◌, ◌==◌, slice_get, slice_set}
 use Rattle.std.specs.List.{list_all, list_any, AllByRecursion}
 use Rattle.std.proofs.lemmas.Bool.Decides.{nat_tests}
 use Rattle.std.proofs.lemmas.List.{append_assoc, append-nil}
@@ -120,6 +120,8 @@ module _ (config : Config) (es : List Event) (e : Event) where
     moment = l.moment;
     later = l.later ++ e ∷ [];
     split = later_split es l.before (event.Load o w l.moment) l.later e l.split;
+    session = l.session;
+    stands = l.stands;
     loads = l.loads;
     kept = none_ended (l.before ++ event.Load o w l.moment ∷ []) l.later o w (behind l.before (event.Load o w l.moment) l.later l.split) quiet l.kept;
     begun = l.begun;
@@ -135,9 +137,9 @@ module _ (config : Config) (es : List Event) (e : Event) where
     done = s.done;
     session = s.session;
     stands = s.stands;
+    loaded = s.loaded;
     taken = s.taken;
     kept = none_ended (s.before ++ event.Wrote o w s.count ∷ []) s.later o w (behind s.before (event.Wrote o w s.count) s.later s.split) quiet s.kept;
-    loaded = s.loaded;
   }
 
   pub acked_still : (o w : ℕ) (frame name : List ℕ) → WasAcknowledged config es o w frame name
@@ -172,9 +174,18 @@ pub frame_is : (config : Config) (o k : ℕ) (b : BufferHistory) → IsNamed con
     → frame_of (load_of b k) ≡ frame_at config o b.cells k
 frame_is config o k b named = λ i. chunk_frame (first_tag (cells_at k b.cells)) (contents k b.cells) (chunk_name (named.0 i) (named.1 i) k)
 
--- what was done with a chunk of a session that is not acknowledged, where so many bytes were sent
-pub record LoadedStory (config : Config) (es : List Event) (o w : ℕ) (sent : ℕ) (l : Loaded) : Type 0 where
+-- a chunk's frame stands behind this front of what was appended, and its last byte is where the
+-- chunk says
+pub record IsPut (appended front : List ℕ) (l : Loaded) : Type 0 where
+  pub back : List ℕ
+  pub framed : appended ≡ front ++ frame_of l.chunk ++ back
+  pub through : l.through ≡ length (front ++ frame_of l.chunk)
+
+-- what was done with a chunk of a session that is not acknowledged, where these bytes were appended,
+-- and so many were sent
+pub record LoadedStory (config : Config) (es : List Event) (o w : ℕ) (appended : List ℕ) (sent : ℕ) (l : Loaded) : Type 0 where
   pub was_loaded : WasLoaded config es o w (frame_of l.chunk)
+  pub put : IsPut appended was_loaded.session.appended l
   pub was_sent : l.through ≤ sent → WasSent config es o w (frame_of l.chunk)
 
 -- one that is was acknowledged
@@ -184,7 +195,7 @@ AckedStory config es o w a = WasAcknowledged config es o w (frame_of a.chunk) a.
 pub record SessionStory (config : Config) (es : List Event) (o w : ℕ) (s : SessionHistory) : Type 0 where
   pub begun : HasBegun config es o w
   pub framed : IsFramed s
-  pub loaded : AllByRecursion (LoadedStory config es o w s.sent) s.carried
+  pub loaded : AllByRecursion (LoadedStory config es o w s.appended s.sent) s.carried
   pub acked : AllByRecursion (AckedStory config es o w) s.accepted
 
 -- a worker had the number acknowledged
@@ -192,11 +203,18 @@ abbrev pub NumberStory : Config → List Event → ℕ → List Cell → ℕ →
 NumberStory config es o cells k = (w : ℕ) × WasAcknowledged config es o w (frame_at config o cells k) (chunk_name config.run o k)
 
 module _ (config : Config) (es : List Event) (e : Event) (o : ℕ) where
-  pub loads_still : (w sent : ℕ) (ls : List Loaded) → Stands config es e o w
-      → AllByRecursion (LoadedStory config es o w sent) ls
-      → AllByRecursion (LoadedStory config (es ++ e ∷ []) o w sent) ls
-  loads_still w sent ls quiet all = all_same (LoadedStory config es o w sent) (LoadedStory config (es ++ e ∷ []) o w sent) ls (λ l t. record {
+  -- also where more is appended
+  pub loads_still : (w : ℕ) (appended more : List ℕ) (sent : ℕ) (ls : List Loaded)
+      → Stands config es e o w → AllByRecursion (LoadedStory config es o w appended sent) ls
+      → AllByRecursion (LoadedStory config (es ++ e ∷ []) o w (appended ++ more) sent) ls
+  unfolding loaded_still
+  loads_still w appended more sent ls quiet all = all_same (LoadedStory config es o w appended sent) (LoadedStory config (es ++ e ∷ []) o w (appended ++ more) sent) ls (λ l t. record {
     was_loaded = loaded_still config es e o w (frame_of l.chunk) quiet t.was_loaded;
+    put = record {
+      back = t.put.back ++ more;
+      framed = ap (λ xs. xs ++ more) t.put.framed ∙ append_assoc (t.was_loaded.session.appended ++ frame_of l.chunk) t.put.back more;
+      through = t.put.through;
+    };
     was_sent = λ b. sent_still config es e o w (frame_of l.chunk) quiet (t.was_sent b);
   }) all
 
@@ -209,7 +227,7 @@ module _ (config : Config) (es : List Event) (e : Event) (o : ℕ) where
   session_still w s quiet t = record {
     begun = begun_still config es e o w quiet t.begun;
     framed = t.framed;
-    loaded = loads_still w s.sent s.carried quiet t.loaded;
+    loaded = subst (λ xs. AllByRecursion (LoadedStory config (es ++ e ∷ []) o w xs s.sent) s.carried) (append-nil s.appended) (loads_still w s.appended [] s.sent s.carried quiet t.loaded);
     acked = acks_still w s.accepted t.acked;
   }
 

@@ -36,7 +36,8 @@ use Rattle.fwd_source.specs.History.{SourceHistory, judged}
 use Rattle.fwd_model.specs.declared.answer.Answer.{Answer}
 use Rattle.fwd_model.specs.Outcome.{answer_of}
 use Rattle.fwd_model.specs.Step.{step, after}
-use Rattle.fwd_session.specs.History.{SessionHistory, newly_heard}
+use Rattle.fwd_chunks.specs.History.{Load}
+use Rattle.fwd_session.specs.History.{Loaded, SessionHistory, is_handed_on, newly_heard}
 use Rattle.fwd_book.specs.History.{Untold, Admission}
 use Rattle.fwd_model.specs.declared.event.EndKind.{EndKind}
 use Rattle.fwd_model.specs.History.{source_at, Lane, History, opening, histories}
@@ -88,25 +89,29 @@ pub record HasBegun (config : Config) (es : List Event) (o w : ℕ) : Type 0 whe
   pub done : answered config before (event.Up o w server salt moment) ≡ answer.Done
   pub kept : NoneEnded config (before ++ event.Up o w server salt moment ∷ []) later o w
 
--- among the events, after that, the session was loaded with the frame, and it did not end since
+-- among the events, after that, the session, as it stood then, was loaded with the frame, and it
+-- did not end since
 pub record WasLoaded (config : Config) (es : List Event) (o w : ℕ)
     (frame : List ℕ) : Type 0 where
   pub before : List Event
   pub moment : ℕ
   pub later : List Event
   pub split : es ≡ before ++ event.Load o w moment ∷ later
+  pub session : SessionHistory
+  pub stands : session_of (reached config before) o w ≡ Some session
   pub loads : answered config before (event.Load o w moment) ≡ answer.Frame frame
   pub kept : NoneEnded config (before ++ event.Load o w moment ∷ []) later o w
   pub begun : HasBegun config before o w
 
--- the frame stands whole among the bytes of the session, and the link took them through its last
-pub record IsTaken (s : SessionHistory) (frame : List ℕ) : Type 0 where
-  pub front : List ℕ
+-- among the bytes of the session the frame stands just behind this front, whole, and the link took
+-- them through its last
+pub record IsTaken (s : SessionHistory) (front frame : List ℕ) : Type 0 where
   pub back : List ℕ
   pub framed : s.appended ≡ front ++ frame ++ back
   pub through : length (front ++ frame) ≤ s.sent
 
--- among the events, after that, the link took the frame's last byte, and the session did not end
+-- among the events, after that, the link took the frame's last byte, at the place where the load
+-- put it: behind all bytes that the session had been handed before; and the session did not end
 -- since
 pub record WasSent (config : Config) (es : List Event) (o w : ℕ) (frame : List ℕ) : Type 0 where
   pub before : List Event
@@ -117,9 +122,18 @@ pub record WasSent (config : Config) (es : List Event) (o w : ℕ) (frame : List
   pub session : SessionHistory
   pub stands : session_of (reached config (before ++ event.Wrote o w count ∷ [])) o w
       ≡ Some session
-  pub taken : IsTaken session frame
-  pub kept : NoneEnded config (before ++ event.Wrote o w count ∷ []) later o w
   pub loaded : WasLoaded config before o w frame
+  pub taken : IsTaken session loaded.session.appended frame
+  pub kept : NoneEnded config (before ++ event.Wrote o w count ∷ []) later o w
+
+-- a chunk was loaded into a session, and its frame is handed on: the link took all bytes through its
+-- last
+pub record IsHandedOn (s : SessionHistory) (c : Load) : Type 0 where
+  pub place : ℕ
+  pub loaded : Loaded
+  pub carried : slice_get s.carried place ≡ Some loaded
+  pub chunk : loaded.chunk ≡ c
+  pub handed_on : is_handed_on s loaded ≡ true
 
 -- among the events, after that, a piece was heard from the session while it was up, and with it
 -- the last byte of a value that names the chunk

@@ -8,6 +8,7 @@ ghost use Rattle.std.specs.Prelude.{
   ◌+◌,
   ◌<◌,
   ◌≤◌,
+  ◌⊎◌,
   ℕ,
   List,
   [],
@@ -16,6 +17,7 @@ ghost use Rattle.std.specs.Prelude.{
   true,
   false,
   length,
+  replicate,
   slice_get,
 };
 ghost use Rattle.std.specs.List.{list_any};
@@ -53,10 +55,12 @@ ghost use Rattle.fwd_model.specs.Delivered.{
   IsTold,
   IsToldAmong,
   IsDelivered,
+  IsHandedOn,
   answered,
   HasBegun,
   NoneBegan,
   reached,
+  session_of,
 };
 ghost use Rattle.fwd_model.specs.Live.{
   LiveLane,
@@ -162,10 +166,17 @@ pub fn told_without_entries()
         × (has_number a.request.origin.request numbers ≡ true) }
 {}
 
-/// What is heard before the link took the last byte of any frame settles nothing, where no chunk
-/// was acknowledged before.
+/// What is heard before the link took the last byte of a chunk's frame does not acknowledge that
+/// chunk: each that is acknowledged then was so before, at the same place, or its frame was handed
+/// on (`each`). So where no frame is handed on, and none was acknowledged before, nothing is settled
+/// (`nothing`).
 pub fn early_reply_settles_nothing()
-    ensures { (h : History) (o w : ℕ) (bytes : List ℕ) (l : Lane) (s : SessionHistory) →
+    ensures each { (h : History) (o w i : ℕ) (bytes : List ℕ) (l : Lane) (s t : SessionHistory)
+        (a : Accepted) → slice_get h.lanes o ≡ Some l → slice_get l.sessions w ≡ Some (Some s) →
+        session_of (state_of h (step histories h (event.Heard o w bytes))) o w ≡ Some t →
+        slice_get t.accepted i ≡ Some a →
+        slice_get s.accepted i ≡ Some a ⊎ IsHandedOn s a.chunk }
+    ensures nothing { (h : History) (o w : ℕ) (bytes : List ℕ) (l : Lane) (s : SessionHistory) →
         slice_get h.lanes o ≡ Some l → slice_get l.sessions w ≡ Some (Some s)
         → s.accepted ≡ [] →
         list_any (is_handed_on s) s.carried ≡ false →
@@ -177,7 +188,8 @@ pub fn early_reply_settles_nothing()
 
 /// The acknowledgements that were accepted before a fault in the same piece stand, each that comes
 /// before it: the fault is answered, and the chunk that was accepted first of all that are not
-/// settled can be settled.
+/// settled can be settled (`stands`), and so can each that was accepted, once those before it are
+/// (`later`).
 pub fn acknowledgement_before_fault_stands()
     ensures each { (s : SessionHistory) (bytes : List ℕ) →
         length (newly_accepted s bytes) ≡ length (says s bytes).replies }
@@ -192,6 +204,16 @@ pub fn acknowledgement_before_fault_stands()
         (step histories (state_of h (step histories h (event.Heard o w bytes)))
         (event.Settle o w))
         ≡ answer.Settled (count_at a.chunk.number l.output)) }
+    ensures later { (h : History) (o w i : ℕ) (a : Accepted) (bytes : List ℕ) (l m : Lane)
+        (s : SessionHistory) (f : SessionFault) →
+        slice_get h.lanes o ≡ Some l → slice_get l.sessions w ≡ Some (Some s)
+        → s.down ≡ false →
+        slice_get (s.accepted ++ newly_accepted s bytes) i ≡ Some a →
+        (says s bytes).fault ≡ Some f →
+        let settling = event.Heard o w bytes ∷ replicate i (event.Settle o w) in
+        slice_get (after histories h settling).lanes o ≡ Some m →
+        answer_of (step histories (after histories h settling) (event.Settle o w))
+        ≡ answer.Settled (count_at a.chunk.number m.output) }
 {}
 
 /// A session begins once: behind its beginning, and before it has ended, no other session of its

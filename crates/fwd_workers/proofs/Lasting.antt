@@ -1,8 +1,8 @@
 -- What a session was told of and heard is its link's, turn after turn.
 use Rattle.std.proofs.Common.{arith, ◌≡◌, ◌≢◌, ◌<◌, ◌≤◌, ◌+◌, ◌-◌, ◌++◌, ◌⊎◌, inl, inr, ℕ, zero, suc, Bool, true, false, cond, List, [], ◌∷◌, take, drop, length, Option, Some, None, refl, sym, ap, subst, ◌∙◌}
-use Rattle.std.specs.Prelude.{map, not, ◌&&◌, slice_get}
+use Rattle.std.specs.Prelude.{map, max, not, ◌&&◌, slice_get}
 use Rattle.std.specs.List.{AllByRecursion}
-use Rattle.std.proofs.lemmas.List.{append-nil, length-append, take-append-le}
+use Rattle.std.proofs.lemmas.List.{append-nil, append_assoc, length-append, take-append-drop, take-append-le}
 use Rattle.fwd_modes.specs.Heads.{head_bytes, reading_of, row_of}
 use Rattle.fwd_modes.specs.Scans.{Split, fault_at, first_of, item_begun, parts_of, payload_ended, row_of_values, split_of, values_of}
 use Rattle.fwd_modes.specs.Scans.Split.{Open, Broken}
@@ -13,7 +13,7 @@ use Rattle.fwd_session.specs.declared.fault.SessionFault.{SessionFault}
 use Rattle.fwd_session.specs.declared.told.SessionHeard.{SessionHeard}
 use Rattle.fwd_session.specs.declared.told.SessionHeard.TheVariants as told
 use Rattle.fwd_session.specs.Evidence.{Accepted, frame_of}
-use Rattle.fwd_session.specs.Said.{behind, out_of, reply_stream, word_of}
+use Rattle.fwd_session.specs.Said.{behind, left_by, out_of, reply_stream, word_of}
 use Rattle.fwd_session.specs.History.{
   IsAcknowledged as IsAcked,
   IsAppended,
@@ -80,10 +80,11 @@ use Rattle.fwd_session.proofs.Framing.{
   unloads-framed,
 }
 use Rattle.fwd_session.proofs.Accepting.{acknowledged as acked_each, each_accepts, joins}
-use Rattle.fwd_session.proofs.Lists.{all_same, map_map}
+use Rattle.fwd_session.proofs.Lists.{all_append, all_left, all_same, map_map}
 use Rattle.fwd_workers.specs.declared.serve.Served.{Served}
 use Rattle.fwd_workers.specs.declared.serve.Served.TheVariants as served
-use Rattle.fwd_workers.specs.Served.{Seen, seen_of, Sends, Gives, Hears, Rests, Fails, HasHeard, IsServed, AreTheLinks, IsOver, IsAcknowledgedBy, IsAcknowledged, Deed, Serves, Loads, Looks, Unloads, Does, Lives, IsWrittenFirst, AreWrittenFirst}
+use Rattle.fwd_workers.proofs.Leading.{lives-then}
+use Rattle.fwd_workers.specs.Served.{Seen, seen_of, Sends, Gives, Hears, Rests, Fails, HasHeard, IsServed, AreTheLinks, IsOver, IsAcknowledgedBy, IsAcknowledged, Deed, Serves, Loads, Looks, Unloads, Does, Lives, Life, HasLife, WasLoadedBehind, IsWrittenFirst, AreWrittenFirst}
 use Rattle.std.proofs.lemmas.Option.{same_Some}
 
 -- the first of a list, and then of what is left
@@ -143,9 +144,24 @@ heard-of : (s : SessionHistory) (bytes : List ℕ) → s.down ≡ false
     → hears s bytes ≡ listens s bytes (says s bytes)
 heard-of s bytes up = ap (λ d. cond d s (listens s bytes (says s bytes))) up
 
--- a session is over its link's bytes, and framed where this one is
+-- a session has all bytes of another one, and more behind them, and some of its chunks
+record Keeps (s h : SessionHistory) : Type 0 where
+  more : List ℕ
+  appended : h.appended ≡ s.appended ++ more
+  replies : List (List ℕ)
+  carried : h.carried ≡ left_by (λ l. l.chunk.name) replies s.carried
+
+keeps-same : (s h : SessionHistory) → h.appended ≡ s.appended → h.carried ≡ s.carried → Keeps s h
+keeps-same s h appended carried = record {
+  more = [];
+  appended = appended ∙ sym (append-nil s.appended);
+  replies = [];
+  carried = carried;
+}
+
+-- a session is over its link's bytes, and framed where this one is, whose bytes it keeps
 abbrev IsOverFrom : SessionHistory → LiveSession → Seen → Type 0
-IsOverFrom s t seen = (over : IsOver t seen) × (IsFramed s → IsFramed over.history)
+IsOverFrom s t seen = (over : IsOver t seen) × (IsFramed s → IsFramed over.history) × Keeps s over.history
 
 -- what was given was heard
 hears-over : (s : SessionHistory) (middle t : LiveSession) (between after : Seen) (what : SessionHeard)
@@ -163,6 +179,12 @@ hears-over s middle t between after what sane up live bytes heard = (
     });
   },
   λ own. hears-framed s heard.0 sane own,
+  subst (Keeps s) (sym (heard-of s heard.0 up)) (record {
+    more = out_of (says s heard.0);
+    appended = refl;
+    replies = (says s heard.0).replies;
+    carried = refl;
+  }),
 )
 
 -- nothing was heard
@@ -177,6 +199,7 @@ rests-over s middle t between after sane live bytes rests = (
     bytes = subst (λ x. AreTheLinks s x) (sym rests.1) bytes;
   },
   λ own. own,
+  keeps-same s s refl refl,
 )
 
 -- the link failed
@@ -191,6 +214,7 @@ fails-over s middle t between after sane live bytes fails = (
     bytes = subst (λ x. AreTheLinks s x) (sym fails.1) (record { taken = bytes.taken; given = bytes.given });
   },
   λ own. own,
+  keeps-same s s refl refl,
 )
 
 -- whatever the turn came to, but out of memory
@@ -213,7 +237,11 @@ lasts-from s what t before after sane up bytes is some =
     let one = is.2 in
     let over = turn-over what (sends s one.count) is.0 t is.1 after (mid-sane s is.0 before is.1 sane up one) up
     (told-live-mid s is.0 before is.1 one) (mid-bytes s is.0 before is.1 up bytes one) some is.3 in
-    (over.0, λ own. over.1 (sends-framed s one.count own))
+    let kept = over.2 in (
+      over.0,
+      λ own. over.1 (sends-framed s one.count own),
+      record { more = kept.more; appended = kept.appended; replies = kept.replies; carried = kept.carried },
+    )
 
 pub lasts : (s : SessionHistory) (what : Served) (t : LiveSession) (before after : Seen) → IsSane s
     → s.down ≡ false → AreTheLinks s before → IsServed what (live_session s) t before after
@@ -253,15 +281,16 @@ take-past (suc n) (x ∷ xs) ys le =
     fewer : (n m : ℕ) → n - m ≡ suc n - suc m
     fewer n m = omega arith
 
--- a frame that was appended stands whole among the bytes that were sent, once it is handed on
-frame-taken : (appended : List ℕ) (l : Loaded) (sent : ℕ) → IsAppended appended l
+-- a frame that was appended stands whole among the bytes that were sent, once it is handed on, and
+-- behind the same front
+frame-taken : (appended front back : List ℕ) (l : Loaded) (sent : ℕ)
+    → appended ≡ front ++ frame_of l.chunk ++ back → l.through ≡ length (front ++ frame_of l.chunk)
     → l.through ≤ sent
-    → (front : List ℕ) × (back : List ℕ) × (take sent appended ≡ front ++ frame_of l.chunk ++ back)
-frame-taken appended l sent is within =
-    let whole : List ℕ = is.front ++ frame_of l.chunk in (
-      is.front,
-      take (sent - length whole) is.back,
-      ap (take sent) is.framed ∙ take-past sent whole is.back (omega (arith, within, is.through)),
+    → (rest : List ℕ) × (take sent appended ≡ front ++ frame_of l.chunk ++ rest)
+frame-taken appended front back l sent framed through within =
+    let whole : List ℕ = front ++ frame_of l.chunk in (
+      take (sent - length whole) back,
+      ap (take sent) framed ∙ take-past sent whole back (omega (arith, within, through)),
     )
 
 -- so of each acknowledgement that bytes bring the whole frame was written
@@ -271,11 +300,17 @@ each-by s written read is =
     all_same (IsAcked s read) (IsAcknowledgedBy s written read) (newly_accepted s read)
     (λ a one. record {
       place = one.place;
-      chunk = map-at (λ (l : Loaded). l.chunk) s.carried one.place one.loaded one.carried ∙ ap Some one.chunk;
+      loaded = one.loaded;
+      carried = one.carried;
+      chunk = one.chunk;
       frame = λ own.
           let there = all-at (IsAppended s.appended) s.carried one.place one.loaded own.framed one.carried in
-          let taken = frame-taken s.appended one.loaded s.sent there one.handed_on in
-          (taken.0, taken.1, is ∙ taken.2 ∙ ap (λ c. taken.0 ++ frame_of c ++ taken.1) one.chunk);
+          let taken = frame-taken s.appended there.front there.back one.loaded s.sent there.framed there.through one.handed_on in (
+            there.front,
+            taken.0,
+            is ∙ taken.1 ∙ ap (λ c. there.front ++ frame_of c ++ taken.0) one.chunk,
+            there.through ∙ ap (λ c. length (there.front ++ frame_of c)) one.chunk,
+          );
       turn = one.turn;
       ended = one.ended;
       named = one.named;
@@ -470,55 +505,217 @@ serves-alive what s t before after alive up some is =
     (subst (λ x. IsServed what x t before after) over.live is) some in
     record { over = next.0; framed = next.1 alive.framed }
 
-does-alive : (deed : Deed) (s t : LiveSession) (before after : Seen) → IsAlive s before
-    → Does deed s t before after → IsAlive t after
-does-alive (Serves what) s t before after alive does = serves-alive what s t before after alive does.0 does.1 does.2
-does-alive (Loads chunk now) s t before after alive does = subst (IsAlive t) (sym does.3) (loads-alive s t before chunk now alive does.1 does.2)
-does-alive (Looks now) s t before after alive does = subst (IsAlive t) (sym does.2) (looks-alive s t before now alive does.0 does.1)
-does-alive Unloads s t before after alive does = subst (IsAlive t) (sym does.2) (unloads-alive s t before alive does.1)
+serves-keeps : (what : Served) (s t : LiveSession) (before after : Seen) (alive : IsAlive s before)
+    (up : s.down ≡ false) (some : what ≢ served.Memory) (is : IsServed what s t before after)
+    → Keeps alive.over.history (serves-alive what s t before after alive up some is).over.history
+unfolding serves-alive
+serves-keeps what s t before after alive up some is =
+    let over = alive.over in
+    (lasts-from over.history what t before after over.sane (up-alive s before alive up) over.bytes
+    (subst (λ x. IsServed what x t before after) over.live is) some).2
 
-lives-alive : (deeds : List Deed) (s t : LiveSession) (before after : Seen) → IsAlive s before
-    → Lives deeds s t before after → IsAlive t after
-lives-alive [] s t before after alive rests =
-    subst (λ x. IsAlive x after) (sym rests.0) (subst (IsAlive s) (sym rests.1) alive)
-lives-alive (deed ∷ deeds) s t before after alive lives =
-    lives-alive deeds lives.0 t lives.1 after (does-alive deed s lives.0 before lives.1 alive lives.2) lives.3
+-- ---- where the loads put the frames
 
--- of each acknowledgement that a turn brings, the whole frame was written before it was read
-written-first : (h : SessionHistory) (middle : LiveSession) (before between after : Seen)
-    (read : List ℕ)
-    → IsFramed h → h.down ≡ false → AreTheLinks h before
-    → (sent : Sends (live_session h) middle before between) → Gives between read after
-    → AllByRecursion (IsWrittenFirst (live_session h) between after)
-    (newly_accepted (sends h sent.count) read)
-written-first h middle before between after read framed up bytes sent gives =
-    all_same (IsAcknowledgedBy (sends h sent.count) between.taken read)
-    (IsWrittenFirst (live_session h) between after) (newly_accepted (sends h sent.count) read)
-    (λ a one.
-    let frame = one.frame (sends-framed h sent.count framed) in
-    let place = value-at (sends h sent.count) read a.reply one.turn one.ended in
+-- a life with one deed more
+abbrev and_then : Life → Deed → Life
+and_then life deed = record { setup = life.setup; start = life.start; deeds = life.deeds ++ deed ∷ [] }
+
+-- a chunk's frame stands where its load put it in the life, and its last byte is where the chunk says
+record IsPut (life : Life) (s : LiveSession) (seen : Seen) (appended : List ℕ) (l : Loaded) : Type 0 where
+  front : List ℕ
+  back : List ℕ
+  loaded : WasLoadedBehind life s seen l.chunk front
+  framed : appended ≡ front ++ frame_of l.chunk ++ back
+  through : l.through ≡ length (front ++ frame_of l.chunk)
+
+-- a session is alive by its life, and the frames of its chunks stand where their loads put them
+record IsStory (life : Life) (t : LiveSession) (seen : Seen) : Type 0 where
+  alive : IsAlive t seen
+  life_so_far : HasLife life t seen
+  put : AllByRecursion (IsPut life t seen alive.over.history.appended) alive.over.history.carried
+
+put-then : (life : Life) (deed : Deed) (s t : LiveSession) (seen next : Seen)
+    (appended more : List ℕ) (l : Loaded) → Does deed s t seen next → IsPut life s seen appended l
+    → IsPut (and_then life deed) t next (appended ++ more) l
+put-then life deed s t seen next appended more l does put =
+    let was = put.loaded in
+    let load : Deed = Loads l.chunk was.now in
     record {
-      chunk = (one.place, ap (λ cs. slice_get cs one.place) (live-chunks h) ∙ one.chunk);
-      front = frame.0;
-      back = frame.1;
-      frame = frame.2;
+      front = put.front;
+      back = put.back ++ more;
+      loaded = record {
+        before = was.before;
+        now = was.now;
+        later = was.later ++ deed ∷ [];
+        split = ap (λ ds. ds ++ deed ∷ []) was.split ∙ append_assoc was.before (load ∷ was.later) (deed ∷ []);
+        prior = was.prior;
+        between = was.between;
+        until = was.until;
+        since = lives-then (load ∷ was.later) deed was.prior s t was.between seen next was.since does;
+        behind = was.behind;
+      };
+      framed = ap (λ xs. xs ++ more) put.framed
+          ∙ append_assoc (put.front ++ frame_of l.chunk) put.back more;
+      through = put.through;
+    }
+
+-- a deed that loads nothing
+keeps-story : (life : Life) (deed : Deed) (s t : LiveSession) (seen next : Seen)
+    → (story : IsStory life s seen) → Does deed s t seen next → (alive : IsAlive t next)
+    → Keeps story.alive.over.history alive.over.history → IsStory (and_then life deed) t next
+keeps-story life deed s t seen next story does alive keeps =
+    let h = story.alive.over.history in
+    let g = alive.over.history in
+    let Put : Loaded → Type 0 = IsPut (and_then life deed) t next g.appended in
+    record {
+      alive = alive;
+      life_so_far = lives-then life.deeds deed (session_begins life.setup) s t life.start seen next story.life_so_far does;
+      put = subst (AllByRecursion Put) (sym keeps.carried) (
+          all_left Put (λ l. l.chunk.name) keeps.replies h.carried
+          (all_same (IsPut life s seen h.appended) Put h.carried (λ l put.
+          subst (λ xs. IsPut (and_then life deed) t next xs l) (sym keeps.appended)
+          (put-then life deed s t seen next h.appended keeps.more l does put)) story.put));
+    }
+
+-- what a session was handed so far, and its link took or did not
+handed : (s : LiveSession) (seen : Seen) → (alive : IsAlive s seen) → s.down ≡ false
+    → alive.over.history.appended ≡ seen.taken ++ s.waiting
+handed s seen alive up =
+    let h = alive.over.history in
+    sym (take-append-drop h.sent h.appended)
+    ∙ (λ i. sym alive.over.bytes.taken i ++ sym (waits h (up-alive s seen alive up)) i)
+    ∙ ap (λ w. seen.taken ++ w) (sym (live-waits h) ∙ ap (λ (x : LiveSession). x.waiting) (sym alive.over.live))
+
+-- a chunk is loaded
+loads-story : (life : Life) (s t : LiveSession) (seen : Seen) (c : Load) (now : ℕ)
+    → IsStory life s seen → Does (Loads c now) s t seen seen
+    → IsStory (and_then life (Loads c now)) t seen
+unfolding loads-alive
+loads-story life s t seen c now story does =
+    let alive = story.alive in
+    let h = alive.over.history in
+    let load : Deed = Loads c now in
+    let one : Loaded =
+    record { chunk = c; through = length (h.appended ++ frame_of c); moment = max h.moment now } in
+    let there = handed s seen alive (ready-up s.down _ does.1) in
+    let Put : Loaded → Type 0 = IsPut (and_then life load) t seen (h.appended ++ frame_of c) in
+    record {
+      alive = loads-alive s t seen c now alive does.1 does.2;
+      life_so_far = lives-then life.deeds load (session_begins life.setup) s t life.start seen seen story.life_so_far does;
+      put = all_append Put h.carried (one ∷ []) (all_same (IsPut life s seen h.appended) Put h.carried (λ l put.
+          put-then life load s t seen seen h.appended (frame_of c) l does put) story.put) (
+            record {
+              front = h.appended;
+              back = [];
+              loaded = record {
+                before = life.deeds;
+                now = now;
+                later = [];
+                split = refl;
+                prior = s;
+                between = seen;
+                until = story.life_so_far;
+                since = (t, seen, does, (refl, refl));
+                behind = there;
+              };
+              framed = sym (append-nil (h.appended ++ frame_of c));
+              through = refl;
+            },
+            tt,
+          );
+    }
+
+does-story : (life : Life) (deed : Deed) (s t : LiveSession) (before after : Seen)
+    → IsStory life s before → Does deed s t before after → IsStory (and_then life deed) t after
+unfolding looks-alive unloads-alive
+does-story life (Serves what) s t before after story does =
+    keeps-story life (Serves what) s t before after story does
+    (serves-alive what s t before after story.alive does.0 does.1 does.2)
+    (serves-keeps what s t before after story.alive does.0 does.1 does.2)
+does-story life (Loads chunk now) s t before after story does =
+    subst (IsStory (and_then life (Loads chunk now)) t) (sym does.3)
+    (loads-story life s t before chunk now story (does.0, does.1, does.2, refl))
+does-story life (Looks now) s t before after story does =
+    let h = story.alive.over.history in
+    subst (IsStory (and_then life (Looks now)) t) (sym does.2)
+    (keeps-story life (Looks now) s t before before story (does.0, does.1, refl)
+    (looks-alive s t before now story.alive does.0 does.1) (keeps-same h (looks h now) refl refl))
+does-story life Unloads s t before after story does =
+    let h = story.alive.over.history in
+    subst (IsStory (and_then life Unloads) t) (sym does.2)
+    (keeps-story life Unloads s t before before story (does.0, does.1, refl)
+    (unloads-alive s t before story.alive does.1) (keeps-same h (unloads h) refl refl))
+
+-- a life with more deeds
+abbrev and_all : Life → List Deed → Life
+and_all life deeds = record { setup = life.setup; start = life.start; deeds = life.deeds ++ deeds }
+
+abbrev with_deeds : Life → List Deed → Life
+with_deeds life deeds = record { setup = life.setup; start = life.start; deeds = deeds }
+
+lives-story : (deeds : List Deed) (life : Life) (s t : LiveSession) (before after : Seen)
+    → IsStory life s before → Lives deeds s t before after → IsStory (and_all life deeds) t after
+lives-story [] life s t before after story rests =
+    subst (λ ds. IsStory (with_deeds life ds) t after) (sym (append-nil life.deeds))
+    (subst (λ x. IsStory life x after) (sym rests.0) (subst (IsStory life s) (sym rests.1) story))
+lives-story (deed ∷ deeds) life s t before after story lives =
+    subst (λ ds. IsStory (with_deeds life ds) t after) (append_assoc life.deeds (deed ∷ []) deeds)
+    (lives-story deeds (and_then life deed) lives.0 t lives.1 after
+    (does-story life deed s lives.0 before lives.1 story lives.2) lives.3)
+
+begins-story : (setup : Setup) (start : Seen) → start.taken ≡ [] → start.given ≡ []
+    → IsStory (record { setup = setup; start = start; deeds = [] }) (session_begins setup) start
+unfolding begins-alive
+begins-story setup start taken given = record {
+  alive = begins-alive setup start taken given;
+  life_so_far = (refl, refl);
+  put = tt;
+}
+
+-- of each acknowledgement that a turn brings, the whole frame was written before it was read, where
+-- its load put it
+written-first : (life : Life) (h : SessionHistory) (middle : LiveSession) (before between after : Seen)
+    (read : List ℕ)
+    → AllByRecursion (IsPut life (live_session h) before h.appended) h.carried
+    → h.down ≡ false → AreTheLinks h before
+    → (sent : Sends (live_session h) middle before between) → Gives between read after
+    → AllByRecursion (IsWrittenFirst life (live_session h) before between after)
+    (newly_accepted (sends h sent.count) read)
+written-first life h middle before between after read all up bytes sent gives =
+    all_same (IsAcked g read) (IsWrittenFirst life (live_session h) before between after) (newly_accepted g read)
+    (λ a one.
+    let put = all-at (IsPut life (live_session h) before h.appended) h.carried one.place one.loaded all one.carried in
+    let taken = frame-taken h.appended put.front put.back one.loaded g.sent put.framed put.through one.handed_on in
+    let place = value-at g read a.reply one.turn one.ended in
+    record {
+      chunk = (
+        one.place,
+        ap (λ cs. slice_get cs one.place) (live-chunks h)
+            ∙ map-at (λ (l : Loaded). l.chunk) h.carried one.place one.loaded one.carried ∙ ap Some one.chunk,
+      );
+      front = put.front;
+      loaded = subst (λ c. WasLoadedBehind life (live_session h) before c put.front) one.chunk put.loaded;
+      back = taken.0;
+      frame = links.taken ∙ taken.1 ∙ ap (λ c. put.front ++ frame_of c ++ taken.0) one.chunk;
       named = one.named;
       place = place.0;
-      unread = subst (λ g. length (values_of (reply_stream g)) ≤ place.0) (sym given) place.1;
+      unread = subst (λ g. length (values_of (reply_stream g)) ≤ place.0) (sym links.given) place.1;
       read = ap (λ g. slice_get (values_of (reply_stream g)) place.0)
-          (ap (λ (x : Seen). x.given) gives ∙ ap (λ g. g ++ read) given) ∙ place.2;
-    })
-    (each-by (sends h sent.count) between.taken read (mid-bytes h middle before between up bytes sent).taken)
+          (ap (λ (x : Seen). x.given) gives ∙ ap (λ g. g ++ read) links.given) ∙ place.2;
+    }) (acked_each g read)
   where
-    given : between.given ≡ (sends h sent.count).heard
-    given = (mid-bytes h middle before between up bytes sent).given
+    g : SessionHistory
+    g = sends h sent.count
 
-alive-at : (setup : Setup) (deeds : List Deed) (s : LiveSession) (start before : Seen)
+    links : AreTheLinks g between
+    links = mid-bytes h middle before between up bytes sent
+
+story-at : (setup : Setup) (deeds : List Deed) (s : LiveSession) (start before : Seen)
     → start.taken ≡ [] → start.given ≡ [] → Lives deeds (session_begins setup) s start before
-    → IsAlive s before
-alive-at setup deeds s start before taken given lives =
-    lives-alive deeds (session_begins setup) s start before
-    (begins-alive setup start taken given) lives
+    → IsStory (record { setup = setup; start = start; deeds = deeds }) s before
+story-at setup deeds s start before taken given lives =
+    lives-story deeds (record { setup = setup; start = start; deeds = [] }) (session_begins setup) s
+    start before (begins-story setup start taken given) lives
 
 -- ---- whatever a turn comes to
 
@@ -554,12 +751,18 @@ pub any-first : (setup : Setup) (deeds : List Deed) (what : Served) (s middle t 
     (start before between after : Seen)
     → start.taken ≡ [] → start.given ≡ [] → Lives deeds (session_begins setup) s start before
     → s.down ≡ false → Sends s middle before between → HasHeard what middle t between after
-    → AreWrittenFirst s t between after
+    → AreWrittenFirst (record { setup = setup; start = start; deeds = deeds }) s t before between after
 any-first setup deeds what s middle t start before between after taken given lives up one has =
     by (heard-what what middle t between after has)
   where
+    life : Life
+    life = record { setup = setup; start = start; deeds = deeds }
+
+    story : IsStory life s before
+    story = story-at setup deeds s start before taken given lives
+
     alive : IsAlive s before
-    alive = alive-at setup deeds s start before taken given lives
+    alive = story.alive
 
     h : SessionHistory
     h = alive.over.history
@@ -568,13 +771,14 @@ any-first setup deeds what s middle t start before between after taken given liv
     sent = subst (λ x. Sends x middle before between) alive.over.live one
 
     by : ((heard : SessionHeard) × Hears heard middle t between after) ⊎ (t ≡ middle)
-        → AreWrittenFirst s t between after
+        → AreWrittenFirst life s t before between after
     by (inl heard) =
         let up_too = up-alive s before alive up in
-        subst (λ x. AreWrittenFirst x t between after) (sym alive.over.live) (record {
+        let put = subst (λ x. AllByRecursion (IsPut life x before h.appended) h.carried) alive.over.live story.put in
+        subst (λ x. AreWrittenFirst life x t before between after) (sym alive.over.live) (record {
           accepted = newly_accepted (sends h sent.count) heard.1.0;
           more = heard-accepted h middle t before between after heard.0 alive.over.sane up_too sent heard.1;
-          each = written-first h middle before between after heard.1.0 alive.framed up_too alive.over.bytes sent heard.1.1;
+          each = written-first life h middle before between after heard.1.0 put up_too alive.over.bytes sent heard.1.1;
         })
     by (inr same) = record {
       accepted = [];
@@ -589,7 +793,7 @@ pub whole-first : (setup : Setup) (deeds : List Deed) (s middle t : LiveSession)
     → s.down ≡ false → Sends s middle before between
     → HasHeard served.Acked middle t between after → length s.accepted < length t.accepted
 whole-first setup deeds s middle t start before between after taken given lives up one heard =
-    let alive = alive-at setup deeds s start before taken given lives in
+    let alive = (story-at setup deeds s start before taken given lives).alive in
     let h = alive.over.history in
     let up_too = up-alive s before alive up in
     let sent : Sends (live_session h) middle before between =
@@ -665,21 +869,24 @@ loaded-sends : Sends loaded_session sent_session link_before link_between
 loaded-sends =
     record { count = length loaded_session.waiting; within = omega arith; told = refl; seen = refl }
 
-pub life-acked : AreWrittenFirst loaded_session (session_hears sent_session small_ack) link_between link_after
+pub life-acked : AreWrittenFirst (record { setup = plain_setup; start = link_before; deeds = Loads small_chunk 0 ∷ [] })
+    loaded_session (session_hears sent_session small_ack) link_before link_between link_after
 life-acked =
     any-first plain_setup (Loads small_chunk 0 ∷ []) served.Acked loaded_session sent_session
     (session_hears sent_session small_ack) link_before link_before link_between link_after
     refl refl loaded-life refl loaded-sends (small_ack, refl, refl, small_ack-told)
 
--- less than the frame is not enough
-pub less-refused : (s : LiveSession) (a : Accepted) (written acknowledged : Seen)
-    → length written.taken < length (frame_of a.chunk) → IsWrittenFirst s written acknowledged a → ⊥
-less-refused s a written acknowledged less first =
+-- less than the frame, behind all that was handed before its load, is not enough
+pub less-refused : (life : Life) (s : LiveSession) (a : Accepted) (before written acknowledged : Seen)
+    → (first : IsWrittenFirst life s before written acknowledged a)
+    → length written.taken < length (first.loaded.between.taken ++ first.loaded.prior.waiting ++ frame_of a.chunk)
+    → ⊥
+less-refused life s a before written acknowledged first less =
     let frame : List ℕ = frame_of a.chunk in
     omega (
       arith,
       less,
       ap length first.frame,
       length-append (first.front ++ frame) first.back,
-      length-append first.front frame,
+      ap (λ xs. length (xs ++ frame)) first.loaded.behind,
     )

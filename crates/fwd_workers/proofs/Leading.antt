@@ -23,7 +23,7 @@ use Rattle.fwd_workers.specs.Served.{Seen, seen_in, HasTurned, Sends, Hears, Has
 -- ---- a life goes on
 
 -- one deed more
-lives-then : (deeds : List Deed) (deed : Deed) (s t u : LiveSession) (a b c : Seen)
+pub lives-then : (deeds : List Deed) (deed : Deed) (s t u : LiveSession) (a b c : Seen)
     → Lives deeds s t a b → Does deed t u b c → Lives (deeds ++ deed ∷ []) s u a c
 lives-then [] deed s t u a b c rests does =
     (u, c, subst (λ x. Does deed x u a c) rests.0 (subst (λ x. Does deed t u x c) rests.1 does), (refl, refl))

@@ -7,3 +7,5 @@ pub mod Leading
 pub mod Taking
 pub mod Keeping
 pub mod Returning
+pub mod Earning
+pub mod Earned

@@ -11,10 +11,10 @@ use Rattle.fwd_session.specs.Evidence.{Accepted, frame_of}
 use Rattle.fwd_session.specs.Said.{reply_stream}
 use Rattle.fwd_session.specs.History.{
   Setup,
+  Loaded,
   SessionHistory,
   IsFramed,
   IsSane,
-  chunks_of,
   newly_accepted,
   newly_heard,
   sends,
@@ -224,14 +224,18 @@ pub record IsOver (t : LiveSession) (seen : Seen) : Type 0 where
   pub bytes : AreTheLinks history seen
 
 -- One of the chunks that a session carries is acknowledged by bytes that it heard, once these were
--- written: its whole frame is among what was written, where the session was loaded only while it
--- was ready; and a value that names it ended among those bytes.
+-- written: its whole frame is among what was written, at the place where the load put it, which ends
+-- where the chunk says, where the session was loaded only while it was ready; and a value that names
+-- it ended among those bytes.
 pub record IsAcknowledgedBy (s : SessionHistory) (written read : List ℕ) (a : Accepted)
     : Type 0 where
   pub place : ℕ
-  pub chunk : slice_get (chunks_of s.carried) place ≡ Some a.chunk
+  pub loaded : Loaded
+  pub carried : slice_get s.carried place ≡ Some loaded
+  pub chunk : loaded.chunk ≡ a.chunk
   pub frame : IsFramed s
       → (front : List ℕ) × (back : List ℕ) × (written ≡ front ++ frame_of a.chunk ++ back)
+      × (loaded.through ≡ length (front ++ frame_of a.chunk))
   pub turn : ℕ
   pub ended : slice_get (values_of (newly_heard s read)) turn ≡ Some a.reply
   pub named : ack_name a.reply ≡ Some a.chunk.name
@@ -297,14 +301,40 @@ pub record IsOfLink (s : LiveSession) (seen : Seen) (ends : Bool) : Type 0 where
   pub lived : HasLived s seen ⊎ ((ends ≡ true) × HasLost s seen)
   pub up : ends ≡ false → s.down ≡ false
 
--- The frame of one of a session's chunks was written first, and then acknowledged. At the first of
--- two moments the link had taken the frame, whole, and had not yet given the last byte of a value
--- that names the chunk; at the second it had. The value is the one of this place among all whole
--- values that the link gave.
-pub record IsWrittenFirst (s : LiveSession) (written acknowledged : Seen) (a : Accepted)
-    : Type 0 where
+-- what a session began with, what was seen of its link then, and what was done with it since
+pub record Life : Type 0 where
+  pub setup : Setup
+  pub start : Seen
+  pub deeds : List Deed
+
+-- a session has this life so far, and this is seen of its link
+abbrev pub HasLife : Life → LiveSession → Seen → Type 0
+HasLife life s seen = Lives life.deeds (session_begins life.setup) s life.start seen
+
+-- In a session's life so far a chunk was loaded, just behind these bytes: those that the link had
+-- taken by then, and those that waited to be sent.
+pub record WasLoadedBehind (life : Life) (s : LiveSession) (seen : Seen) (chunk : Load)
+    (front : List ℕ) : Type 0 where
+  pub before : List Deed
+  pub now : ℕ
+  pub later : List Deed
+  pub split : life.deeds ≡ before ++ Loads chunk now ∷ later
+  pub prior : LiveSession
+  pub between : Seen
+  pub until : Lives before (session_begins life.setup) prior life.start between
+  pub since : Lives (Loads chunk now ∷ later) prior s between seen
+  pub behind : front ≡ between.taken ++ prior.waiting
+
+-- The frame of one of a session's chunks was written first, at the place where the load put it, and
+-- then acknowledged. Before the turn this was seen. At the first of two moments in the turn the link
+-- had taken the frame, whole, just behind all that the session had been handed before its load, and
+-- had not yet given the last byte of a value that names the chunk; at the second it had. The value
+-- is the one of this place among all whole values that the link gave.
+pub record IsWrittenFirst (life : Life) (s : LiveSession) (before written acknowledged : Seen)
+    (a : Accepted) : Type 0 where
   pub chunk : (place : ℕ) × (slice_get (live_chunks s.carried) place ≡ Some a.chunk)
   pub front : List ℕ
+  pub loaded : WasLoadedBehind life s before a.chunk front
   pub back : List ℕ
   pub frame : written.taken ≡ front ++ frame_of a.chunk ++ back
   pub named : ack_name a.reply ≡ Some a.chunk.name
@@ -314,7 +344,8 @@ pub record IsWrittenFirst (s : LiveSession) (written acknowledged : Seen) (a : A
 
 -- the acknowledgements that a session has behind a turn and lacked before it, in the order of their
 -- acceptance: each frame was written first
-pub record AreWrittenFirst (s t : LiveSession) (written acknowledged : Seen) : Type 0 where
+pub record AreWrittenFirst (life : Life) (s t : LiveSession) (before written acknowledged : Seen)
+    : Type 0 where
   pub accepted : List Accepted
   pub more : t.accepted ≡ s.accepted ++ accepted
-  pub each : AllByRecursion (IsWrittenFirst s written acknowledged) accepted
+  pub each : AllByRecursion (IsWrittenFirst life s before written acknowledged) accepted

@@ -4,6 +4,10 @@ use Rattle.std.specs.Prelude.{
   ℕ,
   ◌⊎◌,
   ◌+◌,
+  ◌-◌,
+  ◌^◌,
+  min,
+  nat_lt,
   Bool,
   true,
   false,
@@ -22,11 +26,13 @@ use Rattle.fwd_book.specs.Receipts.{Receipt}
 use Rattle.fwd_core.specs.Outputs.{LiveOutput, output_enters}
 use Rattle.fwd_workers.specs.Tickets.{Ticket, IsDue, receipt_for}
 
--- an output, and the totals of its two counters
+-- an output, the totals of its two counters, and the moment up to which free chunks are left to a
+-- worker that claims them
 pub record Turn : Type 0 where
   pub output : LiveOutput
   pub accepted : ℕ
   pub settled : ℕ
+  pub claimed : ℕ
 
 -- a request is admitted: its entries are accepted
 abbrev pub turn_admits : Turn → Origin → Request → ℕ → Turn
@@ -42,6 +48,18 @@ turn_goes s o = record s { output = o }
 -- the output is another, and so many entries were settled
 abbrev pub turn_settles : Turn → LiveOutput → ℕ → Turn
 turn_settles s o count = record s { output = o; settled = s.settled + count }
+
+-- at a moment a worker claims the free chunks for the next 100 milliseconds
+abbrev pub turn_claims : Turn → (now : ℕ) → Turn
+turn_claims s now = record s { claimed = min (now + 100) (2 ^ 64 - 1) }
+
+-- nobody claims them
+abbrev pub turn_releases : Turn → Turn
+turn_releases s = record s { claimed = 0 }
+
+-- a worker claims them at a moment
+abbrev pub is_claimed_at : Turn → (now : ℕ) → Bool
+is_claimed_at s now = nat_lt now s.claimed
 
 -- requests of these origins leave the output's book
 abbrev pub turn_tells : Turn → List Origin → Turn

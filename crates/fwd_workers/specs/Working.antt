@@ -1,5 +1,6 @@
 -- Where a worker stands, and what its turns do.
-use Rattle.std.specs.Prelude.{◌≡◌, ◌⊎◌, ℕ, true, false, ◌||◌, List, [], Option, Some, None, option_map, is_some, if◌then◌else◌}
+use Rattle.std.specs.Prelude.{◌≡◌, ◌≤◌, ◌⊎◌, ◌+◌, ℕ, Bool, true, false, ◌||◌, List, [], ◌∷◌, length, slice_get, Option, Some, None, option_map, is_some, if◌then◌else◌}
+use Rattle.std.specs.List.{AllByRecursion}
 use Rattle.fwd_handshake.specs.declared.credentials.Login.{Login}
 use Rattle.fwd_chunks.specs.History.{Load}
 use Rattle.fwd_session.specs.declared.terms.AckTerms.{AckTerms}
@@ -28,7 +29,7 @@ use Rattle.fwd_workers.specs.declared.link.Place.TheVariants as place
 use Rattle.fwd_workers.specs.declared.serve.Served.{Served}
 use Rattle.fwd_workers.specs.Endings.{idle_ending, loss_in, news_of, went_of}
 use Rattle.fwd_workers.specs.Links.{Call}
-use Rattle.fwd_workers.specs.Served.{HasTurned, may_add}
+use Rattle.fwd_workers.specs.Served.{HasTurned, IsOfLink, may_add, seen_in}
 
 -- where the gate is asked: nowhere while the server is waited for, and no chunk may be added
 abbrev pub place_of : {L : Type 0} {g : _} → Stage L g → Option Place
@@ -55,6 +56,35 @@ accepted_at (stage.Took free chunk) = []
 accepted_at (stage.Added roomy chunk) = []
 accepted_at (stage.Loaded line) = line.session.accepted
 accepted_at (stage.Settled line) = line.session.accepted
+
+-- how many entries these acknowledged chunks have
+abbrev pub entries_in : List Accepted → ℕ
+entries_in [] = 0
+entries_in (a ∷ later) = length a.chunk.entries + entries_in later
+
+-- how many the chunk has that is taken out next, if there is one
+abbrev pub next_entries : Option Load → ℕ
+next_entries None = 0
+next_entries (Some chunk) = length chunk.entries
+
+-- a chunk was acknowledged over a link that tells its calls: a session accepted it that has lived
+-- over just this link
+pub record IsAcknowledgedOver {Link : Type 0} (calls : Link → List Call) (a : Accepted)
+    : Type 0 where
+  pub link : Link
+  pub session : LiveSession
+  pub ends : Bool
+  pub own : IsOfLink session (seen_in (calls link)) ends
+  pub place : ℕ
+  pub accepted : slice_get session.accepted place ≡ Some a
+
+-- what was added, as far as it is kept, is no more than the entries of chunks, each of which was
+-- acknowledged over a link
+pub record IsEarned {Link : Type 0} (calls : Link → List Call) (kept : ℕ → ℕ) (before after : ℕ)
+    : Type 0 where
+  pub settled : List Accepted
+  pub each : AllByRecursion (IsAcknowledgedOver calls) settled
+  pub most : after ≤ before + kept (entries_in settled)
 
 -- A turn of a session at a moment, with the calls of its link, and why it is to end then, if it is.
 -- Where it is down, or late at that moment, its link is left alone. Else its link is served, and

@@ -25,8 +25,9 @@ ghost use Rattle.fwd_workers.specs.Served.{
 ///
 /// `acked` says so of a turn of any session. `any` says it of each turn in a session's life, from
 /// its beginning on a link that took and gave nothing, also of one that ends with a fault: between
-/// its write and its read the link has taken each frame, whole. `whole` says that a turn that comes
-/// to `Acked` brings one acknowledgement at least.
+/// its write and its read the link has taken each frame, whole, at the place where the load put it,
+/// just behind all that the session had been handed before. `whole` says that a turn that comes to
+/// `Acked` brings one acknowledgement at least.
 pub fn served_bytes_are_the_links()
     ensures lasts { (s : SessionHistory) (what : TheServed) (t : LiveSession)
         (before after : Seen) → IsSane s → s.down ≡ false → AreTheLinks s before
@@ -40,7 +41,8 @@ pub fn served_bytes_are_the_links()
         (s middle t : LiveSession) (start before between after : Seen) → start.taken ≡ []
         → start.given ≡ [] → Lives deeds (session_begins setup) s start before
         → s.down ≡ false → Sends s middle before between → HasHeard what middle t between after
-        → AreWrittenFirst s t between after }
+        → AreWrittenFirst (record { setup = setup; start = start; deeds = deeds }) s t
+        before between after }
     ensures whole { (setup : Setup) (deeds : List Deed) (s middle t : LiveSession)
         (start before between after : Seen) → start.taken ≡ [] → start.given ≡ []
         → Lives deeds (session_begins setup) s start before → s.down ≡ false

@@ -2,6 +2,7 @@
 
 ghost use Rattle.std.specs.Prelude.{
   ◌≡◌,
+  ◌≤◌,
   ◌+◌,
   ◌++◌,
   ℕ,
@@ -64,8 +65,11 @@ ghost use Rattle.fwd_workers.specs.Turns.{
   AreCollected,
   origins_of,
   receipts_for,
+  is_claimed_at,
   turn_admits,
+  turn_claims,
   turn_goes,
+  turn_releases,
   turn_settles,
   turn_tells,
 };
@@ -109,6 +113,7 @@ impl<A: Tally, S: Tally> Model for Locked<A, S> {
       output = s.state;
       accepted = A.total s.accepted;
       settled = S.total s.settled;
+      claimed = s.claimed;
     } };
 
     ghost invariant = { λ s. (A.total s.accepted ≡ s.state.buffer.accepted)
@@ -124,6 +129,7 @@ impl<A: Tally, S: Tally> Locked<A, S> {
           output = state;
           accepted = A.total accepted;
           settled = S.total settled;
+          claimed = 0;
         } }
     {
         Locked {
@@ -262,20 +268,22 @@ impl<A: Tally, S: Tally> Locked<A, S> {
     /// session was sought for a chunk that was lost, which else any worker would take, at the very
     /// moment at which the server that lost it is tried again.
     pub(crate) fn claim(&mut self, now: u64)
-        ensures { self.new ≡ self.old }
+        ensures { self.new ≡ turn_claims self.old now }
     {
         self.claimed = now.saturating_add(CLAIM);
     }
 
     /// A worker that claimed a free chunk took one.
     pub(crate) fn release(&mut self)
-        ensures { self.new ≡ self.old }
+        ensures { self.new ≡ turn_releases self.old }
     {
         self.claimed = 0;
     }
 
     /// Whether free chunks are left to a worker that claims them, at a moment (milliseconds).
-    pub(crate) fn is_claimed(&self, now: u64) -> bool {
+    pub(crate) fn is_claimed(&self, now: u64) -> bool
+        ensures { result ≡ is_claimed_at self.now now }
+    {
         now < self.claimed
     }
 
@@ -357,6 +365,7 @@ impl<A: Tally, S: Tally> Locked<A, S> {
         ensures doubted { IfSome result.server (λ server.
             result.is_doubted ≡ live_is_doubted self.new.output.servers server) }
         ensures trusted { result.trusted ≡ live_trusted self.new.output.servers worker }
+        ensures claimed { result.is_claimed ≡ is_claimed_at self.old now }
         ensures looked { self.new ≡ turn_goes self.old (output_looks self.old.output now) }
     {
         let server = self.state.choose(worker, now);
@@ -380,7 +389,8 @@ impl<A: Tally, S: Tally> Locked<A, S> {
     }
 
     /// A server acknowledged the chunk: its entries are settled, and answered is how many they are.
-    /// A chunk that no worker has from this output changes nothing, and counts 0.
+    /// A chunk that no worker has from this output changes nothing, and counts 0; no more is counted
+    /// than the chunk's own entries.
     pub fn settle(&mut self, seat: &mut S::Seat, acked: Arc<Acked>, carried: Carried) -> u64
         requires { IsEvidence (arc_value acked) carried }
         ensures here { IsCarried self.old.output.buffer carried → self.new
@@ -389,9 +399,11 @@ impl<A: Tally, S: Tally> Locked<A, S> {
             → result ≡ live_count_at carried.number self.old.output }
         ensures elsewhere { ¬ (IsCarried self.old.output.buffer carried)
             → (self.new ≡ self.old) × (result ≡ 0) }
+        ensures most { result ≤ length carried.entries }
         ensures counted { S.count seat.new ≡ S.count seat.old + S.kept result }
         ensures parts { S.parts seat.new ≡ S.parts seat.old }
     {
+        self.state.is_sound();
         let count = self.state.settle(acked, carried) as u64;
         self.state.is_sound();
         self.settled.add(seat, count);

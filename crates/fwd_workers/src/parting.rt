@@ -1,11 +1,11 @@
 //! What a worker settles, and what it gives back, at the end of a chunk, a session or itself.
 
-ghost use Rattle.std.specs.Prelude.{◌≡◌, ◌≤◌, Some, None, [], IfSome};
+ghost use Rattle.std.specs.Prelude.{◌≡◌, ◌≤◌, ◌+◌, Some, None, [], IfSome};
 ghost use Rattle.fwd_session.specs.Live.{live_acked, live_chunks, session_unloads};
 ghost use Rattle.fwd_core.specs.Step.{lost_server};
 ghost use Rattle.fwd_core.specs.Live.{lives};
 ghost use Rattle.fwd_workers.specs.Endings.{kind_in};
-ghost use Rattle.fwd_workers.specs.Working.{accepted_at};
+ghost use Rattle.fwd_workers.specs.Working.{accepted_at, entries_in, next_entries};
 
 use crate::ending::kind_in;
 use crate::line::{FreeLine, Line, RoomyLine, Stage};
@@ -17,7 +17,8 @@ use fwd_core::{Leaving, leave};
 use std::sync::Wait;
 
 /// The one place where entries are settled: where the line's session has an accepted
-/// acknowledgement, its chunk is taken out and settled. Answers what is told of it.
+/// acknowledgement, its chunk is taken out and settled, and counts for its own entries at the most.
+/// Answers what is told of it.
 pub(crate) fn settle_line<A: Tally, S: Tally, L: Link, R: Wait>(
     round: &Round<'_, A, S, R>,
     seat: &mut S::Seat,
@@ -30,6 +31,8 @@ pub(crate) fn settle_line<A: Tally, S: Tally, L: Link, R: Wait>(
         ≡ Some (News.Settled chunk.number line.old.session.setup.server)) }
     ensures ending { line.new.ending ≡ line.old.ending }
     ensures count { S.count seat.old ≤ S.count seat.new }
+    ensures most { S.count seat.new
+        ≤ S.count seat.old + S.kept (next_entries (live_acked line.old.session)) }
     ensures parts { S.parts seat.new ≡ S.parts seat.old }
 {
     let (acked, chunk) = line.session.acked()?;
@@ -93,7 +96,7 @@ pub(crate) fn miss<A: Tally, S: Tally, C: Clock, R: Wait>(
     give_back(&round, seat, leaving);
 }
 
-/// A session ends: each accepted chunk is settled first. Those that are not acknowledged go back,
+/// A session ends: each accepted chunk is settled first, and no other one. Those that are not acknowledged go back,
 /// and the one that its worker may have taken and did not load.
 pub(crate) fn end_line<A: Tally, S: Tally, L: Link, R: Wait>(
     round: &Round<'_, A, S, R>,
@@ -103,6 +106,8 @@ pub(crate) fn end_line<A: Tally, S: Tally, L: Link, R: Wait>(
 )
     ensures same { line.session.accepted ≡ [] → seat.new ≡ seat.old }
     ensures count { S.count seat.old ≤ S.count seat.new }
+    ensures most { S.count seat.new
+        ≤ S.count seat.old + S.kept (entries_in line.session.accepted) }
     ensures parts { S.parts seat.new ≡ S.parts seat.old }
 {
     let mut line = line;
@@ -133,6 +138,8 @@ pub(crate) fn finish<A: Tally, S: Tally, L: Link, R: Wait>(
 )
     ensures same { accepted_at stage ≡ [] → seat.new ≡ seat.old }
     ensures count { S.count seat.old ≤ S.count seat.new }
+    ensures most { S.count seat.new
+        ≤ S.count seat.old + S.kept (entries_in (accepted_at stage)) }
     ensures parts { S.parts seat.new ≡ S.parts seat.old }
 {
     match stage {

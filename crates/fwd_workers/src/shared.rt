@@ -2,6 +2,7 @@
 
 ghost use Rattle.std.specs.Prelude.{
   ◌≡◌,
+  ◌≤◌,
   ◌+◌,
   ◌++◌,
   length,
@@ -16,7 +17,7 @@ ghost use Rattle.std.specs.Arc.{arc_value};
 ghost use Rattle.std.specs.List.Sorted.{IsPermutation};
 ghost use Rattle.fwd_chunks.specs.Live.{LiveBuffer};
 ghost use Rattle.fwd_chunks.specs.Soundness.{IsSound};
-ghost use Rattle.fwd_chunks.specs.TagCounts.{AddsUp, IsSnapshot};
+ghost use Rattle.fwd_chunks.specs.TagCounts.{AddsUp, IsSnapshot, live_report};
 ghost use Rattle.fwd_session.specs.Evidence.{IsEvidence};
 ghost use Rattle.fwd_book.specs.History.{BookSetting};
 ghost use Rattle.fwd_workers.specs.Seats.{parts_of, counts_of};
@@ -57,11 +58,13 @@ impl<A: Tally, S: Tally> SharedOutput<A, S> {
         self.lock.lock(rt).counts()
     }
 
-    /// The same, and what is held of each tag, by rising bytes. The only error is out of memory.
-    /// The lock is held while the tags are written down, and free again while they are put in
-    /// order.
+    /// The same, and what is held of each tag, by rising bytes: the report of what lies under the
+    /// lock at one moment. The only error is out of memory. The lock is held while the tags are
+    /// written down, and free again while they are put in order.
     pub fn report<R: Wait>(&self, rt: &R, alloc: Global) -> Result<Report, AllocError>
-        ensures { IfOk result (λ report. AddsUp report) }
+        ensures report { IfOk result (λ report.
+            (b : LiveBuffer) × IsSound b × (report ≡ live_report b)) }
+        ensures adds_up { IfOk result (λ report. AddsUp report) }
     {
         tags_add_up();
         let snapshot = self.snapshot(rt, alloc)?;
@@ -180,7 +183,7 @@ impl<A: Tally, S: Tally> SharedOutput<A, S> {
     }
 
     /// A server acknowledged the chunk: its entries are settled, and answered is how many they are.
-    /// A chunk that no worker has from this output counts 0.
+    /// A chunk that no worker has from this output counts 0, and no chunk more than its entries.
     pub fn settle<R: Wait>(
         &self,
         rt: &R,
@@ -189,6 +192,7 @@ impl<A: Tally, S: Tally> SharedOutput<A, S> {
         carried: Carried,
     ) -> u64
         requires { IsEvidence (arc_value acked) carried }
+        ensures most { result ≤ length carried.entries }
         ensures counted { S.count seat.new ≡ S.count seat.old + S.kept result }
         ensures parts { S.parts seat.new ≡ S.parts seat.old }
     {

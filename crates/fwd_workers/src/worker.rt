@@ -1,10 +1,10 @@
 //! A worker: it takes chunks from its output, sends them to a server, and settles what the server
 //! acknowledged.
 
-ghost use Rattle.std.specs.Prelude.{◌≡◌, ◌≤◌, [], Some, None, false, IfOk, IfSome};
+ghost use Rattle.std.specs.Prelude.{◌≡◌, ◌≤◌, ◌+◌, [], Some, None, false, IfOk, IfSome};
 ghost use Rattle.std.specs.Arc.{arc_value};
 ghost use Rattle.fwd_handshake.specs.Draws.{hex_drawn};
-ghost use Rattle.fwd_session.specs.Live.{session_begins};
+ghost use Rattle.fwd_session.specs.Live.{live_acked, session_begins};
 ghost use Rattle.fwd_workers.specs.Endings.{news_of, unmet_news, went_of};
 ghost use Rattle.fwd_workers.specs.Working.{
   Begins,
@@ -19,7 +19,10 @@ ghost use Rattle.fwd_workers.specs.Working.{
   HasSought,
   HasTakenFirst,
   HasTakenNext,
+  IsEarned,
   accepted_at,
+  entries_in,
+  next_entries,
   setup_by,
 };
 
@@ -119,7 +122,8 @@ impl Worker {
     /// server. A server that closes a session behind an acknowledgement, and owes nothing, is not
     /// lost. Behind the loss of a chunk the worker seeks a server at once, and takes the chunk when
     /// it is free; with none loaded it goes to the server that it is to try. At the end each
-    /// accepted chunk is settled, and those that are taken or loaded go back.
+    /// accepted chunk is settled, and those that are taken or loaded go back. No more is counted than
+    /// the entries of chunks that sessions accepted over links of the hub, which told all their calls.
     pub fn run<A: Tally, S: Tally, H: Hub, G: Gate, C: Clock, R: Wait>(
         &mut self,
         rt: &R,
@@ -131,6 +135,8 @@ impl Worker {
         turns: u64,
     ) -> (S::Seat, Ended)
         ensures count { S.count seat ≤ S.count result.0 }
+        ensures most { ∥ IsEarned (λ link. H.Line.calls link) (λ n. S.kept n) (S.count seat)
+            (S.count result.0) ∥₁ }
         ensures parts { S.parts result.0 ≡ S.parts seat }
     {
         self.make_room();
@@ -175,7 +181,7 @@ impl Worker {
     }
 
     /// One turn from where the worker stands. Entries are settled only where a loaded chunk's
-    /// acknowledgement was accepted before.
+    /// acknowledgement was accepted before, and no more than those chunks have.
     fn step<A: Tally, S: Tally, H: Hub, C: Clock, R: Wait>(
         &mut self,
         round: &Round<'_, A, S, R>,
@@ -185,6 +191,8 @@ impl Worker {
     ) -> Stage<H::Line>
         ensures same { accepted_at stage ≡ [] → seat.new ≡ seat.old }
         ensures count { S.count seat.old ≤ S.count seat.new }
+        ensures most { S.count seat.new
+            ≤ S.count seat.old + S.kept (entries_in (accepted_at stage)) }
         ensures parts { S.parts seat.new ≡ S.parts seat.old }
     {
         match stage {
@@ -670,7 +678,7 @@ impl Worker {
         }
     }
 
-    /// Settles the chunk that was accepted first; until one is, the session is served, and a chunk
+    /// Settles the chunk that was accepted first, and no other; until one is, the session is served, and a chunk
     /// more is taken where one may be added. Where the session ends its chunks are lost, and the
     /// worker seeks a server while they wait.
     fn settle<A: Tally, S: Tally, L: Link, R: Wait>(
@@ -684,6 +692,8 @@ impl Worker {
         ensures lost { line.ending ≡ None → HasLost result self.new.news line.session
             round.entry.now.now (L.calls line.link) }
         ensures count { S.count seat.old ≤ S.count seat.new }
+        ensures most { S.count seat.new
+            ≤ S.count seat.old + S.kept (next_entries (live_acked line.session)) }
         ensures parts { S.parts seat.new ≡ S.parts seat.old }
     {
         let mut line = line;

@@ -1,14 +1,15 @@
 -- What the events of sessions add to the chronicle.
 use Rattle.std.proofs.Common.{◌≡◌, ℕ, zero, suc, ◌+◌, ◌<◌, ◌≤◌, Bool, true, false, cond, List, [], ◌∷◌, ◌++◌, length, drop, Option, Some, None, refl, sym, ap, subst, ◌∙◌, inl, inr, arith}
 use Rattle.std.specs.Prelude.{◌⊎◌, slice_get}
-use Rattle.std.proofs.lemmas.List.{length-append}
+use Rattle.std.proofs.lemmas.List.{append-nil, length-append}
 use Rattle.std.proofs.lemmas.Option.{same_Some}
 use Rattle.fwd_msgpack.specs.Heads.{head_bytes}
 use Rattle.fwd_modes.specs.Frames.{chunk_frame}
 use Rattle.fwd_chunks.specs.History.{Load}
 use Rattle.fwd_session.specs.Evidence.{Accepted, frame_of}
+use Rattle.fwd_session.specs.Said.{out_of}
 use Rattle.fwd_session.specs.History as session
-use Rattle.fwd_session.specs.History.{Loaded, SessionHistory, IsSane as IsSaneHistory, IsAppended, IsFramed, IsAcknowledged, is_ready, newly_accepted, says}
+use Rattle.fwd_session.specs.History.{Loaded, SessionHistory, IsSane as IsSaneHistory, IsFramed, IsAcknowledged, is_ready, newly_accepted, says}
 use Rattle.fwd_session.proofs.Lists.{all_append, all_left, all_same}
 use Rattle.fwd_session.proofs.Framing.{begins-framed, loads-framed, sends-framed, hears-framed, unloads-framed, looks-framed}
 use Rattle.fwd_session.proofs.Accepting.{acknowledged}
@@ -18,7 +19,7 @@ use Rattle.fwd_model.specs.declared.event.Event.TheVariants as event
 use Rattle.fwd_model.specs.declared.answer.Answer.TheVariants as answer
 use Rattle.fwd_model.specs.History.{Connection, Lane, with_place}
 use Rattle.fwd_model.specs.Delivered.{reached, answered, session_of, WasSent}
-use Rattle.fwd_model.proofs.Lists.{all_at, all_both, all_drop}
+use Rattle.fwd_model.proofs.Lists.{all_at, all_drop}
 use Rattle.fwd_model.proofs.Reached.{slice_get-set}
 use Rattle.fwd_model.proofs.Chronicle.{Stands, Quiet, LoadedStory, AckedStory, SessionStory, LaneStory, session_still, loads_still, acks_still, begun_still, loaded_still, lane_still, extends_same}
 
@@ -72,14 +73,16 @@ module _ (config : Config) (es : List Event) (o w : ℕ) where
 
   pub loads : (s : SessionHistory) (c : Load) (now : ℕ)
       → SessionStory config es o w s → IsSaneHistory s → is_ready s ≡ true
+      → session_of (reached config es) o w ≡ Some s
       → answered config es (event.Load o w now) ≡ answer.Frame (frame_of c)
       → SessionStory config (es ++ event.Load o w now ∷ []) o w (session.loads s c now)
-  loads s c now t own ready answered = record {
+  loads s c now t own ready stands answered = record {
     begun = begun_still config es e o w calm t.begun;
     framed = loads-framed s c now t.framed ready;
-    loaded = all_append (LoadedStory config (es ++ e ∷ []) o w s.sent) s.carried (one ∷ []) (loads_still config es e o w s.sent s.carried calm t.loaded) (
+    loaded = all_append (LoadedStory config (es ++ e ∷ []) o w (s.appended ++ frame_of c) s.sent) s.carried (one ∷ []) (loads_still config es e o w s.appended (frame_of c) s.sent s.carried calm t.loaded) (
       record {
-        was_loaded = record { before = es; moment = now; later = []; split = refl; loads = answered; kept = λ between rest kind m numbers at e. no_split between (event.End o w kind m) rest at; begun = t.begun };
+        was_loaded = record { before = es; moment = now; later = []; split = refl; session = s; stands = stands; loads = answered; kept = λ between rest kind m numbers at e. no_split between (event.End o w kind m) rest at; begun = t.begun };
+        put = record { back = []; framed = sym (append-nil (s.appended ++ frame_of c)); through = refl };
         was_sent = λ through. absurd (not_yet s c own.sent through);
       },
       tt,
@@ -101,11 +104,13 @@ module _ (config : Config) (es : List Event) (o w : ℕ) where
       → session_of (reached config (es ++ event.Wrote o w count ∷ [])) o w ≡ Some
       (session.sends s count)
       → SessionStory config (es ++ event.Wrote o w count ∷ []) o w (session.sends s count)
+  unfolding loaded_still
   sends s count t done stands = record {
     begun = begun_still config es e o w calm t.begun;
     framed = sends-framed s count t.framed;
-    loaded = all_both (IsAppended s.appended) (LoadedStory config es o w s.sent) (LoadedStory config (es ++ e ∷ []) o w (s.sent + count)) s.carried (λ l at its. record {
+    loaded = all_same (LoadedStory config es o w s.appended s.sent) (LoadedStory config (es ++ e ∷ []) o w s.appended (s.sent + count)) s.carried (λ l its. record {
       was_loaded = loaded_still config es e o w (frame_of l.chunk) calm its.was_loaded;
+      put = record { back = its.put.back; framed = its.put.framed; through = its.put.through };
       was_sent = λ through. record {
         before = es;
         count = count;
@@ -114,11 +119,11 @@ module _ (config : Config) (es : List Event) (o w : ℕ) where
         done = done;
         session = session.sends s count;
         stands = stands;
-        taken = record { front = at.front; back = at.back; framed = at.framed; through = subst (λ n. n ≤ s.sent + count) at.through through };
-        kept = λ between rest kind m numbers split e. no_split between (event.End o w kind m) rest split;
         loaded = its.was_loaded;
+        taken = record { back = its.put.back; framed = its.put.framed; through = subst (λ n. n ≤ s.sent + count) its.put.through through };
+        kept = λ between rest kind m numbers split e. no_split between (event.End o w kind m) rest split;
       };
-    }) t.framed.framed t.loaded;
+    }) t.loaded;
     acked = acks_still config es e o w s.accepted t.acked;
   }
     where
@@ -136,7 +141,7 @@ module _ (config : Config) (es : List Event) (o w : ℕ) where
   hears bytes s t own up stands = record {
     begun = begun_still config es e o w calm t.begun;
     framed = subst IsFramed (ap (λ b. cond b s (session.listens s bytes (says s bytes))) up) (hears-framed s bytes own t.framed);
-    loaded = all_left (LoadedStory config (es ++ e ∷ []) o w s.sent) (λ l. l.chunk.name) (says s bytes).replies s.carried (loads_still config es e o w s.sent s.carried calm t.loaded);
+    loaded = all_left (LoadedStory config (es ++ e ∷ []) o w (s.appended ++ out_of (says s bytes)) s.sent) (λ l. l.chunk.name) (says s bytes).replies s.carried (loads_still config es e o w s.appended (out_of (says s bytes)) s.sent s.carried calm t.loaded);
     acked = all_append (AckedStory config (es ++ e ∷ []) o w) s.accepted (newly_accepted s bytes) (acks_still config es e o w s.accepted t.acked)
         (all_same (IsAcknowledged s bytes) (AckedStory config (es ++ e ∷ []) o w) (newly_accepted s bytes) acked (acknowledged s bytes));
   }
@@ -150,7 +155,7 @@ module _ (config : Config) (es : List Event) (o w : ℕ) where
       acked : (a : Accepted) → IsAcknowledged s bytes a
           → AckedStory config (es ++ event.Heard o w bytes ∷ []) o w a
       acked a is =
-          let its = all_at (LoadedStory config es o w s.sent) s.carried is.place is.loaded t.loaded is.carried in
+          let its = all_at (LoadedStory config es o w s.appended s.sent) s.carried is.place is.loaded t.loaded is.carried in
           record {
             before = es;
             bytes = bytes;

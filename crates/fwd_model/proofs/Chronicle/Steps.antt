@@ -311,7 +311,7 @@ module _ (config : Config) (es : List Event) (sane : IsSane (reached config es))
       past NotUp {b = not (session.is_ready s)} (λ ready. to {a = answer.Frame (frame_of c)} {s = steps.with_loaded (session.loads s c now)} (λ done leads.
       let here = session_here l w x s at f in
       session_put (event.Load o w now) (λ j v kind moment numbers is done. absurd cc) o w l (session.loads s c now) lane
-      (loads config es o w s c now ((t.lanes o l lane).sessions w s here) (own_session l w s (own_lane o l lane) here) (not_not (session.is_ready s) ready) done))))))))
+      (loads config es o w s c now ((t.lanes o l lane).sessions w s here) (own_session l w s (own_lane o l lane) here) (not_not (session.is_ready s) ready) (ap (λ x. standing (session_at w x)) lane ∙ ap standing here) done))))))))
 
   wrote_on : (o w count : ℕ)
       → Onward (Next (event.Wrote o w count)) (step histories h (event.Wrote o w count))

@@ -1,6 +1,8 @@
 use Rattle.std.proofs.Common.{◌<◌, arith, length, ap, subst, sym, ◌∙◌}
 use Rattle.fwd_session.specs.Live.{LiveSession}
 use Rattle.fwd_workers.proofs.Keeping.{unloads-less}
+use Rattle.fwd_workers.specs.Working.{entries_in}
+use Rattle.fwd_workers.proofs.Earning.{kept-parts}
 use Rattle.fwd_workers.proofs.parting.end_line.Goals as goal
 
 pub loop-seat-smaller : goal.loop-seat-smaller
@@ -17,4 +19,12 @@ loop-seat-preserved g c = (
       (ap (λ (x : LiveSession). x.accepted) same.1 ∙ before.0, same.0 ∙ before.1),
   omega (arith, c.loop-seat.invariant.1, c.settle_line-news.ensures.count),
   c.settle_line-news.ensures.parts ∙ c.loop-seat.invariant.2,
+  let session = c.loop-seat.line.session in
+      omega (
+        arith,
+        c.loop-seat.invariant.3,
+        c.settle_line-news.ensures.most,
+        kept-parts g.S.Tally.kept g.met.S.Tally.kept_adds session.accepted,
+        ap (λ (x : LiveSession). g.S.Tally.kept (entries_in x.accepted)) c.settle_line-news.ensures.settled,
+      ),
 )

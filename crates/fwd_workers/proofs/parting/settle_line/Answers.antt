@@ -1,8 +1,10 @@
-use Rattle.std.proofs.Common.{ap}
+use Rattle.std.proofs.Common.{arith, ap, length}
 use Rattle.std.specs.Prelude.{is_some}
 use Rattle.fwd_session.specs.Live.{LiveSession}
 use Rattle.fwd_workers.proofs.Keeping.{same-window}
 use Rattle.fwd_workers.proofs.Leading.{acked-line}
+use Rattle.fwd_workers.specs.Working.{next_entries}
+use Rattle.fwd_workers.proofs.Earning.{kept-most}
 use Rattle.fwd_workers.proofs.parting.settle_line.Goals as goal
 
 pub invariant_of-line : goal.invariant_of-line
@@ -13,3 +15,13 @@ invariant_of-line g c = record {
   window = same-window c.args.line.now.session c.acked.new.self
       (ap (λ (x : LiveSession). x.setup) c.acked.ensures.next) c.args.line.now.window;
 }
+
+pub returns-clause-most : goal.returns-clause-most
+returns-clause-most g c =
+    let kept = g.S.Tally.kept in
+    omega (
+      arith,
+      c.settle.ensures.counted,
+      kept-most kept g.met.S.Tally.kept_adds c.settle.result (length c.in_ok-acked.chunk.entries) c.settle.ensures.most,
+      ap (λ next. kept (next_entries next)) c.in_ok-acked.ensures.chunk,
+    )
