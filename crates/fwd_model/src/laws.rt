@@ -168,8 +168,8 @@ pub fn told_without_entries()
 
 /// What is heard before the link took the last byte of a chunk's frame does not acknowledge that
 /// chunk: each that is acknowledged then was so before, at the same place, or its frame was handed
-/// on (`each`). So where no frame is handed on, and none was acknowledged before, nothing is settled
-/// (`nothing`).
+/// on (`each`). So where no frame is handed on, and none was acknowledged before, nothing is
+/// settled (`nothing`).
 pub fn early_reply_settles_nothing()
     ensures each { (h : History) (o w i : ℕ) (bytes : List ℕ) (l : Lane) (s t : SessionHistory)
         (a : Accepted) → slice_get h.lanes o ≡ Some l → slice_get l.sessions w ≡ Some (Some s) →

@@ -389,8 +389,8 @@ impl<A: Tally, S: Tally> Locked<A, S> {
     }
 
     /// A server acknowledged the chunk: its entries are settled, and answered is how many they are.
-    /// A chunk that no worker has from this output changes nothing, and counts 0; no more is counted
-    /// than the chunk's own entries.
+    /// A chunk that no worker has from this output changes nothing, and counts 0; no more is
+    /// counted than the chunk's own entries.
     pub fn settle(&mut self, seat: &mut S::Seat, acked: Arc<Acked>, carried: Carried) -> u64
         requires { IsEvidence (arc_value acked) carried }
         ensures here { IsCarried self.old.output.buffer carried → self.new

@@ -96,8 +96,8 @@ pub(crate) fn miss<A: Tally, S: Tally, C: Clock, R: Wait>(
     give_back(&round, seat, leaving);
 }
 
-/// A session ends: each accepted chunk is settled first, and no other one. Those that are not acknowledged go back,
-/// and the one that its worker may have taken and did not load.
+/// A session ends: each accepted chunk is settled first, and no other one. Those that are not
+/// acknowledged go back, and the one that its worker may have taken and did not load.
 pub(crate) fn end_line<A: Tally, S: Tally, L: Link, R: Wait>(
     round: &Round<'_, A, S, R>,
     seat: &mut S::Seat,
