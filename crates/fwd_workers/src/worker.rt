@@ -122,9 +122,8 @@ impl Worker {
     /// server. A server that closes a session behind an acknowledgement, and owes nothing, is not
     /// lost. Behind the loss of a chunk the worker seeks a server at once, and takes the chunk when
     /// it is free; with none loaded it goes to the server that it is to try. At the end each
-    /// accepted chunk is settled, and those that are taken or loaded go back. No more is counted
-    /// than the entries of chunks that sessions accepted over links of the hub, which told all
-    /// their calls.
+    /// accepted chunk is settled, and those that are taken or loaded go back. No more entries count
+    /// than those chunks have that were acknowledged over links of the hub.
     pub fn run<A: Tally, S: Tally, H: Hub, G: Gate, C: Clock, R: Wait>(
         &mut self,
         rt: &R,
@@ -181,8 +180,7 @@ impl Worker {
         }
     }
 
-    /// One turn from where the worker stands. Entries are settled only where a loaded chunk's
-    /// acknowledgement was accepted before, and no more than those chunks have.
+    /// One turn from where the worker stands. Only what was acknowledged before is settled.
     fn step<A: Tally, S: Tally, H: Hub, C: Clock, R: Wait>(
         &mut self,
         round: &Round<'_, A, S, R>,
@@ -679,9 +677,9 @@ impl Worker {
         }
     }
 
-    /// Settles the chunk that was accepted first, and no other; until one is, the session is
-    /// served, and a chunk more is taken where one may be added. Where the session ends its chunks
-    /// are lost, and the worker seeks a server while they wait.
+    /// Settles the chunk that was accepted first, and no other; until one is, the session is served, and a chunk
+    /// more is taken where one may be added. Where the session ends its chunks are lost, and the
+    /// worker seeks a server while they wait.
     fn settle<A: Tally, S: Tally, L: Link, R: Wait>(
         &mut self,
         round: &Round<'_, A, S, R>,
