@@ -7,6 +7,7 @@
 //!     tables
 //!     values count|speed cut|requests|feed:BYTES|hear:BYTES TURNS FILE
 //!     mutants COUNT
+//!     entries COUNT
 //!     calls
 //!     joins
 //!     buffers requests|count|speed|output|reports ENTRIES TAGS SIZE REQUEST TURNS
@@ -15,8 +16,9 @@
 //! of a script again where memory is refused; `settings` checks files of settings; `lines` says of
 //! each line on standard input whether it is an event's; `tables` tells what is made of tables of
 //! cases. `values` goes over the values of a stream of MessagePack, `mutants` judges requests that
-//! are changed, `calls` makes each call that takes memory, `joins` joins entries beside a plain
-//! table, and `buffers` admits requests to a buffer and settles them.
+//! are changed, `entries` reads random entries in two spellings, `calls` makes each call that takes
+//! memory, `joins` joins entries beside a plain table, and `buffers` admits requests to a buffer
+//! and settles them.
 //!
 //! Where a task is none of these, or fails, or memory runs out, it ends with 1; that a line could
 //! not be printed is not told.
@@ -26,6 +28,7 @@ mod answers;
 mod buffers;
 mod differences;
 mod digits;
+mod entries;
 mod events;
 mod growing;
 mod growing_chunks;
@@ -64,6 +67,7 @@ fn measure<R: Runtime + AllocGlobal>(rt: &R, words: &mut Args, task: &str) -> Op
         "values" => streams::measure(rt, words),
         "joins" => joins::count(rt),
         "mutants" => mutants::count(rt, words),
+        "entries" => entries::count(rt, words),
         "calls" => growing::call_all(rt),
         "buffers" => buffers::measure(rt, words),
         _ => None,
