@@ -55,10 +55,10 @@ pub at_place : (routes : List (List (List ℕ))) (xs : List Outlet) (n : ℕ) (x
 at_place routes [] n x lt is all = absurd (omega arith)
 at_place routes (y ∷ ys) zero x lt is all =
     subst (λ o. HoldsRouted routes o.lanes) (sym is)
-        (All-head (HoldsRouted routes) y.lanes (stores_of ys) all)
+    (All-head (HoldsRouted routes) y.lanes (stores_of ys) all)
 at_place routes (y ∷ ys) (suc n) x lt is all =
     at_place routes ys n x (omega arith) is
-        (All-tail (HoldsRouted routes) y.lanes (stores_of ys) all)
+    (All-tail (HoldsRouted routes) y.lanes (stores_of ys) all)
 
 -- an outlet whose tickets are routed is put there
 pub put_place : (routes : List (List (List ℕ))) (xs : List Outlet) (n : ℕ) (x : Outlet)
@@ -66,7 +66,7 @@ pub put_place : (routes : List (List (List ℕ))) (xs : List Outlet) (n : ℕ) (
     → All (HoldsRouted routes) (stores_of (slice_set xs n x))
 put_place routes xs n x one all =
     subst (All (HoldsRouted routes)) (sym (map-set (λ o. o.lanes) xs n x))
-        (All-set (HoldsRouted routes) (stores_of xs) n x.lanes one all)
+    (All-set (HoldsRouted routes) (stores_of xs) n x.lanes one all)
 
 -- an outlet with the same tickets is put there
 pub same_place : (xs : List Outlet) (n : ℕ) (x y : Outlet) → n < length xs → x ≡ get_or xs n x
@@ -83,7 +83,7 @@ pub keeps_routed : (routes : List (List (List ℕ))) (number : ℕ) (asked : Ori
     → HoldsRouted routes s → HoldsRouted routes t
 keeps_routed routes number asked s t named keeps all =
     lanes_keep routes s t keeps.ticket keeps.kept
-        (ap (λ q. route routes q.tag) keeps.batch ∙ named ∙ ap Some (sym keeps.output)) all
+    (ap (λ q. route routes q.tag) keeps.batch ∙ named ∙ ap Some (sym keeps.output)) all
 
 -- an outlet more, whose tickets are routed
 pub push_place : (routes : List (List (List ℕ))) (xs : List Outlet) (x : Outlet)
@@ -93,5 +93,5 @@ push_place routes [] x one all =
     All-cons (HoldsRouted routes) x.lanes [] one (All-nil (HoldsRouted routes))
 push_place routes (y ∷ ys) x one all =
     All-cons (HoldsRouted routes) y.lanes (stores_of (ys ++ x ∷ []))
-        (All-head (HoldsRouted routes) y.lanes (stores_of ys) all)
-        (push_place routes ys x one (All-tail (HoldsRouted routes) y.lanes (stores_of ys) all))
+    (All-head (HoldsRouted routes) y.lanes (stores_of ys) all)
+    (push_place routes ys x one (All-tail (HoldsRouted routes) y.lanes (stores_of ys) all))

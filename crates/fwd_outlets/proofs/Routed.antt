@@ -1,14 +1,13 @@
 -- That the tickets of an output are of the output that the routes name first for their tags.
-use Rattle.std.proofs.Common.{◌≡◌, ◌++◌, ◌⊎◌, ◌∙◌, inl, inr, ℕ, Bool, true, false, List, [], ◌∷◌, Option, Some, None, ap, sym, refl, subst}
+use Rattle.std.proofs.Common.{◌≡◌, ◌++◌, inl, inr, ℕ, Bool, true, false, List, [], ◌∷◌, Option, Some, None, sym, subst}
 use Rattle.std.specs.Prelude.{All, map, if◌then◌else◌}
 use Rattle.std.specs.Ordering.{is_eq, nat_cmp}
-use Rattle.std.specs.List.Sorted.{IsPermutation}
 use Rattle.std.proofs.lemmas.List.Elements.{All-append, All-cons, All-head, All-nil, All-tail, All-push}
 use Rattle.std.proofs.lemmas.List.Sorted.{All-permutation}
 use Rattle.fwd_book.specs.History.{BookSetting}
 use Rattle.fwd_book.specs.Receipts.{Receipt}
 use Rattle.fwd_workers.specs.Tickets.{Ticket, IsRight, ticket_of}
-use Rattle.fwd_tickets.specs.Stores.{Stored, Held, held_in, AreHeld, IsSame, IsKept, IsSettled, FindsLeast, Looks, HandsOver, with_ticket, with_due, waits_with, none_kept, last_chunk}
+use Rattle.fwd_tickets.specs.Stores.{Stored, Held, held_in, AreHeld, IsSame, IsKept, IsSettled, FindsLeast, Looks, HandsOver, with_ticket, with_due, none_kept, last_chunk}
 use Rattle.fwd_outlets.specs.declared.lanes.Lanes.{Lanes}
 use Rattle.fwd_outlets.specs.Laning.{AreSame, AreStirred, Keeps}
 use Rattle.fwd_outlets.specs.Collections.{ComeBack, IsHandedIn, IsRefused, AreHandedIn, AreRefused}
@@ -146,7 +145,7 @@ module _ (routes : List (List (List ℕ))) where
   handed_in s t rs is all =
       let over : Routed is.taken × AreRouted routes (held_in is.between) = handed s is.between is.taken is.handed all in
       let each : Routed (map (ticket_of is.setting) rs ++ is.back) = All-permutation (IsRouted routes) is.taken
-          (map (ticket_of is.setting) rs ++ is.back) is.each over.0 in (
+      (map (ticket_of is.setting) rs ++ is.back) is.each over.0 in (
         promised is.setting rs (front (map (ticket_of is.setting) rs) is.back each) is.right,
         come_back is.between t is.back is.rest (back (map (ticket_of is.setting) rs) is.back each) over.1,
       )
@@ -157,14 +156,14 @@ module _ (routes : List (List (List ℕ))) where
       elim is [
         | inl none ↦ looks s t none all
         | inr some ↦ (
-          let u : Stored = some.1.0 in
-          let over : Routed some.0 × AreRouted routes (held_in u) = handed s u some.0 some.1.1.0 all in
-          subst (λ x. AreRouted routes (held_in x)) (sym some.1.1.1) (record {
-            waits = over.1.waits;
-            due = over.1.due;
-            late = All-append (IsRouted routes) u.late some.0 over.1.late over.0;
-          })
-        )
+            let u : Stored = some.1.0 in
+            let over : Routed some.0 × AreRouted routes (held_in u) = handed s u some.0 some.1.1.0 all in
+            subst (λ x. AreRouted routes (held_in x)) (sym some.1.1.1) (record {
+              waits = over.1.waits;
+              due = over.1.due;
+              late = All-append (IsRouted routes) u.late some.0 over.1.late over.0;
+            })
+            )
       ]
 
   same_lane : (s t : Stored) → t ≡ s → AreRouted routes (held_in s) → AreRouted routes (held_in t)
@@ -202,13 +201,13 @@ module _ (routes : List (List (List ℕ))) where
   lanes_handed s t rs is all =
       elim is [
         | inl few ↦ (
-          let given : All (IsPromised routes) rs × AreRouted routes (held_in t.few) = handed_in s.few t.few rs few.0 all.few in
-          (given.0, record { few = given.1; many = same_lane s.many t.many few.1 all.many })
-        )
+            let given : All (IsPromised routes) rs × AreRouted routes (held_in t.few) = handed_in s.few t.few rs few.0 all.few in
+            (given.0, record { few = given.1; many = same_lane s.many t.many few.1 all.many })
+            )
         | inr many ↦ (
-          let given : All (IsPromised routes) rs × AreRouted routes (held_in t.many) = handed_in s.many t.many rs many.0 all.many in
-          (given.0, record { few = same_lane s.few t.few many.1 all.few; many = given.1 })
-        )
+            let given : All (IsPromised routes) rs × AreRouted routes (held_in t.many) = handed_in s.many t.many rs many.0 all.many in
+            (given.0, record { few = same_lane s.few t.few many.1 all.few; many = given.1 })
+            )
       ]
 
   -- memory was refused for one of them

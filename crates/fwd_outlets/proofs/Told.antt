@@ -1,6 +1,5 @@
 -- Receipts that are told in several parts.
 use Rattle.std.proofs.Common.{ℕ, List, [], ◌∷◌, ◌++◌, refl, subst}
-use Rattle.std.specs.Prelude.{All}
 use Rattle.std.proofs.lemmas.List.Elements.{All-append, All-nil}
 use Rattle.fwd_book.specs.Receipts.{Receipt}
 use Rattle.fwd_outlets.specs.declared.lanes.Lanes.{Lanes}

@@ -1,7 +1,5 @@
 -- The bytes that come.
-use Rattle.std.proofs.Common.{◌≡◌, false, List, ℕ, Bool, Option, [], ◌∷◌, ap, sym, subst, ◌∙◌, arith}
-use Rattle.fwd_source.specs.Live.{LiveSource}
-use Rattle.fwd_peers.specs.declared.source_end.PeerEnd.{PeerEnd}
+use Rattle.std.proofs.Common.{◌≡◌, false, List, ℕ, Bool, [], ◌∷◌, ap, sym, subst, ◌∙◌, arith}
 use Rattle.fwd_peers.specs.declared.stage.Stage.{Stage}
 use Rattle.fwd_peers.specs.declared.stream.Visit.{Visit}
 use Rattle.fwd_peers.specs.Streams.{Call, IsReading, is_full}

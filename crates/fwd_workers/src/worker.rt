@@ -677,9 +677,9 @@ impl Worker {
         }
     }
 
-    /// Settles the chunk that was accepted first, and no other; until one is, the session is served, and a chunk
-    /// more is taken where one may be added. Where the session ends its chunks are lost, and the
-    /// worker seeks a server while they wait.
+    /// Settles the chunk that was accepted first, and no other; until one is, the session is
+    /// served, and a chunk more is taken where one may be added. Where the session ends its chunks
+    /// are lost, and the worker seeks a server while they wait.
     fn settle<A: Tally, S: Tally, L: Link, R: Wait>(
         &mut self,
         round: &Round<'_, A, S, R>,

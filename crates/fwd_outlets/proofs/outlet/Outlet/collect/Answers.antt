@@ -14,14 +14,14 @@ loop-init g c = (
 pub loop-preserved : goal.loop-preserved
 loop-preserved g c = (
   λ routes held.
-    let before = c.loop.invariant.0 routes held in
-    let given = c.in_ok-receipts.ensures.given in (
-      (lanes_handed routes c.loop.self.lanes c.hand_in.new.self c.in_ok-receipts.receipts.items given before.0).1,
-      on routes (sources_in c.args.connections.now) (sources_in c.loop.connections)
-          (sources_in c.tell_all.new.self) before.1
-          (one_told routes (sources_in c.loop.connections) (sources_in c.tell_all.new.self)
-          c.in_ok-receipts.receipts.items c.loop.self.lanes c.hand_in.new.self given before.0 told),
-    ),
+      let before = c.loop.invariant.0 routes held in
+      let given = c.in_ok-receipts.ensures.given in (
+        (lanes_handed routes c.loop.self.lanes c.hand_in.new.self c.in_ok-receipts.receipts.items given before.0).1,
+        on routes (sources_in c.args.connections.now) (sources_in c.loop.connections)
+            (sources_in c.tell_all.new.self) before.1
+            (one_told routes (sources_in c.loop.connections) (sources_in c.tell_all.new.self)
+            c.in_ok-receipts.receipts.items c.loop.self.lanes c.hand_in.new.self given before.0 told),
+      ),
   λ t then_told more. c.loop.invariant.1 t then_told
       (a_round c.loop.self.lanes c.hand_in.new.self t
       (sources_in c.loop.connections) (sources_in c.tell_all.new.self) then_told
@@ -35,8 +35,8 @@ loop-preserved g c = (
 
 pub returns-in_err-receipts-clause-routed : goal.returns-in_err-receipts-clause-routed
 returns-in_err-receipts-clause-routed g c = λ routes held.
-  lanes_refused routes c.loop.self.lanes c.hand_in.new.self c.in_err-receipts.ensures.kept
-      (c.loop.invariant.0 routes held).0
+    lanes_refused routes c.loop.self.lanes c.hand_in.new.self c.in_err-receipts.ensures.kept
+    (c.loop.invariant.0 routes held).0
 
 pub returns-after-loop-clause-routed : goal.returns-after-loop-clause-routed
 returns-after-loop-clause-routed g c = λ routes held. (c.loop.invariant.0 routes held).0

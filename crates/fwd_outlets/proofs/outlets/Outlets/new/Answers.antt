@@ -8,6 +8,6 @@ use Rattle.fwd_outlets.proofs.outlets.Outlets.new.Goals as goal
 pub loop-output-2-preserved : goal.loop-output-2-preserved
 loop-output-2-preserved g c =
     subst (λ xs. All (HoldsRouted c.args.routes.now) (stores_of xs))
-        (sym c.in_default.ensures.items)
-        (push_place c.args.routes.now c.loop-output-2.all.items c.new-outlet.result
-        (c.new-outlet.ensures c.args.routes.now) c.loop-output-2.invariant)
+    (sym c.in_default.ensures.items)
+    (push_place c.args.routes.now c.loop-output-2.all.items c.new-outlet.result
+    (c.new-outlet.ensures c.args.routes.now) c.loop-output-2.invariant)

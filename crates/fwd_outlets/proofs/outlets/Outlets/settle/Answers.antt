@@ -6,9 +6,9 @@ use Rattle.fwd_outlets.proofs.outlets.Outlets.settle.Goals as goal
 pub invariant_of-self-2 : goal.invariant_of-self-2
 invariant_of-self-2 c =
     let held = at_place c.self.inside.routes.now c.self.inside.all.items c.args.place c.in-Some.outlet.now
-        (omega (arith, c.in-Some.ensures.variant.0 refl)) c.in-Some.ensures.value c.self.invariant in
+    (omega (arith, c.in-Some.ensures.variant.0 refl)) c.in-Some.ensures.value c.self.invariant in
     put_place c.self.inside.routes.now c.self.inside.all.items c.args.place
-        (record c.in-Some.outlet.now { lanes = c.settle.new.self })
-        (lanes_settled c.self.inside.routes.now c.in-Some.outlet.now.lanes c.settle.new.self
-        c.args.chunk c.settle.ensures.few c.settle.ensures.many held)
-        c.self.invariant
+    (record c.in-Some.outlet.now { lanes = c.settle.new.self })
+    (lanes_settled c.self.inside.routes.now c.in-Some.outlet.now.lanes c.settle.new.self
+    c.args.chunk c.settle.ensures.few c.settle.ensures.many held)
+    c.self.invariant
