@@ -438,19 +438,36 @@ latency() {
 # prints what the calls that receive and that send take, of the samples: ENTRIES_A_REQUEST
 print_share() {
     perf report -i "$folder/perf" --stdio --children -g none --sort dso,sym 2>/dev/null | awk -v request="$1" '
+    /^# Samples:/ { samples = $3 }
     $3 !~ /^libc[.-]/ { next }
     $5 ~ /^_*(GI_+)?(libc_)?(recv|recvfrom|recvmsg|read|readv)$/ { received += $1 }
     $5 ~ /^_*(GI_+)?(libc_)?(send|sendto|sendmsg|writev)$/ { sent += $1 }
-    END { printf "shares, 10 connections, %4s entries/r: receiving %.1f %%, sending %.1f %%\n", request, received, sent }'
+    END {
+        printf "shares, 10 connections, %4s entries/r: ", request
+        if (samples != "")
+            printf "receiving %.1f %%, sending %.1f %% of %s samples\n", received, sent, samples
+        else
+            print "no samples"
+    }'
+}
+
+# waits until perf has begun to write, at most ten seconds
+await_samples() {
+    for _ in $(seq 100); do
+        [ ! -s "$folder/perf" ] || break
+        sleep 0.1
+    done
+    sleep 0.3
 }
 
 # the shares of a kind of request: ENTRIES_A_REQUEST
 share() {
     start_sink "$folder/sink"
     start_middle
+    rm -f "$folder/perf"
     perf record -q -e cpu-clock -F 999 -g -p "$middle" -o "$folder/perf" >"$folder/perf.out" 2>&1 &
     sampler=$!
-    sleep 0.5
+    await_samples
     if generate_requests 10 "$1" 10000000000 "$share_s"; then
         end "$sampler"
         sampler=''
