@@ -57,9 +57,9 @@
 # less processor time than the system's clock shows.
 #
 # Shares: what the calls that receive (recv, read and the like) and those that send take of the processor time of
-# `relay 0 1` with 10 connections, each in a run of its own, of some seconds. perf looks 999 times a second of processor
-# time where the relay is; that is a timer of the kernel, and needs no counters of the processor. Where there is no perf,
-# or it may not look, they are left out.
+# `relay 0 1`, all its threads, with 10 connections, each in a run of its own of some seconds. They are of samples that
+# perf takes, 999 in a second of processor time, by a timer of the kernel: it needs no counters of the processor. Where
+# there is no perf, or it takes no samples, they are left out.
 #
 # Spans: requests of 1,000 entries, 200,000 bytes, one outstanding, where a chunk has at most 50,000 bytes: the row
 # fails where one that goes over several chunks is not acknowledged within 10 s.

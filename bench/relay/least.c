@@ -5,9 +5,10 @@
  * It listens at a port of 127.0.0.1, prints `port N` (PORT 0 is a free one), sends to the next hop at SINK_PORT, and
  * ends at SIGTERM. As in the relay, one thread, the loop, owns all sources, and another, the worker, has one session
  * with the next hop; each entry is checked item by item, which in Forward and Message mode also says where it ends; its
- * bytes are copied once, from where the socket is read to the request that keeps them, or not at all; and a source is
- * told of a request only once the next hop has acknowledged the frame that it went in. What comes while a frame is
- * under way goes in the next one. Each frame is in PackedForward mode, whatever the requests in it were.
+ * bytes are copied once, from where the socket is read to the request that keeps them, or not at all (an entry of
+ * Forward or Message mode that is cut by the end of a read is put aside, and walked again); and a source is told of a
+ * request only once the next hop has acknowledged the frame that it went in. What comes while a frame is under way goes
+ * in the next one. Each frame is in PackedForward mode, whatever the requests in it were.
  *
  * It is no relay: it has no limits, no retries, no settings and no handshake, and nothing of it is proved. It reads
  * only what generator.c sends: requests in PackedForward mode with the options `size` and `chunk`, in Forward and

@@ -28,10 +28,10 @@
 struct conn {
     int fd;
     enum { FRONT, PACKED, ENTRIES, OPTION } state;
-    size_t left;    /* packed bytes, or entries, that are still to come */
-    size_t packed;  /* the bytes of the entries as far as they are known */
-    size_t entries; /* how many have been walked */
-    struct bytes rest; /* the front of a head that is not yet whole */
+    size_t left;       /* packed bytes, or entries, that are still to come */
+    size_t packed;     /* the bytes of the entries, of those alone that have been walked where they have to be */
+    size_t entries;    /* how many have been walked */
+    struct bytes rest; /* the front of a head or an entry that is not yet whole */
     struct bytes out;
 };
 
@@ -141,7 +141,7 @@ static int read_front(struct conn *conn, struct cursor *in) {
     return !in->is_short && !in->is_bad;
 }
 
-/* Goes over packed bytes, or entries that are whole: how many bytes these have. */
+/* Goes over packed bytes, or over entries as far as they are whole: how many bytes these have. */
 static size_t pass(struct conn *conn, const unsigned char *at, size_t len) {
     size_t place = 0;
     if (conn->state == PACKED) {
