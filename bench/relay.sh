@@ -37,6 +37,11 @@
 # `MB` is its greatest resident memory (VmHWM), of socat the greatest sum over its processes, looked at now and then, in
 # which pages that they share count for each.
 #
+# `entries/r` are the entries of a request, which is in PackedForward mode and says how long its entries are together.
+# With an F behind the number it is in Forward mode, with an M in Message mode, whose entries have to be walked to find
+# where they end. `least` and the relay hand on all of them in PackedForward mode; the sink walks them where they come
+# to it as they are, so in the ways `direct` and `socat`. Bytes are those of the entries once they are packed.
+#
 # A row has failed where not all was acknowledged in time, or where the entries or bytes that came to the sink are not
 # exactly those that were sent.
 #
@@ -50,6 +55,11 @@
 # request also those of the faster of `relay 0 1` and `relay 0 1 8` (`best`), and of `relay 0 4` over `relay 0 1`; and
 # the round trips over those of the direct way. `-` stands where one of the two was not measured, has failed, or took
 # less processor time than the system's clock shows.
+#
+# Shares: what the calls that receive (recv, read and the like) and those that send take of the processor time of
+# `relay 0 1`, all its threads, with 10 connections, each in a run of its own of some seconds. They are of samples that
+# perf takes, 999 in a second of processor time, by a timer of the kernel: it needs no counters of the processor. Where
+# there is no perf, or it takes no samples, they are left out.
 #
 # Spans: requests of 1,000 entries, 200,000 bytes, one outstanding, where a chunk has at most 50,000 bytes: the row
 # fails where one that goes over several chunks is not acknowledged within 10 s.
@@ -66,9 +76,9 @@ set -eu
 export LC_ALL=C
 
 if [ "${QUICK:-0}" = 1 ]; then
-    entries=${ENTRIES:-20000} idle_conns=100 idle_s=3 trips=300 long=1000000 minute_s=2
+    entries=${ENTRIES:-20000} idle_conns=100 idle_s=3 trips=300 long=1000000 minute_s=2 share_s=1
 else
-    entries=${ENTRIES:-1000000} idle_conns=1000 idle_s=10 trips=3000 long=8000000 minute_s=60
+    entries=${ENTRIES:-1000000} idle_conns=1000 idle_s=10 trips=3000 long=8000000 minute_s=60 share_s=3
 fi
 window=${WINDOW:-4}
 limit=${TIMEOUT:-60}
@@ -93,7 +103,7 @@ ulimit -n "$(ulimit -H -n)"
 folder=$(mktemp -d)
 : >"$folder/rows"
 : >"$folder/trips"
-sink='' middle='' generator='' distance=''
+sink='' middle='' generator='' distance='' sampler=''
 
 # a process and its children
 family() {
@@ -111,11 +121,12 @@ end() {
 }
 
 end_all() {
+    end "$sampler"
     end "$generator"
     end "$middle"
     end "$distance"
     end "$sink"
-    sink='' middle='' generator='' distance=''
+    sink='' middle='' generator='' distance='' sampler=''
 }
 
 trap 'end_all; rm -rf "$folder"' EXIT
@@ -278,7 +289,22 @@ full_name() {
 
 # a row's front: its way, its connections, the entries of a request
 print_front() {
-    printf '%-14s %6d %8d' "$(full_name)" "$1" "$2"
+    printf '%-14s %6d %8s' "$(full_name)" "$1" "$2"
+}
+
+# the mode of requests by the letter behind the number of their entries
+mode_of() {
+    case $1 in
+    *F) echo forward ;;
+    *M) echo message ;;
+    *) echo packed ;;
+    esac
+}
+
+# runs the generator over connections with requests of some entries: CONNECTIONS ENTRIES_A_REQUEST ENTRIES SECONDS
+generate_requests() {
+    generate "$folder/generator" --mode "$(mode_of "$2")" --connections "$1" --entries "${2%[FM]}" --total "$3" \
+        --window "$window" --seconds "$4" --timeout "$limit" 127.0.0.1 "$port"
 }
 
 # whether the sink got exactly what was sent
@@ -302,8 +328,7 @@ row() {
     start_sink "$folder/sink"
     start_middle
     print_front "$1" "$2"
-    if generate "$folder/generator" --connections "$1" --entries "$2" --total "$3" --window "$window" \
-        --seconds "$seconds" --timeout "$limit" 127.0.0.1 "$port"; then
+    if generate_requests "$1" "$2" "$3" "$seconds"; then
         printf ' %10s %8s' "$(field entries/s "$folder/generator.out")" "$(field MB/s "$folder/generator.out")"
         print_costs "$(field entries "$folder/generator.out")"
         if check_sink; then
@@ -334,7 +359,8 @@ relp_row() {
     end_all
 }
 
-# the rows of a way: connections with 100 entries in a request, then entries in a request with 10 connections
+# the rows of a way: connections with 100 entries in a request, then entries in a request with 10 connections, then
+# the other modes
 rows() {
     for conns in 1 10 100 1000; do
         if [ "$way" = rsyslog ]; then
@@ -346,6 +372,9 @@ rows() {
     if [ "$way" != rsyslog ]; then
         row 10 1 $((entries / 5))
         row 10 10000 "$entries"
+        row 10 100F "$entries"
+        row 10 1F $((entries / 5))
+        row 10 1M $((entries / 5))
     fi
 }
 
@@ -404,6 +433,59 @@ latency() {
         fail "$(cat "$folder/generator.err")"
     fi
     end_all
+}
+
+# prints what the calls that receive and that send take, of the samples: ENTRIES_A_REQUEST
+print_share() {
+    perf report -i "$folder/perf" --stdio --children -g none --sort dso,sym 2>/dev/null | awk -v request="$1" '
+    /^# Samples:/ { samples = $3 }
+    $3 !~ /^libc[.-]/ { next }
+    $5 ~ /^_*(GI_+)?(libc_)?(recv|recvfrom|recvmsg|read|readv)$/ { received += $1 }
+    $5 ~ /^_*(GI_+)?(libc_)?(send|sendto|sendmsg|writev)$/ { sent += $1 }
+    END {
+        printf "shares, 10 connections, %4s entries/r: ", request
+        if (samples != "")
+            printf "receiving %.1f %%, sending %.1f %% of %s samples\n", received, sent, samples
+        else
+            print "no samples"
+    }'
+}
+
+# waits until perf has begun to write, at most ten seconds
+await_samples() {
+    for _ in $(seq 100); do
+        [ ! -s "$folder/perf" ] || break
+        sleep 0.1
+    done
+    sleep 0.3
+}
+
+# the shares of a kind of request: ENTRIES_A_REQUEST
+share() {
+    start_sink "$folder/sink"
+    start_middle
+    rm -f "$folder/perf"
+    perf record -q -e cpu-clock -F 999 -g -p "$middle" -o "$folder/perf" >"$folder/perf.out" 2>&1 &
+    sampler=$!
+    await_samples
+    if generate_requests 10 "$1" 10000000000 "$share_s"; then
+        end "$sampler"
+        sampler=''
+        print_share "$1"
+    else
+        fail "$(cat "$folder/generator.err")"
+    fi
+    end_all
+}
+
+shares() {
+    perf record -q -e cpu-clock -g -o "$folder/perf" true >"$folder/perf.out" 2>&1 || {
+        echo 'shares: left out, since perf takes no samples here'
+        return
+    }
+    for request in 100 100F 1F 1M; do
+        share "$request"
+    done
 }
 
 # requests that go over several chunks, in a row of its own
@@ -495,7 +577,7 @@ print_ratios() {
     }
     function line(label, name, row) {
         split(row, at)
-        printf "%-14s %6d %8d %11s %11s %12s %15s\n", label, at[1], at[2], over(rate[name, row], rate["least", row]),
+        printf "%-14s %6d %8s %11s %11s %12s %15s\n", label, at[1], at[2], over(rate[name, row], rate["least", row]),
             over(rate[name, row], rate["socat", row]), over(rate[name, row], rate["before 0 1", row]),
             over(cpu[name, row], cpu["socat", row])
     }
@@ -503,6 +585,11 @@ print_ratios() {
         for (i = 1; i <= count; i++)
             if ((name, rows[i]) in rate)
                 line(name, name, rows[i])
+    }
+    function best_line(row, best) {
+        best = rate["relay 0 1 8", row] > rate["relay 0 1", row] ? "0 1 8" : "0 1"
+        if (rate["relay " best, row] > 0)
+            line("best, " best, "relay " best, row)
     }
     {
         name = $0
@@ -513,15 +600,18 @@ print_ratios() {
         if ((name == "socat" || name == "least") && !(row in known))
             known[row] = rows[++count] = row
     }
+    function workers(row) {
+        return over(rate["relay 0 4", row], rate["relay 0 1", row])
+    }
     END {
         single = "10 1"
         lines("relay 0 1")
-        best = rate["relay 0 1 8", single] > rate["relay 0 1", single] ? "0 1 8" : "0 1"
-        if (rate["relay " best, single] > 0)
-            line("best, " best, "relay " best, single)
+        best_line(single)
+        best_line(single "F")
+        best_line(single "M")
         lines("before 0 1")
-        print "entries/s of relay 0 4 over relay 0 1, with 10 connections and 1 entry/r: " \
-            over(rate["relay 0 4", single], rate["relay 0 1", single])
+        print "entries/s of relay 0 4 over relay 0 1, with 10 connections and 1 entry/r: " workers(single) \
+            ", 1F: " workers(single "F") ", 1M: " workers(single "M")
     }' "$folder/rows"
 }
 
@@ -554,6 +644,7 @@ each_way latency
 
 way=relay
 set_setting 0 1
+shares
 pieces
 spans
 far

@@ -1,4 +1,4 @@
-/* Log-like entries, as MessagePack and as text. */
+/* Log-like entries, as MessagePack and as text; entries.h says what each function does. */
 
 #include "entries.h"
 
@@ -75,21 +75,68 @@ void add_message(struct bytes *out, unsigned number) {
     bytes_add(out, text, (size_t)len);
 }
 
-size_t add_request(struct bytes *out, const char *tag, unsigned entries, unsigned first) {
-    struct bytes packed = {0};
-    static const char no_chunk[CHUNK_LEN];
-    for (unsigned i = 0; i < entries; i++)
-        add_entry(&packed, first + i);
-    size_t len = packed.len;
-    bytes_add_byte(out, 0x93);
+/* What stands before the entries, which have so many bytes. */
+static void add_front(struct bytes *out, enum mode mode, const char *tag, unsigned entries, size_t len) {
+    bytes_add_byte(out, mode == MESSAGE ? 0x94 : 0x93);
     add_str(out, tag);
-    add_number(out, 0xc6, (uint32_t)len, 4);
-    bytes_add(out, packed.at, len);
-    bytes_add_byte(out, 0x82);
-    add_count(out, "size", entries);
+    if (mode == PACKED_FORWARD)
+        add_number(out, 0xc6, (uint32_t)len, 4);
+    else if (mode == FORWARD && entries < 16)
+        bytes_add_byte(out, (unsigned char)(0x90 | entries));
+    else if (mode == FORWARD)
+        add_number(out, 0xdc, entries, 2);
+}
+
+/* The options: the size in PackedForward mode alone, where the entries need not be walked to know it. */
+static void add_option(struct bytes *out, enum mode mode, unsigned entries) {
+    static const char no_chunk[CHUNK_LEN];
+    bytes_add_byte(out, mode == PACKED_FORWARD ? 0x82 : 0x81);
+    if (mode == PACKED_FORWARD)
+        add_count(out, "size", entries);
     add_str(out, "chunk");
     bytes_add_byte(out, 0xa0 | CHUNK_LEN);
     bytes_add(out, no_chunk, CHUNK_LEN);
+}
+
+size_t add_request(struct bytes *out, enum mode mode, const char *tag, unsigned entries, unsigned first) {
+    struct bytes packed = {0};
+    for (unsigned i = 0; i < entries; i++)
+        add_entry(&packed, first + i);
+    size_t len = packed.len, skipped = mode == MESSAGE; /* the head of the entry's array */
+    add_front(out, mode, tag, entries, len);
+    bytes_add(out, packed.at + skipped, len - skipped);
+    add_option(out, mode, entries);
     free(packed.at);
     return len;
+}
+
+size_t event_len(const unsigned char *at, size_t len) {
+    if (len < 6)
+        return 0;
+    if (at[0] != 0xce || (at[5] & 0xf0) != 0x80)
+        die("an entry that generator.c does not send");
+    size_t place = 5, values = 1;
+    for (; values && place < len; values--) {
+        unsigned char head = at[place++];
+        if (head >= 0xa0 && head < 0xc0) /* a short str */
+            place += head & 31u;
+        else if (head >= 0x80 && head < 0x90) /* a short map */
+            values += 2 * (head & 15u);
+        else if (head >= 0xcc && head < 0xd4) /* an integer, behind its head */
+            place += 1u << (head & 3);
+        else if (head == 0xd9) /* a str of at most 255 bytes */
+            place += 1u + (place < len ? at[place] : 0u);
+        else if (head >= 0x80 && head < 0xe0) /* all others are small integers */
+            die("an item that generator.c does not send");
+    }
+    return values || place > len ? 0 : place;
+}
+
+size_t entry_len(const unsigned char *at, size_t len) {
+    if (!len)
+        return 0;
+    if (at[0] != 0x92)
+        die("an entry that generator.c does not send");
+    size_t event = event_len(at + 1, len - 1);
+    return event ? 1 + event : 0;
 }

@@ -1,9 +1,10 @@
-/* Sends requests in PackedForward mode over many connections, and waits for the acknowledgement of each.
+/* Sends requests over many connections, and waits for the acknowledgement of each.
  *
  *     generator [OPTIONS] HOST PORT
  *
+ *     --mode M          packed (PackedForward mode), forward (Forward mode) or message (Message mode) (packed)
  *     --connections K   connections at a time (1)
- *     --entries N       entries of a request, about 200 bytes each (100)
+ *     --entries N       entries of a request, about 200 bytes each (100); in Message mode always one
  *     --total E         ends once so many entries are acknowledged, rounded up to whole requests (100000)
  *     --window W        the most unacknowledged requests of a connection (4)
  *     --tags T          the requests go round so many tags (1)
@@ -18,7 +19,7 @@
  *
  *     entries E seconds S entries/s R MB/s M bytes B
  *
- * where bytes are those of the entries, without what is around them, and a MB is 10^6 bytes.
+ * where bytes are those of the entries once they are packed, without what is around them, and a MB is 10^6 bytes.
  */
 
 #define _GNU_SOURCE
@@ -41,6 +42,7 @@
 static const char *host, *port;
 static long connections = 1, entries = 100, total = 100000, window = 4, tags = 1, timeout_s = 60, seconds_s, hold_s;
 static int is_latency;
+static enum mode mode = PACKED_FORWARD;
 
 /* A request that was made beforehand. */
 struct request {
@@ -81,7 +83,7 @@ static void make_requests(void) {
     for (long i = 0; i < made_count; i++) {
         char tag[40];
         snprintf(tag, sizeof tag, tags > 1 ? "app.web.access.%ld" : "app.web.access", i % tags);
-        made[i].payload = add_request(&made[i].bytes, tag, (unsigned)entries, (unsigned)(i * entries));
+        made[i].payload = add_request(&made[i].bytes, mode, tag, (unsigned)entries, (unsigned)(i * entries));
     }
 }
 
@@ -220,8 +222,17 @@ static void print_latency(void) {
     printf("median_ms %.4f p99_ms %.4f\n", trips[acked / 2] * 1e3, trips[acked * 99 / 100] * 1e3);
 }
 
+static enum mode mode_of(const char *name) {
+    static const char *const names[] = {[PACKED_FORWARD] = "packed", [FORWARD] = "forward", [MESSAGE] = "message"};
+    for (enum mode i = PACKED_FORWARD; i <= MESSAGE; i++)
+        if (!strcmp(name, names[i]))
+            return i;
+    die("--mode is packed, forward or message");
+}
+
 static void read_option(int option) {
     switch (option) {
+    case 'm': mode = mode_of(optarg); break;
     case 'k': connections = number_of("--connections", optarg, 1, 100000); break;
     case 'n': entries = number_of("--entries", optarg, 1, 60000); break;
     case 'e': total = number_of("--total", optarg, 1, 1000000000000); break;
@@ -241,7 +252,7 @@ static void read_words(int argc, char **argv) {
         {"total", required_argument, NULL, 'e'},       {"window", required_argument, NULL, 'w'},
         {"tags", required_argument, NULL, 't'},        {"timeout", required_argument, NULL, 's'},
         {"seconds", required_argument, NULL, 'u'},     {"hold", required_argument, NULL, 'h'},
-        {"latency", no_argument, NULL, 'l'},
+        {"latency", no_argument, NULL, 'l'},           {"mode", required_argument, NULL, 'm'},
         {NULL, 0, NULL, 0},
     };
     int option;
@@ -249,6 +260,8 @@ static void read_words(int argc, char **argv) {
         read_option(option);
     if (argc - optind != 2)
         die("generator [OPTIONS] HOST PORT");
+    if (mode == MESSAGE)
+        entries = 1;
     host = argv[optind];
     port = argv[optind + 1];
     wanted = hold_s ? connections * window : (total + entries - 1) / entries;

@@ -4,19 +4,22 @@
  *
  * It listens at a port of 127.0.0.1, prints `port N` (PORT 0 is a free one), sends to the next hop at SINK_PORT, and
  * ends at SIGTERM. As in the relay, one thread, the loop, owns all sources, and another, the worker, has one session
- * with the next hop; each entry is checked item by item; its bytes are copied once, from where the socket is read to
- * the request that keeps them, or not at all; and a source is told of a request only once the next hop has
- * acknowledged the frame that it went in. What comes while a frame is under way goes in the next one.
+ * with the next hop; each entry is checked item by item, which in Forward and Message mode also says where it ends; its
+ * bytes are copied once, from where the socket is read to the request that keeps them, or not at all (an entry of
+ * Forward or Message mode that is cut by the end of a read is put aside, and walked again); and a source is told of a
+ * request only once the next hop has acknowledged the frame that it went in. What comes while a frame is under way goes
+ * in the next one. Each frame is in PackedForward mode, whatever the requests in it were.
  *
  * It is no relay: it has no limits, no retries, no settings and no handshake, and nothing of it is proved. It reads
- * only what generator.c sends: requests in PackedForward mode with the options `size` and `chunk`, and with the same
- * tag of at most 31 bytes in all of them, so that one list of what waits is enough. At all else, and where a source
- * does not read its acknowledgements or the next hop goes away, it ends with a message and status 1. A source may
- * close when it likes: what it sent whole goes on.
+ * only what generator.c sends: requests in PackedForward mode with the options `size` and `chunk`, in Forward and
+ * Message mode with the option `chunk`, and with the same tag of at most 31 bytes in all of them, so that one list of
+ * what waits is enough. At all else, and where a source does not read its acknowledgements or the next hop goes away,
+ * it ends with a message and status 1. A source may close when it likes: what it sent whole goes on.
  */
 
 #define _GNU_SOURCE
 #include "common.h"
+#include "entries.h"
 
 #include <errno.h>
 #include <pthread.h>
@@ -31,15 +34,15 @@
 #include <unistd.h>
 
 #define ROOM 65536
-#define HEAD_MOST 64    /* more than the bytes before the packed ones, and more than those behind them */
+#define HEAD_MOST 512   /* more than what stands before the entries, an entry, and what stands behind them */
 #define PARTS_MOST 1024 /* of a writev */
 #define ACK_FRONT "\x81\xa3" "ack" "\xb8"
 #define ACK_LEN (6 + CHUNK_LEN)
 
-/* A request, and its packed entries. */
+/* A request and its entries, packed, or those entries of it that came with one read. */
 struct request {
     struct request *next;
-    struct conn *conn;
+    struct conn *conn; /* whom to tell, or NULL where more entries of the same request come next */
     size_t len;
     char chunk[CHUNK_LEN];
     unsigned char packed[];
@@ -53,11 +56,12 @@ struct list {
 
 /* A source, of which the loop alone knows. It stays until it has closed and none of its requests is on its way. */
 struct conn {
-    int fd;                  /* -1 once it has closed */
-    struct request *request; /* the one whose front has come */
-    size_t filled;           /* so many of its packed bytes are here */
+    int fd; /* -1 once it has closed */
+    enum { FRONT, PACKED, ENTRIES } stage;
+    size_t left;      /* so many packed bytes, or entries, are still to come before the options */
+    struct list came; /* what is here of the request whose front has come */
     unsigned char rest[HEAD_MOST];
-    size_t rest_len; /* so many bytes of a head that is not yet whole are in `rest` */
+    size_t rest_len; /* so many bytes of a head or an entry that is not yet whole are in `rest` */
     long under_way;  /* its requests of which it is not told yet */
     struct bytes out;
     struct conn *next; /* the next one to which acknowledgements are to be sent */
@@ -119,34 +123,14 @@ static struct list take_done(void) {
     return list;
 }
 
-/* Where a value of generator.c ends, which has to be whole. */
-static size_t value_end(const unsigned char *at, size_t place, size_t len) {
-    size_t values = 1;
-    for (; values && place < len; values--) {
-        unsigned char head = at[place++];
-        if (head >= 0xa0 && head < 0xc0) /* a short str */
-            place += head & 31u;
-        else if (head >= 0x80 && head < 0x90) /* a short map */
-            values += 2 * (head & 15u);
-        else if (head >= 0xcc && head < 0xd4) /* an integer, behind its head */
-            place += 1u << (head & 3);
-        else if (head == 0xd9 && place < len) /* a str of at most 255 bytes */
-            place += 1u + at[place];
-        else if (head >= 0x80 && head < 0xe0) /* all others are small integers */
-            die("an item that generator.c does not send");
-    }
-    if (values || place > len)
-        die("an entry that is not whole");
-    return place;
-}
-
-/* How many entries there are, each of which has to be an array of a time and a map. */
+/* How many entries there are, which have to be whole. */
 static size_t count_entries(const unsigned char *at, size_t len) {
     size_t count = 0;
     for (size_t place = 0; place < len; count++) {
-        if (len - place < 7 || at[place] != 0x92 || at[place + 1] != 0xce || (at[place + 6] & 0xf0) != 0x80)
-            die("an entry that generator.c does not send");
-        place = value_end(at, place + 6, len);
+        size_t entry = entry_len(at + place, len - place);
+        if (!entry)
+            die("an entry that is not whole");
+        place += entry;
     }
     return count;
 }
@@ -220,8 +204,25 @@ static void close_source(struct conn *conn) {
     if (close(conn->fd))
         die("close: %s", strerror(errno));
     conn->fd = -1;
-    free(conn->request);
+    for (struct request *it = conn->came.first, *next; it; it = next) {
+        next = it->next;
+        free(it);
+    }
     forget_if_done(conn);
+}
+
+/* Tells a source of a request, once for what waits to be sent: the sources that are to be sent something. */
+static struct conn *add_ack(struct conn *told, const struct request *request) {
+    struct conn *conn = request->conn;
+    if (conn->fd >= 0 && !conn->out.len) {
+        conn->next = told;
+        told = conn;
+    }
+    bytes_add(&conn->out, ACK_FRONT, ACK_LEN - CHUNK_LEN);
+    bytes_add(&conn->out, request->chunk, CHUNK_LEN);
+    conn->under_way--;
+    forget_if_done(conn);
+    return told;
 }
 
 /* Tells the sources of requests that are acknowledged, and forgets these. */
@@ -229,15 +230,8 @@ static void tell(struct request *request) {
     struct conn *told = NULL;
     for (struct request *next; request; request = next) {
         next = request->next;
-        struct conn *conn = request->conn;
-        if (conn->fd >= 0 && !conn->out.len) {
-            conn->next = told;
-            told = conn;
-        }
-        bytes_add(&conn->out, ACK_FRONT, ACK_LEN - CHUNK_LEN);
-        bytes_add(&conn->out, request->chunk, CHUNK_LEN);
-        conn->under_way--;
-        forget_if_done(conn);
+        if (request->conn)
+            told = add_ack(told, request);
         free(request);
     }
     for (; told; told = told->next) {
@@ -247,7 +241,36 @@ static void tell(struct request *request) {
     }
 }
 
-/* This and the next two read a part of a request: how many bytes it has, or 0 where it is not whole. */
+/* Makes room for more bytes of the request whose front has come, which hold so many entries. */
+static unsigned char *keep(struct conn *conn, size_t len, size_t entries) {
+    struct request *more = malloc(sizeof *more + len);
+    if (!more)
+        die("memory");
+    *more = (struct request){.len = len};
+    list_add(&conn->came, (struct list){more, more, len, entries});
+    return more->packed;
+}
+
+/* This and the next four read a part of a request: how many bytes it has, or 0 where it is not whole. */
+static size_t read_packed_head(struct conn *conn, const unsigned char *at) {
+    conn->left = (size_t)at[1] << 24 | (size_t)at[2] << 16 | (size_t)at[3] << 8 | at[4];
+    conn->stage = PACKED;
+    keep(conn, conn->left, 0);
+    return 5;
+}
+
+/* The one entry of Message mode, which is packed without the array of the request. */
+static size_t read_event(struct conn *conn, const unsigned char *at, size_t len) {
+    size_t event = event_len(at, len);
+    if (event) {
+        unsigned char *entry = keep(conn, 1 + event, 1);
+        entry[0] = 0x92;
+        memcpy(entry + 1, at, event);
+        conn->stage = ENTRIES;
+    }
+    return event;
+}
+
 static size_t read_front(struct conn *conn, const unsigned char *at, size_t len) {
     if (len < 2 || len < 2 + (at[1] & 31u) + 5)
         return 0;
@@ -255,35 +278,59 @@ static size_t read_front(struct conn *conn, const unsigned char *at, size_t len)
         tag_len = 1 + (at[1] & 31u);
         memcpy(tag, at + 1, tag_len);
     }
-    const unsigned char *bin = at + 1 + tag_len;
-    if (at[0] != 0x93 || at[1] != tag[0] || memcmp(at + 1, tag, tag_len) || bin[0] != 0xc6)
-        die("not a request in PackedForward mode with the first one's tag");
-    size_t packed = (size_t)bin[1] << 24 | (size_t)bin[2] << 16 | (size_t)bin[3] << 8 | bin[4];
-    conn->request = malloc(sizeof *conn->request + packed);
-    if (!conn->request)
-        die("memory");
-    *conn->request = (struct request){.conn = conn, .len = packed};
-    conn->filled = 0;
-    return 1 + tag_len + 5;
+    if ((at[0] != 0x93 && at[0] != 0x94) || at[1] != tag[0] || memcmp(at + 1, tag, tag_len))
+        die("not a request with the first one's tag");
+    size_t front = 1 + tag_len, count;
+    const unsigned char *body = at + front;
+    if (at[0] == 0x94) {
+        count = read_event(conn, body, len - front);
+        return count ? front + count : 0;
+    }
+    if (body[0] == 0xc6)
+        return front + read_packed_head(conn, body);
+    if (body[0] != 0xdc && (body[0] & 0xf0) != 0x90)
+        die("not a request that generator.c sends");
+    conn->left = body[0] == 0xdc ? (size_t)body[1] << 8 | body[2] : body[0] & 15u;
+    if (!conn->left)
+        die("a request without entries");
+    conn->stage = ENTRIES;
+    return front + (body[0] == 0xdc ? 3 : 1);
 }
 
 static size_t read_packed(struct conn *conn, const unsigned char *at, size_t len) {
-    size_t left = conn->request->len - conn->filled, count = left < len ? left : len;
-    memcpy(conn->request->packed + conn->filled, at, count);
-    conn->filled += count;
+    struct request *request = conn->came.last;
+    size_t count = conn->left < len ? conn->left : len;
+    memcpy(request->packed + request->len - conn->left, at, count);
+    conn->left -= count;
     return count;
 }
 
+/* As many entries of Forward mode as are whole. */
+static size_t read_entries(struct conn *conn, const unsigned char *at, size_t len) {
+    size_t place = 0, count = 0;
+    for (size_t one; count < conn->left && (one = entry_len(at + place, len - place)); place += one)
+        count++;
+    if (count)
+        memcpy(keep(conn, place, count), at, place);
+    conn->left -= count;
+    return place;
+}
+
 static size_t read_option(struct conn *conn, const unsigned char *at, size_t len, struct list *heard) {
-    size_t place = len < 7 ? 7 : at[6] < 0x80 ? 7 : 7 + (1u << (at[6] & 3));
+    size_t place = conn->stage != PACKED ? 1 : len < 7 || at[6] < 0x80 ? 7 : 7 + (1u << (at[6] & 3));
     if (len < place + 7 + CHUNK_LEN)
         return 0;
-    if (memcmp(at, "\x82\xa4" "size", 6) || memcmp(at + place, "\xa5" "chunk\xb8", 7))
-        die("not the options size and chunk");
-    struct request *request = conn->request;
-    memcpy(request->chunk, at + place + 7, CHUNK_LEN);
-    list_add(heard, (struct list){request, request, request->len, count_entries(request->packed, request->len)});
-    conn->request = NULL;
+    if ((conn->stage == PACKED ? memcmp(at, "\x82\xa4" "size", 6) : at[0] != 0x81) ||
+        memcmp(at + place, "\xa5" "chunk\xb8", 7))
+        die("not the options that generator.c sends");
+    struct request *last = conn->came.last;
+    if (conn->stage == PACKED)
+        conn->came.entries = count_entries(last->packed, last->len);
+    last->conn = conn;
+    memcpy(last->chunk, at + place + 7, CHUNK_LEN);
+    list_add(heard, conn->came);
+    conn->came = (struct list){0};
+    conn->stage = FRONT;
     conn->under_way++;
     return place + 7 + CHUNK_LEN;
 }
@@ -292,13 +339,15 @@ static size_t read_option(struct conn *conn, const unsigned char *at, size_t len
 static void read_requests(struct conn *conn, const unsigned char *at, size_t len) {
     struct list heard = {0};
     for (size_t count = 1; count; at += count, len -= count) {
-        if (!conn->request)
+        if (conn->stage == FRONT)
             count = read_front(conn, at, len);
-        else if (conn->filled < conn->request->len)
-            count = read_packed(conn, at, len);
-        else
+        else if (!conn->left)
             count = read_option(conn, at, len, &heard);
+        else
+            count = (conn->stage == PACKED ? read_packed : read_entries)(conn, at, len);
     }
+    if (len > HEAD_MOST)
+        die("an entry that generator.c does not send");
     memcpy(conn->rest, at, len);
     conn->rest_len = len;
     if (heard.first && put(&open_list, heard, &worker_sleeps))
@@ -307,9 +356,9 @@ static void read_requests(struct conn *conn, const unsigned char *at, size_t len
 
 /* Reads once: the packed bytes that are to come go where they stay, and what comes behind them to the room. */
 static void serve(struct conn *conn) {
-    struct request *request = conn->request;
-    size_t left = request ? request->len - conn->filled : 0, rest = conn->rest_len;
-    struct iovec parts[] = {{request ? request->packed + conn->filled : room, left}, {room + rest, ROOM}};
+    struct request *last = conn->came.last;
+    size_t left = conn->stage == PACKED ? conn->left : 0, rest = conn->rest_len;
+    struct iovec parts[] = {{left ? last->packed + last->len - left : room, left}, {room + rest, ROOM}};
     ssize_t count = readv(conn->fd, parts, 2);
     if (count < 0 && (errno == EAGAIN || errno == EINTR))
         return;
@@ -319,7 +368,7 @@ static void serve(struct conn *conn) {
     }
     memcpy(room, conn->rest, rest);
     size_t direct = (size_t)count < left ? (size_t)count : left;
-    conn->filled += direct;
+    conn->left -= direct;
     read_requests(conn, room, rest + (size_t)count - direct);
 }
 

@@ -1,4 +1,4 @@
-/* A next hop: takes messages in PackedForward mode, acknowledges each, and counts.
+/* A next hop: takes messages in PackedForward, Forward and Message mode, acknowledges each, and counts.
  *
  *     sink [--silent] PORT
  *
@@ -6,12 +6,14 @@
  *
  *     messages M entries E bytes B
  *
- * where entries are the sum of the options `size`, and bytes are those of the packed entries, which it does not look
- * at. With --silent it acknowledges nothing. It ends with status 1 at what is no message in PackedForward mode with a
- * `chunk`.
+ * where entries are, in PackedForward mode, the sum of the options `size`, and bytes are those of the packed entries,
+ * which it does not look at. In the other two modes, in which generator.c sends where nothing is between, it has to
+ * walk the entries, which are counted as if they were packed. With --silent it acknowledges nothing. It ends with
+ * status 1 at what is no such message with a `chunk`.
  */
 
 #include "common.h"
+#include "entries.h"
 
 #include <stdio.h>
 #include <stdlib.h>
@@ -25,10 +27,11 @@
 /* Where a connection stands in a message. */
 struct conn {
     int fd;
-    enum { FRONT, PACKED, OPTION } state;
-    size_t left; /* packed bytes that are still to come */
-    size_t packed;
-    struct bytes rest; /* the front of a head that is not yet whole */
+    enum { FRONT, PACKED, ENTRIES, OPTION } state;
+    size_t left;       /* packed bytes, or entries, that are still to come */
+    size_t packed;     /* the bytes of the entries, of those alone that have been walked where they have to be */
+    size_t entries;    /* how many have been walked */
+    struct bytes rest; /* the front of a head or an entry that is not yet whole */
     struct bytes out;
 };
 
@@ -108,14 +111,50 @@ static uint64_t take_uint(struct cursor *in) {
     return 0;
 }
 
-/* Where a head is whole: the place of the packed bytes. */
+/* The one entry of a message in Message mode, which is counted as if it were packed. */
+static void take_event(struct conn *conn, struct cursor *in) {
+    size_t len = in->is_short || in->is_bad ? 0 : event_len(in->at, in->left);
+    take(in, len);
+    in->is_short = in->is_short || !len;
+    conn->packed = 1 + len;
+    conn->entries = 1;
+    conn->state = OPTION;
+}
+
+/* Reads as far as the entries, and behind the entry in Message mode: whether that has come whole. */
 static int read_front(struct conn *conn, struct cursor *in) {
     size_t places = take_count(in, 0x90, 0xdc);
     take_text(in);
-    conn->left = take_text_head(in);
-    conn->packed = conn->left;
-    in->is_bad = in->is_bad || (!in->is_short && places != 3);
+    unsigned char head = in->left ? *in->at : 0;
+    in->is_short = in->is_short || !in->left;
+    conn->packed = conn->entries = 0;
+    if (places == 4) {
+        take_event(conn, in);
+    } else if ((head & 0xf0) == 0x90 || head == 0xdc || head == 0xdd) {
+        conn->left = take_count(in, 0x90, 0xdc);
+        conn->state = ENTRIES;
+    } else {
+        conn->left = conn->packed = take_text_head(in);
+        conn->state = PACKED;
+    }
+    in->is_bad = in->is_bad || (!in->is_short && places != 3 && places != 4);
     return !in->is_short && !in->is_bad;
+}
+
+/* Goes over packed bytes, or over entries as far as they are whole: how many bytes these have. */
+static size_t pass(struct conn *conn, const unsigned char *at, size_t len) {
+    size_t place = 0;
+    if (conn->state == PACKED) {
+        place = conn->left < len ? conn->left : len;
+        conn->left -= place;
+        return place;
+    }
+    for (size_t one; conn->left && (one = entry_len(at + place, len - place)); place += one) {
+        conn->left--;
+        conn->entries++;
+    }
+    conn->packed += place;
+    return place;
 }
 
 static int is_text(struct text text, const char *name) {
@@ -135,7 +174,7 @@ static void acknowledge(struct conn *conn, struct text chunk) {
     bytes_add(&conn->out, chunk.at, chunk.len);
 }
 
-/* An option has the keys `size` and `chunk`, and no others. */
+/* An option has the keys `size` and `chunk`, and no others. The size counts where the entries were not walked. */
 static int read_option(struct conn *conn, struct cursor *in) {
     struct text chunk = {0};
     uint64_t size = 0;
@@ -155,35 +194,39 @@ static int read_option(struct conn *conn, struct cursor *in) {
     if (in->is_short || in->is_bad)
         return 0;
     messages++;
-    entries += size;
+    entries += conn->entries ? conn->entries : size;
     bytes += conn->packed;
     acknowledge(conn, chunk);
     return 1;
 }
 
-/* Reads messages as far as the bytes go: how many are left, which begin a head that is not whole. */
+/* Reads messages as far as the bytes go: how many are left, which begin a head or an entry that is not whole. */
 static size_t read_messages(struct conn *conn, const unsigned char *at, size_t len) {
     while (len) {
-        if (conn->state == PACKED) {
-            size_t count = conn->left < len ? conn->left : len;
-            conn->left -= count;
+        if (conn->state == PACKED || conn->state == ENTRIES) {
+            size_t count = pass(conn, at, len);
             at += count;
             len -= count;
-            conn->state = conn->left ? PACKED : OPTION;
+            if (conn->left && len)
+                break;
+            conn->state = conn->left ? conn->state : OPTION;
             continue;
         }
         struct cursor in = {at, len, 0, 0};
         int is_front = conn->state == FRONT;
         if (is_front ? read_front(conn, &in) : read_option(conn, &in)) {
-            conn->state = is_front ? PACKED : FRONT;
+            conn->state = is_front ? conn->state : FRONT;
             at = in.at;
             len = in.left;
         } else if (in.is_bad || len > HEAD_MOST) {
-            die("not a message in PackedForward mode with a chunk");
+            die("not a message with a chunk in a mode of the Forward Protocol");
         } else {
+            conn->state = is_front ? FRONT : OPTION;
             break;
         }
     }
+    if (len > HEAD_MOST)
+        die("an entry that is too long");
     return len;
 }
 
