@@ -211,7 +211,8 @@ impl<'a, R: Wait + Clock> Turns<'a, R> {
         if !self.are_pages_ordered {
             return;
         }
-        if let Some(page) = self.pages.take(rt) {
+        if let Some(mut page) = self.pages.take(rt) {
+            page.make_here(rt, self.alloc, self.outputs);
             for _ in 0..connections.hand_page(&page, now) {
                 watch.see(Fact::Memory(Want::Monitor));
             }

@@ -16,6 +16,16 @@ pub struct MadePage {
     pub reply: Option<Arc<Vec<u8>>>,
 }
 
+impl MadePage {
+    /// Makes the page of these outputs in this thread, where memory was refused to the one that
+    /// makes pages: what this thread gave back is of use to itself alone.
+    pub fn make_here<R: Wait>(&mut self, rt: &R, alloc: Global, outputs: &[Output]) {
+        if self.reply.is_none() {
+            self.reply = page_of(rt, alloc, outputs).ok();
+        }
+    }
+}
+
 /// What is asked of the thread that makes pages, and what it made.
 #[derive(Drop)]
 struct Orders {
