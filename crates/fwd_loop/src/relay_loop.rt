@@ -294,13 +294,6 @@ fn serve<
     thread::scope(thread::scope_env(), rt, move |scope| {
         let mut children = Vec::with_capacity(rt.alloc(), workers.len().saturating_add(1))?;
         let mut served = Ok(());
-        let maker = turns.page_maker();
-        if let Some(maker) = maker {
-            if let Ok(child) = scope.spawn(move || maker.work(rt)) {
-                let _ = children.push(child);
-                turns.order_pages();
-            }
-        }
         for worker in workers {
             if served.is_ok() {
                 match scope.spawn(move || worker.work(rt, count)) {
@@ -309,6 +302,14 @@ fn serve<
                     }
                     Err(_) => served = Err(StartFault::Thread),
                 }
+            }
+        }
+        // Behind the workers: a relay does without it where there is no room for one thread more.
+        let maker = turns.page_maker();
+        if let Some(maker) = maker {
+            if let Ok(child) = scope.spawn(move || maker.work(rt)) {
+                let _ = children.push(child);
+                turns.order_pages();
             }
         }
         if served.is_ok() {
