@@ -5,3 +5,4 @@ pub mod EntryLemmas
 pub mod FrameLemmas
 pub mod KeptLemmas
 pub mod Judgements
+pub mod Moving

@@ -1,5 +1,6 @@
--- To be believed, all eight: the public calls and laws speak of them, or of what stands on them.
--- No file here only describes the code.
+-- To be believed, all but Moved: the public calls and laws speak of them, or of what stands on
+-- them.
+-- Moved only describes what the code has in hand while it reads a request where it lies.
 pub mod Kinds
 pub mod Times
 pub mod Entries
@@ -8,6 +9,7 @@ pub mod Requests
 pub mod Frames
 pub mod Acks
 pub mod Readings
+pub mod Moved
 -- Of the crates below, for those above.
 pub use Rattle.fwd_msgpack.specs.Heads
 pub use Rattle.fwd_msgpack.specs.Scans

@@ -9,19 +9,23 @@ ghost use Rattle.std.specs.Prelude.{
   IsTrue,
   IfOk,
   IfSome,
+  OnErr,
   length,
 };
 ghost use Rattle.std.specs.List.{concat};
 ghost use Rattle.std.specs.Option.{option_copied, ForSome};
 ghost use Rattle.fwd_modes.specs.Entries.{AreFull, ends_of};
 ghost use Rattle.fwd_modes.specs.Readings.{entries_left};
+ghost use Rattle.fwd_modes.specs.Moved.{AreWithin, found_in};
 
 use crate::contents::Contents;
 use crate::entries::Entries;
+use crate::found::Found;
 use crate::kept::KeptEntries;
 use crate::limits::{CHUNK_LIMIT, TAG_LIMIT};
 use std::alloc::{AllocError, Global};
 use std::marker::Model;
+use std::mem;
 use std::sync::Arc;
 
 /// A request of a source: a tag, the entries as they are kept (`92`, the time's bytes, the fields'
@@ -60,6 +64,28 @@ impl Batch {
             Ok(contents) => Ok(Batch { contents }),
             Err(_) => Err(AllocError),
         }
+    }
+
+    /// The request that was found in these bytes, which become its own. On an error they are as
+    /// they were.
+    pub(crate) fn within(
+        alloc: Global,
+        bytes: &mut Vec<u8>,
+        found: Found,
+    ) -> Result<Self, AllocError>
+        requires { AreWithin bytes.old.items found }
+        ensures ok { IfOk result (λ b. b ≡ found_in bytes.old.items found) }
+        ensures err { OnErr result (bytes.new.items ≡ bytes.old.items) }
+    {
+        bytes.reserve_exact(found.names.len())?;
+        let Ok(mut contents) = Arc::new(alloc, Contents::empty(alloc)) else {
+            return Err(AllocError);
+        };
+        let Some(place) = Arc::get_mut(&mut contents) else {
+            return Err(AllocError);
+        };
+        *place = Contents::within(mem::replace(bytes, Vec::new(alloc)), found);
+        Ok(Batch { contents })
     }
 
     /// A copy, which shares all of it. The only error is out of memory, and it is answered only

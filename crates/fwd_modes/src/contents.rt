@@ -11,13 +11,17 @@ ghost use Rattle.std.specs.Prelude.{
   IfOk,
   IfSome,
   length,
+  vec_len,
+  vec_capacity,
 };
 ghost use Rattle.std.specs.List.{concat};
 ghost use Rattle.std.specs.Option.{option_copied, ForSome};
 ghost use Rattle.fwd_modes.specs.Entries.{AreFull, ends_of};
 ghost use Rattle.fwd_modes.specs.Readings.{entries_left};
+ghost use Rattle.fwd_modes.specs.Moved.{AreWithin, found_in};
 
 use crate::entries::Entries;
+use crate::found::Found;
 use crate::kept::KeptEntries;
 use crate::limits::{CHUNK_LIMIT, TAG_LIMIT};
 use smallvec::SmallVec;
@@ -25,12 +29,15 @@ use std::alloc::{AllocError, Global};
 use std::marker::Model;
 
 /// What a request has. Its bytes lie in one piece of memory: the entries, the tag behind them, and
-/// the chunk behind the tag, if there is one.
+/// the chunk behind the tag, if there is one. In front of the entries are the first bytes of the
+/// request's value, where it was put together in that memory.
 #[derive(Drop)]
 pub(crate) struct Contents {
     bytes: Vec<u8>,
-    /// Where each entry ends.
+    /// Where each entry ends, in bytes from the front of the first.
     ends: SmallVec<u32, 2>,
+    /// Where the first entry begins.
+    first: u32,
     /// How many bytes the entries have.
     size: u32,
     /// How many bytes the tag has.
@@ -39,28 +46,30 @@ pub(crate) struct Contents {
 }
 
 impl Model for Contents {
-    ghost use Rattle.std.specs.Prelude.{Some, None, take, drop, if◌then◌else◌};
+    ghost use Rattle.std.specs.Prelude.{◌+◌, Some, None, take, drop, if◌then◌else◌};
     ghost use Rattle.fwd_modes.specs.Entries.{cut_at};
     ghost use Rattle.fwd_modes.specs.Requests.{Request};
 
     ghost Value = { Request };
 
     ghost view = { λ c. record {
-      tag = take c.tag (drop c.size c.bytes.items);
-      entries = cut_at 0 c.ends.items (take c.size c.bytes.items);
-      chunk = if c.has_chunk then Some (drop c.tag (drop c.size c.bytes.items)) else None;
+      tag = take c.tag (drop (c.first + c.size) c.bytes.items);
+      entries = cut_at 0 c.ends.items (take c.size (drop c.first c.bytes.items));
+      chunk = if c.has_chunk
+          then Some (drop c.tag (drop (c.first + c.size) c.bytes.items))
+          else None;
     } };
 
-    ghost use Rattle.std.specs.Prelude.{◌≤◌, ◌+◌, length};
+    ghost use Rattle.std.specs.Prelude.{◌≤◌, length};
     ghost use Rattle.fwd_modes.specs.Entries.{AreCut, AreFull};
     ghost use Rattle.fwd_modes.specs.declared.limits.TheConstants.{CHUNK_LIMIT, TAG_LIMIT};
 
     ghost invariant = { λ c.
-        AreCut 0 c.ends.items (take c.size c.bytes.items)
-        × AreFull (cut_at 0 c.ends.items (take c.size c.bytes.items))
+        AreCut 0 c.ends.items (take c.size (drop c.first c.bytes.items))
+        × AreFull (cut_at 0 c.ends.items (take c.size (drop c.first c.bytes.items)))
         × (c.tag ≤ TAG_LIMIT)
-        × (c.size + c.tag ≤ length c.bytes.items)
-        × (length c.bytes.items ≤ c.size + c.tag + (CHUNK_LIMIT + 5)) };
+        × (c.first + c.size + c.tag ≤ length c.bytes.items)
+        × (length c.bytes.items ≤ c.first + c.size + c.tag + (CHUNK_LIMIT + 5)) };
 }
 
 /// Whether bytes are the same, or there are none on either side.
@@ -102,10 +111,50 @@ impl Contents {
         Ok(Contents {
             bytes,
             ends,
+            first: 0,
             size,
             tag: tag.len() as u16,
             has_chunk: chunk.is_some(),
         })
+    }
+
+    /// Nothing yet.
+    pub(crate) fn empty(alloc: Global) -> Self {
+        Contents {
+            bytes: Vec::new(alloc),
+            ends: SmallVec::new(alloc),
+            first: 0,
+            size: 0,
+            tag: 0,
+            has_chunk: false,
+        }
+    }
+
+    /// What the request has that was found in these bytes: they become its own. They have room for
+    /// the tag and the chunk.
+    pub(crate) fn within(mut bytes: Vec<u8>, found: Found) -> Self
+        requires places { AreWithin bytes.items found }
+        requires room { vec_len bytes + length found.names.items ≤ vec_capacity bytes }
+        ensures { result ≡ found_in bytes.items found }
+    {
+        let Found {
+            first,
+            size,
+            ends,
+            names,
+            tag,
+            has_chunk,
+        } = found;
+        bytes.truncate(first as usize + size as usize);
+        bytes.extend_from_slice(&names).unwrap();
+        Contents {
+            bytes,
+            ends,
+            first,
+            size,
+            tag,
+            has_chunk,
+        }
     }
 
     /// Whether they are the same.
@@ -120,7 +169,8 @@ impl Contents {
         ensures value { result.now ≡ self.now.tag }
         ensures bound { length result.now ≤ TAG_LIMIT }
     {
-        let (_, behind) = self.bytes.split_at(self.size as usize);
+        let end = self.first as usize + self.size as usize;
+        let (_, behind) = self.bytes.split_at(end);
         behind.split_at(usize::from(self.tag)).0
     }
 
@@ -130,7 +180,8 @@ impl Contents {
         ensures bound { length (concat self.now.entries) < 2 ^ 32 }
         ensures full { AreFull self.now.entries }
     {
-        self.bytes.split_at(self.size as usize).0
+        let (_, behind) = self.bytes.split_at(self.first as usize);
+        behind.split_at(self.size as usize).0
     }
 
     /// Where each entry ends.
@@ -155,7 +206,8 @@ impl Contents {
         if !self.has_chunk {
             return None;
         }
-        let (_, behind) = self.bytes.split_at(self.size as usize);
+        let end = self.first as usize + self.size as usize;
+        let (_, behind) = self.bytes.split_at(end);
         Some(behind.split_at(usize::from(self.tag)).1)
     }
 }

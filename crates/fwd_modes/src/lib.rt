@@ -9,6 +9,7 @@ mod contents;
 mod entries;
 mod entry;
 mod fault;
+mod found;
 mod frame;
 mod kept;
 mod kinds;
@@ -19,6 +20,7 @@ mod options;
 mod origin;
 mod parts;
 mod request;
+mod taking;
 mod time;
 
 pub use ack::{NoAck, read_ack, write_ack};
@@ -33,4 +35,5 @@ pub use laws::{
 pub use limits::{CHUNK_LIMIT, TAG_LIMIT};
 pub use origin::Origin;
 pub use request::{Reading, read_request};
+pub use taking::take_request;
 pub use time::EventTime;

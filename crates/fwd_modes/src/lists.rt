@@ -91,7 +91,7 @@ pub(crate) fn read_list(
 
 /// Where the entries end that stand one after the other to the last byte, each at most so deep, if
 /// each is spelled as it is kept.
-fn ends_of_kept(
+pub(crate) fn ends_of_kept(
     alloc: Global,
     packed: &[u8],
     depth: u8,

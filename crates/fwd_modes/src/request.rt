@@ -33,7 +33,7 @@ pub enum Reading {
 }
 
 /// What stands beside the entries, or the first fault there in the order tag, option, compression.
-fn judge(parts: Parts<'_>) -> Result<Asked<'_>, InputFault>
+pub(crate) fn judge(parts: Parts<'_>) -> Result<Asked<'_>, InputFault>
     ensures { (deep : ℕ)
         → judged (entries_given deep parts.entry.entries) result
         ≡ of_parts (Some (parts_shown deep parts.entry)) }

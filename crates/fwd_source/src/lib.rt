@@ -7,6 +7,7 @@ mod greeting;
 mod hearing;
 mod laws;
 mod piece;
+mod room;
 mod source;
 mod taking;
 

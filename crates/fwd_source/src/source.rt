@@ -40,6 +40,7 @@ ghost use Rattle.fwd_msgpack.specs.declared.fault.ScanFault.{ScanFault};
 use crate::fault::SourceFault;
 use crate::hearing::Unjudged;
 use crate::piece::{Piece, SourceTold};
+use crate::room::make_room;
 use crate::taking::{Asker, Taken, take_all};
 use fwd_base::Bytes;
 use fwd_handshake::{Nonces, Security, write_helo};
@@ -377,6 +378,7 @@ impl Source {
             ≤ length self.new.live.unsent + self.new.room }
     {
         let before = self.rest.len();
+        make_room(&mut self.rest, bytes.len());
         self.rest.extend_from_slice(bytes)?;
         let asker = Asker {
             security: &self.security,
