@@ -291,18 +291,20 @@ impl Buffer {
         None
     }
 
-    /// Enters a request that is not refused, as it was planned. On an error nothing has changed.
+    /// Enters a request that is not refused, as it was planned, and answers the runs of its entries
+    /// and a copy of them. On an error nothing has changed.
     fn enter(
         &mut self,
         alloc: Global,
         batch: &Batch,
         plan: Plan<'_>,
         now: u64,
-    ) -> Result<Spans, AllocError>
+    ) -> Result<(Spans, Spans), AllocError>
         requires planned { IsPlan self.old batch.now plan }
         requires fits { live_refusal self.old batch.now now ≡ None }
         ensures ok { OnOk result (self.new ≡ live_enters self.old batch.now now) }
-        ensures spans { IfOk result (λ spans. spans ≡ live_spans self.old batch.now now) }
+        ensures spans { IfOk result (λ p. p.0 ≡ live_spans self.old batch.now now) }
+        ensures copy { IfOk result (λ p. p.1 ≡ live_spans self.old batch.now now) }
         ensures err { OnErr result (self.new ≡ self.old) }
     {
         let size = batch.entries().len() as u64;
@@ -314,6 +316,7 @@ impl Buffer {
         let fresh = entering::fresh_chunks(alloc, tag, plan.back, limit, moment, first)?;
         let joined = entering::joined_span(self.joined_by(batch, plan), plan.front);
         let spans = entering::spans_of(alloc, joined, &fresh)?;
+        let copy = spans.copied(alloc)?;
         let newest = entering::newest_of(first, plan.needed);
         self.slots.reserve(alloc, fresh.len())?;
         self.tags.prepare(alloc, tag, newest)?;
@@ -322,7 +325,7 @@ impl Buffer {
         self.accepted += count;
         self.bytes += size;
         self.moment = moment;
-        Ok(spans)
+        Ok((spans, copy))
     }
 
     /// Enters a request's entries at a moment (milliseconds): each joins its tag's open chunk where
@@ -342,6 +345,29 @@ impl Buffer {
             result ≡ Err fault) }
         ensures ok { OnOk result (self.new ≡ live_enters self.old batch.now now) }
         ensures spans { IfOk result (λ spans. spans ≡ live_spans self.old batch.now now) }
+        ensures err { OnErr result (self.new ≡ self.old) }
+
+        // What is not refused is entered, unless memory is.
+        ensures memory { live_refusal self.old batch.now now ≡ None
+            → IfErr result (λ error. error ≡ AdmitError.Memory) }
+    {
+        let (spans, _copy) = self.admit_with_copy(alloc, batch, now)?;
+        Ok(spans)
+    }
+
+    /// The same as `admit`, and answers a copy of the runs with them, for one owner more: where
+    /// they are one, it takes no memory.
+    pub fn admit_with_copy(
+        &mut self,
+        alloc: Global,
+        batch: &Batch,
+        now: u64,
+    ) -> Result<(Spans, Spans), AdmitError>
+        ensures refused { IfSome (live_refusal self.old batch.now now) (λ fault.
+            result ≡ Err fault) }
+        ensures ok { OnOk result (self.new ≡ live_enters self.old batch.now now) }
+        ensures spans { IfOk result (λ p. p.0 ≡ live_spans self.old batch.now now) }
+        ensures copy { IfOk result (λ p. p.1 ≡ live_spans self.old batch.now now) }
         ensures err { OnErr result (self.new ≡ self.old) }
 
         // What is not refused is entered, unless memory is.

@@ -1,9 +1,9 @@
 //! The runs of a request's entries.
 
-ghost use Rattle.std.specs.Prelude.{◌≡◌, ◌<◌, ◌≤◌, [], ◌∷◌, length, vec_capacity};
+ghost use Rattle.std.specs.Prelude.{◌≡◌, ◌≤◌, [], ◌∷◌, length, IfOk, IsOk};
 
 use crate::span::Span;
-use std::alloc::Global;
+use std::alloc::{AllocError, Global};
 use std::marker::Model;
 use std::slice;
 
@@ -29,20 +29,6 @@ impl Model for Spans {
     ghost Value = { List Span };
 
     ghost view = { λ s. runs_shown s.runs };
-}
-
-/// Copies of runs, in room that was made for them. Room that is left over is given back.
-fn copied(room: Vec<Span>, spans: &[Span]) -> Vec<Span>
-    requires empty { room.items ≡ [] }
-    requires fits { length spans.now ≤ vec_capacity room }
-    ensures { result.items ≡ spans.now }
-{
-    let mut copy = room;
-    for span in spans {
-        copy.push_reserved(*span);
-    }
-    copy.shrink_to_fit();
-    copy
 }
 
 impl Spans {
@@ -81,17 +67,17 @@ impl Spans {
         }
     }
 
-    /// The same runs. They lie in this room, but for one alone, which needs none.
-    pub fn copied_into(&self, room: Vec<Span>) -> Self
-        requires empty { room.items ≡ [] }
-        requires fits { 1 < length self.now → length self.now ≤ vec_capacity room }
-        ensures { result ≡ self.now }
+    /// The same runs, for one owner more. The only error is out of memory, and one run alone takes
+    /// none.
+    pub fn copied(&self, alloc: Global) -> Result<Self, AllocError>
+        ensures copy { IfOk result (λ copy. copy ≡ self.now) }
+        ensures sure { length self.now ≤ 1 → IsOk result }
     {
         let spans = self.as_slice();
         match spans.split_first() {
-            None => Spans::of(room),
-            Some((span, others)) if others.is_empty() => Spans::one(*span),
-            Some(_) => Spans::of(copied(room, spans)),
+            None => Ok(Spans::new(alloc)),
+            Some((span, others)) if others.is_empty() => Ok(Spans::one(*span)),
+            Some(_) => Ok(Spans::of(Vec::from_slice(alloc, spans)?)),
         }
     }
 }

@@ -6,9 +6,9 @@ pub mod CouplingLemmas
 pub mod CollectLemmas
 pub mod ChunkLemmas
 pub mod HeldLemmas
+pub mod CarriedLemmas
 pub mod HandingLemmas
 pub mod WorkerLemmas
 pub mod LaneLemmas
 pub mod ReturnLemmas
-pub mod SpanLemmas
 pub mod StandingLemmas

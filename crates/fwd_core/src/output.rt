@@ -33,7 +33,6 @@ ghost use Rattle.std.specs.Prelude.{
   ◌↔◌,
   IsTrue,
   Contains,
-  vec_capacity,
 };
 ghost use Rattle.std.specs.Arc.{arc_value};
 ghost use Rattle.fwd_chunks.specs.Live.{
@@ -139,7 +138,6 @@ fn put_back(buffer: &mut Buffer, carried: Carried, loss: Option<u64>)
     ensures either { (buffer.new ≡ live_frees buffer.old carried.number loss)
         ⊎ (buffer.new ≡ buffer.old) }
 {
-    let _is_here = buffer.carries(&carried);
     buffer.free(carried, loss);
 }
 
@@ -179,18 +177,6 @@ fn lose(servers: &mut Servers, server: Option<u16>, moment: u64)
     if let Some(server) = server {
         servers.failed(server, moment);
     }
-}
-
-/// Room for the runs of a request, of which one alone needs none.
-fn span_room(alloc: Global, batch: &Batch) -> Result<Vec<Span>, AllocError>
-    ensures empty { IfOk result (λ room. room.items ≡ []) }
-    ensures fits { IfOk result (λ room. 1 < length batch.now.entries
-        → length batch.now.entries ≤ vec_capacity room) }
-{
-    if batch.len() < 2 {
-        return Ok(Vec::new(alloc));
-    }
-    Vec::with_capacity(alloc, batch.len())
 }
 
 /// The requests of these receipts leave.
@@ -292,11 +278,7 @@ impl OutputState {
         let Ok(()) = self.book.prepare(batch) else {
             return Err(self.buffer.fault(batch).unwrap_or(AdmitError::Memory));
         };
-        let Ok(room) = span_room(alloc, batch) else {
-            return Err(self.buffer.fault(batch).unwrap_or(AdmitError::Memory));
-        };
-        let spans = self.buffer.admit(alloc, origin, batch, now)?;
-        let copy = spans.copied_into(room);
+        let (spans, copy) = self.buffer.admit_with_copy(alloc, batch, now)?;
         self.book.enter(origin, spans);
         Ok(copy)
     }

@@ -362,3 +362,6 @@ returns-clause-spans c =
     ∙ (λ i. (c.joined_span-joined.ensures ∙ ap (λ o. joined_span o (entries_in p.front)) opened) i ++ map span_of (c.deref.ensures.value i)) in
     entered-spans v r c.args.now p own.sound plan c.unwrap_or-first.result c.in_ok-fresh.fresh.items c.in_ok-spans.spans made next spans
     ∙ ap (λ x. live_spans x r c.args.now) c.self.view_is
+
+pub returns-clause-copy : goal.returns-clause-copy
+returns-clause-copy c = c.in_ok-copy.ensures.copy ∙ returns-clause-spans c

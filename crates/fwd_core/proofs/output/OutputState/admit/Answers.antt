@@ -1,4 +1,4 @@
-use Rattle.std.proofs.Common.{arith, ◌≡◌, ◌<◌, length, map, sym, ap, subst, ◌∙◌}
+use Rattle.std.proofs.Common.{◌≡◌, map, sym, ap, subst, ◌∙◌}
 use Rattle.std.specs.Prelude.{IfSome}
 use Rattle.fwd_chunks.specs.Live.{live_enters, live_spans}
 use Rattle.fwd_chunks.specs.Spans.{AreCutBy, AreRising}
@@ -8,7 +8,6 @@ use Rattle.fwd_book.specs.Live as kept
 use Rattle.fwd_book.specs.Live.{BookState, ready_enters}
 use Rattle.fwd_core.specs.Coupling.{IsCoupled}
 use Rattle.fwd_core.proofs.CouplingLemmas.{comes-fresh, enters-coupled}
-use Rattle.fwd_core.proofs.SpanLemmas.{few-spans}
 use Rattle.fwd_core.proofs.output.OutputState.admit.Goals as goal
 
 pub enter-requires-clause-cut : goal.enter-requires-clause-cut
@@ -42,11 +41,3 @@ invariant_of-self-2 c =
     subst (λ d. IsCoupled d c.enter.new.self.live) (sym c.in_ok-spans.ensures.ok)
     (subst (IsCoupled (live_enters b c.args.batch.now c.args.now)) (sym entered)
     (enters-coupled b k c.args.batch.now c.args.origin c.args.now c.is_sound.ensures c.self.invariant))
-
-pub copied_into-copy-requires-clause-fits : goal.copied_into-copy-requires-clause-fits
-copied_into-copy-requires-clause-fits c = λ many.
-    let few = few-spans c.self.inside.buffer c.args.batch.now c.args.now in
-    let spans = ap length c.in_ok-spans.ensures.spans in
-    let some : 1 < length c.args.batch.now.entries = omega (arith, few, spans, many) in
-    let room = c.in-Ok-span_room.ensures.fits some in
-    omega (arith, few, spans, room)
