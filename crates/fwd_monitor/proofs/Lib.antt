@@ -1,3 +1,4 @@
 pub mod HeadLemmas
 pub mod LineLemmas
 pub mod ReplyLemmas
+pub mod TextLemmas

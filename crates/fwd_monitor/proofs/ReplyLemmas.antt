@@ -1,15 +1,16 @@
 -- The bytes of a monitor come to one reply.
-use Rattle.std.proofs.Common.{◌≡◌, ℕ, Bool, true, false, inl, inr, List, [], ◌++◌, Option, Some, None, refl, sym, ap, ◌∙◌, subst, arith}
+use Rattle.std.proofs.Common.{◌≡◌, ℕ, Bool, true, false, inl, inr, List, [], ◌∷◌, ◌++◌, Option, Some, None, refl, sym, ap, ◌∙◌, subst, arith}
 use Rattle.std.specs.Prelude.{IsTrue, IsFalse}
+use Rattle.std.proofs.lemmas.Bool.Decides.{nat_tests}
 use Rattle.httparse.specs.Grammar.{RequestHead}
 use Rattle.httparse.proofs.GrammarLemmas.{request_unique, ReadsRequest-append}
 use Rattle.fwd_counts.specs.declared.report.Report.{Report}
 use Rattle.fwd_monitor.specs.declared.reply.Reply.{Reply}
 use Rattle.fwd_monitor.specs.declared.reply.Reply.TheVariants.{More, Bytes}
-use Rattle.fwd_monitor.specs.Requests.{BeginsWith, HasManyLines, IsBad, IsDue, MustWait, WantsPage, is_for_page}
-use Rattle.fwd_monitor.specs.Statuses.{IsJudged, is_found}
+use Rattle.fwd_monitor.specs.Requests.{BeginsWith, HasManyLines, IsBad, IsDue, MustWait, WantsMetrics, WantsPage, is_for_metrics, is_for_page}
+use Rattle.fwd_monitor.specs.Statuses.{IsJudged, is_found, is_metrics}
 use Rattle.fwd_monitor.specs.declared.status.Status.{Status}
-use Rattle.fwd_monitor.specs.declared.status.Status.TheVariants.{Found, NotFound, BadRequest}
+use Rattle.fwd_monitor.specs.declared.status.Status.TheVariants.{Found, Metrics, NotFound, BadRequest}
 use Rattle.fwd_monitor.specs.Replies.{IsReplyTo, IsDueText, HasReason, bad_request, reply_to}
 use Rattle.fwd_monitor.proofs.HeadLemmas.{many-fields, many-more, whole-many}
 
@@ -95,23 +96,64 @@ reason-reply heard reports (Bytes out) due = record {
   waits = λ must. absurd (must-none heard must (due-any heard reports out.items due));
 }
 
+-- a test has one outcome
+differ : (b : Bool) → IsTrue b → IsFalse b → ⊥
+differ true t f = cc
+differ false t f = cc
+
+-- none is true where it is false
+no : IsTrue false → ⊥
+no t = cc
+
+-- a request that does not ask for the page
+not-page : (heard : List ℕ) (k : RequestHead) → BeginsWith heard k
+    → IsFalse (is_for_page k.method k.target) → WantsPage heard → ⊥
+not-page heard k begins is w =
+    differ (is_for_page w.0.method w.0.target) w.2
+    (subst (λ (h : RequestHead). IsFalse (is_for_page h.method h.target))
+    (begins-one heard k w.0 begins w.1) is)
+
+-- a request that does not ask for the metrics page
+not-metrics : (heard : List ℕ) (k : RequestHead) → BeginsWith heard k
+    → IsFalse (is_for_metrics k.method k.target) → WantsMetrics heard → ⊥
+not-metrics heard k begins is w =
+    differ (is_for_metrics w.0.method w.0.target) w.2
+    (subst (λ (h : RequestHead). IsFalse (is_for_metrics h.method h.target))
+    (begins-one heard k w.0 begins w.1) is)
+
+-- who asks for the page does not ask for the metrics page
+page-apart : (method target : List ℕ) → IsTrue (is_for_page method target)
+    → IsFalse (is_for_metrics method target)
+page-apart method [] is = grind (arith, nat_tests, is)
+page-apart method (b ∷ []) is = grind (arith, nat_tests, is)
+page-apart method (b ∷ c ∷ target) is = grind (arith, nat_tests, is)
+
 -- bytes are told the page just where they are judged so
 pub found-wants : (heard : List ℕ) (status : Option Status) → IsJudged heard status
     → (IsTrue (is_found status) → WantsPage heard) × (WantsPage heard → IsTrue (is_found status))
-found-wants heard None is = ((λ t. absurd (no t)), (λ w. absurd (is.unfinished w.0 w.1.whole.0 w.1.whole.1)))
-  where
-    no : IsTrue false → ⊥
-    no t = cc
+found-wants heard None is =
+    ((λ t. absurd (no t)), (λ w. absurd (is.unfinished w.0 w.1.whole.0 w.1.whole.1)))
 found-wants heard (Some Found) is = ((λ t. is), (λ w. refl))
-found-wants heard (Some NotFound) is = ((λ t. absurd (no t)), (λ w. absurd (differ (is_for_page w.0.method w.0.target) w.2 (subst (λ (h : RequestHead). IsFalse (is_for_page h.method h.target)) (begins-one heard is.0 w.0 is.1 w.1) is.2))))
-  where
-    no : IsTrue false → ⊥
-    no t = cc
+found-wants heard (Some Metrics) is =
+    ((λ t. absurd (no t)), (λ w. absurd (not-page heard is.0 is.1 is.2 w)))
+found-wants heard (Some NotFound) is =
+    ((λ t. absurd (no t)), (λ w. absurd (not-page heard is.0 is.1 is.2 w)))
+found-wants heard (Some BadRequest) is =
+    ((λ t. absurd (no t)), (λ w. absurd (begins-good heard w.0 w.1 is)))
 
-    differ : (b : Bool) → IsTrue b → IsFalse b → ⊥
-    differ true t f = cc
-    differ false t f = cc
-found-wants heard (Some BadRequest) is = ((λ t. absurd (no t)), (λ w. absurd (begins-good heard w.0 w.1 is)))
-  where
-    no : IsTrue false → ⊥
-    no t = cc
+-- bytes ask for the metrics page just where they are judged so
+pub metrics-wants : (heard : List ℕ) (status : Option Status) → IsJudged heard status
+    → (IsTrue (is_metrics status) → WantsMetrics heard)
+    × (WantsMetrics heard → IsTrue (is_metrics status))
+metrics-wants heard None is =
+    ((λ t. absurd (no t)), (λ w. absurd (is.unfinished w.0 w.1.whole.0 w.1.whole.1)))
+metrics-wants heard (Some Found) is = (
+  (λ t. absurd (no t)),
+  (λ w. absurd (not-metrics heard is.0 is.1
+      (page-apart is.0.method is.0.target is.2) w)),
+)
+metrics-wants heard (Some Metrics) is = ((λ t. (is.0, is.1, is.3)), (λ w. refl))
+metrics-wants heard (Some NotFound) is =
+    ((λ t. absurd (no t)), (λ w. absurd (not-metrics heard is.0 is.1 is.3 w)))
+metrics-wants heard (Some BadRequest) is =
+    ((λ t. absurd (no t)), (λ w. absurd (begins-good heard w.0 w.1 is)))

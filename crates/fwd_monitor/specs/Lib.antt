@@ -1,6 +1,7 @@
--- To be believed: Page, Replies and Requests. The public calls and laws speak of them.
+-- To be believed: Metrics, Page, Replies and Requests. The public calls and laws speak of them.
 -- Lines and Statuses only describe how the code judges a head before it writes the reply.
 pub mod Lines
+pub mod Metrics
 pub mod Page
 pub mod Replies
 pub mod Requests

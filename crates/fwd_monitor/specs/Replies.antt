@@ -16,9 +16,11 @@ use Rattle.std.specs.Fmt.{decimal}
 use Rattle.httparse.specs.Ascii.{crlf_bytes}
 use Rattle.httparse.specs.Grammar.{RequestHead, ReadsRequest, NeverHasRequest, EndsInTarget}
 use Rattle.fwd_counts.specs.declared.report.Report.{Report}
+use Rattle.fwd_monitor.specs.declared.figures.Figures.{Figures}
 use Rattle.fwd_monitor.specs.declared.limits.TheConstants.{MAX_HEADERS}
 use Rattle.fwd_monitor.specs.declared.reply.Reply.{Reply}
 use Rattle.fwd_monitor.specs.declared.reply.Reply.TheVariants.{More, Bytes}
+use Rattle.fwd_monitor.specs.Metrics.{metrics_of}
 use Rattle.fwd_monitor.specs.Page.{page_of}
 use Rattle.fwd_monitor.specs.Requests.{
   is_for_page,
@@ -48,6 +50,21 @@ page_head size =
 -- the page behind its head
 abbrev pub page_reply : List Report → List ℕ
 page_reply reports = page_head (length (page_of reports)) ++ page_of reports
+
+-- the head for a metrics page of so many bytes
+abbrev pub metrics_head : ℕ → List ℕ
+metrics_head size =
+    head_text
+    (codes "HTTP/1.1 200 OK"
+    ∷ codes "Content-Type: text/plain; version=0.0.4; charset=utf-8"
+    ∷ (codes "Content-Length: " ++ decimal size)
+    ∷ codes "Connection: close"
+    ∷ [])
+
+-- the metrics page behind its head
+abbrev pub metrics_reply_of : Figures → (totals : List ℕ) → List Report → List ℕ
+metrics_reply_of figures totals reports =
+    metrics_head (length (metrics_of figures totals reports)) ++ metrics_of figures totals reports
 
 -- a reply that is a head alone
 abbrev pub bare : List ℕ → List ℕ

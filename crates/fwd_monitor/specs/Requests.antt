@@ -15,6 +15,11 @@ use Rattle.fwd_monitor.specs.declared.limits.TheConstants.{HEAD_LIMIT, MAX_HEADE
 abbrev pub is_for_page : List ℕ → List ℕ → Bool
 is_for_page method target = bytes_eq method (codes "GET") && bytes_eq target (codes "/")
 
+-- a method and a target ask for the metrics page
+abbrev pub is_for_metrics : List ℕ → List ℕ → Bool
+is_for_metrics method target =
+    bytes_eq method (codes "GET") && bytes_eq target (codes "/metrics")
+
 -- the bytes begin with this whole head, which has few enough headers
 pub record BeginsWith (heard : List ℕ) (h : RequestHead) : Type 0 where
   pub whole : (rest : List ℕ) × ReadsRequest heard h rest
@@ -37,6 +42,11 @@ IsBad heard = NeverHasRequest heard ⊎ HasManyLines heard ⊎ IsTooLong heard
 -- a whole head of few enough headers stands in front, and it asks for the page
 abbrev pub WantsPage : List ℕ → Type 0
 WantsPage heard = (h : RequestHead) × BeginsWith heard h × IsTrue (is_for_page h.method h.target)
+
+-- a whole head of few enough headers stands in front, and it asks for the metrics page
+abbrev pub WantsMetrics : List ℕ → Type 0
+WantsMetrics heard =
+    (h : RequestHead) × BeginsWith heard h × IsTrue (is_for_metrics h.method h.target)
 
 -- a reply is due
 abbrev pub IsDue : List ℕ → Type 0

@@ -3,16 +3,25 @@ use Rattle.std.specs.Prelude.{ℕ, Bool, true, false, List, Option, Some, None, 
 use Rattle.httparse.specs.Grammar.{RequestHead}
 use Rattle.fwd_counts.specs.declared.report.Report.{Report}
 use Rattle.fwd_monitor.specs.declared.status.Status.{Status}
-use Rattle.fwd_monitor.specs.declared.status.Status.TheVariants.{Found, NotFound, BadRequest}
+use Rattle.fwd_monitor.specs.declared.status.Status.TheVariants.{
+  Found,
+  Metrics,
+  NotFound,
+  BadRequest,
+}
 use Rattle.fwd_monitor.specs.Replies.{page_reply, not_found, bad_request}
-use Rattle.fwd_monitor.specs.Requests.{BeginsWith, IsBad, MayWait, is_for_page}
+use Rattle.fwd_monitor.specs.Requests.{BeginsWith, IsBad, MayWait, is_for_metrics, is_for_page}
 
 -- why the bytes come to this status
 abbrev pub HasStatus : List ℕ → Status → Type 0
 HasStatus heard Found =
     (h : RequestHead) × BeginsWith heard h × IsTrue (is_for_page h.method h.target)
+HasStatus heard Metrics =
+    (h : RequestHead) × BeginsWith heard h × IsFalse (is_for_page h.method h.target)
+    × IsTrue (is_for_metrics h.method h.target)
 HasStatus heard NotFound =
     (h : RequestHead) × BeginsWith heard h × IsFalse (is_for_page h.method h.target)
+    × IsFalse (is_for_metrics h.method h.target)
 HasStatus heard BadRequest = IsBad heard
 
 -- the status of the bytes, or none while it is right to wait
@@ -25,8 +34,14 @@ abbrev pub is_found : Option Status → Bool
 is_found (Some Found) = true
 is_found _ = false
 
--- the bytes of the reply of each status
+-- the status is that of a request for the metrics page
+abbrev pub is_metrics : Option Status → Bool
+is_metrics (Some Metrics) = true
+is_metrics _ = false
+
+-- the bytes of the reply of each status, where no metrics are served
 abbrev pub reply_of : Status → List Report → List ℕ
 reply_of Found reports = page_reply reports
+reply_of Metrics reports = not_found
 reply_of NotFound reports = not_found
 reply_of BadRequest reports = bad_request

@@ -1,11 +1,13 @@
 ghost use Rattle.std.specs.Prelude.{◌≡◌, IfOk, OnErr};
 ghost use Rattle.std.specs.String.{string_bytes};
 ghost use Rattle.fwd_monitor.specs.Replies as replies;
-ghost use Rattle.fwd_monitor.specs.Replies.{HasReason, IsReplyTo, page_reply};
+ghost use Rattle.fwd_monitor.specs.Replies.{HasReason, IsReplyTo, metrics_reply_of, page_reply};
 ghost use Rattle.fwd_monitor.specs.Requests.{IsDue, MustWait};
 ghost use Rattle.fwd_monitor.specs.Statuses.{reply_of};
 
+use crate::figures::Figures;
 use crate::judging::judge;
+use crate::metrics::metrics_page;
 use crate::pages::page;
 use crate::reply::Reply;
 use crate::status::Status;
@@ -39,7 +41,7 @@ fn text(alloc: Global, status: Status, reports: &[Report]) -> Result<String, All
 {
     match status {
         Status::Found => found(alloc, reports),
-        Status::NotFound => String::from_str(
+        Status::Metrics | Status::NotFound => String::from_str(
             alloc,
             "HTTP/1.1 404 Not Found\r\nContent-Length: 0\r\nConnection: close\r\n\r\n",
         ),
@@ -67,5 +69,32 @@ fn page_head(alloc: Global, size: usize) -> Result<String, AllocError>
     format!(in alloc;
         "HTTP/1.1 200 OK\r\nContent-Type: text/plain\r\nContent-Length: {size}\r\n\
         Connection: close\r\n\r\n"
+    )
+}
+
+/// What a monitor is told that asks for the metrics page where one is served: the page behind its
+/// head. Its only error is out of memory.
+pub fn metrics_reply(
+    alloc: Global,
+    figures: Figures,
+    totals: &[u64],
+    reports: &[Report],
+) -> Result<Vec<u8>, AllocError>
+    ensures { IfOk result
+        (λ reply. reply.items ≡ metrics_reply_of figures totals.now reports.now) }
+{
+    let page = metrics_page(alloc, figures, totals, reports)?;
+    let mut reply = metrics_head(alloc, page.len())?.into_bytes();
+    reply.extend_from_slice(&page)?;
+    Ok(reply)
+}
+
+/// The head for a metrics page of so many bytes.
+fn metrics_head(alloc: Global, size: usize) -> Result<String, AllocError>
+    ensures { IfOk result (λ text. string_bytes text ≡ replies.metrics_head size) }
+{
+    format!(in alloc;
+        "HTTP/1.1 200 OK\r\nContent-Type: text/plain; version=0.0.4; charset=utf-8\r\n\
+        Content-Length: {size}\r\nConnection: close\r\n\r\n"
     )
 }

@@ -1,7 +1,7 @@
 ghost use Rattle.std.specs.Prelude.{◌≡◌, ◌+◌, ◌↔◌, IsTrue, nat_lt};
 ghost use Rattle.fwd_monitor.specs.Lines.{head_lines};
-ghost use Rattle.fwd_monitor.specs.Requests.{WantsPage, is_for_page};
-ghost use Rattle.fwd_monitor.specs.Statuses.{IsJudged, is_found};
+ghost use Rattle.fwd_monitor.specs.Requests.{WantsMetrics, WantsPage, is_for_metrics, is_for_page};
+ghost use Rattle.fwd_monitor.specs.Statuses.{IsJudged, is_found, is_metrics};
 
 use crate::limits::{HEAD_LIMIT, MAX_HEADERS};
 use crate::status::Status;
@@ -15,8 +15,11 @@ pub(crate) fn judge(heard: &[u8]) -> Option<Status>
     let mut headers = [EMPTY_HEADER_SPAN; MAX_HEADERS];
     match parse_request(heard, &mut headers) {
         Ok(Parsed::Complete(head)) => {
-            if asks_for_page(head.method.of(heard), head.path.of(heard)) {
+            let (method, target) = (head.method.of(heard), head.path.of(heard));
+            if asks_for_page(method, target) {
                 Some(Status::Found)
+            } else if asks_for_metrics(method, target) {
+                Some(Status::Metrics)
             } else {
                 Some(Status::NotFound)
             }
@@ -34,6 +37,14 @@ pub fn wants_page(heard: &[u8]) -> bool
     is_found(judge(heard))
 }
 
+/// Whether a monitor that has sent these bytes so far asks for the metrics page. It takes no
+/// memory.
+pub fn wants_metrics(heard: &[u8]) -> bool
+    ensures { IsTrue result ↔ WantsMetrics heard.now }
+{
+    is_metrics(judge(heard))
+}
+
 /// Whether the status is that of the page.
 fn is_found(status: Option<Status>) -> bool
     ensures { result ≡ is_found status }
@@ -41,11 +52,25 @@ fn is_found(status: Option<Status>) -> bool
     matches!(status, Some(Status::Found))
 }
 
+/// Whether the status is that of a request for the metrics page.
+fn is_metrics(status: Option<Status>) -> bool
+    ensures { result ≡ is_metrics status }
+{
+    matches!(status, Some(Status::Metrics))
+}
+
 /// Whether a request is for the page.
 fn asks_for_page(method: &[u8], target: &[u8]) -> bool
     ensures { result ≡ is_for_page method.now target.now }
 {
     method == b"GET".as_slice() && target == b"/".as_slice()
+}
+
+/// Whether a request is for the metrics page.
+fn asks_for_metrics(method: &[u8], target: &[u8]) -> bool
+    ensures { result ≡ is_for_metrics method.now target.now }
+{
+    method == b"GET".as_slice() && target == b"/metrics".as_slice()
 }
 
 /// Whether more header lines stand behind a request line than a head may have.

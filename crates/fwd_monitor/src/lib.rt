@@ -4,16 +4,22 @@
 #![tactic(auto)]
 
 mod answering;
+mod figures;
 mod judging;
+mod labels;
 mod laws;
 mod limits;
+mod measure;
+mod metrics;
 mod pages;
 mod reply;
 mod status;
 
-pub use answering::answer;
-pub use judging::wants_page;
+pub use answering::{answer, metrics_reply};
+pub use figures::Figures;
+pub use judging::{wants_metrics, wants_page};
 pub use laws::{head_limits, one_head, one_reply};
-pub use limits::{HEAD_LIMIT, MAX_HEADERS};
+pub use limits::{HEAD_LIMIT, MAX_HEADERS, MAX_TAGS};
+pub use metrics::metrics_page;
 pub use pages::page;
 pub use reply::Reply;

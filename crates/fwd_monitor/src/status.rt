@@ -3,6 +3,8 @@
 pub(crate) enum Status {
     /// 200, to a request for the page.
     Found,
+    /// To a request for the metrics page: 404, where none is served.
+    Metrics,
     /// 404, to any other request.
     NotFound,
     /// 400, to what is no request, or too long for one.

@@ -1,8 +1,10 @@
 //! The monitors that stand.
 
 use crate::connections::{Connection, Connections};
+use crate::made_page::MadePage;
 use crate::monitor_peer::MonitorPeer;
-use crate::page_desk::{MadePage, PageDesk};
+use crate::page_desk::PageDesk;
+use fwd_monitor::Figures;
 use std::sync::Wait;
 
 /// How many pages may be kept at a time, since monitors are sent them: no further one is made
@@ -35,15 +37,26 @@ impl Connections {
         count
     }
 
-    /// Orders a page for the monitors that want it, but where too many are kept.
-    pub fn order_page<R: Wait>(&mut self, rt: &R, desk: &PageDesk) {
+    /// What is known of the relay at a moment (milliseconds since it started), where so many
+    /// sources are connected beside those that stand here, and so many may be.
+    pub fn figures(&self, others: usize, limit: usize, now: u64) -> Figures {
+        Figures {
+            uptime: now / 1_000,
+            sources: self.sources().saturating_add(others) as u64,
+            source_limit: limit as u64,
+        }
+    }
+
+    /// Orders a page for the monitors that want it, where this is known of the relay, but where too
+    /// many are kept.
+    pub fn order_page<R: Wait>(&mut self, rt: &R, desk: &PageDesk, figures: Figures) {
         if self.pages() >= PAGES {
             return;
         }
         for place in 0..self.monitors() {
             if let Some((_, monitor)) = self.monitor_at(place) {
-                if monitor.wants() {
-                    monitor.waits_for(desk.order(rt));
+                if let Some(kind) = monitor.wants() {
+                    monitor.waits_for(kind, desk.order(rt, kind, figures));
                 }
             }
         }

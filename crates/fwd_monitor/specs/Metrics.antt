@@ -1,0 +1,219 @@
+-- The metrics page, in Prometheus' text format 0.0.4: each metric with two lines that say what it
+-- is, and behind them a line for each of its samples.
+use Rattle.std.specs.Prelude.{
+  ℕ,
+  ◌-◌,
+  ◌==◌,
+  ◌&&◌,
+  Bool,
+  not,
+  List,
+  [],
+  ◌∷◌,
+  ◌++◌,
+  length,
+  take,
+  codes,
+  if◌then◌else◌,
+}
+use Rattle.std.specs.List.{enumerate_from, flat_map, list_any}
+use Rattle.std.specs.Fmt.{decimal}
+use Rattle.std.specs.Str.{is_utf8}
+use Rattle.httparse.specs.Ascii.{line_feed}
+use Rattle.hex.specs.Hex.{encode_lower}
+use Rattle.fwd_counts.specs.declared.counts.Counts.{Counts}
+use Rattle.fwd_counts.specs.declared.report.Report.{Report}
+use Rattle.fwd_counts.specs.declared.tag_count.TagCount.{TagCount}
+use Rattle.fwd_monitor.specs.Page.{line_text}
+use Rattle.fwd_monitor.specs.declared.figures.Figures.{Figures}
+use Rattle.fwd_monitor.specs.declared.limits.TheConstants.{MAX_TAGS}
+use Rattle.fwd_monitor.specs.declared.measure.Measure.{Measure}
+use Rattle.fwd_monitor.specs.declared.measure.Measure.TheVariants.{
+  Accepted,
+  Settled,
+  Held,
+  HeldBytes,
+  Chunks,
+}
+use Rattle.fwd_monitor.specs.declared.measure.TagMeasure.{TagMeasure}
+use Rattle.fwd_monitor.specs.declared.measure.TagMeasure.TheVariants.{Entries, EntryBytes}
+
+-- the lines in front of a metric's samples: what it is, and of which type
+abbrev pub head_lines_of : (name kind help : List ℕ) → List ℕ
+head_lines_of name kind help =
+    line_text (codes "# HELP" ∷ name ∷ help ∷ []) ++ line_text (codes "# TYPE" ∷ name ∷ kind ∷ [])
+
+-- a metric that has one value, which may fall
+unfoldable pub gauge : (name help : List ℕ) → ℕ → List ℕ
+gauge name help value =
+    head_lines_of name (codes "gauge") help ++ line_text (name ∷ decimal value ∷ [])
+
+-- a sample of an output
+abbrev pub output_line : (name : List ℕ) → (output value : ℕ) → List ℕ
+output_line name output value =
+    line_text ((name ++ codes "{output=\"" ++ decimal output ++ codes "\"}") ∷ decimal value ∷ [])
+
+-- the sample of an output and its value
+abbrev pub output_sample : (name : List ℕ) → ℕ × ℕ → List ℕ
+output_sample name (output, value) = output_line name output value
+
+-- a gauge that each output has, with these values
+unfoldable pub gauges : (name help values : List ℕ) → List ℕ
+gauges name help values =
+    head_lines_of name (codes "gauge") help
+    ++ flat_map (output_sample name) (enumerate_from 0 values)
+
+-- ---- labels
+
+-- a byte of a label's value: a backslash and a double quote stand behind a backslash, and a line
+-- feed is told by a backslash and the letter n
+abbrev pub escaped_byte : ℕ → List ℕ
+escaped_byte b =
+    if b == 92 then 92 ∷ 92 ∷ []
+    else if b == 34 then 92 ∷ 34 ∷ []
+    else if b == line_feed then 92 ∷ 110 ∷ []
+    else b ∷ []
+
+-- a label's value
+abbrev pub escaped : List ℕ → List ℕ
+escaped text = flat_map escaped_byte text
+
+-- a tag that may stand as it is: UTF-8 without a zero byte, which readers take for the page's end
+abbrev pub is_plain : List ℕ → Bool
+is_plain tag = is_utf8 tag && not (list_any (λ b. b == 0) tag)
+
+-- the label of a tag: in hexadecimal digits, under another name, where it may not stand as it is
+abbrev pub tag_label : List ℕ → List ℕ
+tag_label tag =
+    if is_plain tag
+    then codes "tag=\"" ++ escaped tag ++ codes "\""
+    else codes "tag_hex=\"" ++ encode_lower tag ++ codes "\""
+
+-- ---- what is said of each output
+
+-- the name of a metric that each output has
+abbrev pub measure_name : Measure → List ℕ
+measure_name Accepted = codes "forward_relay_accepted_entries_total"
+measure_name Settled = codes "forward_relay_settled_entries_total"
+measure_name Held = codes "forward_relay_held_entries"
+measure_name HeldBytes = codes "forward_relay_held_bytes"
+measure_name Chunks = codes "forward_relay_held_chunks"
+
+-- its type
+abbrev pub measure_kind : Measure → List ℕ
+measure_kind Accepted = codes "counter"
+measure_kind Settled = codes "counter"
+measure_kind _ = codes "gauge"
+
+-- what it is
+abbrev pub measure_help : Measure → List ℕ
+measure_help Accepted = codes "Entries ever accepted."
+measure_help Settled = codes "Entries acknowledged by the next hop."
+measure_help Held = codes "Entries that are not settled."
+measure_help HeldBytes = codes "Bytes of the entries that are not settled."
+measure_help Chunks = codes "Chunks that have entries that are not settled."
+
+-- its value
+abbrev pub measured : Measure → Counts → ℕ
+measured Accepted c = c.accepted
+measured Settled c = c.settled
+measured Held c = c.held
+measured HeldBytes c = c.bytes
+measured Chunks c = c.chunks
+
+-- its sample of an output
+abbrev pub measure_line : Measure → ℕ × Report → List ℕ
+measure_line measure (output, r) =
+    output_line (measure_name measure) output (measured measure r.counts)
+
+-- the metric, with a sample for each output
+unfoldable pub by_output : Measure → List Report → List ℕ
+by_output measure reports =
+    head_lines_of (measure_name measure) (measure_kind measure) (measure_help measure)
+    ++ flat_map (measure_line measure) (enumerate_from 0 reports)
+
+-- ---- what is said of each tag
+
+-- the name of a metric that each tag has
+abbrev pub tag_measure_name : TagMeasure → List ℕ
+tag_measure_name Entries = codes "forward_relay_tag_held_entries"
+tag_measure_name EntryBytes = codes "forward_relay_tag_held_bytes"
+
+-- what it is
+abbrev pub tag_measure_help : TagMeasure → List ℕ
+tag_measure_help Entries = codes "Entries of the tag that are not settled."
+tag_measure_help EntryBytes = codes "Bytes of the entries of the tag that are not settled."
+
+-- its value
+abbrev pub tag_measured : TagMeasure → TagCount → ℕ
+tag_measured Entries t = t.held
+tag_measured EntryBytes t = t.bytes
+
+-- its sample of a tag of an output
+abbrev pub tag_sample : TagMeasure → (output : ℕ) → TagCount → List ℕ
+tag_sample measure output t =
+    tag_measure_name measure ++ codes "{output=\"" ++ decimal output ++ codes "\","
+    ++ tag_label t.tag ++ codes "} " ++ decimal (tag_measured measure t) ++ codes "\n"
+
+-- the samples of the outputs' tags, where there is room for so many: what the tags of one took of
+-- the room, those behind it lack
+abbrev pub tag_samples : TagMeasure → (room : ℕ) → List (ℕ × Report) → List ℕ
+tag_samples measure room [] = []
+tag_samples measure room ((output, r) ∷ more) =
+    flat_map (tag_sample measure output) (take room r.tags)
+    ++ tag_samples measure (room - length r.tags) more
+
+-- the metric, with samples of the first `MAX_TAGS` tags
+abbrev pub by_tag : TagMeasure → List Report → List ℕ
+by_tag measure reports =
+    head_lines_of (tag_measure_name measure) (codes "gauge") (tag_measure_help measure)
+    ++ tag_samples measure MAX_TAGS (enumerate_from 0 reports)
+
+-- how many tags of each output have no samples
+abbrev pub left_out_samples : (name : List ℕ) → (room : ℕ) → List (ℕ × Report) → List ℕ
+left_out_samples name room [] = []
+left_out_samples name room ((output, r) ∷ more) =
+    output_line name output (length r.tags - room)
+    ++ left_out_samples name (room - length r.tags) more
+
+-- a gauge that says so
+unfoldable pub left_out : (name help : List ℕ) → List Report → List ℕ
+left_out name help reports =
+    head_lines_of name (codes "gauge") help
+    ++ left_out_samples name MAX_TAGS (enumerate_from 0 reports)
+
+-- the metric that says so
+abbrev pub left_out_text : List Report → List ℕ
+left_out_text reports =
+    left_out (codes "forward_relay_tags_left_out")
+    (codes "Tags with entries that are not settled and no samples here.") reports
+
+-- ---- the page
+
+-- the most bytes that each output holds
+abbrev pub totals_text : List ℕ → List ℕ
+totals_text totals =
+    gauges (codes "forward_relay_total_limit_bytes")
+    (codes "The most bytes of entries that are not settled.") totals
+
+-- what is said of the relay itself
+abbrev pub figures_text : Figures → List ℕ
+figures_text f =
+    gauge (codes "forward_relay_uptime_seconds")
+    (codes "Whole seconds since the relay started.") f.uptime
+    ++ gauge (codes "forward_relay_sources_open")
+    (codes "Sources that are connected.") f.sources
+    ++ gauge (codes "forward_relay_sources_limit")
+    (codes "The most sources at a time.") f.source_limit
+
+-- what is said of the outputs
+abbrev pub outputs_text : List Report → List ℕ
+outputs_text reports =
+    by_output Accepted reports ++ by_output Settled reports ++ by_output Held reports
+    ++ by_output HeldBytes reports ++ by_output Chunks reports
+
+-- the page, from what is known of the relay, the most bytes that each output holds, and the reports
+abbrev pub metrics_of : Figures → (totals : List ℕ) → List Report → List ℕ
+metrics_of figures totals reports =
+    figures_text figures ++ outputs_text reports ++ totals_text totals ++ left_out_text reports
+    ++ by_tag Entries reports ++ by_tag EntryBytes reports

@@ -1,0 +1,248 @@
+//! The metrics page, in Prometheus' text format.
+
+ghost use Rattle.std.specs.Prelude.{◌≡◌, ◌++◌, IfOk, OnOk, take};
+ghost use Rattle.std.specs.List.{flat_map};
+ghost use Rattle.std.specs.String.{string_bytes};
+ghost use Rattle.fwd_monitor.specs.Metrics.{
+  by_output,
+  by_tag,
+  figures_text,
+  gauge,
+  gauges,
+  head_lines_of,
+  left_out,
+  left_out_text,
+  metrics_of,
+  output_line,
+  outputs_text,
+  tag_sample,
+  totals_text,
+};
+
+use crate::figures::Figures;
+use crate::labels::push_label;
+use crate::limits::MAX_TAGS;
+use crate::measure::{Measure, TagMeasure};
+use fwd_counts::{Report, TagCount};
+use std::alloc::{AllocError, Global};
+
+/// The metrics page in Prometheus' text format 0.0.4: what is known of the relay itself, what each
+/// output has to do with and the most bytes that it holds, and what is held of the first `MAX_TAGS`
+/// tags, with how many of each output's are left out. Outputs are numbered from 0 on. Its only
+/// error is out of memory.
+pub fn metrics_page(
+    alloc: Global,
+    figures: Figures,
+    totals: &[u64],
+    reports: &[Report],
+) -> Result<Vec<u8>, AllocError>
+    ensures { IfOk result (λ page. page.items ≡ metrics_of figures totals.now reports.now) }
+{
+    let mut text = String::new(alloc);
+    push_figures(&mut text, figures)?;
+    push_outputs(&mut text, reports)?;
+    push_totals(&mut text, totals)?;
+    push_left_out(&mut text, reports)?;
+    let mut page = text.into_bytes();
+    push_by_tag(alloc, &mut page, TagMeasure::Entries, reports)?;
+    push_by_tag(alloc, &mut page, TagMeasure::EntryBytes, reports)?;
+    Ok(page)
+}
+
+/// Adds what is known of the relay itself.
+fn push_figures(text: &mut String, figures: Figures) -> Result<(), AllocError>
+    ensures { OnOk result (string_bytes text.new ≡ string_bytes text.old ++ figures_text figures) }
+{
+    let Figures {
+        uptime,
+        sources,
+        source_limit,
+    } = figures;
+    push_gauge(
+        text,
+        "forward_relay_uptime_seconds",
+        "Whole seconds since the relay started.",
+        uptime,
+    )?;
+    push_gauge(
+        text,
+        "forward_relay_sources_open",
+        "Sources that are connected.",
+        sources,
+    )?;
+    push_gauge(
+        text,
+        "forward_relay_sources_limit",
+        "The most sources at a time.",
+        source_limit,
+    )?;
+    Ok(())
+}
+
+/// Adds a metric that has one value.
+#[tactic(auto, unfolding(crate::specs::Metrics::gauge))]
+fn push_gauge(text: &mut String, name: &str, help: &str, value: u64) -> Result<(), AllocError>
+    ensures { OnOk result
+        (string_bytes text.new ≡ string_bytes text.old ++ gauge name.now help.now value) }
+{
+    push_head(text, name, "gauge", help)?;
+    write!(text, "{name} {value}\n")
+}
+
+/// Adds the lines in front of a metric's samples.
+fn push_head(text: &mut String, name: &str, kind: &str, help: &str) -> Result<(), AllocError>
+    ensures { OnOk result (string_bytes text.new
+        ≡ string_bytes text.old ++ head_lines_of name.now kind.now help.now) }
+{
+    write!(text, "# HELP {name} {help}\n# TYPE {name} {kind}\n")
+}
+
+/// Adds a sample of an output.
+fn push_sample(text: &mut String, name: &str, output: usize, value: u64) -> Result<(), AllocError>
+    ensures { OnOk result
+        (string_bytes text.new ≡ string_bytes text.old ++ output_line name.now output value) }
+{
+    write!(text, "{name}{{output=\"{output}\"}} {value}\n")
+}
+
+/// Adds what each output has to do with.
+fn push_outputs(text: &mut String, reports: &[Report]) -> Result<(), AllocError>
+    ensures { OnOk result
+        (string_bytes text.new ≡ string_bytes text.old ++ outputs_text reports.now) }
+{
+    push_by_output(text, Measure::Accepted, reports)?;
+    push_by_output(text, Measure::Settled, reports)?;
+    push_by_output(text, Measure::Held, reports)?;
+    push_by_output(text, Measure::HeldBytes, reports)?;
+    push_by_output(text, Measure::Chunks, reports)
+}
+
+/// Adds a metric with a sample for each output.
+#[tactic(auto, unfolding(crate::specs::Metrics::by_output))]
+fn push_by_output(text: &mut String, measure: Measure, reports: &[Report]) -> Result<(), AllocError>
+    ensures { OnOk result
+        (string_bytes text.new ≡ string_bytes text.old ++ by_output measure reports.now) }
+{
+    push_head(text, measure.name(), measure.kind(), measure.help())?;
+    for (output, report) in reports.iter().enumerate() {
+        push_sample(text, measure.name(), output, measure.of(&report.counts))?;
+    }
+    Ok(())
+}
+
+/// Adds the most bytes that each output holds.
+fn push_totals(text: &mut String, totals: &[u64]) -> Result<(), AllocError>
+    ensures { OnOk result
+        (string_bytes text.new ≡ string_bytes text.old ++ totals_text totals.now) }
+{
+    let help = "The most bytes of entries that are not settled.";
+    push_gauges(text, "forward_relay_total_limit_bytes", help, totals)
+}
+
+/// Adds a gauge that each output has, with these values.
+#[tactic(auto, unfolding(crate::specs::Metrics::gauges))]
+fn push_gauges(text: &mut String, name: &str, help: &str, values: &[u64]) -> Result<(), AllocError>
+    ensures { OnOk result (string_bytes text.new
+        ≡ string_bytes text.old ++ gauges name.now help.now values.now) }
+{
+    push_head(text, name, "gauge", help)?;
+    for (output, value) in values.iter().enumerate() {
+        push_sample(text, name, output, *value)?;
+    }
+    Ok(())
+}
+
+/// Adds how many tags of each output have no samples.
+fn push_left_out(text: &mut String, reports: &[Report]) -> Result<(), AllocError>
+    ensures { OnOk result
+        (string_bytes text.new ≡ string_bytes text.old ++ left_out_text reports.now) }
+{
+    let help = "Tags with entries that are not settled and no samples here.";
+    push_left_out_by(text, "forward_relay_tags_left_out", help, reports)
+}
+
+/// Adds a gauge that says how many tags of each output have no samples.
+#[tactic(auto, unfolding(crate::specs::Metrics::left_out))]
+fn push_left_out_by(
+    text: &mut String,
+    name: &str,
+    help: &str,
+    reports: &[Report],
+) -> Result<(), AllocError>
+    ensures { OnOk result (string_bytes text.new
+        ≡ string_bytes text.old ++ left_out name.now help.now reports.now) }
+{
+    push_head(text, name, "gauge", help)?;
+    let mut room = MAX_TAGS;
+    for (output, report) in reports.iter().enumerate() {
+        let tags = report.tags.as_slice().len();
+        push_sample(text, name, output, tags.saturating_sub(room) as u64)?;
+        room = room.saturating_sub(tags);
+    }
+    Ok(())
+}
+
+/// Adds a metric with samples of the first `MAX_TAGS` tags.
+fn push_by_tag(
+    alloc: Global,
+    page: &mut Vec<u8>,
+    measure: TagMeasure,
+    reports: &[Report],
+) -> Result<(), AllocError>
+    ensures { OnOk result (page.new.items ≡ page.old.items ++ by_tag measure reports.now) }
+{
+    let mut head = String::new(alloc);
+    push_head(&mut head, measure.name(), "gauge", measure.help())?;
+    page.extend_from_slice(head.as_bytes())?;
+    let mut room = MAX_TAGS;
+    for (output, report) in reports.iter().enumerate() {
+        let tags = report.tags.as_slice();
+        push_tags(alloc, page, measure, output, front(tags, room))?;
+        room = room.saturating_sub(tags.len());
+    }
+    Ok(())
+}
+
+/// The first so many tags.
+fn front(tags: &[TagCount], room: usize) -> &[TagCount]
+    ensures { result.now ≡ take room tags.now }
+{
+    &tags[..room.min(tags.len())]
+}
+
+/// Adds the samples of an output's tags.
+fn push_tags(
+    alloc: Global,
+    page: &mut Vec<u8>,
+    measure: TagMeasure,
+    output: usize,
+    tags: &[TagCount],
+) -> Result<(), AllocError>
+    ensures { OnOk result
+        (page.new.items ≡ page.old.items ++ flat_map (tag_sample measure output) tags.now) }
+{
+    for tag in tags {
+        push_tag(alloc, page, measure, output, tag)?;
+    }
+    Ok(())
+}
+
+/// Adds the sample of a tag.
+fn push_tag(
+    alloc: Global,
+    page: &mut Vec<u8>,
+    measure: TagMeasure,
+    output: usize,
+    tag: &TagCount,
+) -> Result<(), AllocError>
+    ensures { OnOk result
+        (page.new.items ≡ page.old.items ++ tag_sample measure output tag.now) }
+{
+    let name = measure.name();
+    let front = format!(in alloc; "{name}{{output=\"{output}\",")?;
+    page.extend_from_slice(front.as_bytes())?;
+    push_label(alloc, page, tag.tag.as_slice())?;
+    let value = measure.of(tag);
+    let back = format!(in alloc; "}} {value}\n")?;
+    page.extend_from_slice(back.as_bytes())
+}

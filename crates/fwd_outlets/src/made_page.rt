@@ -1,0 +1,162 @@
+//! The pages that monitors ask for, as they are made and sent.
+
+use crate::output::{Output, reports_of, totals_of};
+use fwd_monitor::{Figures, Reply, answer, metrics_reply};
+use std::alloc::{AllocError, Global};
+use std::sync::{Arc, Wait};
+
+/// A request for the page, as any other that is told it.
+const REQUEST: &[u8] = b"GET / HTTP/1.1\r\n\r\n";
+
+/// The pages that there are.
+#[derive(Clone, Copy)]
+pub enum PageKind {
+    /// The page that has a line for each output and tag.
+    Lines,
+    /// The metrics page.
+    Metrics,
+}
+
+/// Which pages somebody waits for.
+#[derive(Clone, Copy)]
+pub(crate) struct Asked {
+    pub lines: bool,
+    pub metrics: bool,
+}
+
+impl Asked {
+    /// Somebody waits for a page of this kind, too.
+    pub fn add(&mut self, kind: PageKind) {
+        match kind {
+            PageKind::Lines => self.lines = true,
+            PageKind::Metrics => self.metrics = true,
+        }
+    }
+}
+
+/// What became of a page of one kind.
+#[derive(Drop)]
+pub(crate) enum Making {
+    /// Nobody waited for it.
+    Unasked,
+    /// Memory was refused for it.
+    Refused,
+    /// It is sent so.
+    Made(Arc<Vec<u8>>),
+}
+
+/// The pages that were begun at once. They are counted from 1 on, as they are begun.
+#[derive(Drop)]
+pub struct MadePage {
+    pub number: u64,
+    figures: Figures,
+    lines: Making,
+    metrics: Making,
+}
+
+impl MadePage {
+    /// Makes the pages that somebody waits for.
+    pub(crate) fn make<R: Wait>(
+        rt: &R,
+        alloc: Global,
+        outputs: &[Output],
+        number: u64,
+        order: (Asked, Figures),
+    ) -> MadePage {
+        let (asked, figures) = order;
+        let mut page = MadePage {
+            number,
+            figures,
+            lines: Making::Unasked,
+            metrics: Making::Unasked,
+        };
+        if asked.lines {
+            page.lines = made(rt, alloc, outputs, PageKind::Lines, figures);
+        }
+        if asked.metrics {
+            page.metrics = made(rt, alloc, outputs, PageKind::Metrics, figures);
+        }
+        page
+    }
+
+    /// Makes the pages of these outputs in this thread for which memory was refused to the one that
+    /// makes pages: what this thread gave back is of use to itself alone.
+    pub fn make_here<R: Wait>(&mut self, rt: &R, alloc: Global, outputs: &[Output]) {
+        if is_refused(&self.lines) {
+            self.lines = made(rt, alloc, outputs, PageKind::Lines, self.figures);
+        }
+        if is_refused(&self.metrics) {
+            self.metrics = made(rt, alloc, outputs, PageKind::Metrics, self.figures);
+        }
+    }
+
+    /// What became of the page of a kind.
+    pub(crate) fn of(&self, kind: PageKind) -> &Making {
+        match kind {
+            PageKind::Lines => &self.lines,
+            PageKind::Metrics => &self.metrics,
+        }
+    }
+}
+
+/// Whether memory was refused for a page.
+fn is_refused(page: &Making) -> bool {
+    match page {
+        Making::Refused => true,
+        _ => false,
+    }
+}
+
+/// Makes a page of these outputs.
+fn made<R: Wait>(
+    rt: &R,
+    alloc: Global,
+    outputs: &[Output],
+    kind: PageKind,
+    figures: Figures,
+) -> Making {
+    match page_of(rt, alloc, outputs, kind, figures) {
+        Ok(reply) => Making::Made(reply),
+        Err(_) => Making::Refused,
+    }
+}
+
+/// A page of these outputs, as it is sent. The only error is out of memory.
+pub(crate) fn page_of<R: Wait>(
+    rt: &R,
+    alloc: Global,
+    outputs: &[Output],
+    kind: PageKind,
+    figures: Figures,
+) -> Result<Arc<Vec<u8>>, AllocError> {
+    match kind {
+        PageKind::Lines => lines_of(rt, alloc, outputs),
+        PageKind::Metrics => metrics_of(rt, alloc, outputs, figures),
+    }
+}
+
+/// The page that has a line for each output and tag, as it is sent.
+fn lines_of<R: Wait>(
+    rt: &R,
+    alloc: Global,
+    outputs: &[Output],
+) -> Result<Arc<Vec<u8>>, AllocError> {
+    let reports = reports_of(rt, alloc, outputs)?;
+    match answer(alloc, REQUEST, &reports)? {
+        Reply::Bytes(reply) => Ok(Arc::new(alloc, reply)?),
+        Reply::More => Ok(Arc::new(alloc, Vec::new(alloc))?),
+    }
+}
+
+/// The metrics page, as it is sent.
+fn metrics_of<R: Wait>(
+    rt: &R,
+    alloc: Global,
+    outputs: &[Output],
+    figures: Figures,
+) -> Result<Arc<Vec<u8>>, AllocError> {
+    let totals = totals_of(alloc, outputs)?;
+    let reports = reports_of(rt, alloc, outputs)?;
+    let reply = metrics_reply(alloc, figures, &totals, &reports)?;
+    Ok(Arc::new(alloc, reply)?)
+}
