@@ -16,6 +16,7 @@
 #     SECONDS_MOST=5      seconds after which a row sends no more, also where it has not sent all its entries
 #     TIMEOUT=60          seconds after which a row has failed
 #     WAYS="direct socat least relay rsyslog"     which ways are measured
+#     READERS="1 2 4"     with so many reading threads rows are measured of their own (none); where it is given, only these
 #     MINUTES=0           so many minutes more, at the end, for which one relay is at work (QUICK: of two seconds each)
 #
 # The ways, each from bench/relay/generator.c to bench/relay/sink.c (for RELP relp_generator.c and relp_sink.c), which
@@ -168,8 +169,23 @@ write_settings() {
 [relay]
 listen = "127.0.0.1:$port"
 connections = 1024
+TOML
+    # a program of before has no such key
+    [ -z "${reading:-}" ] || echo "readers = $reading" >>"$folder/relay.toml"
+    if [ "${outputs:-1}" = 1 ]; then
+        write_output '**'
+    else
+        for number in $(seq 0 $((outputs - 1))); do
+            write_output "app.web.access.$number"
+        done
+    fi
+}
+
+# appends an output: PATTERN
+write_output() {
+    cat >>"$folder/relay.toml" <<TOML
 [[output]]
-match = "**"
+match = "$1"
 flush_interval = $flush
 chunk_limit = ${chunk_limit:-8000000}
 workers = $workers
@@ -212,7 +228,7 @@ start_middle() {
             "TCP:127.0.0.1:$sink_port,nodelay" &
         ;;
     least)
-        "$folder/least" "$port" "$sink_port" >"$folder/least.out" &
+        "$folder/least" "$port" "$sink_port" "${reading:-1}" >"$folder/least.out" &
         ;;
     relay | before)
         [ -z "${far_ms:-}" ] || start_distance
@@ -284,7 +300,7 @@ print_costs() {
 
 # a way with its settings
 full_name() {
-    echo "$way${flush:+ $flush $workers}${chunks:+ $chunks}"
+    echo "$way${flush:+ $flush $workers}${chunks:+ $chunks}${reading:+ r$reading}${outputs:+ o$outputs}"
 }
 
 # a row's front: its way, its connections, the entries of a request
@@ -304,7 +320,7 @@ mode_of() {
 # runs the generator over connections with requests of some entries: CONNECTIONS ENTRIES_A_REQUEST ENTRIES SECONDS
 generate_requests() {
     generate "$folder/generator" --mode "$(mode_of "$2")" --connections "$1" --entries "${2%[FM]}" --total "$3" \
-        --window "$window" --seconds "$4" --timeout "$limit" 127.0.0.1 "$port"
+        --tags "${outputs:-1}" --window "$window" --seconds "$4" --timeout "$limit" 127.0.0.1 "$port"
 }
 
 # whether the sink got exactly what was sent
@@ -376,6 +392,26 @@ rows() {
         row 10 1F $((entries / 5))
         row 10 1M $((entries / 5))
     fi
+}
+
+# the rows of so many reading threads, of least and the relay: with one output, and of the relay with four, by tag
+readers() {
+    flush='' workers='' chunks='' outputs=''
+    for reading in $READERS; do
+        way=least
+        row 10 100 "$entries"
+        row 100 100 "$entries"
+        row 10 1 $((entries / 5))
+        way=relay flush=0 workers=1
+        row 10 100 "$entries"
+        row 100 100 "$entries"
+        row 10 1 $((entries / 5))
+        outputs=4
+        row 10 100 "$entries"
+        row 10 1 $((entries / 5))
+        flush='' workers='' outputs=''
+    done
+    reading=''
 }
 
 # what the relay takes of one core while 1,000 connections wait, and how long it is busy once they have gone
@@ -627,6 +663,11 @@ print_trips() {
 
 echo "cores $(nproc), entries in each row: $entries, unacknowledged requests of a connection $window"
 printf '%-14s %6s %8s %10s %8s %8s %8s\n' way conns entries/r entries/s MB/s 'cpu s/M' MB
+[ -z "${READERS:-}" ] || {
+    readers
+    [ "$failures" = 0 ]
+    exit
+}
 each_way rows
 ratios=$(print_ratios)
 

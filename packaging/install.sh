@@ -54,7 +54,7 @@ bin=$prefix/bin sbin=$prefix/sbin lib=$prefix/lib/forward_relay man=$prefix/shar
 doc=$prefix/share/doc/forward_relay unit=$prefix/lib/systemd/system
 root=${DESTDIR:-}
 folders=$root$doc/folders
-examples='examples/*.toml examples/*.conf examples/*.cfg'
+examples='examples/*.toml examples/*.conf examples/*.cfg examples/*.yml'
 version=$(sed -n 's/^pub const VERSION: &str = "\(.*\)";$/\1/p' crates/fwd_program/src/version.rt)
 
 # makes a folder and those above it, and notes each that was not there

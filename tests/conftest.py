@@ -15,6 +15,14 @@ from next_hop import NextHop
 
 JOURNAL = journal_pattern()
 GO = pathlib.Path("/usr/share/gocode")
+THREADED = {"chain", "sockets", "memory", "stress"}  # whose tests run with one reading thread and with four
+
+
+def pytest_generate_tests(metafunc):
+    """Runs some tests with one reading thread and with four."""
+    if "relay" in metafunc.fixturenames and metafunc.definition.path.parent.name in THREADED:
+        metafunc.fixturenames.append("readers")
+        metafunc.parametrize("readers", [1, 4], ids=["1-reader", "4-readers"])
 
 
 @pytest.fixture
@@ -33,8 +41,12 @@ def relay(program, tmp_path, request):
     They end with the test, and not before, and may have said only lines that docs/FORMATS.md has.
     """
     started = []
+    params = getattr(getattr(request.node, "callspec", None), "params", {})
+    readers = params.get("readers") or int(os.environ.get("READERS", "0"))
 
     def start(outputs, errors=None, stdout=subprocess.DEVNULL, **how):
+        if readers:
+            how.setdefault("readers", readers)
         started.append(relays.Relay(program, tmp_path, outputs, **how))
         return started[-1].start(errors, stdout)
 

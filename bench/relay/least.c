@@ -1,10 +1,10 @@
 /* The least that a relay of the relay's shape does: the floor beside which the relay is measured.
  *
- *     least PORT SINK_PORT
+ *     least PORT SINK_PORT [READERS]
  *
  * It listens at a port of 127.0.0.1, prints `port N` (PORT 0 is a free one), sends to the next hop at SINK_PORT, and
- * ends at SIGTERM. As in the relay, one thread, the loop, owns all sources, and another, the worker, has one session
- * with the next hop; each entry is checked item by item, which in Forward and Message mode also says where it ends; its
+ * ends at SIGTERM. As in the relay, READERS threads (1 where it is not given, at most 16), each with a loop, own the
+ * sources, which come to them in turn, and another thread, the worker, has one session with the next hop; each entry is checked item by item, which in Forward and Message mode also says where it ends; its
  * bytes are copied once, from where the socket is read to the request that keeps them, or not at all (an entry of
  * Forward or Message mode that is cut by the end of a read is put aside, and walked again); and a source is told of a
  * request only once the next hop has acknowledged the frame that it went in. What comes while a frame is under way goes
@@ -36,6 +36,7 @@
 #define ROOM 65536
 #define HEAD_MOST 512   /* more than what stands before the entries, an entry, and what stands behind them */
 #define PARTS_MOST 1024 /* of a writev */
+#define READERS_MOST 16
 #define ACK_FRONT "\x81\xa3" "ack" "\xb8"
 #define ACK_LEN (6 + CHUNK_LEN)
 
@@ -54,8 +55,9 @@ struct list {
     size_t len, entries;
 };
 
-/* A source, of which the loop alone knows. It stays until it has closed and none of its requests is on its way. */
+/* A source, of which its reader alone knows. It stays until it has closed and none of its requests is on its way. */
 struct conn {
+    struct reader *reader;
     int fd; /* -1 once it has closed */
     enum { FRONT, PACKED, ENTRIES } stage;
     size_t left;      /* so many packed bytes, or entries, are still to come before the options */
@@ -67,15 +69,25 @@ struct conn {
     struct conn *next; /* the next one to which acknowledgements are to be sent */
 };
 
-/* What the threads share: what waits for the worker, what waits for the loop, and who sleeps. */
+/* A thread that reads sources. */
+struct reader {
+    int epoll;
+    int bell;         /* an eventfd that wakes it */
+    int sleeps;       /* under the lock, as what waits for it */
+    struct list done;
+    char apart[64];   /* from the next one's */
+};
+
+/* What the threads share: what waits for the worker, what waits for the readers, and who sleeps. */
 static pthread_mutex_t lock = PTHREAD_MUTEX_INITIALIZER;
 static pthread_cond_t has_come = PTHREAD_COND_INITIALIZER;
-static struct list open_list, done_list;
-static int worker_sleeps, loop_sleeps;
+static struct list open_list;
+static int worker_sleeps;
+static struct reader readers[READERS_MOST];
+static size_t reader_count = 1;
 
-static int bell;    /* an eventfd that wakes the loop */
 static int session; /* the worker's socket, which blocks */
-static unsigned char room[HEAD_MOST + ROOM];
+static __thread unsigned char room[HEAD_MOST + ROOM];
 static unsigned char tag[32]; /* that of all requests, as a str, once one has come */
 static size_t tag_len;
 
@@ -99,7 +111,7 @@ static int put(struct list *list, struct list more, int *sleeps) {
     return wakes;
 }
 
-/* What the loop has heard: the worker waits until there is something. */
+/* What the readers have heard: the worker waits until there is something. */
 static struct list take_open(void) {
     pthread_mutex_lock(&lock);
     while (!open_list.first) {
@@ -113,12 +125,12 @@ static struct list take_open(void) {
     return list;
 }
 
-/* What the next hop has acknowledged: the loop goes to sleep where there is nothing. */
-static struct list take_done(void) {
+/* What the next hop has acknowledged of a reader's: it goes to sleep where there is nothing. */
+static struct list take_done(struct reader *reader) {
     pthread_mutex_lock(&lock);
-    struct list list = done_list;
-    done_list = (struct list){0};
-    loop_sleeps = !list.first;
+    struct list list = reader->done;
+    reader->done = (struct list){0};
+    reader->sleeps = !list.first;
     pthread_mutex_unlock(&lock);
     return list;
 }
@@ -177,6 +189,28 @@ static void send_frame(struct list list, const char *chunk) {
     send_parts(parts, count);
 }
 
+/* What the next hop has acknowledged goes to a reader. */
+static void hand(struct reader *reader, struct list list) {
+    if (list.first && put(&reader->done, list, &reader->sleeps) && eventfd_write(reader->bell, 1))
+        die("bell: %s", strerror(errno));
+}
+
+/* What the next hop has acknowledged goes to the readers whose sources it came from. */
+static void hand_each(struct list list) {
+    struct list parts[READERS_MOST] = {0}, whole = {0};
+    for (struct request *it = list.first, *next; it; it = next) {
+        next = it->next;
+        it->next = NULL;
+        list_add(&whole, (struct list){it, it, 0, 0});
+        if (it->conn) {
+            list_add(&parts[it->conn->reader - readers], whole);
+            whole = (struct list){0};
+        }
+    }
+    for (size_t i = 0; i < reader_count; i++)
+        hand(&readers[i], parts[i]);
+}
+
 static void *work(void *none) {
     for (;;) {
         struct list list = take_open();
@@ -187,8 +221,10 @@ static void *work(void *none) {
             die("the next hop has gone");
         if (memcmp(reply, ack, ACK_LEN))
             die("the next hop has not acknowledged what it was sent");
-        if (put(&done_list, list, &loop_sleeps) && eventfd_write(bell, 1))
-            die("bell: %s", strerror(errno));
+        if (reader_count == 1)
+            hand(readers, list);
+        else
+            hand_each(list);
     }
     return none;
 }
@@ -271,13 +307,20 @@ static size_t read_event(struct conn *conn, const unsigned char *at, size_t len)
     return event;
 }
 
+static void set_tag(const unsigned char *at) {
+    pthread_mutex_lock(&lock);
+    if (!tag_len) {
+        memcpy(tag, at, 1 + (at[0] & 31u));
+        __atomic_store_n(&tag_len, 1 + (at[0] & 31u), __ATOMIC_RELEASE);
+    }
+    pthread_mutex_unlock(&lock);
+}
+
 static size_t read_front(struct conn *conn, const unsigned char *at, size_t len) {
     if (len < 2 || len < 2 + (at[1] & 31u) + 5)
         return 0;
-    if (!tag_len && (at[1] & 0xe0) == 0xa0) {
-        tag_len = 1 + (at[1] & 31u);
-        memcpy(tag, at + 1, tag_len);
-    }
+    if (!__atomic_load_n(&tag_len, __ATOMIC_ACQUIRE) && (at[1] & 0xe0) == 0xa0)
+        set_tag(at + 1);
     if ((at[0] != 0x93 && at[0] != 0x94) || at[1] != tag[0] || memcmp(at + 1, tag, tag_len))
         die("not a request with the first one's tag");
     size_t front = 1 + tag_len, count;
@@ -373,47 +416,71 @@ static void serve(struct conn *conn) {
 }
 
 /* A source is told of for as long as it has bytes to read, so that one read at a time is enough. */
-static void welcome(int epoll, int listener) {
+static void welcome(int listener) {
+    static size_t next;
     int fd;
     while ((fd = next_caller(listener)) >= 0) {
         struct conn *conn = room_for(1, sizeof *conn);
         conn->fd = fd;
+        conn->reader = &readers[next++ % reader_count];
         struct epoll_event event = {.events = EPOLLIN, .data.ptr = conn};
-        if (epoll_ctl(epoll, EPOLL_CTL_ADD, fd, &event))
+        if (epoll_ctl(conn->reader->epoll, EPOLL_CTL_ADD, fd, &event))
             die("epoll: %s", strerror(errno));
     }
 }
 
-static void run(int epoll, int listener) {
+static void run(struct reader *reader, int listener) {
     struct epoll_event events[256];
     while (!is_stopped) {
-        struct list done = take_done();
+        struct list done = take_done(reader);
         int millis = done.first ? 0 : -1;
         tell(done.first);
-        int count = wait_unless_stopped(epoll, events, 256, millis);
+        int count = reader == readers ? wait_unless_stopped(reader->epoll, events, 256, millis)
+                                      : epoll_wait(reader->epoll, events, 256, millis);
+        if (count < 0)
+            die("epoll: %s", strerror(errno));
         for (int i = 0; i < count; i++) {
             if (!events[i].data.ptr)
-                welcome(epoll, listener);
-            else if (events[i].data.ptr != &bell)
+                welcome(listener);
+            else if (events[i].data.ptr != &reader->bell)
                 serve(events[i].data.ptr);
         }
     }
 }
 
+/* The thread of a reader that has no listener. */
+static void *read_all(void *reader) {
+    run(reader, -1);
+    return NULL;
+}
+
+static void make_reader(struct reader *reader) {
+    reader->epoll = new_epoll();
+    reader->bell = eventfd(0, EFD_NONBLOCK | EFD_CLOEXEC);
+    if (reader->bell < 0)
+        die("eventfd: %s", strerror(errno));
+    watch(reader->epoll, reader->bell, &reader->bell); /* told once for each ring, so that it need not be read */
+}
+
 int main(int argc, char **argv) {
-    if (argc != 3)
-        die("least PORT SINK_PORT");
-    int off = 0, epoll = new_epoll();
-    pthread_t worker;
+    if (argc == 4)
+        reader_count = strtoul(argv[3], NULL, 10);
+    if (argc < 3 || argc > 4 || !reader_count || reader_count > READERS_MOST)
+        die("least PORT SINK_PORT [READERS]");
+    int off = 0;
+    pthread_t thread;
     catch_stop();
     session = dial("127.0.0.1", argv[2]);
-    bell = eventfd(0, EFD_NONBLOCK | EFD_CLOEXEC);
-    if (bell < 0 || ioctl(session, FIONBIO, &off) || signal(SIGPIPE, SIG_IGN) == SIG_ERR ||
-        pthread_create(&worker, NULL, work, NULL))
+    for (size_t i = 0; i < reader_count; i++)
+        make_reader(&readers[i]);
+    if (ioctl(session, FIONBIO, &off) || signal(SIGPIPE, SIG_IGN) == SIG_ERR ||
+        pthread_create(&thread, NULL, work, NULL))
         die("start: %s", strerror(errno));
-    watch(epoll, bell, &bell); /* told once for each ring, so that it need not be read */
     int listener = listen_at(argv[1], 0);
-    watch(epoll, listener, NULL);
-    run(epoll, listener);
+    for (size_t i = 1; i < reader_count; i++)
+        if (pthread_create(&thread, NULL, read_all, &readers[i]))
+            die("start: %s", strerror(errno));
+    watch(readers[0].epoll, listener, NULL);
+    run(&readers[0], listener);
     return 0;
 }

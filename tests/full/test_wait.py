@@ -36,7 +36,8 @@ def test_each_is_told_and_none_comes_twice(relay):
 def test_who_waited_first_goes_first(relay, next_hop):
     """Two sources wait behind what fills the output: the one with a large request first, and it goes first."""
     hop = next_hop(answer=hold)
-    one = relay([{"servers": [hop.port], "full": "wait", "total_limit": 1_000}])
+    # each reading thread has a line of its own
+    one = relay([{"servers": [hop.port], "full": "wait", "total_limit": 1_000}], readers=1)
     first, large, small = one.source(), one.source(), one.source()
     send(first, "first", 600)
     one.await_page(lambda it: it.accepted == 1)

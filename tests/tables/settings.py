@@ -168,6 +168,7 @@ for frame, key, least, most in [
     ("relay", "connections", 1, 1024),
     ("relay", "message_limit", 1024, 67108864),
     ("relay", "depth", 8, 128),
+    ("relay", "readers", 1, 16),
     ("output", "workers", 1, 16),
     ("output", "chunk_limit", 1, 16000000),
     ("output", "total_limit", 1, 1000000000000),
@@ -193,6 +194,8 @@ lines("output", "retry_wait = 86400000\nretry_max = 86400000", "good")
 lines("output", "retry_wait = 86400000\nretry_max = 86399999", SHORTER)
 
 # ---- flags, words and patterns
+values("relay", "metrics", ["true", "false"], "good")
+values("relay", "metrics", ["1", "0.0", '"true"', "[true]", "{}"], "wrong kind")
 values("second", "standby", ["true", "false"], "good")
 values("second", "standby", ["1", "0.0", '"true"', "[true]", "{}"], "wrong kind")
 values("output", "full", ['"close"', '"wait"', "'wait'"], "good")
@@ -219,8 +222,10 @@ for frame, key, good, other_kind in [
     ("relay", "connections", "1", '""'),
     ("relay", "message_limit", "1024", '""'),
     ("relay", "depth", "8", '""'),
+    ("relay", "readers", "4", "4.0"),
     ("relay", "shared_key", '"k"', "1"),
     ("keyed", "user", USERS, "1"),
+    ("relay", "metrics", "true", "1"),
     ("unnamed", "name", '"n"', "1"),
     ("named", "password", '"p"', "1"),
     ("unmatched", "match", '"a"', "1"),
@@ -332,6 +337,8 @@ for whole, told in [
     ("[relay]\nuser = 1\ndepth = 129\nmessage_limit = 1\nconnections = 0", "out of range relay.connections"),
     ("[relay]\nuser = 1\ndepth = 129\nmessage_limit = 1", "out of range relay.message_limit"),
     ("[relay]\nuser = 1\ndepth = 129", "out of range relay.depth"),
+    ('[relay]\nmetrics = 1\nshared_key = "k"\nuser = [{ name = "" }]', "out of range relay.user[0].name"),
+    ("[relay]\nmetrics = 1\n[[output]]", "wrong kind relay.metrics"),
     ('[relay]\nshared_key = ""\nuser = []', "out of range relay.shared_key"),
     ("[relay]\nuser = [1]\n[[output]]", "out of range relay.user"),
     ('[relay]\nshared_key = "k"\nuser = [{ name = "" }, 1]\n[[output]]', "out of range relay.user[0].name"),
@@ -369,6 +376,8 @@ RELAY = {
     "connections": "256",
     "message_limit": "16777216",
     "depth": "64",
+    "readers": "1",
+    "metrics": "false",
 }
 OUTPUT = {
     "match a.b": "true",
@@ -398,10 +407,12 @@ SET_RELAY = {
     "connections": "2",
     "message_limit": "1025",
     "depth": "9",
+    "readers": "3",
     "user[0].name": "n",
     "user[0].password": "p",
     "user[1].name": "m",
     "user[1].password": "q",
+    "metrics": "true",
 }
 SET_OUTPUT = {
     "match a.b": "true",
@@ -430,7 +441,7 @@ sets(MATCH + SERVER, RELAY, OUTPUT | FIRST)
 sets(
     '[relay]\nlisten = "0.0.0.0:1"\nmonitor = "[::1]:65535"\nhostname = "h"\n'
     'shared_key = "k"\nrun_id = "0123456789aB"\n' + f'seed = "{"0" * 62}Ff"\n'
-    "connections = 2\nmessage_limit = 1025\ndepth = 9\n"
+    "connections = 2\nmessage_limit = 1025\ndepth = 9\nreaders = 3\nmetrics = true\n"
     '[[relay.user]]\nname = "n"\npassword = "p"\n'
     '[[relay.user]]\nname = "m"\npassword = "q"\n' + C,
     SET_RELAY,

@@ -8,6 +8,7 @@ use Rattle.fwd_settings.specs.Kinds.{is_within}
 use Rattle.fwd_settings.specs.Ranges.{in_range, output_in_range, relay_in_range}
 use Rattle.fwd_settings.specs.declared.settings.Settings.{Settings}
 use Rattle.fwd_settings.specs.declared.settings.OutputSettings.{OutputSettings}
+use Rattle.fwd_settings.specs.declared.settings.RelaySettings.{RelaySettings}
 
 -- some fails a test exactly where not all pass it
 list_any-not : {X : Type 0} (p : X → Bool) (xs : List X)
@@ -44,3 +45,13 @@ outputs_few s h =
   where
     at_most : (n : ℕ) → is_within 1 64 n ≡ true → n ≤ 64
     at_most n e = grind (arith, nat_tests, e)
+
+-- a value of a source has at most 128 arrays and maps in one another
+pub depth_small : (s : Settings) → in_range s ≡ true → s.relay.depth ≤ 128
+depth_small s h =
+    let counted = is_within 1 64 (length s.outputs) in
+    let parts = and_parts (relay_in_range s.relay) (counted && list_all output_in_range s.outputs) h in
+    deep s.relay parts.0
+  where
+    deep : (r : RelaySettings) → relay_in_range r ≡ true → r.depth ≤ 128
+    deep r e = grind (arith, nat_tests, e)

@@ -1,4 +1,4 @@
-//! What the loop and the workers tell each other.
+//! What workers tell a reader.
 
 ghost use Rattle.std.specs.Prelude.{◌≡◌, [], false};
 ghost use Rattle.fwd_links.specs.Noting as noting;
@@ -6,7 +6,7 @@ ghost use Rattle.fwd_links.specs.Noting as noting;
 use crate::signs::Signs;
 use fwd_workers::{News, Refused};
 use mio::Waker;
-use std::alloc::{AllocError, Global};
+use std::alloc::Global;
 use std::mem;
 use std::sync::atomic::{AtomicBool, Ordering};
 use std::sync::{Mutex, Wait};
@@ -29,7 +29,7 @@ pub struct Refusal {
     pub refused: Refused,
 }
 
-/// What workers told since the loop last asked.
+/// What workers told since the reader last asked.
 #[derive(Drop)]
 pub struct Notices {
     /// In the order in which they were told.
@@ -72,33 +72,34 @@ impl Notices {
     }
 }
 
-/// What the loop and the workers share, beside the outputs.
+/// Where workers tell a reader of the relay what they did, and what wakes it. All mailboxes of a
+/// run share their signs.
 #[derive(Drop)]
 pub struct Mailbox {
     notices: Mutex<Notices>,
-    /// Something was told that the loop has not taken.
+    /// Something was told that the reader has not taken.
     is_told: AtomicBool,
-    /// The loop sleeps, or is about to: it is to be woken.
+    /// The reader sleeps, or is about to: it is to be woken.
     is_asleep: AtomicBool,
-    /// Ends the loop's sleep.
+    /// Ends the reader's sleep.
     waker: Waker,
     signs: Signs,
 }
 
 impl Mailbox {
-    /// An empty mailbox, whose loop is woken by this. The only error is out of memory.
-    pub fn new(alloc: Global, waker: Waker) -> Result<Mailbox, AllocError> {
-        Ok(Mailbox {
+    /// An empty mailbox, whose reader is woken by this.
+    pub fn new(alloc: Global, waker: Waker, signs: Signs) -> Mailbox {
+        Mailbox {
             notices: Mutex::new(Notices::none(alloc)),
             is_told: AtomicBool::new(false),
             is_asleep: AtomicBool::new(false),
             waker,
-            signs: Signs::new(alloc)?,
-        })
+            signs,
+        }
     }
 
-    /// A worker tells something, and wakes the loop where that sleeps: only then it costs a call of
-    /// the system.
+    /// A worker tells something, and wakes the reader where that sleeps: only then it costs a call
+    /// of the system.
     pub fn tell<R: Wait>(&self, rt: &R, notice: Notice) {
         self.notices.lock(rt).note(notice);
         self.call();
@@ -111,7 +112,7 @@ impl Mailbox {
         self.call();
     }
 
-    /// Something was told, or is to be looked at: the loop is woken where it sleeps.
+    /// Something was told, or is to be looked at: the reader is woken where it sleeps.
     pub fn call(&self) {
         self.is_told.store(true, Ordering::SeqCst);
         if self.is_asleep.swap(false, Ordering::SeqCst) {
@@ -119,19 +120,19 @@ impl Mailbox {
         }
     }
 
-    /// Whether something was told that the loop has not taken.
+    /// Whether something was told that the reader has not taken.
     pub fn is_told(&self) -> bool {
         self.is_told.load(Ordering::SeqCst)
     }
 
-    /// The loop is about to sleep: what is told from now on wakes it. It may sleep where this says
-    /// so; else something was told before.
+    /// The reader is about to sleep: what is told from now on wakes it. It may sleep where this
+    /// says so; else something was told before.
     pub fn fall_asleep(&self) -> bool {
         self.is_asleep.store(true, Ordering::SeqCst);
         !self.is_told()
     }
 
-    /// The loop sleeps no more.
+    /// The reader sleeps no more.
     pub fn awake(&self) {
         self.is_asleep.store(false, Ordering::SeqCst);
     }
@@ -145,17 +146,17 @@ impl Mailbox {
         mem::replace(&mut *guard, Notices::none(alloc))
     }
 
-    /// All workers are to end.
+    /// All readers and workers are to end.
     pub fn stop(&self) {
         self.signs.stop();
     }
 
-    /// Whether all workers are to end.
+    /// Whether all readers and workers are to end.
     pub fn is_stopped(&self) -> bool {
         self.signs.is_stopped()
     }
 
-    /// What the loop and its workers tell each other without a lock.
+    /// What readers and workers tell each other without a lock.
     pub fn signs(&self) -> &Signs {
         &self.signs
     }

@@ -1,24 +1,24 @@
-//! What the loop and its workers tell each other without a lock.
+//! What readers and workers tell each other without a lock.
 
 use std::alloc::{AllocError, Global};
 use std::sync::Arc;
 use std::sync::atomic::{AtomicBool, AtomicUsize, Ordering};
 
-/// What the loop and its workers tell each other.
+/// What readers and workers tell each other.
 #[derive(Drop)]
 struct Words {
-    /// All workers are to end.
+    /// All readers and workers are to end.
     is_stopped: AtomicBool,
     /// How many workers have given back the memory that they keep in reserve.
     lacking: AtomicUsize,
-    /// The loop reads sources, and takes memory for what they send.
-    is_reading: AtomicBool,
-    /// Memory was refused for a source a short while ago: the next ones that are read may take all
-    /// that there is.
-    is_tight: AtomicBool,
+    /// How many readers read sources, and take memory for what they send.
+    reading: AtomicUsize,
+    /// To how many readers memory was refused for a source a short while ago: the next ones that
+    /// they read may take all that there is.
+    tight: AtomicUsize,
 }
 
-/// What the loop and its workers tell each other. Who shares it sees it change.
+/// What readers and workers tell each other. Who shares it sees it change.
 #[derive(Drop)]
 pub struct Signs {
     words: Arc<Words>,
@@ -30,8 +30,8 @@ impl Signs {
         let words = Words {
             is_stopped: AtomicBool::new(false),
             lacking: AtomicUsize::new(0),
-            is_reading: AtomicBool::new(false),
-            is_tight: AtomicBool::new(false),
+            reading: AtomicUsize::new(0),
+            tight: AtomicUsize::new(0),
         };
         Ok(Signs {
             words: Arc::new(alloc, words)?,
@@ -44,17 +44,17 @@ impl Signs {
         Ok(Signs { words })
     }
 
-    /// All workers are to end.
-    pub(crate) fn stop(&self) {
+    /// All readers and workers are to end.
+    pub fn stop(&self) {
         self.words.is_stopped.store(true, Ordering::SeqCst);
     }
 
-    /// Whether all workers are to end.
+    /// Whether all readers and workers are to end.
     pub fn is_stopped(&self) -> bool {
         self.words.is_stopped.load(Ordering::SeqCst)
     }
 
-    /// A worker is to give back the memory that it keeps in reserve: the loop reads no further
+    /// A worker is to give back the memory that it keeps in reserve: no reader reads a further
     /// source until it has it again.
     pub(crate) fn lack(&self) {
         self.words.lacking.fetch_add(1, Ordering::SeqCst);
@@ -70,25 +70,34 @@ impl Signs {
         self.words.lacking.load(Ordering::SeqCst) > 0
     }
 
-    /// The loop is about to read sources, and asks before each of them whether a worker lacks
-    /// memory. It may have been refused for a source a short while ago.
-    pub fn begin_reading(&self, is_tight: bool) {
-        self.words.is_tight.store(is_tight, Ordering::SeqCst);
-        self.words.is_reading.store(true, Ordering::SeqCst);
+    /// A reader is about to read sources, and asks before each of them whether a worker lacks
+    /// memory.
+    pub fn begin_reading(&self) {
+        self.words.reading.fetch_add(1, Ordering::SeqCst);
     }
 
-    /// The loop reads no source any more.
+    /// That reader reads no source any more.
     pub fn end_reading(&self) {
-        self.words.is_reading.store(false, Ordering::SeqCst);
+        self.words.reading.fetch_sub(1, Ordering::SeqCst);
+    }
+
+    /// Memory was refused to a reader for a source a short while ago.
+    pub fn begin_tightness(&self) {
+        self.words.tight.fetch_add(1, Ordering::SeqCst);
+    }
+
+    /// That is longer ago now.
+    pub fn end_tightness(&self) {
+        self.words.tight.fetch_sub(1, Ordering::SeqCst);
     }
 
     /// Whether memory was refused for a source a short while ago.
     pub(crate) fn is_tight(&self) -> bool {
-        self.words.is_tight.load(Ordering::SeqCst)
+        self.words.tight.load(Ordering::SeqCst) > 0
     }
 
-    /// Whether the loop reads sources.
+    /// Whether any reader reads sources.
     pub(crate) fn is_reading(&self) -> bool {
-        self.words.is_reading.load(Ordering::SeqCst)
+        self.words.reading.load(Ordering::SeqCst) > 0
     }
 }

@@ -2,18 +2,20 @@
 
 ghost use Rattle.std.specs.Prelude.{◌≡◌, ◌<◌, None, IfOk, IfSome};
 
+use crate::event_loop::SOURCES;
 use crate::listener::{Arrival, Listener};
+use crate::readers::ReaderDesk;
 use fwd_handshake::{Nonces, Security};
 use fwd_msgpack::Limits;
 use fwd_outlets::{Caller, Connection, Connections, Fact, MonitorPeer, Want, Watch};
 use fwd_peers::SourcePeer;
 use fwd_source::Source;
-use mio::Registry;
 use mio::net::TcpStream;
+use mio::{Registry, Token};
 use rand_chacha::ChaCha20Rng;
 use std::alloc::{AllocError, Global};
 use std::net::SocketAddr;
-use std::sync::Arc;
+use std::sync::{Arc, Wait};
 
 /// The most connections that are taken in a turn at one listener.
 const ACCEPTS: u16 = 1_024;
@@ -37,11 +39,15 @@ pub(crate) struct SourceSetup {
 pub(crate) struct Acceptor {
     pub sources: Listener,
     pub monitors: Option<Listener>,
+    /// Monitors are served the metrics page.
+    pub has_metrics: bool,
     pub setup: SourceSetup,
     /// The id of the next source, while there is one: they rise from 1.
     pub next_id: Option<u64>,
-    /// The most sources at a time.
+    /// The most sources at a time, of all readers together.
     pub limit: usize,
+    /// How many sources each of the other readers was handed.
+    pub handed: Vec<usize>,
     /// How many files the process may have open, where that leaves fewer sources than are set.
     pub few_files: Option<u64>,
 }
@@ -52,6 +58,8 @@ pub(crate) struct NewComers<'a> {
     pub alloc: Global,
     pub registry: &'a Registry,
     pub connections: &'a mut Connections,
+    /// The desks of the other readers.
+    pub desks: &'a [ReaderDesk],
     /// In milliseconds.
     pub now: u64,
 }
@@ -76,6 +84,15 @@ impl SourceSetup {
 }
 
 impl Acceptor {
+    /// One of the listeners told that connections wait.
+    pub fn called(&mut self, token: Token) {
+        if token == SOURCES {
+            self.sources.called();
+        } else if let Some(listener) = &mut self.monitors {
+            listener.called();
+        }
+    }
+
     /// Whether the next wait is to be short.
     pub fn is_urgent(&self) -> bool {
         self.sources.is_urgent() || self.monitors.as_ref().is_some_and(|it| it.is_urgent())
@@ -101,7 +118,12 @@ impl Acceptor {
 
     /// Takes the sources that wait. One too many is closed at once. It says whether memory was
     /// refused for one.
-    pub fn accept_sources<W: Watch>(&mut self, comers: &mut NewComers<'_>, watch: &mut W) -> bool {
+    pub fn accept_sources<R: Wait, W: Watch>(
+        &mut self,
+        rt: &R,
+        comers: &mut NewComers<'_>,
+        watch: &mut W,
+    ) -> bool {
         for _ in 0..ACCEPTS {
             let (stream, peer) = match self.sources.next() {
                 Arrival::Came(stream, peer) => (stream, peer),
@@ -111,10 +133,10 @@ impl Acceptor {
                 }
                 Arrival::None => return false,
             };
-            if comers.connections.sources() >= self.limit {
+            if self.standing(comers) >= self.limit {
                 let caller = Caller::Source;
                 watch.see(Fact::OverLimit { caller, peer });
-            } else if self.begin(comers, stream, peer).is_err() {
+            } else if self.begin(rt, comers, stream, peer).is_err() {
                 watch.see(Fact::Memory(Want::Source(peer)));
                 return true;
             }
@@ -135,8 +157,9 @@ impl Acceptor {
 
     /// A source begins with the next id, if one is left. The only error is that memory or the
     /// system refuses it.
-    fn begin(
+    fn begin<R: Wait>(
         &mut self,
+        rt: &R,
         comers: &mut NewComers<'_>,
         stream: TcpStream,
         peer: SocketAddr,
@@ -145,7 +168,59 @@ impl Acceptor {
             return Ok(());
         };
         let source = self.setup.source(comers.alloc, id)?;
-        comers.add(Connection::Source(SourcePeer::new(id, stream, peer, source)))
+        let source = SourcePeer::new(id, stream, peer, source);
+        match self.next_reader(comers) {
+            None => comers.add(Connection::Source(source)),
+            Some(place) => self.hand(rt, comers, place, source),
+        }
+    }
+
+    /// How many sources stand, of all readers together.
+    fn standing(&self, comers: &NewComers<'_>) -> usize {
+        let own = comers.connections.sources();
+        own.saturating_add(self.others(comers.desks))
+    }
+
+    /// How many sources the other readers have, whose desks these are.
+    pub fn others(&self, desks: &[ReaderDesk]) -> usize {
+        let mut all = 0usize;
+        for (handed, desk) in self.handed.iter().zip(desks) {
+            all = all.saturating_add(handed.saturating_sub(desk.gone()));
+        }
+        all
+    }
+
+    /// The place among the other readers of the one with the fewest sources, or none where the
+    /// first has no more than that.
+    fn next_reader(&self, comers: &NewComers<'_>) -> Option<usize> {
+        let mut fewest = comers.connections.sources();
+        let mut reader = None;
+        let places = 0..usize::MAX;
+        for (place, (handed, desk)) in places.zip(self.handed.iter().zip(comers.desks)) {
+            let own = handed.saturating_sub(desk.gone());
+            if own < fewest {
+                fewest = own;
+                reader = Some(place);
+            }
+        }
+        reader
+    }
+
+    /// Hands a source to the reader at a place among the others. The only error is out of memory.
+    fn hand<R: Wait>(
+        &mut self,
+        rt: &R,
+        comers: &NewComers<'_>,
+        place: usize,
+        source: SourcePeer,
+    ) -> Result<(), AllocError> {
+        let (Some(handed), Some(desk)) = (self.handed.get_mut(place), comers.desks.get(place))
+        else {
+            return Ok(());
+        };
+        desk.hand(rt, source)?;
+        *handed = handed.saturating_add(1);
+        Ok(())
     }
 
     /// Takes the monitors that wait. One too many is closed at once.
@@ -163,7 +238,7 @@ impl Acceptor {
                 let caller = Caller::Monitor;
                 watch.see(Fact::OverLimit { caller, peer });
             } else {
-                let monitor = MonitorPeer::new(comers.alloc, stream);
+                let monitor = MonitorPeer::new(comers.alloc, stream, self.has_metrics);
                 if comers.add(Connection::Monitor(monitor)).is_err() {
                     watch.see(Fact::Memory(Want::Monitor));
                 }

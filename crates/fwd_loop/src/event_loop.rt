@@ -3,10 +3,12 @@
 use crate::acceptor::{Acceptor, NewComers};
 use crate::fault::StartFault;
 use crate::lost_servers::{LostServers, fact_of};
+use crate::readers::ReaderDesk;
 use crate::run_clock::RunClock;
 use fwd_links::{Mailbox, Notices, Signs};
 use fwd_outlets::{
-    Connection, Connections, Fact, MonitorPeer, Outlets, Output, Ready, Served, Want, Watch,
+    Connection, Connections, Fact, Figures, MonitorPeer, Outlets, Output, Ready, Served, Want,
+    Watch,
 };
 use fwd_peers::{PeerEnd, SourceEnd, SourcePeer};
 use fwd_workers::News;
@@ -57,6 +59,8 @@ pub(crate) struct Desk<'d, 'a> {
     pub mailbox: &'d Mailbox,
     /// Pages are made by a thread of their own.
     pub are_pages_ordered: bool,
+    /// What is known of the relay.
+    pub figures: Figures,
     /// The moment, in milliseconds.
     pub now: u64,
 }
@@ -69,7 +73,8 @@ pub(crate) struct EventLoop {
     pub events: Events,
     /// What a visit reads: as many bytes as a connection may send in a turn.
     pub room: Vec<u8>,
-    pub acceptor: Acceptor,
+    /// The listeners, which the first reader has.
+    pub acceptor: Option<Acceptor>,
     pub connections: Connections,
     /// Something was ready or told in the last turn.
     pub was_at_work: bool,
@@ -88,6 +93,8 @@ pub(crate) struct LoopMemory {
     is_paused: bool,
     /// When that was told last, in milliseconds, if it was.
     told: Option<u64>,
+    /// It told the workers that memory was refused a short while ago.
+    is_tight: bool,
 }
 
 /// Whether so long (milliseconds) has passed at a moment since another one, if there was any.
@@ -107,6 +114,7 @@ impl LoopMemory {
             is_settled: false,
             is_paused: false,
             told: None,
+            is_tight: false,
         }
     }
 
@@ -120,7 +128,16 @@ impl LoopMemory {
     /// Connections are about to be read at a moment (milliseconds).
     fn begin_reading(&mut self, now: u64) {
         self.is_paused = false;
-        self.signs.begin_reading(!is_past(self.refused, TIGHT, now));
+        let is_tight = !is_past(self.refused, TIGHT, now);
+        if is_tight != self.is_tight {
+            self.is_tight = is_tight;
+            if is_tight {
+                self.signs.begin_tightness();
+            } else {
+                self.signs.end_tightness();
+            }
+        }
+        self.signs.begin_reading();
     }
 
     /// Connections were read from a moment on (milliseconds). Where no source was, that is told,
@@ -141,21 +158,70 @@ impl LoopMemory {
 }
 
 impl EventLoop {
-    /// Takes the connections that wait, at a moment (milliseconds).
-    pub fn accept<W: Watch>(&mut self, watch: &mut W, now: u64) {
-        let registry = self.poll.registry();
+    /// Takes the connections that wait at the listeners, if it has them, at a moment
+    /// (milliseconds), and hands sources to the other readers, too.
+    pub fn accept<R: Wait, W: Watch>(
+        &mut self,
+        rt: &R,
+        desks: &[ReaderDesk],
+        watch: &mut W,
+        now: u64,
+    ) {
+        let Some(mut acceptor) = self.acceptor.take() else {
+            return;
+        };
         let mut gate = NewComers {
             alloc: self.alloc,
-            registry,
+            registry: self.poll.registry(),
             connections: &mut self.connections,
+            desks,
             now,
         };
         if self.memory.is_refused(now) {
-            self.memory.is_paused |= self.acceptor.sources.is_urgent();
-        } else if self.acceptor.accept_sources(&mut gate, watch) {
+            self.memory.is_paused |= acceptor.sources.is_urgent();
+        } else if acceptor.accept_sources(rt, &mut gate, watch) {
             self.memory.refuse(now);
         }
-        self.acceptor.accept_monitors(&mut gate, watch);
+        acceptor.accept_monitors(&mut gate, watch);
+        self.acceptor = Some(acceptor);
+    }
+
+    /// Takes a source that it was handed at a moment (milliseconds).
+    pub fn take_source<W: Watch>(&mut self, source: SourcePeer, watch: &mut W, now: u64) {
+        let peer = source.peer();
+        let registry = self.poll.registry();
+        let source = Connection::Source(source);
+        if self.connections.add(registry, source, now).is_err() {
+            watch.see(Fact::Memory(Want::Source(peer)));
+            self.memory.refuse(now);
+        }
+    }
+
+    /// Tells where connections come in, where it has the listeners.
+    pub fn tell<W: Watch>(&self, watch: &mut W) {
+        if let Some(acceptor) = &self.acceptor {
+            acceptor.tell(watch);
+        }
+    }
+
+    /// How many sources stand.
+    pub fn sources(&self) -> usize {
+        self.connections.sources()
+    }
+
+    /// What is known of the relay at a moment (milliseconds since it started), by the first reader
+    /// and the desks of the others.
+    pub fn figures(&self, desks: &[ReaderDesk], now: u64) -> Figures {
+        let (others, limit) = match &self.acceptor {
+            Some(acceptor) => (acceptor.others(desks), acceptor.limit),
+            None => (0, 0),
+        };
+        self.connections.figures(others, limit, now)
+    }
+
+    /// Whether connections may wait at the listeners of which those will not tell again.
+    fn is_urgent(&self) -> bool {
+        self.acceptor.as_ref().is_some_and(|it| it.is_urgent())
     }
 
     /// A chunk that workers settled gives memory back.
@@ -200,7 +266,7 @@ impl EventLoop {
         let is_left = connections.ready() > 0 || connections.told() > 0;
         let longest = if self.memory.is_paused {
             outlets.patience(now, PAUSE)
-        } else if is_left || self.acceptor.is_urgent() {
+        } else if is_left || self.is_urgent() {
             0
         } else {
             outlets.patience(now, LONGEST)
@@ -208,6 +274,7 @@ impl EventLoop {
         if longest == 0 {
             self.look(0)?;
         } else if !self.was_at_work || !self.finds_more(mailbox)? {
+            outlets.rest();
             self.sleep(mailbox, longest)?;
         }
         self.was_at_work = !self.events.is_empty() || mailbox.is_told();
@@ -246,10 +313,9 @@ impl EventLoop {
         for event in self.events.iter() {
             match event.token() {
                 WAKER => {}
-                SOURCES => self.acceptor.sources.called(),
-                MONITORS => {
-                    if let Some(listener) = &mut self.acceptor.monitors {
-                        listener.called();
+                SOURCES | MONITORS => {
+                    if let Some(acceptor) = &mut self.acceptor {
+                        acceptor.called(event.token());
                     }
                 }
                 Token(key) => note(&mut self.connections, key, event),
@@ -371,9 +437,12 @@ fn serve_monitor<R: Wait>(
     room: &mut [u8],
 ) -> Result<After, AllocError> {
     let served = monitor.serve(alloc, room, desk.now)?;
-    if monitor.wants() && !desk.are_pages_ordered {
-        monitor.hand_now(rt, alloc, desk.outputs, desk.now)?;
-        return Ok(After::Again);
+    if !desk.are_pages_ordered {
+        if let Some(kind) = monitor.wants() {
+            let made_of = (kind, desk.figures);
+            monitor.hand_now(rt, alloc, desk.outputs, made_of, desk.now)?;
+            return Ok(After::Again);
+        }
     }
     Ok(match served {
         Served::Again => After::Again,

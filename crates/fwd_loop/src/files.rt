@@ -20,6 +20,9 @@ const OWN: u64 = 16;
 /// connects to another server.
 const WORKER: u64 = 5;
 
+/// The files of a reader beside the first: what it waits with, and what wakes it.
+const READER: u64 = 2;
+
 /// How many files the process may have open, where the system tells and there is a limit.
 pub(crate) fn most_files<R: Files + AllocGlobal>(rt: &R) -> Option<u64> {
     let text = fs::read(rt, LIMITS).ok()?;
@@ -33,10 +36,10 @@ fn limit_in(text: &str) -> Option<u64> {
     soft.parse().ok()
 }
 
-/// How many sources at most so many files leave room for, beside the workers of these outputs: one
-/// at least.
-pub(crate) fn sources_within(files: u64, outputs: &[OutputSettings]) -> u64 {
-    let mut own = OWN + MONITORS as u64;
+/// How many sources at most so many files leave room for, beside so many readers other than the
+/// first and the workers of these outputs: one at least.
+pub(crate) fn sources_within(files: u64, others: u64, outputs: &[OutputSettings]) -> u64 {
+    let mut own = (OWN + MONITORS as u64).saturating_add(READER.saturating_mul(others));
     for output in outputs {
         own = own.saturating_add(WORKER * u64::from(output.workers));
     }

@@ -1,6 +1,6 @@
 //! The relay over sockets.
 
-ghost use Rattle.std.specs.Prelude.{◌≡◌, ◌≤◌, length, true, IfOk};
+ghost use Rattle.std.specs.Prelude.{◌≡◌, ◌≤◌, [], length, true, IfOk};
 ghost use Rattle.fwd_settings.specs.Ranges.{in_range};
 ghost use Rattle.fwd_outlets.specs.Ends.{AddUp};
 
@@ -10,12 +10,15 @@ use crate::fault::StartFault;
 use crate::files::{most_files, sources_within};
 use crate::listener::Listener;
 use crate::random_streams::RandomStreams;
-use crate::turns::{Opened, Own, Shared, Turns, WorkerTurns, open};
+use crate::reader::ReaderParts;
+use crate::readers::{FactQueue, ReaderDesk};
+use crate::threads::{Beside, Started};
+use crate::turns::{Opened, Own, Shared, Turns, close_all, open};
 use crate::worker_pools::{NextHop, WorkerPools};
 use fwd_chunks::Report;
 use fwd_config::config_of;
 use fwd_core::{Config, OutputConfig};
-use fwd_links::Mailbox;
+use fwd_links::{Mailbox, Signs};
 use fwd_outlets::{Connections, PageDesk, Watch, reports_of};
 use fwd_settings::{OutputSettings, Settings, WhenFull};
 use mio::{Events, Poll, Waker};
@@ -55,31 +58,38 @@ impl Model for Loop {
     ghost view = { λ relay. length relay.shared.outputs.items };
 }
 
-/// Where the relay listens, and how many sources it takes.
+/// Where the relay listens, how many sources it takes, and how many readers.
 #[derive(Clone, Copy)]
 struct Address {
     listen: SocketAddr,
     monitor: Option<SocketAddr>,
+    /// Monitors are served the metrics page.
+    has_metrics: bool,
     connections: u64,
     /// How many files the process may have open, where that leaves fewer than are set.
     few_files: Option<u64>,
+    /// How many readers there are beside the first.
+    others: usize,
 }
 
-/// Where a relay of these settings listens, and how many sources it takes: as many as are set, or
-/// as many as the process may have files open for.
+/// Where a relay of these settings listens, how many sources it takes: as many as are set, or as
+/// many as the process may have files open for; and how many readers it has.
 fn address_of<R: Files + AllocGlobal>(rt: &R, settings: &Settings) -> Address {
     let relay = &settings.relay;
     let asked = u64::from(relay.connections);
+    let others = u64::from(relay.readers).saturating_sub(1);
     let files = most_files(rt);
     let most = match files {
-        Some(files) => sources_within(files, settings.outputs.as_slice()),
+        Some(files) => sources_within(files, others, settings.outputs.as_slice()),
         None => asked,
     };
     Address {
         listen: relay.listen,
         monitor: relay.monitor,
+        has_metrics: relay.metrics,
         connections: asked.min(most),
         few_files: if most < asked { files } else { None },
+        others: others as usize,
     }
 }
 
@@ -106,17 +116,17 @@ fn next_hop_of(alloc: Global, output: &OutputSettings) -> Result<NextHop, AllocE
 /// The outputs with their next hops and workers, in a run of these bytes.
 fn pools_of<R: Net>(
     rt: &R,
-    alloc: Global,
+    mut pools: WorkerPools,
     random: &RandomStreams,
     run: [u8; 6],
     configs: Vec<OutputConfig>,
     hops: Vec<NextHop>,
 ) -> Result<WorkerPools, StartFault>
+    requires none { pools.outputs.items ≡ [] }
     requires each { length hops.items ≡ length configs.items }
     requires few { length configs.items ≤ 64 }
     ensures { IfOk result (λ pools. length pools.outputs.items ≡ length configs.items) }
 {
-    let mut pools = WorkerPools::new(alloc);
     let mut configs = configs.into_iter();
     let mut hops = hops.into_iter();
     while let (Some(config), Some(next)) = (configs.next(), hops.next()) {
@@ -126,40 +136,75 @@ fn pools_of<R: Net>(
     Ok(pools)
 }
 
-/// The loop before its first turn, and what workers tell it by.
+/// A reader's loop before its first turn, without listeners, and what it is told by.
 fn event_loop_of<R: Net>(
     rt: &R,
     alloc: Global,
-    address: Address,
-    setup: SourceSetup,
+    signs: &Signs,
 ) -> Result<(EventLoop, Mailbox), StartFault> {
     let poll = Poll::new(rt).map_err(|_| StartFault::Poll)?;
     let waker = Waker::new(poll.registry(), WAKER).map_err(|_| StartFault::Poll)?;
-    let sources = Listener::open(rt, &poll, address.listen, SOURCES)?;
-    let monitors = match address.monitor {
-        Some(monitor) => Some(Listener::open(rt, &poll, monitor, MONITORS)?),
-        None => None,
-    };
-    let acceptor = Acceptor {
-        sources,
-        monitors,
-        setup,
-        next_id: Some(1),
-        limit: address.connections as usize,
-        few_files: address.few_files,
-    };
-    let mailbox = Mailbox::new(alloc, waker)?;
+    let mailbox = Mailbox::new(alloc, waker, signs.share()?);
     let event_loop = EventLoop {
         alloc,
         poll,
         events: Events::with_capacity(alloc, EVENTS)?,
         room: vec![in alloc; 0; PIECE]?,
-        acceptor,
+        acceptor: None,
         connections: Connections::new(alloc),
         was_at_work: false,
-        memory: LoopMemory::new(mailbox.signs().share()?),
+        memory: LoopMemory::new(signs.share()?),
     };
     Ok((event_loop, mailbox))
+}
+
+/// The listeners, which the first reader waits for.
+fn acceptor_of<R: Net>(
+    rt: &R,
+    alloc: Global,
+    poll: &Poll,
+    address: Address,
+    setup: SourceSetup,
+) -> Result<Acceptor, StartFault> {
+    let sources = Listener::open(rt, poll, address.listen, SOURCES)?;
+    let monitors = match address.monitor {
+        Some(monitor) => Some(Listener::open(rt, poll, monitor, MONITORS)?),
+        None => None,
+    };
+    Ok(Acceptor {
+        sources,
+        monitors,
+        has_metrics: address.has_metrics,
+        setup,
+        next_id: Some(1),
+        limit: address.connections as usize,
+        handed: vec![in alloc; 0; address.others]?,
+        few_files: address.few_files,
+    })
+}
+
+/// The readers beside the first: what they are told by, and what each has of its own.
+struct OtherReaders {
+    desks: Vec<ReaderDesk>,
+    others: Vec<ReaderParts>,
+}
+
+/// The readers of these outputs beside the first.
+fn other_readers<R: Net>(
+    rt: &R,
+    alloc: Global,
+    signs: &Signs,
+    pools: &WorkerPools,
+) -> Result<OtherReaders, StartFault> {
+    let mut desks = Vec::new(alloc);
+    let mut others = Vec::new(alloc);
+    for _ in 0..pools.others() {
+        let (event_loop, mailbox) = event_loop_of(rt, alloc, signs)?;
+        desks.push(ReaderDesk::new(alloc, mailbox))?;
+        let timers = pools.timers()?;
+        others.push(ReaderParts { event_loop, timers })?;
+    }
+    Ok(OtherReaders { desks, others })
 }
 
 /// Asks for a large piece of memory, and gives it back.
@@ -199,23 +244,32 @@ impl Loop {
             limits,
             nonces: random.nonces(),
         };
-        let (event_loop, mailbox) = event_loop_of(rt, alloc, address, setup)?;
-        let pools = pools_of(rt, alloc, &random, run, outputs.into_vec(), hops)?;
+        let signs = Signs::new(alloc)?;
+        let (mut event_loop, mailbox) = event_loop_of(rt, alloc, &signs)?;
+        event_loop.acceptor = Some(acceptor_of(rt, alloc, &event_loop.poll, address, setup)?);
+        let none = WorkerPools::new(alloc, address.others);
+        let pools = pools_of(rt, none, &random, run, outputs.into_vec(), hops)?;
+        let first = ReaderParts {
+            event_loop,
+            timers: pools.timers()?,
+        };
+        let OtherReaders { desks, others } = other_readers(rt, alloc, &signs, &pools)?;
         let WorkerPools {
-            alloc: _,
             outputs,
-            timers,
             workers,
+            ..
         } = pools;
         let shared = Shared {
             routes,
             outputs,
             mailbox,
+            desks,
+            facts: FactQueue::new(alloc),
             pages: PageDesk::new(),
         };
         let own = Own {
-            event_loop,
-            timers,
+            first,
+            others,
             workers,
         };
         Ok(Loop { alloc, shared, own })
@@ -227,13 +281,13 @@ impl Loop {
         open(rt, self.alloc, &self.shared, &mut self.own)
     }
 
-    /// Runs the loop for so many turns in this thread, and each worker for as many in a thread of
-    /// its own, and answers what each output has to do with once all have ended, in the settings'
-    /// order. Whoever still waits for an acknowledgement by then is told, if its request's entries
-    /// are settled.
+    /// Runs the first reader for so many turns in this thread, and each other reader and each
+    /// worker for as many in a thread of its own, and answers what each output has to do with once
+    /// all have ended, in the settings' order. Whoever still waits for an acknowledgement by then
+    /// is told, if its request's entries are settled.
     ///
-    /// It fails with `Thread` where a worker's thread cannot be had, with `Poll` where a wait
-    /// failed, and with `Memory`. All threads that were started have ended then, too.
+    /// It fails with `Thread` where the thread of a reader or worker cannot be had, with `Poll`
+    /// where a wait failed, and with `Memory`. All threads that were started have ended then, too.
     pub fn run<
         R: Net<Listener = TcpListener, Stream = TcpStream>
             + Threads
@@ -266,16 +320,24 @@ impl Loop {
             shared,
             mut own,
         } = self;
-        let Opened { mut turns, workers } = open(rt, alloc, &shared, &mut own)?;
-        let served = serve(rt, &mut turns, workers, watch, count);
+        let Opened {
+            mut turns,
+            mut others,
+            workers,
+        } = open(rt, alloc, &shared, &mut own)?;
+        let served = match Beside::new(alloc, workers, &mut others) {
+            Ok(beside) => serve(rt, &mut turns, beside, watch, count),
+            Err(_) => Err(StartFault::Memory),
+        };
+        close_all(rt, others);
         turns.close_watched(rt, watch);
         served?;
         Ok(reports_of(rt, alloc, &shared.outputs)?)
     }
 }
 
-/// Makes so many turns in this thread, and has each worker make as many in a thread of its own,
-/// until all have ended; and has monitors' pages made in another one, where there can be one.
+/// Makes so many turns in this thread, and as many in each thread beside it, until all have ended;
+/// and has monitors' pages made in another one, where there can be one.
 fn serve<
     R: Net<Listener = TcpListener, Stream = TcpStream>
         + Threads
@@ -287,28 +349,18 @@ fn serve<
 >(
     rt: &R,
     turns: &mut Turns<'_, R>,
-    workers: Vec<WorkerTurns<'_>>,
+    beside: Beside<'_, '_, R>,
     watch: &mut W,
     count: u64,
 ) -> Result<(), StartFault> {
     thread::scope(thread::scope_env(), rt, move |scope| {
-        let mut children = Vec::with_capacity(rt.alloc(), workers.len().saturating_add(1))?;
-        let mut served = Ok(());
-        for worker in workers {
-            if served.is_ok() {
-                match scope.spawn(move || worker.work(rt, count)) {
-                    Ok(child) => {
-                        let _ = children.push(child);
-                    }
-                    Err(_) => served = Err(StartFault::Thread),
-                }
-            }
-        }
+        let mut started = Started::with_room_for(rt.alloc(), &beside)?;
+        let mut served = started.start(scope, rt, beside, count);
         // Behind the workers: a relay does without it where there is no room for one thread more.
         let maker = turns.page_maker();
         if let Some(maker) = maker {
             if let Ok(child) = scope.spawn(move || maker.work(rt)) {
-                let _ = children.push(child);
+                started.keep(child);
                 turns.order_pages();
             }
         }
@@ -321,9 +373,7 @@ fn serve<
         if let Some(maker) = maker {
             maker.stop(rt);
         }
-        for child in children {
-            child.join(rt);
-        }
-        served
+        let ended = started.join(rt);
+        served.and(ended)
     })
 }

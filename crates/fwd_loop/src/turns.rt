@@ -1,45 +1,42 @@
-//! The turns of a relay's loop, and its workers beside them.
+//! The turns of a relay's readers, and its workers beside them.
 
 ghost use Rattle.std.specs.Prelude.{IfOk};
 ghost use Rattle.fwd_outlets.specs.Ends.{AddUp};
 
-use crate::event_loop::{Desk, EventLoop, tell_all};
+use crate::event_loop::tell_all;
 use crate::fault::StartFault;
 use crate::lost_servers::LostServers;
-use crate::run_clock::RunClock;
-use crate::worker_thread::WorkerThread;
+use crate::reader::{Pages, Reader, ReaderParts, Surroundings};
+use crate::readers::{FactQueue, QueueWatch, ReaderDesk};
+use crate::worker_thread::{Mailboxes, WorkerThread};
 use fwd_chunks::Report;
 use fwd_links::Mailbox;
 use fwd_match::Routes;
-use fwd_outlets::{Fact, FlushTimer, Outlets, Output, PageDesk, Want, Watch, reports_of};
-use std::alloc::Global;
+use fwd_outlets::{Fact, Output, PageDesk, Want, Watch, reports_of};
+use std::alloc::{AllocFailed, Global};
 use std::net::Net;
 use std::rt::Clock;
 use std::sync::Wait;
 use std::time::Instant;
 
-/// How long receipts are collected in a turn, in milliseconds, but for the rounds that are under
-/// way then.
-const COLLECTING: u64 = 4;
-
-/// The most rounds of collecting in a turn.
-const ROUNDS: u16 = 1_024;
-
-/// What a relay's loop and its workers share.
+/// What a relay's readers and workers share.
 #[derive(Drop)]
 pub(crate) struct Shared {
     pub routes: Routes,
     pub outputs: Vec<Output>,
+    /// The first reader's mailbox.
     pub mailbox: Mailbox,
+    /// The desks of the others.
+    pub desks: Vec<ReaderDesk>,
+    pub facts: FactQueue,
     pub pages: PageDesk,
 }
 
-/// What a relay has beside: the loop's own, and the workers.
+/// What a relay has beside: what each reader has of its own, and the workers.
 #[derive(Drop)]
 pub(crate) struct Own {
-    pub event_loop: EventLoop,
-    /// The timer of each output's flushes.
-    pub timers: Vec<FlushTimer>,
+    pub first: ReaderParts,
+    pub others: Vec<ReaderParts>,
     pub workers: Vec<WorkerThread>,
 }
 
@@ -48,7 +45,7 @@ pub(crate) struct Own {
 pub struct WorkerTurns<'a> {
     thread: &'a mut WorkerThread,
     outputs: &'a [Output],
-    mailbox: &'a Mailbox,
+    mailboxes: Mailboxes<'a>,
     start: Option<Instant>,
 }
 
@@ -58,10 +55,10 @@ impl<'a> WorkerTurns<'a> {
         let WorkerTurns {
             thread,
             outputs,
-            mailbox,
+            mailboxes,
             start,
         } = self;
-        thread.work(rt, outputs, mailbox, start, turns);
+        thread.work(rt, outputs, mailboxes, start, turns);
     }
 }
 
@@ -103,30 +100,95 @@ fn workers_of<'a>(
         workers.push(WorkerTurns {
             thread,
             outputs: &shared.outputs,
-            mailbox: &shared.mailbox,
+            mailboxes: Mailboxes {
+                first: &shared.mailbox,
+                others: &shared.desks,
+            },
             start,
         })?;
     }
     Ok(workers)
 }
 
-/// The turns of a relay's loop. They must be spent: by `close`.
-pub struct Turns<'a, R: Clock> {
+/// The readers of a relay beside the first. The only error is out of memory.
+fn others_of<'a, R: Wait + Clock>(
+    rt: &'a R,
     alloc: Global,
-    outputs: &'a [Output],
-    mailbox: &'a Mailbox,
+    shared: &'a Shared,
+    others: &'a mut [ReaderParts],
+    start: Option<Instant>,
+) -> Result<Vec<ReaderTurns<'a, R>>, StartFault> {
+    let mut readers = Vec::new(alloc);
+    for ((number, desk), parts) in (1..usize::MAX).zip(&shared.desks).zip(others) {
+        let around = Surroundings {
+            alloc,
+            routes: &shared.routes,
+            outputs: &shared.outputs,
+            mailbox: &desk.mailbox,
+            number,
+            start,
+        };
+        let reader = match Reader::new(rt, around, parts) {
+            Ok(reader) => reader,
+            Err(_) => {
+                close_all(rt, readers);
+                return Err(StartFault::Memory);
+            }
+        };
+        let turns = ReaderTurns {
+            reader,
+            desk,
+            facts: &shared.facts,
+            first: &shared.mailbox,
+            taken: 0,
+        };
+        if let Err(AllocFailed { value }) = readers.push(turns) {
+            value.close(rt);
+            close_all(rt, readers);
+            return Err(StartFault::Memory);
+        }
+    }
+    Ok(readers)
+}
+
+/// The tickets of readers are handed in.
+pub fn close_all<R: Wait + Clock>(rt: &R, readers: Vec<ReaderTurns<'_, R>>) {
+    let mut rest = readers.into_iter();
+    while let Some(reader) = rest.next() {
+        reader.close(rt);
+    }
+    rest.destroy_empty();
+}
+
+/// The turns of a relay's first reader, which has the listeners, and tells what the run comes to.
+/// They must be spent: by `close`.
+pub struct Turns<'a, R: Clock> {
+    reader: Reader<'a, R>,
+    /// The desks of the other readers.
+    desks: &'a [ReaderDesk],
+    facts: &'a FactQueue,
     pages: &'a PageDesk,
     /// A thread makes pages: else one is made when it is asked for.
     are_pages_ordered: bool,
-    event_loop: &'a mut EventLoop,
-    outlets: Outlets<'a>,
     lost_servers: LostServers,
-    clock: RunClock<'a, R>,
 }
 
-/// A relay that is open: its turns, and its workers.
+/// The turns of a reader of a relay beside the first, in a thread of its own. They must be spent:
+/// by `close`.
+pub struct ReaderTurns<'a, R: Clock> {
+    reader: Reader<'a, R>,
+    desk: &'a ReaderDesk,
+    facts: &'a FactQueue,
+    /// The first reader's mailbox.
+    first: &'a Mailbox,
+    /// How many sources it took.
+    taken: usize,
+}
+
+/// A relay that is open: the turns of its first reader and of the others, and its workers.
 pub struct Opened<'a, R: Clock> {
     pub turns: Turns<'a, R>,
+    pub others: Vec<ReaderTurns<'a, R>>,
     pub workers: Vec<WorkerTurns<'a>>,
 }
 
@@ -138,26 +200,104 @@ pub(crate) fn open<'a, R: Wait + Clock>(
     own: &'a mut Own,
 ) -> Result<Opened<'a, R>, StartFault> {
     let Own {
-        event_loop,
-        timers,
+        first,
+        others,
         workers: threads,
     } = own;
     let start = Instant::now(rt).ok();
     let lost_servers = LostServers::new(alloc, &shared.outputs)?;
     let workers = workers_of(alloc, shared, threads, start)?;
-    let outlets = Outlets::new(rt, alloc, &shared.routes, &shared.outputs, timers)?;
-    let turns = Turns {
+    let around = Surroundings {
         alloc,
+        routes: &shared.routes,
         outputs: &shared.outputs,
         mailbox: &shared.mailbox,
+        number: 0,
+        start,
+    };
+    let others = others_of(rt, alloc, shared, others, start)?;
+    let reader = match Reader::new(rt, around, first) {
+        Ok(reader) => reader,
+        Err(_) => {
+            close_all(rt, others);
+            return Err(StartFault::Memory);
+        }
+    };
+    let turns = Turns {
+        reader,
+        desks: &shared.desks,
+        facts: &shared.facts,
         pages: &shared.pages,
         are_pages_ordered: false,
-        event_loop,
-        outlets,
         lost_servers,
-        clock: RunClock::new(rt, start),
     };
-    Ok(Opened { turns, workers })
+    Ok(Opened {
+        turns,
+        others,
+        workers,
+    })
+}
+
+impl<'a, R: Wait + Clock> ReaderTurns<'a, R> {
+    /// One turn, as the first reader's, but for what only that does: it takes the sources that it
+    /// was handed, in place of those that wait at a listener, and has no monitors.
+    ///
+    /// It fails with `Poll` where the wait failed.
+    pub fn turn(&mut self, rt: &R) -> Result<(), StartFault> {
+        let mut watch = QueueWatch {
+            rt,
+            facts: self.facts,
+            first: self.first,
+        };
+        let reader = &mut self.reader;
+        reader.wait()?;
+        let now = reader.moment();
+        let notices = reader.mailbox.take(rt, reader.alloc);
+        reader.answer(rt, &notices, &mut watch, now);
+        let pages = Pages {
+            are_ordered: false,
+            figures: reader.figures(&[], now),
+        };
+        reader.read(rt, &mut watch, pages);
+        for source in self.desk.take(rt, reader.alloc) {
+            reader.event_loop.take_source(source, &mut watch, now);
+            self.taken = self.taken.saturating_add(1);
+        }
+        reader.event_loop.close_late(&mut watch, now);
+        let now = reader.moment();
+        reader.flush(rt, &mut watch, now);
+        let standing = self.reader.sources();
+        self.desk.note_gone(self.taken.saturating_sub(standing));
+        Ok(())
+    }
+
+    /// So many turns, or until all are to end. Where a turn fails, all are to end.
+    pub fn run(&mut self, rt: &R, turns: u64) -> Result<(), StartFault> {
+        for _ in 0..turns {
+            if self.first.is_stopped() {
+                break;
+            }
+            if let Err(fault) = self.turn(rt) {
+                self.first.stop();
+                self.first.call();
+                return Err(fault);
+            }
+        }
+        Ok(())
+    }
+
+    /// Hands in all tickets, writes what that has sources told, and abandons the tickets that are
+    /// left. The connections stay.
+    pub fn close(self, rt: &R) {
+        let ReaderTurns {
+            reader,
+            desk: _,
+            facts,
+            first,
+            taken: _,
+        } = self;
+        reader.close(rt, &mut QueueWatch { rt, facts, first });
+    }
 }
 
 impl<'a, R: Wait + Clock> Turns<'a, R> {
@@ -177,25 +317,23 @@ impl<'a, R: Wait + Clock> Turns<'a, R> {
 
     /// The same, and a watch is told what the turn comes to.
     pub fn turn_watched<W: Watch>(&mut self, rt: &R, watch: &mut W) -> Result<(), StartFault> {
-        let now = self.clock.moment();
-        self.event_loop.wait(self.mailbox, &self.outlets, now)?;
-        let now = self.clock.moment();
-        let notices = self.mailbox.take(rt, self.alloc);
-        tell_all(&notices, self.outputs, &mut self.lost_servers, watch);
-        self.outlets.hear(&notices);
-        self.event_loop.hear(&notices);
-        self.collect(rt, watch, now);
-        self.event_loop.write_all(watch);
-        if self.outlets.has_moved() {
-            self.event_loop.connections.free_held();
-        }
-        self.read(rt, watch);
-        self.event_loop.accept(watch, now);
-        self.event_loop.close_late(watch, now);
-        let now = self.clock.moment();
-        self.outlets.flush(rt, now);
-        self.outlets.tend(&self.event_loop.connections, watch, now);
+        let reader = &mut self.reader;
+        reader.wait()?;
+        let now = reader.moment();
+        let notices = reader.mailbox.take(rt, reader.alloc);
+        tell_all(&notices, reader.outputs, &mut self.lost_servers, watch);
+        reader.answer(rt, &notices, watch, now);
+        let pages = Pages {
+            are_ordered: self.are_pages_ordered,
+            figures: reader.figures(self.desks, now),
+        };
+        reader.read(rt, watch, pages);
+        reader.event_loop.accept(rt, self.desks, watch, now);
+        reader.event_loop.close_late(watch, now);
+        let now = reader.moment();
+        reader.flush(rt, watch, now);
         self.tend_monitors(rt, watch, now);
+        self.facts.tell(rt, self.reader.alloc, watch);
         watch.turned();
         Ok(())
     }
@@ -203,7 +341,8 @@ impl<'a, R: Wait + Clock> Turns<'a, R> {
     /// Monitors that took nothing for long are closed, at a moment (milliseconds); those that wait
     /// for a page that was made are sent it, and a further one is ordered for those that want it.
     fn tend_monitors<W: Watch>(&mut self, rt: &R, watch: &mut W, now: u64) {
-        let connections = &mut self.event_loop.connections;
+        let reader = &mut self.reader;
+        let connections = &mut reader.event_loop.connections;
         if connections.monitors() == 0 {
             return;
         }
@@ -212,21 +351,26 @@ impl<'a, R: Wait + Clock> Turns<'a, R> {
             return;
         }
         if let Some(mut page) = self.pages.take(rt) {
-            page.make_here(rt, self.alloc, self.outputs);
+            page.make_here(rt, reader.alloc, reader.outputs);
             for _ in 0..connections.hand_page(&page, now) {
                 watch.see(Fact::Memory(Want::Monitor));
             }
         }
-        connections.order_page(rt, self.pages);
+        let figures = reader.figures(self.desks, now);
+        reader
+            .event_loop
+            .connections
+            .order_page(rt, self.pages, figures);
     }
 
     /// What makes pages in a thread of its own, where monitors are listened for.
     pub(crate) fn page_maker(&self) -> Option<PageMaker<'a>> {
-        self.event_loop.acceptor.monitors.as_ref()?;
+        let acceptor = self.reader.event_loop.acceptor.as_ref()?;
+        acceptor.monitors.as_ref()?;
         Some(PageMaker {
-            alloc: self.alloc,
-            outputs: self.outputs,
-            mailbox: self.mailbox,
+            alloc: self.reader.alloc,
+            outputs: self.reader.outputs,
+            mailbox: self.reader.mailbox,
             pages: self.pages,
         })
     }
@@ -236,41 +380,20 @@ impl<'a, R: Wait + Clock> Turns<'a, R> {
         self.are_pages_ordered = true;
     }
 
-    /// Collects receipts for some milliseconds from a moment on; those that are left in a later
-    /// turn.
-    fn collect<W: Watch>(&mut self, rt: &R, watch: &mut W, start: u64) {
-        let (event_loop, outlets) = (&mut *self.event_loop, &mut self.outlets);
-        for _ in 0..ROUNDS {
-            let is_more = outlets.collect(rt, &mut event_loop.connections, watch);
-            if !is_more || self.clock.moment().saturating_sub(start) >= COLLECTING {
-                return;
-            }
-        }
-    }
-
-    /// Reads the connections that are ready, and has what they ask for admitted.
-    fn read<W: Watch>(&mut self, rt: &R, watch: &mut W) {
-        let mut desk = Desk {
-            outputs: self.outputs,
-            outlets: &mut self.outlets,
-            mailbox: self.mailbox,
-            are_pages_ordered: self.are_pages_ordered,
-            now: 0,
-        };
-        self.event_loop
-            .read_all(rt, &mut desk, watch, &mut self.clock);
-    }
-
-    /// So many turns, of which a watch is told, and first where the relay listens.
+    /// So many turns, of which a watch is told, and first where the relay listens. It ends sooner
+    /// where another reader failed.
     pub(crate) fn run<W: Watch>(
         &mut self,
         rt: &R,
         watch: &mut W,
         turns: u64,
     ) -> Result<(), StartFault> {
-        self.event_loop.acceptor.tell(watch);
+        self.reader.tell(watch);
         for _ in 0..turns {
             self.turn_watched(rt, watch)?;
+            if self.reader.is_stopped() {
+                break;
+            }
         }
         Ok(())
     }
@@ -280,12 +403,15 @@ impl<'a, R: Wait + Clock> Turns<'a, R> {
     pub fn reports(&self, rt: &R) -> Result<Vec<Report>, StartFault>
         ensures add_up { IfOk result (λ reports. AddUp reports.items) }
     {
-        Ok(reports_of(rt, self.alloc, self.outputs)?)
+        Ok(reports_of(rt, self.reader.alloc, self.reader.outputs)?)
     }
 
-    /// All workers are to end.
+    /// All other readers and all workers are to end.
     pub fn stop(&self) {
-        self.mailbox.stop();
+        self.reader.mailbox.stop();
+        for desk in self.desks {
+            desk.mailbox.call();
+        }
     }
 
     /// Hands in all tickets, writes what that has sources told, and abandons the tickets that are
@@ -294,20 +420,18 @@ impl<'a, R: Wait + Clock> Turns<'a, R> {
         self.close_watched(rt, &mut ());
     }
 
-    /// The same, of which a watch is told.
+    /// The same, of which a watch is told, and of what the other readers told.
     pub(crate) fn close_watched<W: Watch>(self, rt: &R, watch: &mut W) {
         let Turns {
-            alloc: _,
-            outputs: _,
-            mailbox: _,
+            reader,
+            desks: _,
+            facts,
             pages: _,
             are_pages_ordered: _,
-            event_loop,
-            mut outlets,
             lost_servers: _,
-            clock: _,
         } = self;
-        event_loop.finish(rt, &mut outlets, watch);
-        outlets.close(rt);
+        let alloc = reader.alloc;
+        reader.close(rt, watch);
+        facts.tell(rt, alloc, watch);
     }
 }

@@ -8,18 +8,21 @@ use crate::worker_thread::WorkerThread;
 use fwd_core::{AckTerms, OutputConfig, OutputState};
 use fwd_handshake::Login;
 use fwd_links::WorkerWaker;
-use fwd_outlets::{FlushTimer, Output};
+use fwd_outlets::{FlushTimer, Hearers, Output};
 use fwd_workers::{Locked, Plain, SharedOutput, Worker};
-use std::alloc::Global;
+use std::alloc::{AllocError, Global};
 use std::net::{Net, SocketAddr};
 use std::sync::Arc;
 
-/// The outputs, the timers of their flushes, and all workers.
+/// The outputs, how long the chunks of each wait for more entries, and all workers.
 #[derive(Drop)]
 pub(crate) struct WorkerPools {
     pub alloc: Global,
     pub outputs: Vec<Output>,
-    pub timers: Vec<FlushTimer>,
+    /// In milliseconds.
+    intervals: Vec<u64>,
+    /// How many readers there are beside the first.
+    others: usize,
     pub workers: Vec<WorkerThread>,
 }
 
@@ -41,14 +44,15 @@ struct Pool<'a> {
 }
 
 impl WorkerPools {
-    /// None.
-    pub fn new(alloc: Global) -> WorkerPools
+    /// None, for so many readers beside the first.
+    pub fn new(alloc: Global, others: usize) -> WorkerPools
         ensures { result.outputs.items ≡ [] }
     {
         WorkerPools {
             alloc,
             outputs: Vec::new(alloc),
-            timers: Vec::new(alloc),
+            intervals: Vec::new(alloc),
+            others,
             workers: Vec::new(alloc),
         }
     }
@@ -94,9 +98,24 @@ impl WorkerPools {
             wakers,
             total: limits.total,
             is_patient,
+            hearers: Hearers::new(self.alloc, self.others)?,
         })?;
-        self.timers.push(FlushTimer::new(limits.interval))?;
+        self.intervals.push(limits.interval)?;
         Ok(())
+    }
+
+    /// How many readers there are beside the first.
+    pub fn others(&self) -> usize {
+        self.others
+    }
+
+    /// The timers of the outputs' flushes, for one reader. The only error is out of memory.
+    pub fn timers(&self) -> Result<Vec<FlushTimer>, AllocError> {
+        let mut timers = Vec::with_capacity(self.alloc, self.intervals.len())?;
+        for interval in &self.intervals {
+            timers.push(FlushTimer::new(*interval))?;
+        }
+        Ok(timers)
     }
 
     /// The workers of an output, and what calls them.

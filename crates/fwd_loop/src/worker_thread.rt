@@ -1,6 +1,7 @@
 //! A worker over TCP, in a thread of its own.
 
 use crate::fault::StartFault;
+use crate::readers::ReaderDesk;
 use crate::run_clock::RunClock;
 use fwd_links::{Looking, Mailbox, Notice, Refusal, SharedWait, TcpHub, WorkerWait, WorkerWaker};
 use fwd_outlets::Output;
@@ -22,10 +23,20 @@ enum Next {
     Later,
 }
 
+/// Where workers tell what they did: the first reader's mailbox, and the desks of the others.
+#[derive(Clone, Copy)]
+pub(crate) struct Mailboxes<'a> {
+    pub first: &'a Mailbox,
+    pub others: &'a [ReaderDesk],
+}
+
 /// Lets a worker wait for chunks, and stops it where all are to end.
 #[derive(Drop)]
 struct WorkerGate<'a> {
+    /// The first reader's mailbox.
     mailbox: &'a Mailbox,
+    /// The desks of the others.
+    others: &'a [ReaderDesk],
     number: u16,
     output: &'a Output,
     wait: &'a SharedWait,
@@ -108,6 +119,13 @@ impl<'a> Gate for WorkerGate<'a> {
             news,
         };
         self.mailbox.tell(rt, notice);
+        if let News::Settled { .. } = news {
+            for (reader, desk) in (1..usize::MAX).zip(self.others) {
+                if self.output.hearers.hears(reader) {
+                    desk.mailbox.tell(rt, notice);
+                }
+            }
+        }
     }
 
     fn hear_refused<R: Wait>(&mut self, rt: &R, _worker: u16, refused: Refused) {
@@ -146,18 +164,20 @@ impl WorkerThread {
         &mut self,
         rt: &R,
         outputs: &[Output],
-        mailbox: &Mailbox,
+        mailboxes: Mailboxes<'_>,
         start: Option<Instant>,
         turns: u64,
     ) {
         let output = self.output;
         let wait = &self.wait;
+        let mailbox = mailboxes.first;
         let Some(own) = outputs.get(output as usize) else {
             return;
         };
         let mut hub = TcpHub::new(rt, mailbox, wait, &own.servers);
         let mut gate = WorkerGate {
             mailbox,
+            others: mailboxes.others,
             number: output,
             output: own,
             wait,

@@ -1,4 +1,4 @@
-//! Whose requests may come to an output: what waits there is bounded.
+//! Whose requests may come from a reader to an output: what waits there is bounded.
 
 use crate::output::Output;
 use fwd_peers::SourcePeer;
@@ -88,6 +88,11 @@ impl Gate {
         if self.first() == Some(id) {
             self.leave();
         }
+    }
+
+    /// Whether nothing is owed, and nobody waits for room.
+    pub fn is_quiet(&self) -> bool {
+        self.owed == 0 && self.line.is_empty()
     }
 
     /// Whether somebody waits for room.

@@ -3,9 +3,9 @@
 ghost use Rattle.std.specs.Prelude.{◌≤◌, length};
 ghost use Rattle.std.specs.Arc.{arc_value};
 
+use crate::made_page::{MadePage, Making, PageKind, page_of};
 use crate::output::Output;
-use crate::page_desk::{MadePage, page_of};
-use fwd_monitor::{Reply, answer, wants_page};
+use fwd_monitor::{Figures, Reply, answer, wants_metrics, wants_page};
 use fwd_peers::{PeerStream, Visit};
 use mio::net::TcpStream;
 use std::alloc::{AllocError, Global};
@@ -27,10 +27,10 @@ struct Sending {
 enum Stage {
     /// Its request's head has not come yet.
     Asking,
-    /// It is to be sent the page, which is not ordered yet.
-    Wanting,
-    /// It is to be sent a page of this number or a later one.
-    Waiting(u64),
+    /// It is to be sent a page of this kind, which is not ordered yet.
+    Wanting(PageKind),
+    /// It is to be sent a page of this kind, and of this number or a later one.
+    Waiting(PageKind, u64),
     /// It is sent a page of this number, or another reply as 0.
     Taking(u64),
 }
@@ -51,6 +51,8 @@ pub enum Served {
 pub struct MonitorPeer {
     pub(crate) stream: PeerStream,
     heard: Vec<u8>,
+    /// The metrics page is served.
+    has_metrics: bool,
     stage: Stage,
     sending: Option<Sending>,
     /// When it took something last, in milliseconds.
@@ -58,11 +60,12 @@ pub struct MonitorPeer {
 }
 
 impl MonitorPeer {
-    /// A connection before its first byte.
-    pub fn new(alloc: Global, stream: TcpStream) -> MonitorPeer {
+    /// A connection before its first byte, and whether the metrics page is served.
+    pub fn new(alloc: Global, stream: TcpStream, has_metrics: bool) -> MonitorPeer {
         MonitorPeer {
             stream: PeerStream::new(stream),
             heard: Vec::new(alloc),
+            has_metrics,
             stage: Stage::Asking,
             sending: None,
             since: 0,
@@ -77,17 +80,17 @@ impl MonitorPeer {
         }
     }
 
-    /// Whether the page is to be ordered for it.
-    pub fn wants(&self) -> bool {
+    /// The kind of the page that is to be ordered for it, if one is.
+    pub fn wants(&self) -> Option<PageKind> {
         match self.stage {
-            Stage::Wanting => true,
-            _ => false,
+            Stage::Wanting(kind) => Some(kind),
+            _ => None,
         }
     }
 
-    /// The page of this number was ordered for it.
-    pub fn waits_for(&mut self, number: u64) {
-        self.stage = Stage::Waiting(number);
+    /// A page of this kind and number was ordered for it.
+    pub fn waits_for(&mut self, kind: PageKind, number: u64) {
+        self.stage = Stage::Waiting(kind, number);
     }
 
     /// The number of the page that it is sent, if it is sent one.
@@ -107,30 +110,39 @@ impl MonitorPeer {
     }
 
     /// It is sent a page from a moment on (milliseconds), if it waits for it: whether it is to be
-    /// visited. The only error is that memory was refused for the page.
+    /// visited. Where its kind was not made then, since it was and another was made over it, it is
+    /// to be ordered again. The only error is that memory was refused for the page.
     pub fn hand(&mut self, page: &MadePage, now: u64) -> Result<bool, AllocError> {
-        match self.stage {
-            Stage::Waiting(number) if number <= page.number => {}
+        let kind = match self.stage {
+            Stage::Waiting(kind, number) if number <= page.number => kind,
             _ => return Ok(false),
-        }
-        let Some(reply) = &page.reply else {
-            return Err(AllocError);
         };
-        let reply = Arc::try_clone(reply)?;
-        self.send(reply, page.number, now);
-        Ok(true)
+        match page.of(kind) {
+            Making::Unasked => {
+                self.stage = Stage::Wanting(kind);
+                Ok(false)
+            }
+            Making::Refused => Err(AllocError),
+            Making::Made(reply) => {
+                let reply = Arc::try_clone(reply)?;
+                self.send(reply, page.number, now);
+                Ok(true)
+            }
+        }
     }
 
-    /// It is sent the page of these outputs from a moment on (milliseconds), which is made at once.
-    /// The only error is out of memory.
+    /// It is sent the page of these outputs that it wants from a moment on (milliseconds), which is
+    /// made at once. The only error is out of memory.
     pub fn hand_now<R: Wait>(
         &mut self,
         rt: &R,
         alloc: Global,
         outputs: &[Output],
+        made_of: (PageKind, Figures),
         now: u64,
     ) -> Result<(), AllocError> {
-        let reply = page_of(rt, alloc, outputs)?;
+        let (kind, figures) = made_of;
+        let reply = page_of(rt, alloc, outputs, kind, figures)?;
         self.send(reply, 0, now);
         Ok(())
     }
@@ -163,12 +175,16 @@ impl MonitorPeer {
         })
     }
 
-    /// Takes in bytes, and makes the reply where one is due but the page. The only error is out of
+    /// Takes in bytes, and makes the reply where one is due but a page. The only error is out of
     /// memory.
     fn take_in(&mut self, alloc: Global, bytes: &[u8], now: u64) -> Result<(), AllocError> {
         self.heard.extend_from_slice(bytes)?;
         if wants_page(&self.heard) {
-            self.stage = Stage::Wanting;
+            self.stage = Stage::Wanting(PageKind::Lines);
+            return Ok(());
+        }
+        if self.has_metrics && wants_metrics(&self.heard) {
+            self.stage = Stage::Wanting(PageKind::Metrics);
             return Ok(());
         }
         if let Reply::Bytes(reply) = answer(alloc, &self.heard, &[])? {

@@ -1,4 +1,4 @@
-//! The outputs as the loop sees them, and which tags go to which.
+//! The outputs as a reader sees them, and which tags go to which.
 
 ghost use Rattle.std.specs.Prelude.{◌≡◌, ◌≢◌, Some, IfErr, OnOk};
 ghost use Rattle.fwd_match.specs.Patterns.{route};
@@ -44,6 +44,8 @@ pub struct Outlets<'a> {
     alloc: Global,
     routes: &'a Routes,
     outputs: &'a [Output],
+    /// The number of the reader whose they are.
+    reader: usize,
     all: Vec<Outlet<'a>>,
     /// What bounds what waits at each output.
     gates: Vec<Gate>,
@@ -89,10 +91,12 @@ fn let_go(gate: &mut Gate, connections: &Connections) -> bool {
 }
 
 impl<'a> Outlets<'a> {
-    /// The outputs, and the timer of each, where no ticket is out. The only error is out of memory.
+    /// The outputs as the reader of this number sees them, and the timer of each, where no ticket
+    /// is out. The only error is out of memory.
     pub fn new<R: Wait>(
         rt: &R,
         alloc: Global,
+        reader: usize,
         routes: &'a Routes,
         outputs: &'a [Output],
         timers: &'a mut [FlushTimer],
@@ -116,6 +120,7 @@ impl<'a> Outlets<'a> {
             alloc,
             routes,
             outputs,
+            reader,
             all,
             gates,
             is_moved: false,
@@ -204,6 +209,7 @@ impl<'a> Outlets<'a> {
         let Some(gate) = self.gates.get_mut(output as usize) else {
             return true;
         };
+        own.hearers.enter(self.reader);
         let lets_in = gate.lets_in(rt, own, source);
         // Whoever is next in line may have room too.
         let is_awaited = gate.is_awaited();
@@ -241,6 +247,16 @@ impl<'a> Outlets<'a> {
                 None => {}
                 Some(Crowd::Waits(sources)) => watch.see(Fact::Full { output, sources }),
                 Some(Crowd::Gone) => watch.see(Fact::Room { output }),
+            }
+        }
+    }
+
+    /// The reader is about to sleep: where an output owes it nothing and none of its sources waits
+    /// for room, it need not hear of what is settled.
+    pub fn rest(&self) {
+        for (output, gate) in self.outputs.iter().zip(&self.gates) {
+            if gate.is_quiet() {
+                output.hearers.leave(self.reader);
             }
         }
     }
@@ -467,6 +483,7 @@ impl<'a> Outlets<'a> {
             alloc: _,
             routes: _,
             outputs: _,
+            reader: _,
             all,
             gates: _,
             is_moved: _,

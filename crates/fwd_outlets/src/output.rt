@@ -1,8 +1,9 @@
 //! The outputs, as threads share them.
 
-ghost use Rattle.std.specs.Prelude.{◌≡◌, length, IfOk};
+ghost use Rattle.std.specs.Prelude.{◌≡◌, length, map, IfOk};
 ghost use Rattle.fwd_outlets.specs.Ends.{AddUp};
 
+use crate::hearers::Hearers;
 use fwd_chunks::Report;
 use fwd_links::WorkerWaker;
 use fwd_workers::{Plain, SharedOutput};
@@ -20,6 +21,8 @@ pub struct Output {
     pub total: u64,
     /// Sources wait where it is full, and are not closed.
     pub is_patient: bool,
+    /// Which readers are to hear of its settled chunks.
+    pub hearers: Hearers,
 }
 
 impl Output {
@@ -45,6 +48,18 @@ impl Output {
             }
         }
     }
+}
+
+/// The most bytes of entries that each output holds, in their order. The only error is out of
+/// memory.
+pub(crate) fn totals_of(alloc: Global, outputs: &[Output]) -> Result<Vec<u64>, AllocError>
+    ensures { IfOk result (λ totals. totals.items ≡ map (λ output. output.total) outputs.now) }
+{
+    let mut totals = Vec::with_capacity(alloc, outputs.len())?;
+    for output in outputs {
+        totals.push(output.total)?;
+    }
+    Ok(totals)
 }
 
 /// What each output has to do with, in all and of each tag, in their order. Each is locked by

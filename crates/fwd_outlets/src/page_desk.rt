@@ -1,30 +1,23 @@
-//! The monitors' page, which is made by a thread of its own for all who wait for it.
+//! The monitors' pages, which are made by a thread of their own for all who wait for them.
 
-use crate::output::{Output, reports_of};
-use fwd_monitor::{Reply, answer};
-use std::alloc::{AllocError, Global};
-use std::sync::{Arc, Condvar, Mutex, Wait};
+use crate::made_page::{Asked, MadePage, PageKind};
+use crate::output::Output;
+use fwd_monitor::Figures;
+use std::alloc::Global;
+use std::sync::{Condvar, Mutex, Wait};
 
-/// A request for the page, as any other that is told it.
-const REQUEST: &[u8] = b"GET / HTTP/1.1\r\n\r\n";
+/// Nobody waits for a page.
+const NONE: Asked = Asked {
+    lines: false,
+    metrics: false,
+};
 
-/// A page as it is sent. Pages are counted from 1 on, as they are begun.
-#[derive(Drop)]
-pub struct MadePage {
-    pub number: u64,
-    /// Nothing where memory was refused for it.
-    pub reply: Option<Arc<Vec<u8>>>,
-}
-
-impl MadePage {
-    /// Makes the page of these outputs in this thread, where memory was refused to the one that
-    /// makes pages: what this thread gave back is of use to itself alone.
-    pub fn make_here<R: Wait>(&mut self, rt: &R, alloc: Global, outputs: &[Output]) {
-        if self.reply.is_none() {
-            self.reply = page_of(rt, alloc, outputs).ok();
-        }
-    }
-}
+/// Nothing is known of the relay before a page is ordered.
+const NOTHING: Figures = Figures {
+    uptime: 0,
+    sources: 0,
+    source_limit: 0,
+};
 
 /// What is asked of the thread that makes pages, and what it made.
 #[derive(Drop)]
@@ -33,6 +26,10 @@ struct Orders {
     begun: u64,
     /// The number of the last page that somebody waits for.
     wanted: u64,
+    /// Which pages are waited for that are not begun.
+    asked: Asked,
+    /// What was known of the relay when one was ordered last.
+    figures: Figures,
     made: Option<MadePage>,
     /// No more are made.
     is_closed: bool,
@@ -53,6 +50,8 @@ impl PageDesk {
             orders: Mutex::new(Orders {
                 begun: 0,
                 wanted: 0,
+                asked: NONE,
+                figures: NOTHING,
                 made: None,
                 is_closed: false,
             }),
@@ -60,10 +59,13 @@ impl PageDesk {
         }
     }
 
-    /// Orders a page that is begun from now on: its number.
-    pub fn order<R: Wait>(&self, rt: &R) -> u64 {
+    /// Orders a page of a kind that is begun from now on, where this is known of the relay: its
+    /// number.
+    pub fn order<R: Wait>(&self, rt: &R, kind: PageKind, figures: Figures) -> u64 {
         let mut orders = self.orders.lock(rt);
         orders.wanted = orders.begun.saturating_add(1);
+        orders.asked.add(kind);
+        orders.figures = figures;
         let number = orders.wanted;
         drop(orders);
         self.changed.notify_all();
@@ -81,9 +83,9 @@ impl PageDesk {
         self.changed.notify_all();
     }
 
-    /// Waits until a page is ordered, and begins it: its number. There is none once no more are
-    /// made.
-    fn begin<R: Wait>(&self, rt: &R) -> Option<u64> {
+    /// Waits until a page is ordered, and begins it: its number, and what is to be made of what.
+    /// There is none once no more are made.
+    fn begin<R: Wait>(&self, rt: &R) -> Option<(u64, Asked, Figures)> {
         let orders = self.orders.lock(rt);
         let mut orders = self.changed.wait_while(rt, orders, |orders| {
             orders.wanted <= orders.begun && !orders.is_closed
@@ -92,7 +94,9 @@ impl PageDesk {
             return None;
         }
         orders.begun = orders.wanted;
-        Some(orders.begun)
+        let asked = orders.asked;
+        orders.asked = NONE;
+        Some((orders.begun, asked, orders.figures))
     }
 
     /// A page was made.
@@ -103,24 +107,11 @@ impl PageDesk {
     /// Makes the next page that is ordered of these outputs, and says whether there was one: there
     /// is none once no more are made.
     pub fn make_next<R: Wait>(&self, rt: &R, alloc: Global, outputs: &[Output]) -> bool {
-        let Some(number) = self.begin(rt) else {
+        let Some((number, asked, figures)) = self.begin(rt) else {
             return false;
         };
-        let reply = page_of(rt, alloc, outputs).ok();
-        self.put(rt, MadePage { number, reply });
+        let page = MadePage::make(rt, alloc, outputs, number, (asked, figures));
+        self.put(rt, page);
         true
-    }
-}
-
-/// The page of these outputs, as it is sent. The only error is out of memory.
-pub(crate) fn page_of<R: Wait>(
-    rt: &R,
-    alloc: Global,
-    outputs: &[Output],
-) -> Result<Arc<Vec<u8>>, AllocError> {
-    let reports = reports_of(rt, alloc, outputs)?;
-    match answer(alloc, REQUEST, &reports)? {
-        Reply::Bytes(reply) => Ok(Arc::new(alloc, reply)?),
-        Reply::More => Ok(Arc::new(alloc, Vec::new(alloc))?),
     }
 }

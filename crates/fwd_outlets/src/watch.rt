@@ -99,6 +99,8 @@ pub enum Fact {
     },
     /// A connection waits for which no descriptor is left: it is tried again.
     Descriptors(Caller),
+    /// So many facts of readers beside the first are not told.
+    LeftOut(u64),
 }
 
 impl Fact {

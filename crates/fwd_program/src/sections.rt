@@ -5,8 +5,8 @@ ghost use Rattle.fwd_program.specs.Sections.{names_in};
 
 use fwd_settings::ranges::{
     CHUNK_LIMIT_MAX, CONNECTIONS_MAX, DEPTH_MAX, DEPTH_MIN, MESSAGE_LIMIT_MAX, MESSAGE_LIMIT_MIN,
-    NAME_MAX, OUTPUTS_MAX, RETRY_WAIT_DEFAULT, SERVERS_MAX, SHARED_KEY_MAX, TOTAL_LIMIT_MAX,
-    WAIT_MAX, WINDOW_MAX, WORKERS_MAX,
+    NAME_MAX, OUTPUTS_MAX, READERS_MAX, RETRY_WAIT_DEFAULT, SERVERS_MAX, SHARED_KEY_MAX,
+    TOTAL_LIMIT_MAX, WAIT_MAX, WINDOW_MAX, WORKERS_MAX,
 };
 use std::fmt;
 
@@ -103,7 +103,7 @@ static ROOT: [KeyRule; 2] = [
     },
 ];
 
-static RELAY: [KeyRule; 10] = [
+static RELAY: [KeyRule; 12] = [
     KeyRule {
         name: "listen",
         allowed: Allowed::Address,
@@ -141,8 +141,16 @@ static RELAY: [KeyRule; 10] = [
         allowed: Allowed::Count(DEPTH_MIN as u64, DEPTH_MAX as u64),
     },
     KeyRule {
+        name: "readers",
+        allowed: Allowed::Count(1, READERS_MAX as u64),
+    },
+    KeyRule {
         name: "user",
         allowed: Allowed::Users,
+    },
+    KeyRule {
+        name: "metrics",
+        allowed: Allowed::Flag,
     },
 ];
 

@@ -19,14 +19,15 @@ pub enum Kind {
     Descriptors = 8,
     ChunkRefused = 9,
     OutputFull = 10,
+    LeftOut = 11,
 }
 
 impl Kind {
     /// How many kinds there are.
-    pub const COUNT: usize = 11;
+    pub const COUNT: usize = 12;
 
     /// Each kind once.
-    pub const ALL: [Kind; 11] = [
+    pub const ALL: [Kind; 12] = [
         Kind::Listening,
         Kind::SourceClosed,
         Kind::ServerLost,
@@ -38,6 +39,7 @@ impl Kind {
         Kind::Descriptors,
         Kind::ChunkRefused,
         Kind::OutputFull,
+        Kind::LeftOut,
     ];
 
     /// The kind of a fact.
@@ -54,6 +56,7 @@ impl Kind {
             Fact::Descriptors(_) => Kind::Descriptors,
             Fact::ChunkRefused { .. } => Kind::ChunkRefused,
             Fact::Full { .. } | Fact::Room { .. } => Kind::OutputFull,
+            Fact::LeftOut(_) => Kind::LeftOut,
         }
     }
 }
@@ -73,6 +76,7 @@ impl fmt::Display for Kind {
             Kind::Descriptors => "no descriptor",
             Kind::ChunkRefused => "chunk refused",
             Kind::OutputFull => "output full",
+            Kind::LeftOut => "journal",
         })
     }
 }
@@ -104,6 +108,7 @@ impl Subject {
             Fact::Descriptors(caller) => (caller_name(*caller), None),
             Fact::ChunkRefused { output, .. } => ("", Some(*output)),
             Fact::Full { output, .. } | Fact::Room { output } => ("", Some(*output)),
+            Fact::LeftOut(_) => ("", None),
         };
         Subject { kind, name, output }
     }
@@ -201,6 +206,7 @@ impl fmt::Display for Telling {
                 write!(f, "output {output} full: {sources} sources wait")
             }
             Fact::Room { output } => write!(f, "output {output} has room"),
+            Fact::LeftOut(count) => write!(f, "{count} left out"),
         }
     }
 }

@@ -13,9 +13,9 @@ use Rattle.fwd_settings.specs.declared.settings.Settings.{Settings}
 use Rattle.fwd_settings.specs.declared.settings.ServerSettings.{ServerSettings}
 use Rattle.fwd_settings.specs.Faults.{fault_with, key_under}
 use Rattle.fwd_settings.specs.Kinds.{Key, optional, required, given, unless_out, is_within, number_flaw, number_of, number_key, text_flaw, text_key, optional_text_key, required_text_key, data_in, list_flaw, list_of, required_list_key, allowed_list_flaw, optional_list_key, each, fault_at, setting_at}
-use Rattle.fwd_settings.specs.Keys.{first, table_in, outputs, relay_table, relay_settings, connections, message_limit, depth, relay_hostname, shared_key, users, user_name, user_password, user_table, user_fault, user_settings, output_table, output_fault, output_settings, retry_wait, output_shared_key, username, password, servers, server_settings, is_standby, standby_fault}
+use Rattle.fwd_settings.specs.Keys.{first, table_in, outputs, relay_table, relay_settings, connections, message_limit, depth, readers, relay_hostname, shared_key, users, user_name, user_password, user_table, user_fault, user_settings, output_table, output_fault, output_settings, retry_wait, output_shared_key, username, password, servers, server_settings, is_standby, standby_fault}
 use Rattle.fwd_settings.specs.Whole.{relay_fault, root_table, root_settings, judged, of_document, document_of, settings_of}
-use Rattle.fwd_settings.specs.declared.ranges.TheConstants.{ACK_WAIT_DEFAULT, CHUNK_LIMIT_DEFAULT, CHUNK_LIMIT_MAX, CONNECTIONS_DEFAULT, CONNECTIONS_MAX, DEPTH_DEFAULT, DEPTH_MAX, DEPTH_MIN, FLUSH_INTERVAL_DEFAULT, MESSAGE_LIMIT_DEFAULT, MESSAGE_LIMIT_MAX, MESSAGE_LIMIT_MIN, NAME_MAX, OUTPUTS_MAX, RETRY_MAX_DEFAULT, RETRY_WAIT_DEFAULT, SERVERS_MAX, SHARED_KEY_MAX, TOTAL_LIMIT_DEFAULT, TOTAL_LIMIT_MAX, WAIT_MAX, WINDOW_DEFAULT, WINDOW_MAX, WORKERS_DEFAULT, WORKERS_MAX}
+use Rattle.fwd_settings.specs.declared.ranges.TheConstants.{ACK_WAIT_DEFAULT, CHUNK_LIMIT_DEFAULT, CHUNK_LIMIT_MAX, CONNECTIONS_DEFAULT, CONNECTIONS_MAX, DEPTH_DEFAULT, DEPTH_MAX, DEPTH_MIN, FLUSH_INTERVAL_DEFAULT, MESSAGE_LIMIT_DEFAULT, MESSAGE_LIMIT_MAX, MESSAGE_LIMIT_MIN, NAME_MAX, OUTPUTS_MAX, READERS_DEFAULT, READERS_MAX, RETRY_MAX_DEFAULT, RETRY_WAIT_DEFAULT, SERVERS_MAX, SHARED_KEY_MAX, TOTAL_LIMIT_DEFAULT, TOTAL_LIMIT_MAX, WAIT_MAX, WINDOW_DEFAULT, WINDOW_MAX, WORKERS_DEFAULT, WORKERS_MAX}
 use Rattle.fwd_settings.specs.Ranges.{user_in_range, key_in_range, have_key, relay_in_range, output_in_range, in_range}
 
 -- ---- no fault
@@ -207,10 +207,11 @@ relay_within members h =
     let count = number_within Relay members (codes "connections") 1 CONNECTIONS_MAX CONNECTIONS_DEFAULT refl (none_at (relay_table members) 6 (fault_at Relay members connections) h refl) in
     let long = number_within Relay members (codes "message_limit") MESSAGE_LIMIT_MIN MESSAGE_LIMIT_MAX MESSAGE_LIMIT_DEFAULT refl (none_at (relay_table members) 7 (fault_at Relay members message_limit) h refl) in
     let deep = number_within Relay members (codes "depth") DEPTH_MIN DEPTH_MAX DEPTH_DEFAULT refl (none_at (relay_table members) 8 (fault_at Relay members depth) h refl) in
-    let allowed = users_allowed members (none_at (relay_table members) 9 (fault_at Relay members (users members)) h refl) in
-    let all = users_within 0 (setting_at members (users members)) (none_at (relay_table members) 10 (first (each user_fault 0 (setting_at members (users members)))) h refl) in
+    let many = number_within Relay members (codes "readers") 1 READERS_MAX READERS_DEFAULT refl (none_at (relay_table members) 9 (fault_at Relay members readers) h refl) in
+    let allowed = users_allowed members (none_at (relay_table members) 10 (fault_at Relay members (users members)) h refl) in
+    let all = users_within 0 (setting_at members (users members)) (none_at (relay_table members) 11 (first (each user_fault 0 (setting_at members (users members)))) h refl) in
     let r = relay_settings members in
-    grind (arith, nat_tests, name, key, count, long, deep, all, allowed)
+    grind (arith, nat_tests, name, key, count, long, deep, many, all, allowed)
 
 standby_none : (output : ℕ) (listed : List Data) → standby_fault output listed ≡ None
     → not (list_all (λ server. server.standby) (map server_settings listed)) ≡ true

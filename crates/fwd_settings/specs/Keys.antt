@@ -15,7 +15,7 @@ use Rattle.fwd_settings.specs.declared.settings.WhenFull.{WhenFull}
 use Rattle.fwd_settings.specs.declared.output.Sizes.{Sizes}
 use Rattle.fwd_settings.specs.declared.output.Waits.{Waits}
 use Rattle.fwd_settings.specs.declared.output.Login.{Login}
-use Rattle.fwd_settings.specs.declared.ranges.TheConstants.{ACK_WAIT_DEFAULT, CHUNK_LIMIT_DEFAULT, CHUNK_LIMIT_MAX, CONNECTIONS_DEFAULT, CONNECTIONS_MAX, DEPTH_DEFAULT, DEPTH_MAX, DEPTH_MIN, FLUSH_INTERVAL_DEFAULT, MESSAGE_LIMIT_DEFAULT, MESSAGE_LIMIT_MAX, MESSAGE_LIMIT_MIN, NAME_MAX, OUTPUTS_MAX, RETRY_MAX_DEFAULT, RETRY_WAIT_DEFAULT, SERVERS_MAX, SHARED_KEY_MAX, TOTAL_LIMIT_DEFAULT, TOTAL_LIMIT_MAX, WAIT_MAX, WINDOW_DEFAULT, WINDOW_MAX, WORKERS_DEFAULT, WORKERS_MAX}
+use Rattle.fwd_settings.specs.declared.ranges.TheConstants.{ACK_WAIT_DEFAULT, CHUNK_LIMIT_DEFAULT, CHUNK_LIMIT_MAX, CONNECTIONS_DEFAULT, CONNECTIONS_MAX, DEPTH_DEFAULT, DEPTH_MAX, DEPTH_MIN, FLUSH_INTERVAL_DEFAULT, MESSAGE_LIMIT_DEFAULT, MESSAGE_LIMIT_MAX, MESSAGE_LIMIT_MIN, NAME_MAX, OUTPUTS_MAX, READERS_DEFAULT, READERS_MAX, RETRY_MAX_DEFAULT, RETRY_WAIT_DEFAULT, SERVERS_MAX, SHARED_KEY_MAX, TOTAL_LIMIT_DEFAULT, TOTAL_LIMIT_MAX, WAIT_MAX, WINDOW_DEFAULT, WINDOW_MAX, WORKERS_DEFAULT, WORKERS_MAX}
 use Rattle.fwd_settings.specs.Addresses.{home}
 use Rattle.fwd_settings.specs.Faults.{own_key, key_under}
 use Rattle.fwd_settings.specs.Kinds.{Key, each, fault_at, setting_at, number_key, flag_key, when_full_key, text_key, optional_text_key, required_text_key, digits_key, address_key, address_key_or, required_address_key, required_pattern_key, required_list_key, optional_list_key}
@@ -84,16 +84,25 @@ message_limit =
 abbrev pub depth : Key ℕ
 depth = number_key (codes "depth") DEPTH_MIN DEPTH_MAX DEPTH_DEFAULT
 
+-- how many threads read sources
+abbrev pub readers : Key ℕ
+readers = number_key (codes "readers") 1 READERS_MAX READERS_DEFAULT
+
 -- only where there is a `shared_key`
 abbrev pub users : Members → Key (List Data)
 users relay = optional_list_key (codes "user") (is_some (setting_at relay shared_key))
+
+-- whether the monitor's listener serves the metrics page
+abbrev pub metrics : Key Bool
+metrics = flag_key (codes "metrics") false
 
 -- the keys under `relay`
 abbrev pub relay_names : List (List ℕ)
 relay_names =
     codes "listen" ∷ codes "monitor" ∷ codes "hostname" ∷ codes "shared_key"
     ∷ codes "run_id" ∷ codes "seed" ∷
-    codes "connections" ∷ codes "message_limit" ∷ codes "depth" ∷ codes "user" ∷ []
+    codes "connections" ∷ codes "message_limit" ∷ codes "depth"
+    ∷ codes "readers" ∷ codes "user" ∷ codes "metrics" ∷ []
 
 -- ---- relay.user[i]
 
@@ -142,8 +151,10 @@ relay_table relay =
     fault_at Relay relay connections ∷
     fault_at Relay relay message_limit ∷
     fault_at Relay relay depth ∷
+    fault_at Relay relay readers ∷
     fault_at Relay relay (users relay) ∷
-    first (each user_fault 0 (setting_at relay (users relay))) ∷ []
+    first (each user_fault 0 (setting_at relay (users relay))) ∷
+    fault_at Relay relay metrics ∷ []
 
 -- the settings under `relay`, by their keys
 abbrev pub relay_settings : Members → RelaySettings
@@ -157,7 +168,9 @@ relay_settings relay = record {
   connections = setting_at relay connections;
   message_limit = setting_at relay message_limit;
   depth = setting_at relay depth;
+  readers = setting_at relay readers;
   users = map user_settings (setting_at relay (users relay));
+  metrics = setting_at relay metrics;
 }
 
 -- ---- output[i].server[j]

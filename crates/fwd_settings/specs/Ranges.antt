@@ -5,7 +5,7 @@ use Rattle.fwd_settings.specs.declared.settings.RelaySettings.{RelaySettings}
 use Rattle.fwd_settings.specs.declared.settings.UserSettings.{UserSettings}
 use Rattle.fwd_settings.specs.declared.settings.OutputSettings.{OutputSettings}
 use Rattle.fwd_settings.specs.declared.settings.Settings.{Settings}
-use Rattle.fwd_settings.specs.declared.ranges.TheConstants.{CHUNK_LIMIT_MAX, CONNECTIONS_MAX, DEPTH_MAX, DEPTH_MIN, MESSAGE_LIMIT_MAX, MESSAGE_LIMIT_MIN, NAME_MAX, OUTPUTS_MAX, SERVERS_MAX, SHARED_KEY_MAX, TOTAL_LIMIT_MAX, WAIT_MAX, WINDOW_MAX, WORKERS_MAX}
+use Rattle.fwd_settings.specs.declared.ranges.TheConstants.{CHUNK_LIMIT_MAX, CONNECTIONS_MAX, DEPTH_MAX, DEPTH_MIN, MESSAGE_LIMIT_MAX, MESSAGE_LIMIT_MIN, NAME_MAX, OUTPUTS_MAX, READERS_MAX, SERVERS_MAX, SHARED_KEY_MAX, TOTAL_LIMIT_MAX, WAIT_MAX, WINDOW_MAX, WORKERS_MAX}
 use Rattle.fwd_settings.specs.Kinds.{is_within}
 
 -- a user's name and password have a length that is allowed
@@ -30,7 +30,8 @@ relay_in_range r =
     (is_within 1 CONNECTIONS_MAX r.connections &&
     (is_within MESSAGE_LIMIT_MIN MESSAGE_LIMIT_MAX r.message_limit &&
     (is_within DEPTH_MIN DEPTH_MAX r.depth &&
-    (list_all user_in_range r.users && have_key r.shared_key r.users)))))
+    (is_within 1 READERS_MAX r.readers &&
+    (list_all user_in_range r.users && have_key r.shared_key r.users))))))
 
 -- an output's settings are in their ranges
 abbrev pub output_in_range : OutputSettings → Bool

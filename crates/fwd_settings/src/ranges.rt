@@ -45,6 +45,12 @@ pub const DEPTH_MAX: u16 = 128;
 /// How many arrays and maps may stand one in another where the settings do not say.
 pub const DEPTH_DEFAULT: u16 = 64;
 
+/// The most threads that may read sources.
+pub const READERS_MAX: u16 = 16;
+
+/// How many threads read sources where the settings do not say.
+pub const READERS_DEFAULT: u16 = 1;
+
 /// The longest hostname, user's name and password, in bytes.
 pub const NAME_MAX: usize = 255;
 
@@ -89,6 +95,7 @@ pub fn ranges_are()
     ensures message_limit { (MESSAGE_LIMIT_MIN ≡ 1024) × (MESSAGE_LIMIT_MAX ≡ 67108864)
         × (MESSAGE_LIMIT_DEFAULT ≡ 16777216) }
     ensures depth { (DEPTH_MIN ≡ 8) × (DEPTH_MAX ≡ 128) × (DEPTH_DEFAULT ≡ 64) }
+    ensures readers { (READERS_MAX ≡ 16) × (READERS_DEFAULT ≡ 1) }
     ensures texts { (NAME_MAX ≡ 255) × (SHARED_KEY_MAX ≡ 1024) }
     ensures chunk_limit { (CHUNK_LIMIT_MAX ≡ 16000000) × (CHUNK_LIMIT_DEFAULT ≡ 8000000) }
     ensures total_limit { (TOTAL_LIMIT_MAX ≡ 1000000000000) × (TOTAL_LIMIT_DEFAULT ≡ 512000000) }

@@ -12,7 +12,8 @@ use crate::fault::SettingsFault;
 use crate::place::{Flaw, Place};
 use crate::ranges::{
     CONNECTIONS_DEFAULT, CONNECTIONS_MAX, DEPTH_DEFAULT, DEPTH_MAX, DEPTH_MIN,
-    MESSAGE_LIMIT_DEFAULT, MESSAGE_LIMIT_MAX, MESSAGE_LIMIT_MIN, NAME_MAX, SHARED_KEY_MAX,
+    MESSAGE_LIMIT_DEFAULT, MESSAGE_LIMIT_MAX, MESSAGE_LIMIT_MIN, NAME_MAX, READERS_DEFAULT,
+    READERS_MAX, SHARED_KEY_MAX,
 };
 use crate::section::Section;
 use crate::settings::RelaySettings;
@@ -22,7 +23,7 @@ use std::net::{Ipv4Addr, SocketAddr, SocketAddrV4};
 use toml::Table;
 
 /// The keys of the table `relay`, in the order in which they are judged.
-pub const RELAY_KEYS: [&str; 10] = [
+pub const RELAY_KEYS: [&str; 12] = [
     "listen",
     "monitor",
     "hostname",
@@ -32,7 +33,9 @@ pub const RELAY_KEYS: [&str; 10] = [
     "connections",
     "message_limit",
     "depth",
+    "readers",
     "user",
+    "metrics",
 ];
 
 /// 127.0.0.1:24224.
@@ -77,8 +80,10 @@ fn relay_in(alloc: Global, table: &Table) -> Result<RelaySettings, SettingsFault
     )?;
     let message_limit = message_limit_in(alloc, &relay)?;
     let depth = relay.count(alloc, "depth", DEPTH_MIN, DEPTH_MAX, DEPTH_DEFAULT)?;
+    let readers = relay.count(alloc, "readers", 1, READERS_MAX, READERS_DEFAULT)?;
     let listed = relay.optional_list(alloc, "user", shared_key.is_some())?;
     let users = users_of(alloc, listed)?;
+    let metrics = relay.flag(alloc, "metrics", false)?;
     Ok(RelaySettings {
         listen,
         monitor,
@@ -89,7 +94,9 @@ fn relay_in(alloc: Global, table: &Table) -> Result<RelaySettings, SettingsFault
         connections,
         message_limit,
         depth: depth as u8,
+        readers,
         users,
+        metrics,
     })
 }
 

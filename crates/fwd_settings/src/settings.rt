@@ -36,9 +36,13 @@ pub struct RelaySettings {
     pub message_limit: u32,
     /// The most arrays and maps that may stand one in another in a value of a source, 8 to 128.
     pub depth: u8,
+    /// How many threads read sources, 1 to 16.
+    pub readers: u16,
     /// The users that sources log in as, in the order of the file; where there is none, they need
     /// none. There are only users where there is a `shared_key`.
     pub users: Seq<UserSettings>,
+    /// Whether the monitor's listener serves the metrics page too.
+    pub metrics: bool,
 }
 
 /// A user that a source may log in as. It is not printed, since the password is a secret.

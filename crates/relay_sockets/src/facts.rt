@@ -49,7 +49,7 @@ static LOSSES: [Loss; 14] = [
 ];
 
 /// What else is told.
-static OTHERS: [Fact; 8] = [
+static OTHERS: [Fact; 9] = [
     Fact::Memory(Want::Monitor),
     Fact::Memory(Want::Output(3)),
     Fact::Memory(Want::News),
@@ -64,6 +64,7 @@ static OTHERS: [Fact; 8] = [
         sources: 1_024,
     },
     Fact::Room { output: 63 },
+    Fact::LeftOut(3),
 ];
 
 /// A journal that is told each fact a second after the one before.

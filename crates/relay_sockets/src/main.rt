@@ -30,6 +30,7 @@ mod told;
 mod traffic;
 mod windows;
 
+use crate::scene::play_all;
 use anyhow::Result;
 
 /// Says what a part came to.
@@ -40,15 +41,44 @@ fn say(rt: &impl Print, text: Result<String>) {
     };
 }
 
+/// Says what a scene saw, and what it saw with four readers where that is another text.
+fn say_both(rt: &impl Print, text: Result<String>, with_four: Result<String>) {
+    let is_same = match (&text, &with_four) {
+        (Ok(text), Ok(with_four)) => text.as_str() == with_four.as_str(),
+        _ => false,
+    };
+    say(rt, text);
+    if !is_same {
+        let _ = println!(rt; "with four readers:");
+        say(rt, with_four);
+    }
+}
+
 /// Says what every scene saw.
-fn say_scenes(rt: &impl Print, scenes: Result<Vec<Result<String>>>) {
-    match scenes {
-        Ok(scenes) => {
-            for text in scenes {
+fn say_scenes(rt: &impl Print, texts: Result<Vec<Result<String>>>) {
+    match texts {
+        Ok(texts) => {
+            for text in texts {
                 say(rt, text);
             }
         }
         Err(error) => say(rt, Err(error)),
+    }
+}
+
+/// Says what every scene saw, and where it was another with four readers.
+fn say_both_scenes(
+    rt: &impl Print,
+    texts: Result<Vec<Result<String>>>,
+    with_four: Result<Vec<Result<String>>>,
+) {
+    match (texts, with_four) {
+        (Ok(texts), Ok(with_four)) => {
+            for (text, with_four) in texts.into_iter().zip(with_four) {
+                say_both(rt, text, with_four);
+            }
+        }
+        (Err(error), _) | (_, Err(error)) => say(rt, Err(error)),
     }
 }
 
@@ -58,9 +88,10 @@ fn say_next(rt: &impl Print) {
 }
 
 fn main(rt: HostRuntime) {
-    say_scenes(&rt, scene::play_all(&rt, &scenes::SCENES));
-    say_scenes(&rt, scene::play_all(&rt, &losses::LOSSES));
-    say_scenes(&rt, scene::play_all(&rt, &windows::WINDOWS));
+    let with_four = play_all(&rt, &scenes::SCENES, 4);
+    say_both_scenes(&rt, play_all(&rt, &scenes::SCENES, 1), with_four);
+    say_scenes(&rt, play_all(&rt, &losses::LOSSES, 1));
+    say_scenes(&rt, play_all(&rt, &windows::WINDOWS, 1));
     say(&rt, by_hand::text_of_turns(&rt, 17));
     say_next(&rt);
     say(&rt, starts::text_of_starts(&rt, 15));

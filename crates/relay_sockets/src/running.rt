@@ -2,7 +2,7 @@
 
 use crate::heard::Heard;
 use fwd_chunks::Report;
-use fwd_loop::{Loop, Opened, StartFault, Turns, WorkerTurns};
+use fwd_loop::{Beside, Loop, Opened, StartFault, Started, Turns, close_all};
 use std::net::{Net, TcpListener, TcpStream};
 use std::rt::Clock;
 use std::sync::Wait;
@@ -57,7 +57,7 @@ impl Turner for Until<'_> {
     }
 }
 
-/// Makes turns with the workers at work meanwhile, which end then, too.
+/// Makes turns with the other readers and the workers at work meanwhile, which end then, too.
 fn serve<
     R: Net<Listener = TcpListener, Stream = TcpStream>
         + Threads
@@ -66,20 +66,20 @@ fn serve<
         + AllocGlobal
         + Sync,
     T: Turner,
->(rt: &R, turns: &mut Turns<'_, R>, workers: Vec<WorkerTurns<'_>>, turner: &mut T) {
+>(
+    rt: &R,
+    turns: &mut Turns<'_, R>,
+    beside: Beside<'_, '_, R>,
+    turner: &mut T,
+) -> Result<(), StartFault> {
     thread::scope(thread::scope_env(), rt, move |scope| {
-        let mut children = Vec::new(rt.alloc());
-        for worker in workers {
-            if let Ok(child) = scope.spawn(move || worker.work(rt, u64::MAX)) {
-                let _ = children.push(child);
-            }
-        }
+        let mut started = Started::with_room_for(rt.alloc(), &beside)?;
+        let served = started.start(scope, rt, beside, u64::MAX);
         turner.turn_beside(rt, turns);
         turns.stop();
-        for child in children {
-            child.join(rt);
-        }
-    });
+        let ended = started.join(rt);
+        served.and(ended)
+    })
 }
 
 /// Opens a relay, makes its turns, and answers what its outputs have to do with then. All its
@@ -95,12 +95,22 @@ pub fn run<
 >(rt: &R, relay: Loop, turner: &mut T) -> Result<Vec<Report>, StartFault> {
     let mut relay = relay;
     match relay.open(rt) {
-        Ok(Opened { mut turns, workers }) => {
+        Ok(
+            Opened {
+                mut turns,
+                mut others,
+                workers,
+            },
+        ) => {
             turner.turn_alone(rt, &mut turns);
-            serve(rt, &mut turns, workers, turner);
+            let served = match Beside::new(rt.alloc(), workers, &mut others) {
+                Ok(beside) => serve(rt, &mut turns, beside, turner),
+                Err(_) => Err(StartFault::Memory),
+            };
             let reports = turns.reports(rt);
+            close_all(rt, others);
             turns.close(rt);
-            reports
+            served.and(reports)
         }
         Err(fault) => Err(fault),
     }

@@ -176,7 +176,8 @@ impl Scene {
         self.put_end(stage, &reports, &until.heard)
     }
 
-    /// What is printed of it. What failed is printed too, so that one scene does not hide another.
+    /// What is printed of it, with so many readers. What failed is printed too, so that one scene
+    /// does not hide another.
     fn text<
         R: Net<Listener = TcpListener, Stream = TcpStream>
             + Threads
@@ -184,8 +185,9 @@ impl Scene {
             + Clock
             + AllocGlobal
             + Sync,
-    >(self, rt: &R) -> Result<String> {
+    >(self, rt: &R, readers: u16) -> Result<String> {
         let mut stage = Stage::new(rt, rt.alloc(), self.host)?;
+        stage.site.readers = readers;
         stage.told.begin(self.title);
         let played = self.put_run(rt, &mut stage);
         stage.told.note(played);
@@ -193,7 +195,7 @@ impl Scene {
     }
 }
 
-/// What is printed of the scene at a place among these.
+/// What is printed of the scene at a place among these, with so many readers.
 fn text_at<
     R: Net<Listener = TcpListener, Stream = TcpStream>
         + Threads
@@ -201,14 +203,14 @@ fn text_at<
         + Clock
         + AllocGlobal
         + Sync,
->(rt: &R, scenes: &[Scene], place: usize) -> Result<String> {
+>(rt: &R, scenes: &[Scene], place: usize, readers: u16) -> Result<String> {
     match scenes.get(place) {
-        Some(scene) => scene.text(rt),
+        Some(scene) => scene.text(rt, readers),
         None => Err(anyhow!("no such scene")),
     }
 }
 
-/// What is printed of these scenes, which are played side by side.
+/// What is printed of these scenes, which are played side by side, with so many readers.
 pub fn play_all<
     R: Net<Listener = TcpListener, Stream = TcpStream>
         + Threads
@@ -216,11 +218,11 @@ pub fn play_all<
         + Clock
         + AllocGlobal
         + Sync,
->(rt: &R, scenes: &[Scene]) -> Result<Vec<Result<String>>> {
+>(rt: &R, scenes: &[Scene], readers: u16) -> Result<Vec<Result<String>>> {
     Ok(thread::map_indices(
         rt,
         rt.alloc(),
         scenes.len(),
-        &|place| text_at(rt, scenes, place),
+        &|place| text_at(rt, scenes, place, readers),
     )?)
 }

@@ -52,6 +52,8 @@ pub struct Site {
     pub sources: SocketAddr,
     pub monitors: SocketAddr,
     pub servers: [SocketAddr; 3],
+    /// How many readers the relay has.
+    pub readers: u16,
 }
 
 impl Output {
@@ -94,6 +96,7 @@ impl Site {
             sources,
             monitors,
             servers: [first.address, second.address, third.address],
+            readers: 1,
         })
     }
 
@@ -106,11 +109,11 @@ impl Site {
         keys: &str,
         outputs: &[Output],
     ) -> Result<(), AllocError> {
-        let (sources, monitors) = (self.sources, self.monitors);
+        let (sources, monitors, readers) = (self.sources, self.monitors, self.readers);
         write!(
             text,
             "[relay]\nlisten = \"{sources}\"\nmonitor = \"{monitors}\"\n\
-            run_id = \"000000000000\"\nconnections = {connections}\n{keys}"
+            run_id = \"000000000000\"\nconnections = {connections}\nreaders = {readers}\n{keys}"
         )?;
         for output in outputs {
             output.put_settings(text, self)?;

@@ -14,6 +14,7 @@ mod lives;
 mod memory;
 mod mirror;
 mod played;
+mod readers;
 mod record;
 mod scarce;
 mod seats;
@@ -86,6 +87,15 @@ fn tell_seats<R: Threads + Wait + Sync + Print>(rt: &R, alloc: Global) -> Result
     Ok(())
 }
 
+/// Four readers, and what each was told of the requests that it admitted.
+fn tell_readers<R: Threads + Wait + Sync + Print>(rt: &R, alloc: Global) -> Result<()> {
+    let all = readers::four_readers(rt, alloc)?;
+    print_closing(rt, "four readers", all.closing);
+    let told = all.told;
+    let _ = println!(rt; "each was told: {told:?}");
+    Ok(())
+}
+
 /// Two workers that settle only together.
 fn tell_gates<R: Threads + Wait + Clock + Sync + Print>(rt: &R, alloc: Global) -> Result<()> {
     let out = shared(alloc, 2)?;
@@ -149,6 +159,7 @@ fn main(rt: HostRuntime) -> Result<()> {
     tell_day(&rt, alloc, 1)?;
     tell_day(&rt, alloc, 8)?;
     tell_seats(&rt, alloc)?;
+    tell_readers(&rt, alloc)?;
     tell_gates(&rt, alloc)?;
     scarce::tell(&rt, alloc)
 }

@@ -61,10 +61,12 @@ fn print_relay<R: Print + AllocGlobal>(rt: &R, relay: &RelaySettings) -> Result<
         ("connections", u64::from(relay.connections)),
         ("message_limit", u64::from(relay.message_limit)),
         ("depth", u64::from(relay.depth)),
+        ("readers", u64::from(relay.readers)),
     ] {
         let _ = println!(rt; "relay.{key} {number}");
     }
     print_users(rt, relay.users.as_slice());
+    let _ = println!(rt; "relay.metrics {}", relay.metrics);
     Ok(())
 }
 

@@ -8,5 +8,5 @@ loop-config-init g c =
     c.into_iter-configs.ensures.len ∙ c.args.configs.ok.0 in
     let hops : into_iter_len c.into_iter-hops.result ≡ length c.args.hops.items =
     c.into_iter-hops.ensures.len ∙ c.args.hops.ok.0 in
-    let none : length c.new-pools.result.outputs.items ≡ 0 = ap length c.new-pools.ensures in
+    let none : length c.args.pools.outputs.items ≡ 0 = ap length c.requires.none in
     (hops ∙ c.requires.each ∙ sym configs, omega (arith, configs, none))

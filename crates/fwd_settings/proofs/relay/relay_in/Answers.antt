@@ -45,3 +45,20 @@ returns-in_err-depth c =
       c.in_ok-message_limit.ensures.0,
       c.in_err-depth.ensures.reads m,
     )
+
+pub returns-in_err-readers : goal.returns-in_err-readers
+returns-in_err-readers c =
+    let listen = rw c.home.ensures at c.in_ok-listen.ensures.0 in
+    told _ _ _ c.in_err-readers.field-0.0 c.from_residual-in_err-readers.ensures.1 λ m.
+    rw (
+      listen,
+      c.in_ok-monitor.ensures.0,
+      c.in_ok-hostname.ensures.0,
+      c.in_ok-shared_key.ensures.0,
+      c.in_ok-run_id.ensures.0,
+      c.in_ok-seed.ensures.0,
+      c.in_ok-connections.ensures.reads.0,
+      c.in_ok-message_limit.ensures.0,
+      c.in_ok-depth.ensures.reads.0,
+      c.in_err-readers.ensures.reads m,
+    )

@@ -1,0 +1,183 @@
+//! What each reader of a relay does in its turns.
+
+use crate::event_loop::{Desk, EventLoop};
+use crate::fault::StartFault;
+use crate::readers::ReaderDesk;
+use crate::run_clock::RunClock;
+use fwd_links::{Mailbox, Notices};
+use fwd_match::Routes;
+use fwd_outlets::{Figures, FlushTimer, Outlets, Output, Watch};
+use std::alloc::{AllocError, Global};
+use std::rt::Clock;
+use std::sync::Wait;
+use std::time::Instant;
+
+/// How long receipts are collected in a turn, in milliseconds, but for the rounds that are under
+/// way then.
+const COLLECTING: u64 = 4;
+
+/// The most rounds of collecting in a turn.
+const ROUNDS: u16 = 1_024;
+
+/// What a reader has of its own, before its first turn.
+#[derive(Drop)]
+pub(crate) struct ReaderParts {
+    pub event_loop: EventLoop,
+    /// The timer of each output's flushes.
+    pub timers: Vec<FlushTimer>,
+}
+
+/// How monitors' pages are made.
+#[derive(Clone, Copy)]
+pub(crate) struct Pages {
+    /// By a thread of their own.
+    pub are_ordered: bool,
+    /// What is known of the relay.
+    pub figures: Figures,
+}
+
+/// The outputs, which all readers share, and where a reader stands among these.
+#[derive(Clone, Copy)]
+pub(crate) struct Surroundings<'a> {
+    pub alloc: Global,
+    pub routes: &'a Routes,
+    pub outputs: &'a [Output],
+    /// Where workers tell this reader what they did.
+    pub mailbox: &'a Mailbox,
+    /// The reader's number, from 0.
+    pub number: usize,
+    pub start: Option<Instant>,
+}
+
+/// A reader: its own connections, and the tickets of their requests, over outputs that all readers
+/// share. It must be spent: by `close`.
+pub(crate) struct Reader<'a, R: Clock> {
+    pub alloc: Global,
+    pub outputs: &'a [Output],
+    pub mailbox: &'a Mailbox,
+    pub event_loop: &'a mut EventLoop,
+    outlets: Outlets<'a>,
+    clock: RunClock<'a, R>,
+}
+
+impl<'a, R: Wait + Clock> Reader<'a, R> {
+    /// A reader of these parts. The only error is out of memory.
+    pub fn new(
+        rt: &'a R,
+        around: Surroundings<'a>,
+        parts: &'a mut ReaderParts,
+    ) -> Result<Reader<'a, R>, AllocError> {
+        let Surroundings {
+            alloc,
+            routes,
+            outputs,
+            mailbox,
+            number,
+            start,
+        } = around;
+        let ReaderParts { event_loop, timers } = parts;
+        let outlets = Outlets::new(rt, alloc, number, routes, outputs, timers)?;
+        Ok(Reader {
+            alloc,
+            outputs,
+            mailbox,
+            event_loop,
+            outlets,
+            clock: RunClock::new(rt, start),
+        })
+    }
+
+    /// Waits until something is ready or told, at most 100 ms. It fails with `Poll` where the wait
+    /// failed.
+    pub fn wait(&mut self) -> Result<(), StartFault> {
+        let now = self.clock.moment();
+        self.event_loop.wait(self.mailbox, &self.outlets, now)
+    }
+
+    /// Tells where connections come in, where it has the listeners.
+    pub fn tell<W: Watch>(&self, watch: &mut W) {
+        self.event_loop.tell(watch);
+    }
+
+    /// How many sources stand.
+    pub fn sources(&self) -> usize {
+        self.event_loop.sources()
+    }
+
+    /// What is known of the relay at a moment (milliseconds since it started), by the first reader
+    /// and the desks of the others.
+    pub fn figures(&self, desks: &[ReaderDesk], now: u64) -> Figures {
+        self.event_loop.figures(desks, now)
+    }
+
+    /// Whether all readers and workers are to end.
+    pub fn is_stopped(&self) -> bool {
+        self.mailbox.is_stopped()
+    }
+
+    /// The moment, in milliseconds since the run's start.
+    pub fn moment(&mut self) -> u64 {
+        self.clock.moment()
+    }
+
+    /// Collects receipts of what workers settled, for some milliseconds from a moment on
+    /// (milliseconds), tells the sources of those, and writes what is to be sent. Requests that
+    /// wait are looked at again where something was settled or answered.
+    pub fn answer<W: Watch>(&mut self, rt: &R, notices: &Notices, watch: &mut W, start: u64) {
+        self.outlets.hear(notices);
+        self.event_loop.hear(notices);
+        self.collect(rt, watch, start);
+        self.event_loop.write_all(watch);
+        if self.outlets.has_moved() {
+            self.event_loop.connections.free_held();
+        }
+    }
+
+    /// Collects receipts for some milliseconds from a moment on; those that are left in a later
+    /// turn.
+    fn collect<W: Watch>(&mut self, rt: &R, watch: &mut W, start: u64) {
+        let (event_loop, outlets) = (&mut *self.event_loop, &mut self.outlets);
+        for _ in 0..ROUNDS {
+            let is_more = outlets.collect(rt, &mut event_loop.connections, watch);
+            if !is_more || self.clock.moment().saturating_sub(start) >= COLLECTING {
+                return;
+            }
+        }
+    }
+
+    /// Reads the connections that are ready, and has what they ask for admitted.
+    pub fn read<W: Watch>(&mut self, rt: &R, watch: &mut W, pages: Pages) {
+        let mut desk = Desk {
+            outputs: self.outputs,
+            outlets: &mut self.outlets,
+            mailbox: self.mailbox,
+            are_pages_ordered: pages.are_ordered,
+            figures: pages.figures,
+            now: 0,
+        };
+        self.event_loop
+            .read_all(rt, &mut desk, watch, &mut self.clock);
+    }
+
+    /// Flushes what is due at a moment (milliseconds), and rings workers for it; and whoever waits
+    /// for room and is gone waits no more.
+    pub fn flush<W: Watch>(&mut self, rt: &R, watch: &mut W, now: u64) {
+        self.outlets.flush(rt, now);
+        self.outlets.tend(&self.event_loop.connections, watch, now);
+    }
+
+    /// Hands in all tickets, writes what that has sources told, and abandons the tickets that are
+    /// left. The connections stay.
+    pub fn close<W: Watch>(self, rt: &R, watch: &mut W) {
+        let Reader {
+            alloc: _,
+            outputs: _,
+            mailbox: _,
+            event_loop,
+            mut outlets,
+            clock: _,
+        } = self;
+        event_loop.finish(rt, &mut outlets, watch);
+        outlets.close(rt);
+    }
+}

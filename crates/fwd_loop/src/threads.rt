@@ -1,0 +1,122 @@
+//! The threads of a relay beside its first reader's.
+
+use crate::fault::StartFault;
+use crate::turns::{ReaderTurns, WorkerTurns};
+use std::alloc::{AllocError, Global};
+use std::net::{Net, TcpListener, TcpStream};
+use std::rt::Clock;
+use std::sync::Wait;
+use std::thread::{JoinHandle, Scope, Threads};
+
+/// What works beside the first reader, each in a thread of its own.
+#[derive(Drop)]
+pub struct Beside<'x, 'a, R: Clock> {
+    workers: Vec<WorkerTurns<'a>>,
+    readers: Vec<ReaderThread<'x, 'a, R>>,
+}
+
+impl<'x, 'a, R: Wait + Clock> Beside<'x, 'a, R> {
+    /// These workers and readers. The only error is out of memory.
+    pub fn new(
+        alloc: Global,
+        workers: Vec<WorkerTurns<'a>>,
+        others: &'x mut Vec<ReaderTurns<'a, R>>,
+    ) -> Result<Beside<'x, 'a, R>, AllocError> {
+        let mut readers = Vec::with_capacity(alloc, others.len())?;
+        let all = others.iter_mut();
+        for turns in all {
+            readers.push(ReaderThread { turns })?;
+        }
+        Ok(Beside { workers, readers })
+    }
+}
+
+/// What a thread of a reader beside the first works on.
+#[derive(Drop)]
+struct ReaderThread<'x, 'a, R: Clock> {
+    turns: &'x mut ReaderTurns<'a, R>,
+}
+
+impl<'x, 'a, R: Wait + Clock> ReaderThread<'x, 'a, R> {
+    /// Makes so many turns, or as many as there are until all are to end.
+    fn run(self, rt: &R, turns: u64) -> Result<(), StartFault> {
+        self.turns.run(rt, turns)
+    }
+}
+
+/// The threads that were started. They must be waited for before what they work on is closed: by
+/// `join`.
+#[derive(Drop)]
+pub struct Started {
+    /// Those of the workers, and of whatever else ends with nothing to say.
+    workers: Vec<JoinHandle<()>>,
+    readers: Vec<JoinHandle<Result<(), StartFault>>>,
+}
+
+impl Started {
+    /// None yet, with room for all of these and for one more. The only error is out of memory.
+    pub fn with_room_for<R: Clock>(
+        alloc: Global,
+        beside: &Beside<'_, '_, R>,
+    ) -> Result<Started, AllocError> {
+        let workers = beside.workers.len().saturating_add(1);
+        Ok(Started {
+            workers: Vec::with_capacity(alloc, workers)?,
+            readers: Vec::with_capacity(alloc, beside.readers.len())?,
+        })
+    }
+
+    /// Starts a thread for each of these, which makes so many turns in it.
+    ///
+    /// It fails with `Thread` where a thread cannot be had. Those that were started work then, too.
+    pub fn start<
+        's,
+        'a,
+        E,
+        R: Net<Listener = TcpListener, Stream = TcpStream>
+            + Threads
+            + Wait
+            + Clock
+            + AllocGlobal
+            + Sync,
+    >(
+        &mut self,
+        scope: &Scope<'s, E>,
+        rt: &'s R,
+        beside: Beside<'s, 'a, R>,
+        turns: u64,
+    ) -> Result<(), StartFault> {
+        let Beside { workers, readers } = beside;
+        for worker in workers {
+            match scope.spawn(move || worker.work(rt, turns)) {
+                Ok(child) => self.workers.push(child)?,
+                Err(_) => return Err(StartFault::Thread),
+            }
+        }
+        for reader in readers {
+            match scope.spawn(move || reader.run(rt, turns)) {
+                Ok(child) => self.readers.push(child)?,
+                Err(_) => return Err(StartFault::Thread),
+            }
+        }
+        Ok(())
+    }
+
+    /// One more, which is waited for with the workers.
+    pub(crate) fn keep(&mut self, child: JoinHandle<()>) {
+        let _ = self.workers.push(child);
+    }
+
+    /// Waits until all have ended. It fails as the first reader that failed.
+    pub fn join<R: Threads + Wait>(self, rt: &R) -> Result<(), StartFault> {
+        let mut served = Ok(());
+        for reader in self.readers {
+            let ended = reader.join(rt);
+            served = served.and(ended);
+        }
+        for worker in self.workers {
+            worker.join(rt);
+        }
+        served
+    }
+}
