@@ -131,7 +131,8 @@ impl Contents {
     }
 
     /// What the request has that was found in these bytes: they become its own. They have room for
-    /// the tag and the chunk.
+    /// the tag and the chunk, and what room is left then is given back: a request whose option is
+    /// long keeps none of it.
     pub(crate) fn within(mut bytes: Vec<u8>, found: Found) -> Self
         requires places { AreWithin bytes.items found }
         requires room { vec_len bytes + length found.names.items ≤ vec_capacity bytes }
@@ -147,6 +148,7 @@ impl Contents {
         } = found;
         bytes.truncate(first as usize + size as usize);
         bytes.extend_from_slice(&names).unwrap();
+        bytes.shrink_to_fit();
         Contents {
             bytes,
             ends,

@@ -1,6 +1,7 @@
 pub mod Ends
 pub mod Judging
 pub mod Asking
+pub mod Continuing
 pub mod Faulty
 pub mod Following
 pub mod Pieces

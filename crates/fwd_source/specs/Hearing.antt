@@ -1,8 +1,10 @@
 -- What the parts of a hearing show, in the words of the definitions.
-use Rattle.std.specs.Prelude.{◌≡◌, if◌then◌else◌, option_map, ℕ, ◌+◌, ◌-◌, ◌≤◌, false, List, [], length, drop, Option, Some, None}
+use Rattle.std.specs.Prelude.{◌≡◌, if◌then◌else◌, option_map, ℕ, ◌+◌, ◌-◌, ◌≤◌, false, List, [], ◌++◌, length, take, drop, Option, Some, None}
 use Rattle.fwd_msgpack.specs.declared.limits.Limits.{Limits}
 use Rattle.fwd_msgpack.specs.declared.fault.ScanFault.{ScanFault}
-use Rattle.fwd_msgpack.specs.Scans.{Verdict, Whole, Short, Bad}
+use Rattle.fwd_msgpack.specs.declared.scanner.Fed.{Fed}
+use Rattle.fwd_msgpack.specs.declared.scanner.Fed.TheVariants as feds
+use Rattle.fwd_msgpack.specs.Scans.{Verdict, Whole, Short, Bad, first_of}
 use Rattle.fwd_msgpack.specs.Scanners.{Standing, IsBehind, fresh}
 use Rattle.fwd_modes.specs.Requests.{Request, Reading}
 use Rattle.fwd_handshake.specs.declared.verdict.PingVerdict.{PingVerdict}
@@ -103,3 +105,16 @@ pub record AreTaken (said : Judged) (bytes : List ℕ) (taken : Taken) : Type 0 
   pub pong : taken.out ≡ said.pong
   pub awaits : taken.awaits ≡ said.awaits
   pub fault : taken.fault ≡ said.fault
+
+-- what became of bytes behind the front of an unfinished value: all are put behind it, or those
+-- that end it, or there is a fault
+abbrev pub Feeds : Limits → List ℕ → List ℕ → Fed → List ℕ → Standing → Type 0
+Feeds limits front bytes feds.More all standing =
+    (all ≡ front ++ bytes) × IsBehind limits all standing
+    × (first_of limits.bytes limits.depth (front ++ bytes) ≡ Short)
+Feeds limits front bytes (feds.End used) all standing =
+    (all ≡ front ++ take used bytes) × (used ≤ length bytes)
+    × (first_of limits.bytes limits.depth (front ++ bytes) ≡ Whole (length all))
+    × (standing ≡ fresh limits)
+Feeds limits front bytes (feds.Bad fault) all standing =
+    first_of limits.bytes limits.depth (front ++ bytes) ≡ Bad fault

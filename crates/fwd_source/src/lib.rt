@@ -9,6 +9,7 @@ mod laws;
 mod piece;
 mod room;
 mod source;
+mod spanning;
 mod taking;
 
 pub use fault::SourceFault;

@@ -9,8 +9,9 @@ use fwd_msgpack::{Head, HeadRead, read_head};
 /// more.
 pub(crate) const MOST_AHEAD: usize = 1_048_576;
 
-/// How many bytes of room are made for what comes behind a value in its last piece.
-const LAST_PIECE: usize = 65_536;
+/// How many bytes of room are made behind the entries: for the option, and for the tag and the
+/// chunk, which stand there once the bytes are the request's own.
+const BESIDE: usize = 512;
 
 /// The head at the front, and the bytes behind it.
 fn head_and_rest(bytes: &[u8]) -> Option<(Head, &[u8])> {
@@ -42,6 +43,11 @@ fn owed(bytes: &[u8]) -> Option<usize> {
     Some(packed.saturating_sub(came.len()))
 }
 
+/// Whether the unfinished request that these bytes are has packed entries, by its heads.
+pub(crate) fn is_packed(bytes: &[u8]) -> bool {
+    owed(bytes).is_some()
+}
+
 /// Makes room behind the bytes of an unfinished request where so many more have none, once for all
 /// that its heads say is to come: it is else made again each time that the bytes have doubled. No
 /// memory is no fault.
@@ -54,9 +60,10 @@ pub(crate) fn make_room(rest: &mut Vec<u8>, more: usize)
     if more <= rest.capacity() - rest.len() {
         return;
     }
-    let Some(owed) = owed(rest) else {
+    let owed = owed(rest).unwrap_or(0);
+    if owed == 0 {
         return;
-    };
-    let room = owed.saturating_add(LAST_PIECE).min(MOST_AHEAD);
+    }
+    let room = owed.saturating_add(BESIDE).min(MOST_AHEAD);
     let _made = rest.reserve_exact(room);
 }

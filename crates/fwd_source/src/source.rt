@@ -40,7 +40,8 @@ ghost use Rattle.fwd_msgpack.specs.declared.fault.ScanFault.{ScanFault};
 use crate::fault::SourceFault;
 use crate::hearing::Unjudged;
 use crate::piece::{Piece, SourceTold};
-use crate::room::make_room;
+use crate::room::is_packed;
+use crate::spanning::take_on;
 use crate::taking::{Asker, Taken, take_all};
 use fwd_base::Bytes;
 use fwd_handshake::{Nonces, Security, write_helo};
@@ -364,9 +365,10 @@ impl Source {
         }
     }
 
-    /// Bytes come behind those of an unfinished value. On an error nothing has changed.
+    /// Bytes come behind those of an unfinished value, and are judged with them. On an error
+    /// nothing has changed.
     #[tactic(auto, unfolding(crate::specs::Live::source_hears))]
-    fn hears_behind(&mut self, alloc: Global, bytes: &[u8]) -> Result<SourceTold, AllocError>
+    fn hears_joined(&mut self, alloc: Global, bytes: &[u8]) -> Result<SourceTold, AllocError>
         requires open { self.old.live.closed ≡ false }
         requires kept { 0 < length self.old.live.rest }
         ensures answer { IfOk result (λ told.
@@ -378,7 +380,6 @@ impl Source {
             ≤ length self.new.live.unsent + self.new.room }
     {
         let before = self.rest.len();
-        make_room(&mut self.rest, bytes.len());
         self.rest.extend_from_slice(bytes)?;
         let asker = Asker {
             security: &self.security,
@@ -411,6 +412,70 @@ impl Source {
                 scan_again(&mut self.scanner, &self.rest);
                 Err(error)
             }
+        }
+    }
+
+    /// Bytes come behind those of an unfinished value, where no PING is awaited: the value's buffer
+    /// may become its request's own, and what is behind it is judged where it is. On an error
+    /// nothing has changed.
+    #[tactic(auto, unfolding(crate::specs::Live::source_hears))]
+    fn hears_packed(&mut self, alloc: Global, bytes: &[u8]) -> Result<SourceTold, AllocError>
+        requires open { self.old.live.closed ≡ false }
+        requires passed { self.old.live.awaits ≡ false }
+        requires counted { self.old.live.admitted + length self.old.live.waiting + 1 < 2 ^ 64 }
+        requires kept { 0 < length self.old.live.rest }
+        ensures answer { IfOk result (λ told.
+            told.piece ≡ live_piece_answer self.old.live bytes.now) }
+        ensures out { IfOk result (λ told. told.out ≡ live_piece_out self.old.live bytes.now) }
+        ensures live { OnOk result (self.new.live ≡ live_piece_next self.old.live bytes.now) }
+        ensures err { OnErr result (self.new.live ≡ self.old.live) }
+        ensures room { length self.old.live.unsent + self.old.room
+            ≤ length self.new.live.unsent + self.new.room }
+    {
+        let known = self.rest.len();
+        let count = self.admitted + self.waiting.len() as u64;
+        let (rest, waiting) = (&mut self.rest, &mut self.waiting);
+        match take_on(alloc, count, rest, bytes, &mut self.scanner, waiting) {
+            Ok(taken) => {
+                let Taken {
+                    rest,
+                    out,
+                    awaits,
+                    fault: wrong,
+                } = taken;
+                if let Some(rest) = rest {
+                    self.rest = rest;
+                }
+                self.awaits = awaits;
+                self.closed = wrong.is_some();
+                Ok(told_of(self.waiting.len(), out, wrong))
+            }
+            Err(error) => {
+                self.rest.truncate(known);
+                scan_again(&mut self.scanner, &self.rest);
+                Err(error)
+            }
+        }
+    }
+
+    /// Bytes come behind those of an unfinished value. On an error nothing has changed.
+    #[tactic(auto, unfolding(crate::specs::Live::source_hears))]
+    fn hears_behind(&mut self, alloc: Global, bytes: &[u8]) -> Result<SourceTold, AllocError>
+        requires open { self.old.live.closed ≡ false }
+        requires kept { 0 < length self.old.live.rest }
+        ensures answer { IfOk result (λ told.
+            told.piece ≡ live_piece_answer self.old.live bytes.now) }
+        ensures out { IfOk result (λ told. told.out ≡ live_piece_out self.old.live bytes.now) }
+        ensures live { OnOk result (self.new.live ≡ live_piece_next self.old.live bytes.now) }
+        ensures err { OnErr result (self.new.live ≡ self.old.live) }
+        ensures room { length self.old.live.unsent + self.old.room
+            ≤ length self.new.live.unsent + self.new.room }
+    {
+        let count = self.admitted + self.waiting.len() as u64;
+        if !self.awaits && count < u64::MAX && is_packed(&self.rest) {
+            self.hears_packed(alloc, bytes)
+        } else {
+            self.hears_joined(alloc, bytes)
         }
     }
 

@@ -10,7 +10,7 @@ invariant_of-result c =
     let old = c.args.bytes.items in
     let names = f.names.items in
     let p = c.requires.places in
-    let items : c.extend_from_slice.new.self.items ≡ take (f.first + f.size) old ++ names = search rules in
+    let items : c.shrink_to_fit.new.self.items ≡ take (f.first + f.size) old ++ names = search rules in
     let stays = entries_stay old names f.first f.size p.inside in
     let size = cut_len old names f.first f.size p.inside in
     rw items (subst (AreCut 0 f.ends.items) (sym stays) p.cut, subst (λ (xs : List ℕ). AreFull (cut_at 0 f.ends.items xs)) (sym stays) p.full, p.tag_fits, omega (arith, size, p.tag_within), omega (arith, size, p.chunk_fits))
@@ -21,7 +21,7 @@ returns c =
     let old = c.args.bytes.items in
     let names = f.names.items in
     let p = c.requires.places in
-    let items : c.extend_from_slice.new.self.items ≡ take (f.first + f.size) old ++ names = search rules in
+    let items : c.shrink_to_fit.new.self.items ≡ take (f.first + f.size) old ++ names = search rules in
     let stays = entries_stay old names f.first f.size p.inside in
     let behind = names_behind old names f.first f.size p.inside in
     rw items (λ i. record {
