@@ -12,7 +12,7 @@ use Rattle.fwd_model.specs.Outputs.{no_history, live_output, no_requests}
 use Rattle.fwd_failover.specs.History.{ServersSetting}
 use Rattle.fwd_model.specs.Setups.{setting_of, servers_of}
 use Rattle.fwd_model.specs.History.{new_lane, new_lanes, opening}
-use Rattle.fwd_model.specs.Live.{LiveLane, live, live_lane, live_workers}
+use Rattle.fwd_model.specs.Live.{live, live_lane, live_workers}
 use Rattle.fwd_core.specs.Lanes.{no_work, new_live_lane, new_live_lanes}
 
 idle_workers : (setting : BufferSetting) (servers : ServersSetting) (w n : ℕ)

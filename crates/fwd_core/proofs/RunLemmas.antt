@@ -1,42 +1,13 @@
--- A run goes on by one event.
-use Rattle.std.proofs.Common.{◌≡◌, ◌≢◌, Bool, true, false, cond, List, [], ◌∷◌, ◌++◌, length, refl, sym, ap, ◌∙◌, arith}
-use Rattle.std.specs.Prelude.{not}
-use Rattle.std.proofs.lemmas.List.{append-nil, length-append}
-use Rattle.std.proofs.lemmas.List.Elements.{filter-append}
+-- What follows of steps one behind the other.
+use Rattle.std.proofs.Common.{◌≡◌, ◌≢◌, suc, Bool, true, false, cond, List, [], ◌∷◌, ◌++◌, Some, length, refl, sym, ap, subst, ◌∙◌, inl, inr}
+use Rattle.std.specs.Prelude.{not, slice_get}
 use Rattle.fwd_model.specs.declared.event.Event.{Event}
 use Rattle.fwd_model.specs.declared.answer.Answer.{Answer}
 use Rattle.fwd_model.specs.declared.answer.Answer.TheVariants.{Memory, Accepted, Requests, Faulted, Admitted, NoRoute, Full, NumbersSpent, Closed, Chose, Done, Took, TookNothing, Frame, Quiet, Ready, Acked, SessionFaulted, Settled, Late, Ended, Told, Forgot, Refused}
 use Rattle.fwd_model.specs.Live.{LiveRelay, lives}
 use Rattle.fwd_model.specs.Outcome.{answer_of, state_of}
 use Rattle.fwd_model.specs.Step.{step, answers as answers_to, after}
-use Rattle.fwd_core.specs.Runs.{is_memory, told, kept}
-
-live_answers-push : (r : LiveRelay) (es : List Event) (e : Event)
-    → answers_to lives r (es ++ e ∷ []) ≡ answers_to lives r es
-    ++ answer_of (step lives (after lives r es) e) ∷ []
-live_answers-push r [] e = refl
-live_answers-push r (d ∷ es) e = ap (λ xs. answer_of (step lives r d) ∷ xs) (live_answers-push (state_of r (step lives r d)) es e)
-
-live_after-push : (r : LiveRelay) (es : List Event) (e : Event)
-    → after lives r (es ++ e ∷ [])
-    ≡ state_of (after lives r es) (step lives (after lives r es) e)
-live_after-push r [] e = refl
-live_after-push r (d ∷ es) e = live_after-push (state_of r (step lives r d)) es e
-
-kept_either : (m : Bool) (d : Event) (more all end : List Event) → more ≡ all ++ end
-    → cond m more (d ∷ more) ≡ cond m all (d ∷ all) ++ end
-kept_either true d more all end e = e
-kept_either false d more all end e = ap (λ xs. d ∷ xs) e
-
-kept-push : (es : List Event) (answers : List Answer) (e : Event) (a : Answer)
-    → length es ≡ length answers
-    → kept (es ++ e ∷ []) (answers ++ a ∷ []) ≡ kept es answers
-    ++ cond (is_memory a) [] (e ∷ [])
-kept-push [] [] e a len = refl
-kept-push [] (b ∷ answers) e a len = absurd (omega (arith, len))
-kept-push (d ∷ es) [] e a len = absurd (omega (arith, len))
-kept-push (d ∷ es) (b ∷ answers) e a len =
-    kept_either (is_memory b) d (kept (es ++ e ∷ []) (answers ++ a ∷ [])) (kept es answers) (cond (is_memory a) [] (e ∷ [])) (kept-push es answers e a (omega (arith, len)))
+use Rattle.fwd_core.specs.Runs.{is_memory, told, kept, takes_none, is_free_at, IsAtFault, NeedsNone, IsStep, AreStepsOf}
 
 is_told : (a : Answer) → is_memory a ≡ false → a ≢ Memory
 is_told a f e = let t : is_memory a ≡ true = ap is_memory e in cc
@@ -67,42 +38,86 @@ is_want (Told requests out) t = absurd cc
 is_want (Forgot requests) t = absurd cc
 is_want (Refused refusal) t = absurd cc
 
+-- what is said of one step
+pub step_is : (r s : LiveRelay) (e : Event) (a : Answer)
+    → (a ≢ Memory → a ≡ answer_of (step lives r e)) → (a ≢ Memory → s ≡ state_of r (step lives r e))
+    → (a ≡ Memory → s ≡ r) → (takes_none e ≡ true → a ≢ Memory)
+    → (is_free_at r e ≡ true → a ≢ Memory) → (IsAtFault r e → a ≢ Memory) → IsStep r e a s
+step_is r s e a answer next memory none free fault =
+    record { answer = answer; next = next; memory = memory; sure = by }
+  where
+    by : NeedsNone r e → a ≢ Memory
+    by (inl is) = none is
+    by (inr (inl is)) = free is
+    by (inr (inr is)) = fault is
+
+-- the steps go on by one
+pub steps_more : (r s t : LiveRelay) (es : List Event) (answers : List Answer) (e : Event)
+    (a : Answer) → AreStepsOf r es answers s → IsStep s e a t
+    → AreStepsOf r (es ++ e ∷ []) (answers ++ a ∷ []) t
+steps_more r s t [] [] e a same one = (t, subst (λ x. IsStep x e a t) same one, refl)
+steps_more r s t [] (b ∷ answers) e a none one = absurd none
+steps_more r s t (d ∷ es) [] e a none one = absurd none
+steps_more r s t (d ∷ es) (b ∷ answers) e a steps one =
+    (steps.0, steps.1, steps_more steps.0 s t es answers e a steps.2 one)
+
 -- what was told, and the state, are those of the events that count
 pub record Ran (r s : LiveRelay) (es : List Event) (answers : List Answer) : Type 0 where
-  pub size : length es ≡ length answers
+  pub size : length answers ≡ length es
   pub told_is : told answers ≡ answers_to lives r (kept es answers)
   pub state_is : s ≡ after lives r (kept es answers)
 
-one_more : (r s t : LiveRelay) (es : List Event) (answers : List Answer) (e : Event) (a : Answer)
-    → Ran r s es answers → (m : Bool) → is_memory a ≡ m
-    → (a ≢ Memory → a ≡ answer_of (step lives s e)) → (a ≢ Memory → t ≡ state_of s (step lives s e))
-    → (a ≡ Memory → t ≡ s)
-    →
-    (told answers ++ cond (not m) (a ∷ []) []
-    ≡ answers_to lives r (kept es answers ++ cond m [] (e ∷ []))) ×
-    (t ≡ after lives r (kept es answers ++ cond m [] (e ∷ [])))
-one_more r s t es answers e a ran true is f g h = (
-  append-nil (told answers) ∙ ran.told_is ∙ ap (answers_to lives r) (sym (append-nil (kept es answers))),
-  h (is_want a is) ∙ ran.state_is ∙ ap (after lives r) (sym (append-nil (kept es answers))),
-)
-one_more r s t es answers e a ran false is f g h =
+-- a step before the others
+step_before : (r t s : LiveRelay) (e : Event) (es : List Event) (a : Answer)
+    (answers : List Answer) → IsStep r e a t → Ran t s es answers → (m : Bool) → is_memory a ≡ m
+    → (cond (not m) (a ∷ told answers) (told answers)
+    ≡ answers_to lives r (cond m (kept es answers) (e ∷ kept es answers)))
+    × (s ≡ after lives r (cond m (kept es answers) (e ∷ kept es answers)))
+step_before r t s e es a answers one ran true is =
+    let same = one.memory (is_want a is) in (
+      ran.told_is ∙ ap (λ x. answers_to lives x (kept es answers)) same,
+      ran.state_is ∙ ap (λ x. after lives x (kept es answers)) same,
+    )
+step_before r t s e es a answers one ran false is =
     let some = is_told a is in (
-      (λ i. ran.told_is i ++ (f some ∙ ap (λ x. answer_of (step lives x e)) ran.state_is) i ∷ []) ∙ sym (live_answers-push r (kept es answers) e),
-      g some ∙ ap (λ x. state_of x (step lives x e)) ran.state_is ∙ sym (live_after-push r (kept es answers) e),
+      (λ i. one.answer some i ∷ (ran.told_is ∙ ap (λ x. answers_to lives x (kept es answers)) (one.next some)) i),
+      ran.state_is ∙ ap (λ x. after lives x (kept es answers)) (one.next some),
     )
 
-told-push : (answers : List Answer) (a : Answer)
-    → told (answers ++ a ∷ []) ≡ told answers ++ cond (not (is_memory a)) (a ∷ []) []
-told-push answers a = filter-append (λ x. not (is_memory x)) answers (a ∷ [])
-
-pub ran_more : (r s t : LiveRelay) (es : List Event) (answers : List Answer) (e : Event)
-    (a : Answer) → Ran r s es answers
-    → (a ≢ Memory → a ≡ answer_of (step lives s e)) → (a ≢ Memory → t ≡ state_of s (step lives s e))
-    → (a ≡ Memory → t ≡ s) → Ran r t (es ++ e ∷ []) (answers ++ a ∷ [])
-ran_more r s t es answers e a ran f g h =
-    let one = one_more r s t es answers e a ran (is_memory a) refl f g h in
-    let kept_is = kept-push es answers e a ran.size in record {
-      size = omega (arith, length-append es (e ∷ []), length-append answers (a ∷ []), ran.size);
-      told_is = told-push answers a ∙ one.0 ∙ ap (answers_to lives r) (sym kept_is);
-      state_is = one.1 ∙ ap (after lives r) (sym kept_is);
+pub ran_of : (r s : LiveRelay) (es : List Event) (answers : List Answer)
+    → AreStepsOf r es answers s → Ran r s es answers
+ran_of r s [] [] same = record { size = refl; told_is = refl; state_is = same }
+ran_of r s [] (a ∷ answers) none = absurd none
+ran_of r s (e ∷ es) [] none = absurd none
+ran_of r s (e ∷ es) (a ∷ answers) steps =
+    let ran = ran_of steps.0 s es answers steps.2 in
+    let both = step_before r steps.0 s e es a answers steps.1 ran (is_memory a) refl in record {
+      size = ap suc ran.size;
+      told_is = both.0;
+      state_is = both.1;
     }
+
+-- the state that a step left goes on
+behind : (r t : LiveRelay) (e : Event) (es : List Event) (a : Answer) → IsStep r e a t
+    → (m : Bool) → is_memory a ≡ m
+    → after lives r (cond m es (e ∷ es)) ≡ after lives t es
+behind r t e es a one true is = ap (λ x. after lives x es) (sym (one.memory (is_want a is)))
+behind r t e es a one false is = ap (λ x. after lives x es) (sym (one.next (is_told a is)))
+
+-- the event at a place needs no memory
+abbrev pub IsSure : LiveRelay → List Event → Event → List Answer → Type 0
+IsSure r before e answers =
+    NeedsNone (after lives r (kept before answers)) e
+    → slice_get answers (length before)
+    ≡ Some (answer_of (step lives (after lives r (kept before answers)) e))
+
+pub sure_at : (r s : LiveRelay) (before later : List Event) (e : Event) (answers : List Answer)
+    → AreStepsOf r (before ++ e ∷ later) answers s → IsSure r before e answers
+sure_at r s [] later e [] none = absurd none
+sure_at r s [] later e (a ∷ answers) steps = λ needs. ap Some (steps.1.answer (steps.1.sure needs))
+sure_at r s (d ∷ before) later e [] none = absurd none
+sure_at r s (d ∷ before) later e (a ∷ answers) steps =
+    let t = steps.0 in
+    let same = behind r t d (kept before answers) a steps.1 (is_memory a) refl in
+    let more : IsSure t before e answers = sure_at t s before later e answers steps.2 in
+    subst (λ x. NeedsNone x e → slice_get answers (length before) ≡ Some (answer_of (step lives x e))) (sym same) more

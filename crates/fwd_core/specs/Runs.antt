@@ -1,5 +1,30 @@
--- Which events of a run counted: those not answered by out of memory.
-use Rattle.std.specs.Prelude.{Bool, true, false, not, List, [], ◌∷◌, filter, if◌then◌else◌}
+-- What a relay answers to events one behind the other: which events of a run counted, those not
+-- answered by out of memory; and where the memory that is left has no say.
+use Rattle.std.specs.Prelude.{
+  ◌≡◌,
+  ◌≢◌,
+  ◌⊎◌,
+  ℕ,
+  Bool,
+  true,
+  false,
+  not,
+  List,
+  [],
+  ◌∷◌,
+  ◌++◌,
+  Some,
+  None,
+  filter,
+  slice_get,
+  if◌then◌else◌,
+}
+use Rattle.fwd_msgpack.specs.Scans.{Bad, first_of}
+use Rattle.fwd_msgpack.specs.declared.fault.ScanFault.{ScanFault}
+use Rattle.fwd_source.specs.Live.{LiveSource}
+use Rattle.fwd_session.specs.History.{is_done}
+use Rattle.fwd_session.specs.Live.{LiveSession, live_says}
+use Rattle.fwd_model.specs.Layers.{Worker}
 use Rattle.fwd_model.specs.declared.event.Event.{Event}
 use Rattle.fwd_model.specs.declared.event.Event.TheVariants.{
   Flush,
@@ -12,6 +37,7 @@ use Rattle.fwd_model.specs.declared.event.Event.TheVariants.{
   Drained,
   Shut,
 }
+use Rattle.fwd_model.specs.declared.event.Event.TheVariants as event
 use Rattle.fwd_model.specs.declared.answer.Answer.{Answer}
 use Rattle.fwd_model.specs.declared.answer.Answer.TheVariants.{
   Memory,
@@ -22,9 +48,9 @@ use Rattle.fwd_model.specs.declared.answer.Answer.TheVariants.{
   TookNothing,
   Told,
 }
-use Rattle.fwd_model.specs.Outcome.{answer_of}
+use Rattle.fwd_model.specs.Outcome.{answer_of, state_of}
 use Rattle.fwd_model.specs.Step.{step}
-use Rattle.fwd_model.specs.Live.{LiveRelay, lives}
+use Rattle.fwd_model.specs.Live.{LiveLane, LiveRelay, live_source_at, lives}
 
 -- out of memory
 abbrev pub is_memory : Answer → Bool
@@ -68,3 +94,70 @@ is_free _ = false
 -- what the event is answered takes no memory
 abbrev pub is_free_at : LiveRelay → Event → Bool
 is_free_at r e = is_free (answer_of (step lives r e))
+
+-- ---- faults that are told however little memory is left
+
+-- a piece of a connection is at fault at its front: the value that is unfinished, with what comes
+-- of it, or else the first one of the piece, is none of MessagePack within the limits
+pub record IsBadPiece (r : LiveRelay) (id : ℕ) (bytes : List ℕ) : Type 0 where
+  pub source : LiveSource
+  pub stands : live_source_at id r.connections ≡ Some source
+  pub fault : ScanFault
+  pub bad : first_of source.setup.limits.bytes source.setup.limits.depth (source.rest ++ bytes)
+      ≡ Bad fault
+
+-- what a session hears is at fault, and acknowledges nothing before that; its handshake is done, and
+-- no value is unfinished
+pub record IsBadReply (s : LiveSession) (bytes : List ℕ) : Type 0 where
+  pub greeted : is_done s.handshake ≡ true
+  pub none_unfinished : s.rest ≡ []
+  pub faulty : (live_says s bytes).fault ≢ None
+  pub none_accepted : (live_says s bytes).replies ≡ []
+
+-- it is a worker's session that hears such bytes
+pub record IsBadFor (x : Worker LiveSession) (bytes : List ℕ) : Type 0 where
+  pub session : LiveSession
+  pub stands : x.session ≡ Some session
+  pub bad : IsBadReply session bytes
+
+-- it is the session of an output's worker
+pub record IsBadAt (l : LiveLane) (w : ℕ) (bytes : List ℕ) : Type 0 where
+  pub worker : Worker LiveSession
+  pub here : slice_get l.workers w ≡ Some worker
+  pub bad : IsBadFor worker bytes
+
+-- it is at an output of the relay
+pub record IsBadHeard (r : LiveRelay) (o w : ℕ) (bytes : List ℕ) : Type 0 where
+  pub lane : LiveLane
+  pub here : slice_get r.lanes o ≡ Some lane
+  pub bad : IsBadAt lane w bytes
+
+-- the event brings bytes that are at fault before anything has to grow
+abbrev pub IsAtFault : LiveRelay → Event → Type 0
+IsAtFault r (event.Piece id bytes) = IsBadPiece r id bytes
+IsAtFault r (event.Heard o w bytes) = IsBadHeard r o w bytes
+IsAtFault r _ = ⊥
+
+-- The event needs no memory: it is one that takes none, or what it is answered takes none, or it
+-- brings such a fault.
+abbrev pub NeedsNone : LiveRelay → Event → Type 0
+NeedsNone r e = (takes_none e ≡ true) ⊎ (is_free_at r e ≡ true) ⊎ IsAtFault r e
+
+-- ---- steps one behind the other
+
+-- An answer that a relay may give to an event, and what it is then: what the event comes to, or out
+-- of memory and as it was; and never that, where the event needs none.
+pub record IsStep (r : LiveRelay) (e : Event) (a : Answer) (s : LiveRelay) : Type 0 where
+  pub answer : a ≢ Memory → a ≡ answer_of (step lives r e)
+  pub next : a ≢ Memory → s ≡ state_of r (step lives r e)
+  pub memory : a ≡ Memory → s ≡ r
+  pub sure : NeedsNone r e → a ≢ Memory
+
+-- Each answer is to the event at its place, from the state that the answers before it left, and the
+-- last one leaves this state.
+abbrev pub AreStepsOf : LiveRelay → List Event → List Answer → LiveRelay → Type 0
+AreStepsOf r [] [] s = s ≡ r
+AreStepsOf r [] (a ∷ answers) s = ⊥
+AreStepsOf r (e ∷ es) [] s = ⊥
+AreStepsOf r (e ∷ es) (a ∷ answers) s =
+    (t : LiveRelay) × IsStep r e a t × AreStepsOf t es answers s

@@ -1,7 +1,9 @@
 //! The connections that stand, by their ids, and what becomes of one.
 
-ghost use Rattle.std.specs.Prelude.{◌≡◌, ◌<◌, IfOk, IsOk, OnOk, OnErr, MatchOption, None, true};
+ghost use Rattle.std.specs.Prelude.{◌≡◌, ◌<◌, ◌++◌, IfOk, IsOk, OnOk, OnErr, MatchOption, None, true};
 ghost use Rattle.std.specs.Arc.{arc_value};
+ghost use Rattle.fwd_msgpack.specs.Scans.{Bad, first_of};
+ghost use Rattle.fwd_msgpack.specs.declared.fault.ScanFault.{ScanFault};
 ghost use Rattle.fwd_source.specs.Live.{source_gives_first};
 ghost use Rattle.fwd_model.specs.Setups.{setup_of};
 ghost use Rattle.fwd_core.specs.Places.{IsPlace};
@@ -86,6 +88,10 @@ pub fn leave(id: u64, connections: &mut Vec<Connection>)
 pub fn hear_piece(alloc: Global, source: &mut Source, bytes: &[u8]) -> Result<Answer, AllocError>
     ensures answer { IfOk result (λ a. a ≡ answer_of (piece lives source.old.live bytes.now)) }
     ensures sure { is_free (answer_of (piece lives source.old.live bytes.now)) ≡ true
+        → IsOk result }
+    ensures fault { let limits = source.old.live.setup.limits in
+        (fault : ScanFault)
+        → first_of limits.bytes limits.depth (source.old.live.rest ++ bytes.now) ≡ Bad fault
         → IsOk result }
     ensures next { OnOk result (source.new.live
         ≡ state_of source.old.live (piece lives source.old.live bytes.now)) }

@@ -27,7 +27,7 @@ ghost use Rattle.fwd_book.specs.Receipts.{receipts};
 ghost use Rattle.fwd_book.specs.Live.{IsSound, evidence_for, live_due, live_leaves};
 ghost use Rattle.fwd_model.specs.Books.{ack_asked};
 ghost use Rattle.fwd_core.specs.Lanes.{chunk_at, new_live_lane};
-ghost use Rattle.fwd_core.specs.Runs.{is_free};
+ghost use Rattle.fwd_core.specs.Runs.{is_free, IsBadAt};
 ghost use Rattle.fwd_model.specs.Outcome.{answer_of, state_of, chunk_answer};
 ghost use Rattle.fwd_model.specs.Step.{
   at_worker,
@@ -290,6 +290,7 @@ impl Lane {
             at_session lives x (heard lives bytes.now)))) }
         ensures sure { is_free (answer_of (at_worker lives self.old worker (λ x.
             at_session lives x (heard lives bytes.now)))) ≡ true → IsOk result }
+        ensures fault { IsBadAt self.old worker bytes.now → IsOk result }
         ensures next { OnOk result (self.new
             ≡ state_of self.old (at_worker lives self.old worker (λ x.
             at_session lives x (heard lives bytes.now)))) }

@@ -4,13 +4,16 @@ ghost use Rattle.std.specs.Prelude.{
   ◌≡◌,
   ◌≢◌,
   ◌++◌,
+  ◌∷◌,
   ℕ,
   List,
   true,
   IfOk,
   IfErr,
   OnErr,
+  Some,
   length,
+  slice_get,
 };
 ghost use Rattle.fwd_model.specs.History.{
   opening,
@@ -22,7 +25,15 @@ ghost use Rattle.fwd_model.specs.History.{
 };
 ghost use Rattle.fwd_model.specs.Live.{live, live_relay_counts, live_relay_reports, lives};
 ghost use Rattle.fwd_model.specs.declared.config.Config.{Config as Settings};
-ghost use Rattle.fwd_core.specs.Runs.{told, kept, takes_none, is_free};
+ghost use Rattle.fwd_core.specs.Runs.{
+  told,
+  kept,
+  takes_none,
+  is_free,
+  IsAtFault,
+  NeedsNone,
+  AreStepsOf,
+};
 ghost use Rattle.fwd_model.specs.declared.event.Event.{Event as AbstractEvent};
 ghost use Rattle.fwd_model.specs.Delivered.{IsDelivered, IsToldAmong, reached};
 ghost use Rattle.fwd_model.specs.Outcome.{answer_of, state_of};
@@ -67,7 +78,9 @@ impl Relay {
     }
 
     /// What an event does, and what is answered. It is the live step of the abstract relay, or
-    /// out of memory, and then nothing has changed.
+    /// out of memory, and then nothing has changed. It is never that where the event takes no
+    /// memory, where what it comes to takes none, and where its bytes are at fault before anything
+    /// has to grow.
     pub fn step(&mut self, alloc: Global, event: &Event) -> Answer
         ensures answer { result ≢ Answer.Memory
             → result ≡ answer_of (step lives self.old event.now) }
@@ -77,6 +90,7 @@ impl Relay {
         ensures none { takes_none event.now ≡ true → result ≢ Answer.Memory }
         ensures sure { is_free (answer_of (step lives self.old event.now)) ≡ true
             → result ≢ Answer.Memory }
+        ensures fault { IsAtFault self.old event.now → result ≢ Answer.Memory }
     {
         refusal_changes_nothing();
         live_follows();
@@ -84,12 +98,20 @@ impl Relay {
         self.state.try_step(alloc, event).unwrap_or(Answer::Memory)
     }
 
-    /// Steps through events, and answers each. Over the events that are not answered out of
-    /// memory, the answers and the state are the abstract relay's, from any history that a run
-    /// reaches and whose live part this relay is. Where the room for the answers is refused,
-    /// nothing has changed.
+    /// Steps through events, and answers each, as `step` does. Over the events that are not
+    /// answered out of memory, the answers and the state are the abstract relay's, from any history
+    /// that a run reaches and whose live part this relay is. Where the room for the answers is
+    /// refused, nothing has changed.
     pub fn run(&mut self, alloc: Global, events: &[Event]) -> Result<Vec<Answer>, AllocError>
         ensures count { IfOk result (λ answers. length answers.items ≡ length events.now) }
+        ensures steps { IfOk result (λ answers.
+            AreStepsOf self.old events.now answers.items self.new) }
+        // However little memory is left, an event that needs none is answered as it should be.
+        ensures sure { IfOk result (λ answers. (before later : List AbstractEvent)
+            (e : AbstractEvent) → events.now ≡ before ++ e ∷ later →
+            NeedsNone (after lives self.old (kept before answers.items)) e →
+            slice_get answers.items (length before) ≡ Some
+            (answer_of (step lives (after lives self.old (kept before answers.items)) e))) }
         ensures answers { IfOk result (λ answers.
             told answers.items ≡ answers_to lives self.old (kept events.now answers.items)) }
         ensures state { IfOk result (λ answers.

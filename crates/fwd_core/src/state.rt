@@ -20,7 +20,14 @@ ghost use Rattle.fwd_model.specs.Live.{live, live_relay_counts, live_relay_repor
 ghost use Rattle.fwd_chunks.specs.Live.{live_counts};
 ghost use Rattle.fwd_chunks.specs.TagCounts.{live_report};
 ghost use Rattle.fwd_book.specs.Live.{live_due};
-ghost use Rattle.fwd_core.specs.Runs.{takes_none, is_free, is_free_at};
+ghost use Rattle.fwd_core.specs.Runs.{
+  takes_none,
+  is_free,
+  is_free_at,
+  IsAtFault,
+  IsBadHeard,
+  IsBadPiece,
+};
 ghost use Rattle.fwd_core.specs.Standing.{AreNew, IsNew};
 ghost use Rattle.fwd_core.specs.Lanes.{new_live_lanes};
 ghost use Rattle.fwd_model.specs.declared.event.Event.TheVariants as event;
@@ -160,6 +167,7 @@ impl State {
         ensures answer { IfOk result (λ a. a ≡ answer_of (step lives self.old event.now)) }
         ensures none { takes_none event.now ≡ true → IsOk result }
         ensures sure { is_free_at self.old event.now ≡ true → IsOk result }
+        ensures fault { IsAtFault self.old event.now → IsOk result }
         ensures next { OnOk result (self.new ≡ state_of self.old (step lives self.old event.now)) }
         ensures err { OnErr result (self.new ≡ self.old) }
     {
@@ -254,6 +262,7 @@ impl State {
         ensures answer { IfOk result (λ a.
             a ≡ answer_of (step lives self.old (event.Piece conn bytes.now))) }
         ensures sure { is_free_at self.old (event.Piece conn bytes.now) ≡ true → IsOk result }
+        ensures fault { IsBadPiece self.old conn bytes.now → IsOk result }
         ensures next { OnOk result (self.new
             ≡ state_of self.old (step lives self.old (event.Piece conn bytes.now))) }
         ensures err { OnErr result (self.new ≡ self.old) }
@@ -448,6 +457,7 @@ impl State {
             a ≡ answer_of (step lives self.old (event.Heard output worker bytes.now))) }
         ensures sure { is_free_at self.old (event.Heard output worker bytes.now) ≡ true
             → IsOk result }
+        ensures fault { IsBadHeard self.old output worker bytes.now → IsOk result }
         ensures next { OnOk result (self.new
             ≡ state_of self.old (step lives self.old (event.Heard output worker bytes.now))) }
         ensures err { OnErr result (self.new ≡ self.old) }

@@ -46,7 +46,7 @@ ghost use Rattle.fwd_core.specs.Lanes.{
   evidence_in,
   worker_settled,
 };
-ghost use Rattle.fwd_core.specs.Runs.{is_free};
+ghost use Rattle.fwd_core.specs.Runs.{is_free, IsBadFor};
 
 use crate::lane_config::LaneConfig;
 use crate::leaving::{Leaving, leave};
@@ -266,6 +266,7 @@ impl Worker {
             a ≡ answer_of (at_session lives self.old (heard lives bytes.now))) }
         ensures sure { is_free (answer_of (at_session lives self.old (heard lives bytes.now)))
             ≡ true → IsOk result }
+        ensures fault { IsBadFor self.old bytes.now → IsOk result }
         ensures next { OnOk result (self.new
             ≡ state_of self.old (at_session lives self.old (heard lives bytes.now))) }
         ensures chunks { IsSameWork self.old self.new }

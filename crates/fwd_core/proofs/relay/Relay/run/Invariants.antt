@@ -1,10 +1,11 @@
-use Rattle.std.proofs.Common.{◌≤◌, length, take, vec_capacity}
-use Rattle.fwd_core.proofs.RunLemmas.{Ran}
+use Rattle.std.proofs.Common.{◌≡◌, ◌≤◌, length, take, vec_capacity}
+use Rattle.fwd_core.specs.Runs.{AreStepsOf}
 use Rattle.fwd_core.proofs.relay.Relay.run.Given as goal
 
--- what was told is the live run so far, and there is room for the rest
+-- the answers so far are those of steps, and there is room for the rest
 abbrev pub invariant-loop-event : goal.invariant-loop-event
 invariant-loop-event l = record {
-  ran : Ran l.fn.self l.self (take l.event-index l.events) l.answers.items;
+  steps : AreStepsOf l.fn.self (take l.event-index l.events) l.answers.items l.self;
+  size : length (take l.event-index l.events) ≡ length l.answers.items;
   room : length l.events ≤ vec_capacity l.answers;
 }
