@@ -3,7 +3,7 @@ use Rattle.std.proofs.Common.{◌≡◌, false, List, ℕ, Bool, [], ◌∷◌, 
 use Rattle.fwd_peers.specs.declared.stage.Stage.{Stage}
 use Rattle.fwd_peers.specs.declared.stream.Visit.{Visit}
 use Rattle.fwd_peers.specs.Streams.{Call, IsReading, is_full}
-use Rattle.fwd_peers.specs.Peers.{PeerShown, TakesIn, stage_visited, Reads}
+use Rattle.fwd_peers.specs.Peers.{PeerShown, TakesIn, heard_at, stage_visited, Reads}
 
 -- what is taken in depends only on the live part, on how far the connection has come, and on why it
 -- was ended
@@ -15,13 +15,13 @@ taken_by s r t u [] come same here reason there ended taken =
 taken_by s r t u (byte ∷ bytes) come same here reason there ended taken = grind arith
 
 -- a visit gave bytes, they were taken in, and then the connection saw how the visit ended
-pub reads : (to_end : Bool) (most : ℕ) (s r u t : PeerShown) (bytes : List ℕ) (end : Visit) (more : Bool)
+pub reads : (now : ℕ) (to_end : Bool) (most : ℕ) (s r u t : PeerShown) (bytes : List ℕ) (end : Visit) (more : Bool)
     → IsReading to_end most s.reads bytes end r.reads → r ≡ record s { held = false; reads = r.reads }
     → TakesIn r bytes u.live u.stage u.why
-    → u ≡ record r { stage = u.stage; why = u.why; live = u.live; room = u.room }
+    → u ≡ record r { stage = u.stage; why = u.why; live = u.live; room = u.room; heard = heard_at now bytes r.heard }
     → t ≡ record u { stage = stage_visited u.stage end } → more ≡ is_full end
-    → Reads to_end most s more t
-reads to_end most s r u t bytes end more visit given taken others visited full = record {
+    → Reads now to_end most s more t
+reads now to_end most s r u t bytes end more visit given taken others visited full = record {
   bytes = bytes;
   end = end;
   visit =

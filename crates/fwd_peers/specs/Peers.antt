@@ -1,5 +1,5 @@
 -- What becomes of a source's connection.
-use Rattle.std.specs.Prelude.{◌≡◌, ◌+◌, ◌-◌, ◌^◌, ◌<◌, ◌≤◌, ◌==◌, ◌⊎◌, ℕ, Bool, true, false, not, List, [], ◌∷◌, length, take, Option, Some, None, option_map, option_and_then, if◌then◌else◌}
+use Rattle.std.specs.Prelude.{◌≡◌, ◌+◌, ◌-◌, ◌^◌, ◌<◌, ◌≤◌, ◌==◌, ◌⊎◌, ◌&&◌, ℕ, Bool, true, false, not, nat_le, nat_lt, List, [], ◌∷◌, length, take, Option, Some, None, option_map, option_and_then, if◌then◌else◌}
 use Rattle.fwd_match.specs.Patterns.{route}
 use Rattle.fwd_modes.specs.Acks.{ack_text}
 use Rattle.fwd_modes.specs.Requests.{Request}
@@ -31,7 +31,9 @@ use Rattle.fwd_peers.specs.Streams.{Call, IsReading, IsVisit, is_full}
 -- what is seen of a source's connection: its id; how far it has come; why the relay ended it, until
 -- that was told; whether it was left unread when it was visited last, since too many bytes wait to
 -- be sent to it; its live part; how many bytes of acknowledgements are promised, and for how many
--- bytes there is room; and what its stream answered to all reads, and to all writes
+-- bytes there is room; what its stream answered to all reads, and to all writes; when it sent
+-- something last, or came, in milliseconds; the number of the request that it gave last, and how many
+-- of those that it gave were answered
 pub record PeerShown : Type 0 where
   pub id : ℕ
   pub stage : Stage
@@ -42,6 +44,9 @@ pub record PeerShown : Type 0 where
   pub room : ℕ
   pub reads : List Call
   pub writes : List Call
+  pub heard : ℕ
+  pub given : ℕ
+  pub answered : ℕ
 
 -- its id is its source's: the one under which its requests go
 abbrev pub HasOwnId : PeerShown → Type 0
@@ -82,14 +87,19 @@ abbrev pub TakesIn : PeerShown → (bytes : List ℕ) → LiveSource → Stage �
 TakesIn s [] live come why = (live ≡ s.live) × (come ≡ s.stage) × (why ≡ s.why)
 TakesIn s (byte ∷ bytes) live come why = IsPiece s (byte ∷ bytes) live come why
 
+-- when it sent something last, once so many bytes of it were read at a moment
+abbrev pub heard_at : (now : ℕ) → (bytes : List ℕ) → (before : ℕ) → ℕ
+heard_at now [] before = before
+heard_at now (byte ∷ bytes) before = now
+
 -- what a visit to its stream gave is taken in, and then it is over where the stream ended
 abbrev pub Hears : PeerShown → (bytes : List ℕ) → (end : Visit) → PeerShown → Type 0
 Hears s bytes end t =
     (come : Stage) × (TakesIn s bytes t.live come t.why × (t.stage ≡ stage_visited come end))
 
--- its stream is read in one visit, for so many bytes at most, and to its end where it is to be;
--- what that gives is heard, and it says whether there may be more
-pub record Reads (to_end : Bool) (most : ℕ) (s : PeerShown) (more : Bool) (t : PeerShown)
+-- its stream is read in one visit at a moment, for so many bytes at most, and to its end where it is
+-- to be; what that gives is heard, and it says whether there may be more
+pub record Reads (now : ℕ) (to_end : Bool) (most : ℕ) (s : PeerShown) (more : Bool) (t : PeerShown)
     : Type 0 where
   pub bytes : List ℕ
   pub end : Visit
@@ -103,6 +113,7 @@ pub record Reads (to_end : Bool) (most : ℕ) (s : PeerShown) (more : Bool) (t :
     live = t.live;
     room = t.room;
     reads = t.reads;
+    heard = heard_at now bytes s.heard;
   }
 
 -- ---- what is asked of outputs
@@ -142,10 +153,20 @@ Gives s (Some asked) t =
       live = source_gives_first s.live s.live.waiting;
       promised = promised_with s asked.1;
       room = t.room;
+      given = asked.0.request;
     })
     × (asked.0.conn ≡ s.id)
 
 -- ---- what it is told
+
+-- one more of the requests that it gave was answered, and never more than it gave
+abbrev pub with_one_answered : PeerShown → PeerShown
+with_one_answered s =
+    record s { answered = if nat_lt s.answered s.given then s.answered + 1 else s.answered }
+
+-- what a receipt has counted at the connection of this id: it answers a request of that connection
+abbrev pub counted : Receipt → (id : ℕ) → PeerShown → PeerShown
+counted receipt id s = if receipt.origin.conn == id then with_one_answered s else s
 
 -- the acknowledgement that a receipt has the connection of this id told: it is of a request of
 -- that connection, whose sender asked for one
@@ -179,6 +200,28 @@ IsNotPut s ack t =
 abbrev pub IsTold : PeerShown → Option (List ℕ) → PeerShown → Type 0
 IsTold s None t = t ≡ s
 IsTold s (Some ack) t = IsPut s ack t ⊎ IsNotPut s ack t
+
+-- ---- when it is idle
+
+-- a connection that is read and written, and is not about to go
+abbrev pub is_open : Stage → Bool
+is_open stage.Open = true
+is_open stage.Lingering = false
+is_open stage.Over = false
+
+-- Neither it nor the relay owes the other anything: it is open and has logged in, no request of it
+-- waits or is under way, no byte of an unfinished value of it is held, and none waits to be sent.
+abbrev pub owes_nothing : PeerShown → Bool
+owes_nothing s =
+    is_open s.stage &&
+    (not s.live.awaits &&
+    (length s.live.waiting == 0 &&
+    (nat_le s.given s.answered &&
+    (length s.live.rest == 0 && length s.live.unsent == 0))))
+
+-- since when it has been silent, where nothing is owed
+abbrev pub silent_since : PeerShown → Option ℕ
+silent_since s = if owes_nothing s then Some s.heard else None
 
 -- ---- why it is ended
 

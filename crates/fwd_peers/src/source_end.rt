@@ -14,6 +14,8 @@ pub enum SourceEnd {
     NoRoute,
     /// It has not logged in: not in time, or not within 4,096 bytes.
     NoLogin,
+    /// It has been silent longest, and a new one takes its place.
+    Idle,
 }
 
 /// Why a source's connection ends by the relay's doing.

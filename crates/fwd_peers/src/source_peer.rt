@@ -60,6 +60,12 @@ pub struct SourcePeer {
     owed: usize,
     /// Its requests are short, by those that it was read last, or none is known yet.
     is_dense: bool,
+    /// When it sent something last, or came, in milliseconds.
+    heard: u64,
+    /// The number of the request that it gave last: they rise from 1.
+    given: u64,
+    /// So many of those that it gave were answered.
+    answered: u64,
 }
 
 impl Model for SourcePeer {
@@ -78,6 +84,9 @@ impl Model for SourcePeer {
       room = p.source.room;
       reads = p.stream.reads;
       writes = p.stream.writes;
+      heard = p.heard;
+      given = p.given;
+      answered = p.answered;
     } };
 
     ghost invariant = { λ p. p.id ≡ p.source.live.setup.conn };
@@ -118,9 +127,9 @@ fn append_ack(source: &mut Source, chunk: &[u8]) -> bool
 }
 
 impl SourcePeer {
-    /// A source's connection over its stream, at the address that it comes from. `id` is the
-    /// source's.
-    pub fn new(id: u64, stream: TcpStream, peer: SocketAddr, source: Source) -> SourcePeer
+    /// A source's connection over its stream, at the address that it comes from, which came at a
+    /// moment (milliseconds). `id` is the source's.
+    pub fn new(id: u64, stream: TcpStream, peer: SocketAddr, source: Source, now: u64) -> SourcePeer
         requires { source.live.setup.conn ≡ id }
         ensures { result ≡ record {
           id = id;
@@ -132,6 +141,9 @@ impl SourcePeer {
           room = source.room;
           reads = [];
           writes = [];
+          heard = now;
+          given = 0;
+          answered = 0;
         } }
     {
         SourcePeer {
@@ -145,6 +157,9 @@ impl SourcePeer {
             is_held: false,
             owed: 0,
             is_dense: true,
+            heard: now,
+            given: 0,
+            answered: 0,
         }
     }
 
@@ -156,16 +171,16 @@ impl SourcePeer {
         self.id
     }
 
-    /// Reads what is there, as far as the room goes, and to its end where the other side is said to
-    /// have closed; and says whether there may be more. A source that does not take what is sent to
-    /// it is not read.
-    pub fn hear(&mut self, alloc: Global, room: &mut [u8], to_end: bool) -> bool
+    /// Reads what is there at a moment (milliseconds), as far as the room goes, and to its end
+    /// where the other side is said to have closed; and says whether there may be more. A source
+    /// that does not take what is sent to it is not read.
+    pub fn hear(&mut self, alloc: Global, room: &mut [u8], to_end: bool, now: u64) -> bool
         ensures closed { self.old.stage ≢ Stage.Open
             → (self.new ≡ self.old) × (result ≡ false) }
         ensures held { self.old.stage ≡ Stage.Open → UNSENT ≤ length self.old.live.unsent
             → (self.new ≡ record self.old { held = true }) × (result ≡ false) }
         ensures read { self.old.stage ≡ Stage.Open → length self.old.live.unsent < UNSENT
-            → peers.Reads to_end (length room.new) self.old result self.new }
+            → peers.Reads now to_end (length room.new) self.old result self.new }
     {
         if self.stage != Stage::Open {
             return false;
@@ -175,7 +190,7 @@ impl SourcePeer {
             return false;
         }
         let (count, visit) = self.read(room, to_end);
-        self.take_in(alloc, &room[..count]);
+        self.take_in(alloc, &room[..count], now);
         self.visited(visit);
         visit.is_full()
     }
@@ -195,8 +210,8 @@ impl SourcePeer {
         self.stream.fill(room, to_end)
     }
 
-    /// Takes in bytes, if there are any.
-    fn take_in(&mut self, alloc: Global, bytes: &[u8])
+    /// Takes in bytes, if there are any, at a moment (milliseconds).
+    fn take_in(&mut self, alloc: Global, bytes: &[u8], now: u64)
         ensures taken { peers.TakesIn self.old
             bytes.now
             self.new.live
@@ -207,11 +222,13 @@ impl SourcePeer {
           why = self.new.why;
           live = self.new.live;
           room = self.new.room;
+          heard = peers.heard_at now bytes.now self.old.heard;
         } }
     {
         if bytes.is_empty() {
             return;
         }
+        self.heard = now;
         let told = self.source.piece(alloc, bytes);
         let shortest = self.source.waiting().saturating_mul(SHORT_REQUEST);
         self.is_dense = bytes.len() < shortest;
@@ -352,12 +369,13 @@ impl SourcePeer {
     pub fn next(&mut self) -> Option<(Origin, Batch)>
         ensures { peers.Gives self.old result self.new }
     {
-        let (_, batch) = self.source.peek()?;
+        let (origin, batch) = self.source.peek()?;
         let promised = self.promised.checked_add(ack_size(batch))?;
         let owed = upkeep(batch.tag(), batch.chunk());
         self.source.reserve(promised).ok()?;
         self.promised = promised;
         self.owed = self.owed.saturating_add(owed);
+        self.given = origin.request;
         self.source.next()
     }
 
@@ -374,14 +392,25 @@ impl SourcePeer {
         self.starve();
     }
 
+    /// One more of the requests that it gave was answered.
+    fn note_answered(&mut self)
+        ensures { self.new ≡ peers.with_one_answered self.old }
+    {
+        if self.answered < self.given {
+            self.answered += 1;
+        }
+    }
+
     /// Tells the connection of a receipt, if it is of one of its requests and it asked to be told.
     /// When out of memory the connection is over.
     pub fn answer(&mut self, receipt: &Receipt)
-        ensures { peers.IsTold self.old (peers.told_by receipt.now self.old.id) self.new }
+        ensures { peers.IsTold (peers.counted receipt.now self.old.id self.old)
+            (peers.told_by receipt.now self.old.id) self.new }
     {
         if receipt.origin().conn != self.id {
             return;
         }
+        self.note_answered();
         let owed = upkeep(receipt.tag(), receipt.chunk());
         self.owed = self.owed.saturating_sub(owed);
         let Some(chunk) = receipt.chunk() else {
@@ -395,6 +424,21 @@ impl SourcePeer {
         ensures { self.new ≡ record self.old { stage = Stage.Over } }
     {
         self.stage = Stage::Over;
+    }
+
+    /// Since when it has been silent (milliseconds), where neither it nor the relay owes the other
+    /// anything: it is open and has logged in, no request of it waits or is under way, no byte of
+    /// an unfinished value of it is held, and no byte waits to be sent to it.
+    pub fn silent_since(&self) -> Option<u64>
+        ensures { result ≡ peers.silent_since self.now }
+    {
+        let is_quiet = self.stage == Stage::Open
+            && !self.source.awaits_login()
+            && self.source.waiting() == 0
+            && self.given <= self.answered
+            && self.source.unfinished() == 0
+            && self.source.out().is_empty();
+        if is_quiet { Some(self.heard) } else { None }
     }
 
     /// Whether it was not read, and may be now.

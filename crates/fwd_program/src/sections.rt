@@ -103,7 +103,7 @@ static ROOT: [KeyRule; 2] = [
     },
 ];
 
-static RELAY: [KeyRule; 12] = [
+static RELAY: [KeyRule; 13] = [
     KeyRule {
         name: "listen",
         allowed: Allowed::Address,
@@ -151,6 +151,10 @@ static RELAY: [KeyRule; 12] = [
     KeyRule {
         name: "metrics",
         allowed: Allowed::Flag,
+    },
+    KeyRule {
+        name: "idle_limit",
+        allowed: Allowed::Time(1),
     },
 ];
 

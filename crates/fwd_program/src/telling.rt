@@ -254,6 +254,7 @@ fn source_end_name(why: SourceEnd) -> &'static str {
         SourceEnd::Refused(_, refusal) => admit_refusal_name(refusal),
         SourceEnd::NoRoute => "NoRoute",
         SourceEnd::NoLogin => "NoLogin",
+        SourceEnd::Idle => "Idle",
     }
 }
 

@@ -12,11 +12,11 @@ use Rattle.fwd_settings.specs.declared.place.Place.TheVariants.{Root, Relay, Use
 use Rattle.fwd_settings.specs.declared.settings.Settings.{Settings}
 use Rattle.fwd_settings.specs.declared.settings.ServerSettings.{ServerSettings}
 use Rattle.fwd_settings.specs.Faults.{fault_with, key_under}
-use Rattle.fwd_settings.specs.Kinds.{Key, optional, required, given, unless_out, is_within, number_flaw, number_of, number_key, text_flaw, text_key, optional_text_key, required_text_key, data_in, list_flaw, list_of, required_list_key, allowed_list_flaw, optional_list_key, each, fault_at, setting_at}
-use Rattle.fwd_settings.specs.Keys.{first, table_in, outputs, relay_table, relay_settings, connections, message_limit, depth, readers, relay_hostname, shared_key, users, user_name, user_password, user_table, user_fault, user_settings, output_table, output_fault, output_settings, retry_wait, output_shared_key, username, password, servers, server_settings, is_standby, standby_fault}
+use Rattle.fwd_settings.specs.Kinds.{Key, optional, required, given, unless_out, is_within, number_flaw, number_of, number_key, optional_number_key, text_flaw, text_key, optional_text_key, required_text_key, data_in, list_flaw, list_of, required_list_key, allowed_list_flaw, optional_list_key, each, fault_at, setting_at}
+use Rattle.fwd_settings.specs.Keys.{first, table_in, outputs, relay_table, relay_settings, connections, message_limit, depth, readers, idle_limit, relay_hostname, shared_key, users, user_name, user_password, user_table, user_fault, user_settings, output_table, output_fault, output_settings, retry_wait, output_shared_key, username, password, servers, server_settings, is_standby, standby_fault}
 use Rattle.fwd_settings.specs.Whole.{relay_fault, root_table, root_settings, judged, of_document, document_of, settings_of}
 use Rattle.fwd_settings.specs.declared.ranges.TheConstants.{ACK_WAIT_DEFAULT, CHUNK_LIMIT_DEFAULT, CHUNK_LIMIT_MAX, CONNECTIONS_DEFAULT, CONNECTIONS_MAX, DEPTH_DEFAULT, DEPTH_MAX, DEPTH_MIN, FLUSH_INTERVAL_DEFAULT, MESSAGE_LIMIT_DEFAULT, MESSAGE_LIMIT_MAX, MESSAGE_LIMIT_MIN, NAME_MAX, OUTPUTS_MAX, READERS_DEFAULT, READERS_MAX, RETRY_MAX_DEFAULT, RETRY_WAIT_DEFAULT, SERVERS_MAX, SHARED_KEY_MAX, TOTAL_LIMIT_DEFAULT, TOTAL_LIMIT_MAX, WAIT_MAX, WINDOW_DEFAULT, WINDOW_MAX, WORKERS_DEFAULT, WORKERS_MAX}
-use Rattle.fwd_settings.specs.Ranges.{user_in_range, key_in_range, have_key, relay_in_range, output_in_range, in_range}
+use Rattle.fwd_settings.specs.Ranges.{user_in_range, key_in_range, limit_in_range, have_key, relay_in_range, output_in_range, in_range}
 
 -- ---- no fault
 
@@ -120,6 +120,23 @@ key_within : (place : Place) (members : Members) → fault_at place members shar
 unfolding setting_at optional_text_key
 key_within place members h = key_given (get_member (codes "shared_key") members) (no_flaw place members shared_key h)
 
+limit_given : (value : Option Data) → optional (number_flaw 1 WAIT_MAX) value ≡ None
+    → limit_in_range (option_and_then number_of value) ≡ true
+limit_given None h = refl
+limit_given (Some (integer (pos n))) h = within (is_within 1 WAIT_MAX n) h
+limit_given (Some (integer (negsuc n))) h = absurd cc
+limit_given (Some (string x)) h = absurd cc
+limit_given (Some (float x)) h = absurd cc
+limit_given (Some (boolean x)) h = absurd cc
+limit_given (Some (datetime x)) h = absurd cc
+limit_given (Some (array x)) h = absurd cc
+limit_given (Some (table x)) h = absurd cc
+
+limit_within : (place : Place) (members : Members) → fault_at place members idle_limit ≡ None
+    → limit_in_range (setting_at members idle_limit) ≡ true
+unfolding setting_at optional_number_key
+limit_within place members h = limit_given (get_member (codes "idle_limit") members) (no_flaw place members idle_limit h)
+
 required_given : (least most : ℕ) (value : Option Data)
     → required (text_flaw least most) value ≡ None
     → is_within least most (length (given as_str [] value)) ≡ true
@@ -210,8 +227,9 @@ relay_within members h =
     let many = number_within Relay members (codes "readers") 1 READERS_MAX READERS_DEFAULT refl (none_at (relay_table members) 9 (fault_at Relay members readers) h refl) in
     let allowed = users_allowed members (none_at (relay_table members) 10 (fault_at Relay members (users members)) h refl) in
     let all = users_within 0 (setting_at members (users members)) (none_at (relay_table members) 11 (first (each user_fault 0 (setting_at members (users members)))) h refl) in
+    let limit = limit_within Relay members (none_at (relay_table members) 13 (fault_at Relay members idle_limit) h refl) in
     let r = relay_settings members in
-    grind (arith, nat_tests, name, key, count, long, deep, many, all, allowed)
+    grind (arith, nat_tests, name, key, count, long, deep, many, all, allowed, limit)
 
 standby_none : (output : ℕ) (listed : List Data) → standby_fault output listed ≡ None
     → not (list_all (λ server. server.standby) (map server_settings listed)) ≡ true

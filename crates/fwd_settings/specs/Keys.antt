@@ -18,7 +18,7 @@ use Rattle.fwd_settings.specs.declared.output.Login.{Login}
 use Rattle.fwd_settings.specs.declared.ranges.TheConstants.{ACK_WAIT_DEFAULT, CHUNK_LIMIT_DEFAULT, CHUNK_LIMIT_MAX, CONNECTIONS_DEFAULT, CONNECTIONS_MAX, DEPTH_DEFAULT, DEPTH_MAX, DEPTH_MIN, FLUSH_INTERVAL_DEFAULT, MESSAGE_LIMIT_DEFAULT, MESSAGE_LIMIT_MAX, MESSAGE_LIMIT_MIN, NAME_MAX, OUTPUTS_MAX, READERS_DEFAULT, READERS_MAX, RETRY_MAX_DEFAULT, RETRY_WAIT_DEFAULT, SERVERS_MAX, SHARED_KEY_MAX, TOTAL_LIMIT_DEFAULT, TOTAL_LIMIT_MAX, WAIT_MAX, WINDOW_DEFAULT, WINDOW_MAX, WORKERS_DEFAULT, WORKERS_MAX}
 use Rattle.fwd_settings.specs.Addresses.{home}
 use Rattle.fwd_settings.specs.Faults.{own_key, key_under}
-use Rattle.fwd_settings.specs.Kinds.{Key, each, fault_at, setting_at, number_key, flag_key, when_full_key, text_key, optional_text_key, required_text_key, digits_key, address_key, address_key_or, required_address_key, required_pattern_key, required_list_key, optional_list_key}
+use Rattle.fwd_settings.specs.Kinds.{Key, each, fault_at, setting_at, number_key, optional_number_key, flag_key, when_full_key, text_key, optional_text_key, required_text_key, digits_key, address_key, address_key_or, required_address_key, required_pattern_key, required_list_key, optional_list_key}
 
 -- the first of some faults
 abbrev pub first : List (Option SettingsFault) → Option SettingsFault
@@ -96,13 +96,18 @@ users relay = optional_list_key (codes "user") (is_some (setting_at relay shared
 abbrev pub metrics : Key Bool
 metrics = flag_key (codes "metrics") false
 
+-- how long a source may be silent that keeps its place where all are taken, if that is limited, in
+-- milliseconds
+abbrev pub idle_limit : Key (Option ℕ)
+idle_limit = optional_number_key (codes "idle_limit") 1 WAIT_MAX
+
 -- the keys under `relay`
 abbrev pub relay_names : List (List ℕ)
 relay_names =
     codes "listen" ∷ codes "monitor" ∷ codes "hostname" ∷ codes "shared_key"
     ∷ codes "run_id" ∷ codes "seed" ∷
     codes "connections" ∷ codes "message_limit" ∷ codes "depth"
-    ∷ codes "readers" ∷ codes "user" ∷ codes "metrics" ∷ []
+    ∷ codes "readers" ∷ codes "user" ∷ codes "metrics" ∷ codes "idle_limit" ∷ []
 
 -- ---- relay.user[i]
 
@@ -154,7 +159,8 @@ relay_table relay =
     fault_at Relay relay readers ∷
     fault_at Relay relay (users relay) ∷
     first (each user_fault 0 (setting_at relay (users relay))) ∷
-    fault_at Relay relay metrics ∷ []
+    fault_at Relay relay metrics ∷
+    fault_at Relay relay idle_limit ∷ []
 
 -- the settings under `relay`, by their keys
 abbrev pub relay_settings : Members → RelaySettings
@@ -171,6 +177,7 @@ relay_settings relay = record {
   readers = setting_at relay readers;
   users = map user_settings (setting_at relay (users relay));
   metrics = setting_at relay metrics;
+  idle_limit = setting_at relay idle_limit;
 }
 
 -- ---- output[i].server[j]

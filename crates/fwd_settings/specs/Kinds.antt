@@ -67,6 +67,15 @@ number_key name least most default =
       setting = given number_of default;
     }
 
+-- a number in a range, if there is one
+unfoldable pub optional_number_key : List ℕ → (least most : ℕ) → Key (Option ℕ)
+optional_number_key name least most =
+    record {
+      name = name;
+      flaw = optional (number_flaw least most);
+      setting = option_and_then number_of;
+    }
+
 -- ---- flags: true or false
 
 -- what is wrong with a value where a boolean is asked for

@@ -17,6 +17,11 @@ abbrev pub key_in_range : Option (List ℕ) → Bool
 key_in_range None = true
 key_in_range (Some key) = is_within 1 SHARED_KEY_MAX (length key)
 
+-- a limit of a time, if one is set, is at most a day
+abbrev pub limit_in_range : Option ℕ → Bool
+limit_in_range None = true
+limit_in_range (Some limit) = is_within 1 WAIT_MAX limit
+
 -- users log in by a key
 abbrev pub have_key : Option (List ℕ) → List UserSettings → Bool
 have_key key [] = true
@@ -31,7 +36,8 @@ relay_in_range r =
     (is_within MESSAGE_LIMIT_MIN MESSAGE_LIMIT_MAX r.message_limit &&
     (is_within DEPTH_MIN DEPTH_MAX r.depth &&
     (is_within 1 READERS_MAX r.readers &&
-    (list_all user_in_range r.users && have_key r.shared_key r.users))))))
+    (list_all user_in_range r.users && (have_key r.shared_key r.users
+    && limit_in_range r.idle_limit)))))))
 
 -- an output's settings are in their ranges
 abbrev pub output_in_range : OutputSettings → Bool

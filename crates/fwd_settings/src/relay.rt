@@ -13,7 +13,7 @@ use crate::place::{Flaw, Place};
 use crate::ranges::{
     CONNECTIONS_DEFAULT, CONNECTIONS_MAX, DEPTH_DEFAULT, DEPTH_MAX, DEPTH_MIN,
     MESSAGE_LIMIT_DEFAULT, MESSAGE_LIMIT_MAX, MESSAGE_LIMIT_MIN, NAME_MAX, READERS_DEFAULT,
-    READERS_MAX, SHARED_KEY_MAX,
+    READERS_MAX, SHARED_KEY_MAX, WAIT_MAX,
 };
 use crate::section::Section;
 use crate::settings::RelaySettings;
@@ -23,7 +23,7 @@ use std::net::{Ipv4Addr, SocketAddr, SocketAddrV4};
 use toml::Table;
 
 /// The keys of the table `relay`, in the order in which they are judged.
-pub const RELAY_KEYS: [&str; 12] = [
+pub const RELAY_KEYS: [&str; 13] = [
     "listen",
     "monitor",
     "hostname",
@@ -36,6 +36,7 @@ pub const RELAY_KEYS: [&str; 12] = [
     "readers",
     "user",
     "metrics",
+    "idle_limit",
 ];
 
 /// 127.0.0.1:24224.
@@ -84,6 +85,7 @@ fn relay_in(alloc: Global, table: &Table) -> Result<RelaySettings, SettingsFault
     let listed = relay.optional_list(alloc, "user", shared_key.is_some())?;
     let users = users_of(alloc, listed)?;
     let metrics = relay.flag(alloc, "metrics", false)?;
+    let idle_limit = relay.optional_number(alloc, "idle_limit", 1, WAIT_MAX)?;
     Ok(RelaySettings {
         listen,
         monitor,
@@ -97,6 +99,7 @@ fn relay_in(alloc: Global, table: &Table) -> Result<RelaySettings, SettingsFault
         readers,
         users,
         metrics,
+        idle_limit,
     })
 }
 

@@ -3,7 +3,7 @@
 ghost use Rattle.std.specs.Prelude.{◌≡◌, ◌≢◌, ◌≤◌, map, IfOk, IfErr, Some, None, option_map};
 ghost use Rattle.toml.specs.Data.{get_member};
 ghost use Rattle.toml.specs.View.{view, table_view};
-ghost use Rattle.fwd_settings.specs.Kinds.{Reads, number_key, flag_key, when_full_key, text_key, optional_text_key, required_text_key, digits_key, address_key, address_key_or, required_address_key, required_pattern_key, required_list_key, optional_list_key, fault_at, setting_at};
+ghost use Rattle.fwd_settings.specs.Kinds.{Reads, number_key, optional_number_key, flag_key, when_full_key, text_key, optional_text_key, required_text_key, digits_key, address_key, address_key_or, required_address_key, required_pattern_key, required_list_key, optional_list_key, fault_at, setting_at};
 ghost use Rattle.fwd_settings.specs.Keys as keys;
 
 use crate::fault::SettingsFault;
@@ -61,6 +61,32 @@ impl<'a> Section<'a> {
             None => Ok(default),
             Some(value) => match number_in(value, least, most) {
                 Ok(number) => Ok(number),
+                Err(flaw) => Err(self.place.fault(alloc, name, flaw)),
+            },
+        }
+    }
+
+    /// A number of its range, if there is one.
+    #[rattlefmt::skip]
+    #[tactic(auto, unfolding(
+        crate::specs::Kinds::fault_at,
+        crate::specs::Kinds::setting_at,
+        crate::specs::Kinds::optional_number_key
+    ))]
+    pub fn optional_number(
+        &self,
+        alloc: Global,
+        name: &str,
+        least: u64,
+        most: u64,
+    ) -> Result<Option<u64>, SettingsFault>
+        ensures { Reads self.now.place (table_view self.now.table.now)
+            (optional_number_key name.now least most) result }
+    {
+        match self.get(name) {
+            None => Ok(None),
+            Some(value) => match number_in(value, least, most) {
+                Ok(number) => Ok(Some(number)),
                 Err(flaw) => Err(self.place.fault(alloc, name, flaw)),
             },
         }

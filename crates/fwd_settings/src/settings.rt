@@ -43,6 +43,9 @@ pub struct RelaySettings {
     pub users: Seq<UserSettings>,
     /// Whether the monitor's listener serves the metrics page too.
     pub metrics: bool,
+    /// How long a source has to be silent, in milliseconds, 1 to 86,400,000, that gives its place
+    /// to a new one where all are taken. Where it is not set none does.
+    pub idle_limit: Option<u64>,
 }
 
 /// A user that a source may log in as. It is not printed, since the password is a secret.

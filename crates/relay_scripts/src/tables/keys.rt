@@ -67,6 +67,10 @@ fn print_relay<R: Print + AllocGlobal>(rt: &R, relay: &RelaySettings) -> Result<
     }
     print_users(rt, relay.users.as_slice());
     let _ = println!(rt; "relay.metrics {}", relay.metrics);
+    let _ = match relay.idle_limit {
+        Some(limit) => println!(rt; "relay.idle_limit {limit}"),
+        None => println!(rt; "relay.idle_limit none"),
+    };
     Ok(())
 }
 
