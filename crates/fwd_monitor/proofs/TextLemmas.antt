@@ -15,11 +15,9 @@ utf8-false text never = elim (cases_Bool (is_utf8 text)) [
   | inr other ↦ sym other
 ]
 
--- a text to which three were added, one after another
-pub three-added : (o a b c s t u : List ℕ) → s ≡ o ++ a → t ≡ s ++ b → u ≡ t ++ c
-    → u ≡ o ++ (a ++ b ++ c)
-three-added o a b c s t u x y z =
-    z ∙ ap (λ (v : List ℕ). v ++ c) (y ∙ ap (λ (v : List ℕ). v ++ b) x) ∙ regroup o a b c
+-- a text to which two were added, one after the other
+pub added : (o a b s t : List ℕ) → s ≡ o ++ a → t ≡ s ++ b → t ≡ o ++ (a ++ b)
+added o a b s t x y = y ∙ ap (λ (l : List ℕ). l ++ b) x ∙ regroup o a b
   where
-    regroup : (o a b c : List ℕ) → ((o ++ a) ++ b) ++ c ≡ o ++ (a ++ b ++ c)
-    regroup o a b c = simp append_assoc
+    regroup : (o a b : List ℕ) → (o ++ a) ++ b ≡ o ++ (a ++ b)
+    regroup o a b = simp append_assoc

@@ -1,5 +1,4 @@
--- The metrics page, in Prometheus' text format 0.0.4: each metric with two lines that say what it
--- is, and behind them a line for each of its samples.
+-- The metrics page, in Prometheus' text format 0.0.4.
 use Rattle.std.specs.Prelude.{
   ℕ,
   ◌-◌,
@@ -11,6 +10,9 @@ use Rattle.std.specs.Prelude.{
   [],
   ◌∷◌,
   ◌++◌,
+  Option,
+  Some,
+  None,
   length,
   take,
   codes,
@@ -19,12 +21,10 @@ use Rattle.std.specs.Prelude.{
 use Rattle.std.specs.List.{enumerate_from, flat_map, list_any}
 use Rattle.std.specs.Fmt.{decimal}
 use Rattle.std.specs.Str.{is_utf8}
-use Rattle.httparse.specs.Ascii.{line_feed}
 use Rattle.hex.specs.Hex.{encode_lower}
 use Rattle.fwd_counts.specs.declared.counts.Counts.{Counts}
 use Rattle.fwd_counts.specs.declared.report.Report.{Report}
 use Rattle.fwd_counts.specs.declared.tag_count.TagCount.{TagCount}
-use Rattle.fwd_monitor.specs.Page.{line_text}
 use Rattle.fwd_monitor.specs.declared.figures.Figures.{Figures}
 use Rattle.fwd_monitor.specs.declared.limits.TheConstants.{MAX_TAGS}
 use Rattle.fwd_monitor.specs.declared.measure.Measure.{Measure}
@@ -37,46 +37,11 @@ use Rattle.fwd_monitor.specs.declared.measure.Measure.TheVariants.{
 }
 use Rattle.fwd_monitor.specs.declared.measure.TagMeasure.{TagMeasure}
 use Rattle.fwd_monitor.specs.declared.measure.TagMeasure.TheVariants.{Entries, EntryBytes}
+use Rattle.fwd_monitor.specs.declared.tally.RelayTally.{RelayTally}
+use Rattle.fwd_monitor.specs.Samples.{escaped, gauge, gauges, head_lines_of, output_line}
+use Rattle.fwd_monitor.specs.Tallies.{output_tally_text, relay_tally_text}
 
--- the lines in front of a metric's samples: what it is, and of which type
-abbrev pub head_lines_of : (name kind help : List ℕ) → List ℕ
-head_lines_of name kind help =
-    line_text (codes "# HELP" ∷ name ∷ help ∷ []) ++ line_text (codes "# TYPE" ∷ name ∷ kind ∷ [])
-
--- a metric that has one value, which may fall
-unfoldable pub gauge : (name help : List ℕ) → ℕ → List ℕ
-gauge name help value =
-    head_lines_of name (codes "gauge") help ++ line_text (name ∷ decimal value ∷ [])
-
--- a sample of an output
-abbrev pub output_line : (name : List ℕ) → (output value : ℕ) → List ℕ
-output_line name output value =
-    line_text ((name ++ codes "{output=\"" ++ decimal output ++ codes "\"}") ∷ decimal value ∷ [])
-
--- the sample of an output and its value
-abbrev pub output_sample : (name : List ℕ) → ℕ × ℕ → List ℕ
-output_sample name (output, value) = output_line name output value
-
--- a gauge that each output has, with these values
-unfoldable pub gauges : (name help values : List ℕ) → List ℕ
-gauges name help values =
-    head_lines_of name (codes "gauge") help
-    ++ flat_map (output_sample name) (enumerate_from 0 values)
-
--- ---- labels
-
--- a byte of a label's value: a backslash and a double quote stand behind a backslash, and a line
--- feed is told by a backslash and the letter n
-abbrev pub escaped_byte : ℕ → List ℕ
-escaped_byte b =
-    if b == 92 then 92 ∷ 92 ∷ []
-    else if b == 34 then 92 ∷ 34 ∷ []
-    else if b == line_feed then 92 ∷ 110 ∷ []
-    else b ∷ []
-
--- a label's value
-abbrev pub escaped : List ℕ → List ℕ
-escaped text = flat_map escaped_byte text
+-- ---- the labels of tags
 
 -- a tag that may stand as it is: UTF-8 without a zero byte, which readers take for the page's end
 abbrev pub is_plain : List ℕ → Bool
@@ -196,10 +161,18 @@ totals_text totals =
     gauges (codes "forward_relay_total_limit_bytes")
     (codes "The most bytes of entries that are not settled.") totals
 
+-- when the relay started, where the clock of the system told it
+unfoldable pub start_text : Option ℕ → List ℕ
+start_text None = []
+start_text (Some start) =
+    gauge (codes "forward_relay_start_time_seconds")
+    (codes "When the relay started, in seconds since 1970.") start
+
 -- what is said of the relay itself
 abbrev pub figures_text : Figures → List ℕ
 figures_text f =
-    gauge (codes "forward_relay_uptime_seconds")
+    start_text f.start
+    ++ gauge (codes "forward_relay_uptime_seconds")
     (codes "Whole seconds since the relay started.") f.uptime
     ++ gauge (codes "forward_relay_sources_open")
     (codes "Sources that are connected.") f.sources
@@ -212,8 +185,11 @@ outputs_text reports =
     by_output Accepted reports ++ by_output Settled reports ++ by_output Held reports
     ++ by_output HeldBytes reports ++ by_output Chunks reports
 
--- the page, from what is known of the relay, the most bytes that each output holds, and the reports
-abbrev pub metrics_of : Figures → (totals : List ℕ) → List Report → List ℕ
-metrics_of figures totals reports =
-    figures_text figures ++ outputs_text reports ++ totals_text totals ++ left_out_text reports
-    ++ by_tag Entries reports ++ by_tag EntryBytes reports
+-- the page, from what is known of the relay, the most bytes that each output holds, the reports, and
+-- what was counted since the relay started
+abbrev pub metrics_of : Figures → (totals : List ℕ) → List Report → RelayTally → List ℕ
+metrics_of figures totals reports tally =
+    figures_text figures ++ relay_tally_text tally
+    ++ outputs_text reports ++ totals_text totals
+    ++ output_tally_text tally.outputs.items tally.servers.items
+    ++ left_out_text reports ++ by_tag Entries reports ++ by_tag EntryBytes reports

@@ -20,6 +20,7 @@ use Rattle.fwd_monitor.specs.declared.figures.Figures.{Figures}
 use Rattle.fwd_monitor.specs.declared.limits.TheConstants.{MAX_HEADERS}
 use Rattle.fwd_monitor.specs.declared.reply.Reply.{Reply}
 use Rattle.fwd_monitor.specs.declared.reply.Reply.TheVariants.{More, Bytes}
+use Rattle.fwd_monitor.specs.declared.tally.RelayTally.{RelayTally}
 use Rattle.fwd_monitor.specs.Metrics.{metrics_of}
 use Rattle.fwd_monitor.specs.Page.{page_of}
 use Rattle.fwd_monitor.specs.Requests.{
@@ -62,9 +63,10 @@ metrics_head size =
     ∷ [])
 
 -- the metrics page behind its head
-abbrev pub metrics_reply_of : Figures → (totals : List ℕ) → List Report → List ℕ
-metrics_reply_of figures totals reports =
-    metrics_head (length (metrics_of figures totals reports)) ++ metrics_of figures totals reports
+abbrev pub metrics_reply_of : Figures → (totals : List ℕ) → List Report → RelayTally → List ℕ
+metrics_reply_of figures totals reports tally =
+    metrics_head (length (metrics_of figures totals reports tally))
+    ++ metrics_of figures totals reports tally
 
 -- a reply that is a head alone
 abbrev pub bare : List ℕ → List ℕ

@@ -11,6 +11,7 @@ use crate::metrics::metrics_page;
 use crate::pages::page;
 use crate::reply::Reply;
 use crate::status::Status;
+use crate::tally::RelayTally;
 use fwd_counts::Report;
 use std::alloc::{AllocError, Global};
 
@@ -79,11 +80,12 @@ pub fn metrics_reply(
     figures: Figures,
     totals: &[u64],
     reports: &[Report],
+    tally: &RelayTally,
 ) -> Result<Vec<u8>, AllocError>
     ensures { IfOk result
-        (λ reply. reply.items ≡ metrics_reply_of figures totals.now reports.now) }
+        (λ reply. reply.items ≡ metrics_reply_of figures totals.now reports.now tally.now) }
 {
-    let page = metrics_page(alloc, figures, totals, reports)?;
+    let page = metrics_page(alloc, figures, totals, reports, tally)?;
     let mut reply = metrics_head(alloc, page.len())?.into_bytes();
     reply.extend_from_slice(&page)?;
     Ok(reply)

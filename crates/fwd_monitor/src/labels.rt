@@ -2,7 +2,8 @@
 
 ghost use Rattle.std.specs.Prelude.{◌≡◌, ◌++◌, OnOk, codes};
 ghost use Rattle.std.specs.Str.{is_utf8};
-ghost use Rattle.fwd_monitor.specs.Metrics.{escaped, escaped_byte, is_plain, tag_label};
+ghost use Rattle.fwd_monitor.specs.Metrics.{is_plain, tag_label};
+ghost use Rattle.fwd_monitor.specs.Samples.{escaped, escaped_byte};
 
 use std::alloc::{AllocError, Global};
 

@@ -13,7 +13,10 @@ mod measure;
 mod metrics;
 mod pages;
 mod reply;
+mod samples;
 mod status;
+mod tallies;
+mod tally;
 
 pub use answering::{answer, metrics_reply};
 pub use figures::Figures;
@@ -23,3 +26,7 @@ pub use limits::{HEAD_LIMIT, MAX_HEADERS, MAX_TAGS};
 pub use metrics::metrics_page;
 pub use pages::page;
 pub use reply::Reply;
+pub use tally::{
+    MemoryRefused, OutputTally, OverLimit, RelayTally, RequestsRefused, ServerTally, SessionsLost,
+    SourcesClosed,
+};

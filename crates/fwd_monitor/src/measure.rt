@@ -10,6 +10,11 @@ ghost use Rattle.fwd_monitor.specs.Metrics.{
   tag_measure_name,
   tag_measured,
 };
+ghost use Rattle.fwd_monitor.specs.Tallies.{
+  server_measure_help,
+  server_measure_kind,
+  server_measure_name,
+};
 
 use fwd_counts::{Counts, TagCount};
 
@@ -109,6 +114,48 @@ impl TagMeasure {
         match self {
             TagMeasure::Entries => tag.held,
             TagMeasure::EntryBytes => tag.bytes,
+        }
+    }
+}
+
+/// What the metrics page says of each server.
+#[derive(Clone, Copy)]
+pub(crate) enum ServerMeasure {
+    Lost,
+    Acknowledged,
+    IsLost,
+}
+
+impl ServerMeasure {
+    /// The metric's name.
+    pub fn name(self) -> &'static str
+        ensures { result.now ≡ server_measure_name self }
+    {
+        match self {
+            ServerMeasure::Lost => "forward_relay_server_sessions_lost_total",
+            ServerMeasure::Acknowledged => "forward_relay_server_acknowledged_chunks_total",
+            ServerMeasure::IsLost => "forward_relay_server_lost",
+        }
+    }
+
+    /// Its type.
+    pub fn kind(self) -> &'static str
+        ensures { result.now ≡ server_measure_kind self }
+    {
+        match self {
+            ServerMeasure::Lost | ServerMeasure::Acknowledged => "counter",
+            ServerMeasure::IsLost => "gauge",
+        }
+    }
+
+    /// What it is.
+    pub fn help(self) -> &'static str
+        ensures { result.now ≡ server_measure_help self }
+    {
+        match self {
+            ServerMeasure::Lost => "Sessions with the server that were lost, by why.",
+            ServerMeasure::Acknowledged => "Chunks that the server acknowledged.",
+            ServerMeasure::IsLost => "1 where the server was lost and acknowledged no chunk since.",
         }
     }
 }

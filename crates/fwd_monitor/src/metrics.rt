@@ -7,14 +7,11 @@ ghost use Rattle.fwd_monitor.specs.Metrics.{
   by_output,
   by_tag,
   figures_text,
-  gauge,
-  gauges,
-  head_lines_of,
   left_out,
   left_out_text,
   metrics_of,
-  output_line,
   outputs_text,
+  start_text,
   tag_sample,
   totals_text,
 };
@@ -23,25 +20,32 @@ use crate::figures::Figures;
 use crate::labels::push_label;
 use crate::limits::MAX_TAGS;
 use crate::measure::{Measure, TagMeasure};
+use crate::samples::{push_gauge, push_gauges, push_head, push_sample};
+use crate::tallies::{push_output_tally, push_relay_tally};
+use crate::tally::RelayTally;
 use fwd_counts::{Report, TagCount};
 use std::alloc::{AllocError, Global};
 
-/// The metrics page in Prometheus' text format 0.0.4: what is known of the relay itself, what each
-/// output has to do with and the most bytes that it holds, and what is held of the first `MAX_TAGS`
-/// tags, with how many of each output's are left out. Outputs are numbered from 0 on. Its only
-/// error is out of memory.
+/// The metrics page in Prometheus' text format 0.0.4: what is known of the relay itself and what it
+/// counted, what each output has to do with and the most bytes that it holds, what was counted of
+/// it and of its servers, and what is held of the first `MAX_TAGS` tags, with how many of each
+/// output's are left out. Outputs are numbered from 0 on. Its only error is out of memory.
 pub fn metrics_page(
     alloc: Global,
     figures: Figures,
     totals: &[u64],
     reports: &[Report],
+    tally: &RelayTally,
 ) -> Result<Vec<u8>, AllocError>
-    ensures { IfOk result (λ page. page.items ≡ metrics_of figures totals.now reports.now) }
+    ensures { IfOk result
+        (λ page. page.items ≡ metrics_of figures totals.now reports.now tally.now) }
 {
     let mut text = String::new(alloc);
     push_figures(&mut text, figures)?;
+    push_relay_tally(&mut text, tally)?;
     push_outputs(&mut text, reports)?;
     push_totals(&mut text, totals)?;
+    push_output_tally(alloc, &mut text, tally)?;
     push_left_out(&mut text, reports)?;
     let mut page = text.into_bytes();
     push_by_tag(alloc, &mut page, TagMeasure::Entries, reports)?;
@@ -54,10 +58,12 @@ fn push_figures(text: &mut String, figures: Figures) -> Result<(), AllocError>
     ensures { OnOk result (string_bytes text.new ≡ string_bytes text.old ++ figures_text figures) }
 {
     let Figures {
+        start,
         uptime,
         sources,
         source_limit,
     } = figures;
+    push_start(text, start)?;
     push_gauge(
         text,
         "forward_relay_uptime_seconds",
@@ -79,30 +85,16 @@ fn push_figures(text: &mut String, figures: Figures) -> Result<(), AllocError>
     Ok(())
 }
 
-/// Adds a metric that has one value.
-#[tactic(auto, unfolding(crate::specs::Metrics::gauge))]
-fn push_gauge(text: &mut String, name: &str, help: &str, value: u64) -> Result<(), AllocError>
-    ensures { OnOk result
-        (string_bytes text.new ≡ string_bytes text.old ++ gauge name.now help.now value) }
+/// Adds when the relay started, where that is known.
+#[tactic(auto, unfolding(crate::specs::Metrics::start_text))]
+fn push_start(text: &mut String, start: Option<u64>) -> Result<(), AllocError>
+    ensures { OnOk result (string_bytes text.new ≡ string_bytes text.old ++ start_text start) }
 {
-    push_head(text, name, "gauge", help)?;
-    write!(text, "{name} {value}\n")
-}
-
-/// Adds the lines in front of a metric's samples.
-fn push_head(text: &mut String, name: &str, kind: &str, help: &str) -> Result<(), AllocError>
-    ensures { OnOk result (string_bytes text.new
-        ≡ string_bytes text.old ++ head_lines_of name.now kind.now help.now) }
-{
-    write!(text, "# HELP {name} {help}\n# TYPE {name} {kind}\n")
-}
-
-/// Adds a sample of an output.
-fn push_sample(text: &mut String, name: &str, output: usize, value: u64) -> Result<(), AllocError>
-    ensures { OnOk result
-        (string_bytes text.new ≡ string_bytes text.old ++ output_line name.now output value) }
-{
-    write!(text, "{name}{{output=\"{output}\"}} {value}\n")
+    let Some(start) = start else {
+        return Ok(());
+    };
+    let help = "When the relay started, in seconds since 1970.";
+    push_gauge(text, "forward_relay_start_time_seconds", help, start)
 }
 
 /// Adds what each output has to do with.
@@ -137,19 +129,6 @@ fn push_totals(text: &mut String, totals: &[u64]) -> Result<(), AllocError>
 {
     let help = "The most bytes of entries that are not settled.";
     push_gauges(text, "forward_relay_total_limit_bytes", help, totals)
-}
-
-/// Adds a gauge that each output has, with these values.
-#[tactic(auto, unfolding(crate::specs::Metrics::gauges))]
-fn push_gauges(text: &mut String, name: &str, help: &str, values: &[u64]) -> Result<(), AllocError>
-    ensures { OnOk result (string_bytes text.new
-        ≡ string_bytes text.old ++ gauges name.now help.now values.now) }
-{
-    push_head(text, name, "gauge", help)?;
-    for (output, value) in values.iter().enumerate() {
-        push_sample(text, name, output, *value)?;
-    }
-    Ok(())
 }
 
 /// Adds how many tags of each output have no samples.

@@ -1,4 +1,4 @@
-use Rattle.std.proofs.Common.{◌∙◌, subst, sym}
+use Rattle.std.proofs.Common.{subst, sym}
 use Rattle.std.specs.Prelude.{IsTrue}
 use Rattle.fwd_monitor.specs.Requests.{WantsPage}
 use Rattle.fwd_monitor.proofs.ReplyLemmas.{found-wants}

@@ -1,6 +1,6 @@
 use Rattle.std.proofs.Common.{◌≡◌, ◌++◌, drop}
 use Rattle.std.specs.Prelude.{codes}
-use Rattle.fwd_monitor.specs.Metrics.{escaped}
+use Rattle.fwd_monitor.specs.Samples.{escaped}
 use Rattle.fwd_monitor.proofs.labels.push_plain.Given as goal
 
 -- the bytes so far, and those that are still to be added

@@ -2,12 +2,12 @@ use Rattle.std.proofs.Common.{◌≡◌, ◌++◌, drop}
 use Rattle.std.specs.List.{enumerate_from, flat_map}
 use Rattle.std.specs.String.{string_bytes}
 use Rattle.fwd_monitor.specs.Metrics.{
-  head_lines_of,
   measure_help,
   measure_kind,
   measure_line,
   measure_name,
 }
+use Rattle.fwd_monitor.specs.Samples.{head_lines_of}
 use Rattle.fwd_monitor.proofs.metrics.push_by_output.Given as goal
 
 -- the samples so far, and those that are still to be added

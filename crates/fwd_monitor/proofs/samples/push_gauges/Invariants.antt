@@ -2,8 +2,8 @@ use Rattle.std.proofs.Common.{◌≡◌, ◌++◌, drop}
 use Rattle.std.specs.Prelude.{codes}
 use Rattle.std.specs.List.{enumerate_from, flat_map}
 use Rattle.std.specs.String.{string_bytes}
-use Rattle.fwd_monitor.specs.Metrics.{head_lines_of, output_sample}
-use Rattle.fwd_monitor.proofs.metrics.push_gauges.Given as goal
+use Rattle.fwd_monitor.specs.Samples.{head_lines_of, output_sample}
+use Rattle.fwd_monitor.proofs.samples.push_gauges.Given as goal
 
 -- the samples so far, and those that are still to be added
 abbrev pub invariant-loop-output : goal.invariant-loop-output

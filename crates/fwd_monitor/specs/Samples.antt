@@ -1,0 +1,51 @@
+-- The lines of Prometheus' text format 0.0.4: each metric has two lines that say what it is, and
+-- behind them a line for each of its samples.
+use Rattle.std.specs.Prelude.{ℕ, ◌==◌, List, [], ◌∷◌, ◌++◌, codes, if◌then◌else◌}
+use Rattle.std.specs.List.{enumerate_from, flat_map}
+use Rattle.std.specs.Fmt.{decimal}
+use Rattle.httparse.specs.Ascii.{line_feed}
+use Rattle.fwd_monitor.specs.Page.{line_text}
+
+-- the lines in front of a metric's samples: what it is, and of which type
+abbrev pub head_lines_of : (name kind help : List ℕ) → List ℕ
+head_lines_of name kind help =
+    line_text (codes "# HELP" ∷ name ∷ help ∷ []) ++ line_text (codes "# TYPE" ∷ name ∷ kind ∷ [])
+
+-- a metric that has one value, which may fall
+unfoldable pub gauge : (name help : List ℕ) → ℕ → List ℕ
+gauge name help value =
+    head_lines_of name (codes "gauge") help ++ line_text (name ∷ decimal value ∷ [])
+
+-- a sample of an output
+abbrev pub output_line : (name : List ℕ) → (output value : ℕ) → List ℕ
+output_line name output value =
+    line_text ((name ++ codes "{output=\"" ++ decimal output ++ codes "\"}") ∷ decimal value ∷ [])
+
+-- the sample of an output and its value
+abbrev pub output_sample : (name : List ℕ) → ℕ × ℕ → List ℕ
+output_sample name (output, value) = output_line name output value
+
+-- a gauge that each output has, with these values
+unfoldable pub gauges : (name help values : List ℕ) → List ℕ
+gauges name help values =
+    head_lines_of name (codes "gauge") help
+    ++ flat_map (output_sample name) (enumerate_from 0 values)
+
+-- a byte of a label's value: a backslash and a double quote stand behind a backslash, and a line
+-- feed is told by a backslash and the letter n
+abbrev pub escaped_byte : ℕ → List ℕ
+escaped_byte b =
+    if b == 92 then 92 ∷ 92 ∷ []
+    else if b == 34 then 92 ∷ 34 ∷ []
+    else if b == line_feed then 92 ∷ 110 ∷ []
+    else b ∷ []
+
+-- a label's value
+abbrev pub escaped : List ℕ → List ℕ
+escaped text = flat_map escaped_byte text
+
+-- a sample in which a word is the last label's value: the text in front of the word, the word, and
+-- the sample's value
+unfoldable pub word_line : (front word : List ℕ) → ℕ → List ℕ
+word_line front word value =
+    front ++ word ++ codes "\"} " ++ decimal value ++ codes "\n"
