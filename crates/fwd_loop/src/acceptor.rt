@@ -2,7 +2,7 @@
 
 ghost use Rattle.std.specs.Prelude.{◌≡◌, ◌<◌, None, IfOk, IfSome};
 
-use crate::event_loop::SOURCES;
+use crate::event_loop::{SOURCES, close_idlest};
 use crate::listener::{Arrival, Listener};
 use crate::readers::ReaderDesk;
 use fwd_handshake::{Nonces, Security};
@@ -48,6 +48,8 @@ pub(crate) struct Acceptor {
     pub limit: usize,
     /// How many sources each of the other readers was handed.
     pub handed: Vec<usize>,
+    /// The moment (milliseconds) at which an idle source was looked for last and none was found.
+    pub none_idle: Option<u64>,
     /// How many files the process may have open, where that leaves fewer sources than are set.
     pub few_files: Option<u64>,
 }
@@ -60,6 +62,9 @@ pub(crate) struct NewComers<'a> {
     pub connections: &'a mut Connections,
     /// The desks of the other readers.
     pub desks: &'a [ReaderDesk],
+    /// How long a source has to be silent that gives its place to a new one (milliseconds), if any
+    /// does.
+    pub idle_limit: Option<u64>,
     /// In milliseconds.
     pub now: u64,
 }
@@ -116,8 +121,8 @@ impl Acceptor {
         }
     }
 
-    /// Takes the sources that wait. One too many is closed at once. It says whether memory was
-    /// refused for one.
+    /// Takes the sources that wait. One too many takes the place of one that is idle, or is closed
+    /// at once. It says whether memory was refused for one.
     pub fn accept_sources<R: Wait, W: Watch>(
         &mut self,
         rt: &R,
@@ -133,13 +138,33 @@ impl Acceptor {
                 }
                 Arrival::None => return false,
             };
-            if self.standing(comers) >= self.limit {
+            if self.standing(comers) >= self.limit && !self.free_place(comers, watch) {
                 let caller = Caller::Source;
                 watch.see(Fact::OverLimit { caller, peer });
             } else if self.begin(rt, comers, stream, peer).is_err() {
                 watch.see(Fact::Memory(Want::Source(peer)));
                 return true;
             }
+        }
+        false
+    }
+
+    /// Closes the source that is idle longest, of those that the first reader has, where one is
+    /// idle for so long, and says whether one was. Where none was, the other readers are asked to
+    /// do so in their next turns, and none is looked for again within the millisecond.
+    fn free_place<W: Watch>(&mut self, comers: &mut NewComers<'_>, watch: &mut W) -> bool {
+        let Some(limit) = comers.idle_limit else {
+            return false;
+        };
+        if self.none_idle == Some(comers.now) {
+            return false;
+        }
+        if close_idlest(comers.connections, limit, watch, comers.now) {
+            return true;
+        }
+        self.none_idle = Some(comers.now);
+        for desk in comers.desks {
+            desk.want_place();
         }
         false
     }
@@ -168,7 +193,7 @@ impl Acceptor {
             return Ok(());
         };
         let source = self.setup.source(comers.alloc, id)?;
-        let source = SourcePeer::new(id, stream, peer, source);
+        let source = SourcePeer::new(id, stream, peer, source, comers.now);
         match self.next_reader(comers) {
             None => comers.add(Connection::Source(source)),
             Some(place) => self.hand(rt, comers, place, source),

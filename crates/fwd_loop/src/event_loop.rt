@@ -7,8 +7,8 @@ use crate::readers::ReaderDesk;
 use crate::run_clock::RunClock;
 use fwd_links::{Mailbox, Notices, Signs};
 use fwd_outlets::{
-    Connection, Connections, Fact, Figures, MonitorPeer, Outlets, Output, Ready, Served, Want,
-    Watch,
+    Connection, Connections, Fact, Figures, MonitorPeer, Outlets, Output, PageParts, Ready, Served,
+    Want, Watch,
 };
 use fwd_peers::{PeerEnd, SourceEnd, SourcePeer};
 use fwd_workers::News;
@@ -54,7 +54,8 @@ const LOOKS: u32 = 24;
 /// Where requests go, and what else the loop looks at while it reads.
 #[derive(Drop)]
 pub(crate) struct Desk<'d, 'a> {
-    pub outputs: &'d [Output],
+    /// What pages are made of.
+    pub parts: PageParts<'d>,
     pub outlets: &'d mut Outlets<'a>,
     pub mailbox: &'d Mailbox,
     /// Pages are made by a thread of their own.
@@ -76,6 +77,9 @@ pub(crate) struct EventLoop {
     /// The listeners, which the first reader has.
     pub acceptor: Option<Acceptor>,
     pub connections: Connections,
+    /// How long a source has to be silent that gives its place to a new one (milliseconds), if any
+    /// does.
+    pub idle_limit: Option<u64>,
     /// Something was ready or told in the last turn.
     pub was_at_work: bool,
     pub memory: LoopMemory,
@@ -175,6 +179,7 @@ impl EventLoop {
             registry: self.poll.registry(),
             connections: &mut self.connections,
             desks,
+            idle_limit: self.idle_limit,
             now,
         };
         if self.memory.is_refused(now) {
@@ -246,11 +251,15 @@ impl EventLoop {
             let Some(key) = self.connections.next_late(now) else {
                 return;
             };
-            if let Some(Connection::Source(source)) = self.connections.at(key) {
-                source.refuse(SourceEnd::NoLogin);
-                let _ = tell_end(source, watch);
-            }
-            self.connections.remove(key);
+            close(&mut self.connections, key, SourceEnd::NoLogin, watch);
+        }
+    }
+
+    /// Closes the source that is idle longest at a moment (milliseconds), where one is idle for so
+    /// long as the settings say.
+    pub fn close_idle<W: Watch>(&mut self, watch: &mut W, now: u64) {
+        if let Some(limit) = self.idle_limit {
+            let _ = close_idlest(&mut self.connections, limit, watch, now);
         }
     }
 
@@ -388,7 +397,7 @@ impl EventLoop {
                 After::Again
             }
             Connection::Source(source) => {
-                let again = read_source(source, self.alloc, &mut self.room, to_end);
+                let again = read_source(source, self.alloc, &mut self.room, to_end, desk.now);
                 let waits = desk.outlets.admit_all(rt, source, desk.now);
                 if tell_end(source, watch) {
                     self.memory.refuse(desk.now);
@@ -440,7 +449,7 @@ fn serve_monitor<R: Wait>(
     if !desk.are_pages_ordered {
         if let Some(kind) = monitor.wants() {
             let made_of = (kind, desk.figures);
-            monitor.hand_now(rt, alloc, desk.outputs, made_of, desk.now)?;
+            monitor.hand_now(rt, alloc, desk.parts, made_of, desk.now)?;
             return Ok(After::Again);
         }
     }
@@ -451,14 +460,20 @@ fn serve_monitor<R: Wait>(
     })
 }
 
-/// Reads a source, and says whether there may be more. One of which requests wait is not read
-/// before they are admitted.
-fn read_source(source: &mut SourcePeer, alloc: Global, room: &mut [u8], to_end: bool) -> bool {
+/// Reads a source at a moment (milliseconds), and says whether there may be more. One of which
+/// requests wait is not read before they are admitted.
+fn read_source(
+    source: &mut SourcePeer,
+    alloc: Global,
+    room: &mut [u8],
+    to_end: bool,
+    now: u64,
+) -> bool {
     if source.waiting() > 0 {
         return true;
     }
     let most = source.portion(room.len());
-    let again = source.hear(alloc, &mut room[..most], to_end);
+    let again = source.hear(alloc, &mut room[..most], to_end, now);
     if source.is_too_long() {
         source.refuse(SourceEnd::NoLogin);
     }
@@ -496,6 +511,30 @@ fn note(connections: &mut Connections, key: usize, event: &Event) {
     } else {
         connections.note_told(key);
     }
+}
+
+/// The connection of a key goes, and a watch is told why, where it is a source.
+fn close<W: Watch>(connections: &mut Connections, key: usize, why: SourceEnd, watch: &mut W) {
+    if let Some(Connection::Source(source)) = connections.at(key) {
+        source.refuse(why);
+        let _ = tell_end(source, watch);
+    }
+    connections.remove(key);
+}
+
+/// Closes the source that has been silent longest at a moment (milliseconds), where it has been for
+/// so long (milliseconds) and nothing is owed, and says whether there was one.
+pub(crate) fn close_idlest<W: Watch>(
+    connections: &mut Connections,
+    limit: u64,
+    watch: &mut W,
+    now: u64,
+) -> bool {
+    let Some(key) = connections.idlest(limit, now) else {
+        return false;
+    };
+    close(connections, key, SourceEnd::Idle, watch);
+    true
 }
 
 /// A watch is told why the relay ends a source, where it does and that was not told yet. It says

@@ -3,10 +3,10 @@
 use crate::event_loop::{Desk, EventLoop};
 use crate::fault::StartFault;
 use crate::readers::ReaderDesk;
-use crate::run_clock::RunClock;
+use crate::run_clock::{RunClock, unix_seconds};
 use fwd_links::{Mailbox, Notices};
 use fwd_match::Routes;
-use fwd_outlets::{Figures, FlushTimer, Outlets, Output, Watch};
+use fwd_outlets::{Figures, FlushTimer, Outlets, Output, PageParts, SharedTally, Watch};
 use std::alloc::{AllocError, Global};
 use std::rt::Clock;
 use std::sync::Wait;
@@ -42,6 +42,8 @@ pub(crate) struct Surroundings<'a> {
     pub alloc: Global,
     pub routes: &'a Routes,
     pub outputs: &'a [Output],
+    /// What all readers count.
+    pub tally: &'a SharedTally,
     /// Where workers tell this reader what they did.
     pub mailbox: &'a Mailbox,
     /// The reader's number, from 0.
@@ -54,10 +56,13 @@ pub(crate) struct Surroundings<'a> {
 pub(crate) struct Reader<'a, R: Clock> {
     pub alloc: Global,
     pub outputs: &'a [Output],
+    pub tally: &'a SharedTally,
     pub mailbox: &'a Mailbox,
     pub event_loop: &'a mut EventLoop,
     outlets: Outlets<'a>,
     clock: RunClock<'a, R>,
+    /// When it was made, in whole seconds since 1970, if the system's clock could be read.
+    started: Option<u64>,
 }
 
 impl<'a, R: Wait + Clock> Reader<'a, R> {
@@ -71,6 +76,7 @@ impl<'a, R: Wait + Clock> Reader<'a, R> {
             alloc,
             routes,
             outputs,
+            tally,
             mailbox,
             number,
             start,
@@ -80,10 +86,12 @@ impl<'a, R: Wait + Clock> Reader<'a, R> {
         Ok(Reader {
             alloc,
             outputs,
+            tally,
             mailbox,
             event_loop,
             outlets,
             clock: RunClock::new(rt, start),
+            started: unix_seconds(rt),
         })
     }
 
@@ -107,7 +115,17 @@ impl<'a, R: Wait + Clock> Reader<'a, R> {
     /// What is known of the relay at a moment (milliseconds since it started), by the first reader
     /// and the desks of the others.
     pub fn figures(&self, desks: &[ReaderDesk], now: u64) -> Figures {
-        self.event_loop.figures(desks, now)
+        let mut figures = self.event_loop.figures(desks, now);
+        figures.start = self.started;
+        figures
+    }
+
+    /// What pages are made of.
+    pub fn parts(&self) -> PageParts<'a> {
+        PageParts {
+            outputs: self.outputs,
+            tally: self.tally,
+        }
     }
 
     /// Whether all readers and workers are to end.
@@ -148,7 +166,7 @@ impl<'a, R: Wait + Clock> Reader<'a, R> {
     /// Reads the connections that are ready, and has what they ask for admitted.
     pub fn read<W: Watch>(&mut self, rt: &R, watch: &mut W, pages: Pages) {
         let mut desk = Desk {
-            outputs: self.outputs,
+            parts: self.parts(),
             outlets: &mut self.outlets,
             mailbox: self.mailbox,
             are_pages_ordered: pages.are_ordered,
@@ -159,11 +177,19 @@ impl<'a, R: Wait + Clock> Reader<'a, R> {
             .read_all(rt, &mut desk, watch, &mut self.clock);
     }
 
-    /// Flushes what is due at a moment (milliseconds), and rings workers for it; and whoever waits
-    /// for room and is gone waits no more.
+    /// Flushes what is due at a moment (milliseconds), and rings workers for it; counts what was
+    /// admitted; and whoever waits for room and is gone waits no more.
     pub fn flush<W: Watch>(&mut self, rt: &R, watch: &mut W, now: u64) {
         self.outlets.flush(rt, now);
-        self.outlets.tend(&self.event_loop.connections, watch, now);
+        self.outlets.count(rt, self.tally);
+        self.outlets
+            .tend(rt, &self.event_loop.connections, watch, now);
+    }
+
+    /// Whether another reader's sources have their turn at a full output from now on: then all
+    /// readers are to be called.
+    pub fn passes_on(&self) -> bool {
+        self.outlets.passes_on()
     }
 
     /// Hands in all tickets, writes what that has sources told, and abandons the tickets that are
@@ -172,10 +198,12 @@ impl<'a, R: Wait + Clock> Reader<'a, R> {
         let Reader {
             alloc: _,
             outputs: _,
+            tally: _,
             mailbox: _,
             event_loop,
             mut outlets,
             clock: _,
+            started: _,
         } = self;
         event_loop.finish(rt, &mut outlets, watch);
         outlets.close(rt);

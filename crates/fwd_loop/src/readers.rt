@@ -1,7 +1,7 @@
 //! What the readers of a relay tell each other.
 
 use fwd_links::Mailbox;
-use fwd_outlets::{Fact, Watch};
+use fwd_outlets::{Fact, SharedTally, Watch};
 use fwd_peers::SourcePeer;
 use std::alloc::{AllocError, Global};
 use std::mem;
@@ -19,6 +19,8 @@ pub(crate) struct ReaderDesk {
     sources: Mutex<Vec<SourcePeer>>,
     /// How many of those that it was handed are gone.
     gone: AtomicUsize,
+    /// A new source found no place since the reader looked last.
+    wants_place: AtomicBool,
 }
 
 impl ReaderDesk {
@@ -28,6 +30,7 @@ impl ReaderDesk {
             mailbox,
             sources: Mutex::new(Vec::new(alloc)),
             gone: AtomicUsize::new(0),
+            wants_place: AtomicBool::new(false),
         }
     }
 
@@ -49,9 +52,28 @@ impl ReaderDesk {
         self.gone.store(gone, Ordering::SeqCst);
     }
 
+    /// A new source found no place: the reader is to close one that is idle.
+    pub fn want_place(&self) {
+        self.wants_place.store(true, Ordering::SeqCst);
+        self.mailbox.call();
+    }
+
+    /// Whether a new source found no place since the last call.
+    pub fn take_want(&self) -> bool {
+        self.wants_place.load(Ordering::SeqCst) && self.wants_place.swap(false, Ordering::SeqCst)
+    }
+
     /// How many of them are gone.
     pub fn gone(&self) -> usize {
         self.gone.load(Ordering::SeqCst)
+    }
+}
+
+/// All readers are called.
+pub(crate) fn call_all(first: &Mailbox, desks: &[ReaderDesk]) {
+    first.call();
+    for desk in desks {
+        desk.mailbox.call();
     }
 }
 
@@ -115,10 +137,11 @@ impl FactQueue {
     }
 }
 
-/// The watch of a reader beside the first, which tells its facts.
+/// The watch of a reader beside the first, which counts its facts and tells them.
 #[derive(Drop)]
 pub(crate) struct QueueWatch<'q, 'a, R> {
     pub rt: &'q R,
+    pub tally: &'a SharedTally,
     pub facts: &'a FactQueue,
     /// The first reader's mailbox.
     pub first: &'a Mailbox,
@@ -126,6 +149,7 @@ pub(crate) struct QueueWatch<'q, 'a, R> {
 
 impl<'q, 'a, R: Wait> Watch for QueueWatch<'q, 'a, R> {
     fn see(&mut self, fact: Fact) {
+        self.tally.see(self.rt, fact);
         self.facts.put(self.rt, fact);
         self.first.call();
     }

@@ -19,7 +19,7 @@ use fwd_chunks::Report;
 use fwd_config::config_of;
 use fwd_core::{Config, OutputConfig};
 use fwd_links::{Mailbox, Signs};
-use fwd_outlets::{Connections, PageDesk, Watch, reports_of};
+use fwd_outlets::{Connections, PageDesk, SharedTally, Watch, reports_of};
 use fwd_settings::{OutputSettings, Settings, WhenFull};
 use mio::{Events, Poll, Waker};
 use std::alloc::{AllocError, Global};
@@ -70,6 +70,9 @@ struct Address {
     few_files: Option<u64>,
     /// How many readers there are beside the first.
     others: usize,
+    /// How long a source has to be silent that gives its place to a new one (milliseconds), if any
+    /// does.
+    idle_limit: Option<u64>,
 }
 
 /// Where a relay of these settings listens, how many sources it takes: as many as are set, or as
@@ -90,6 +93,7 @@ fn address_of<R: Files + AllocGlobal>(rt: &R, settings: &Settings) -> Address {
         connections: asked.min(most),
         few_files: if most < asked { files } else { None },
         others: others as usize,
+        idle_limit: relay.idle_limit,
     }
 }
 
@@ -141,6 +145,7 @@ fn event_loop_of<R: Net>(
     rt: &R,
     alloc: Global,
     signs: &Signs,
+    idle_limit: Option<u64>,
 ) -> Result<(EventLoop, Mailbox), StartFault> {
     let poll = Poll::new(rt).map_err(|_| StartFault::Poll)?;
     let waker = Waker::new(poll.registry(), WAKER).map_err(|_| StartFault::Poll)?;
@@ -152,6 +157,7 @@ fn event_loop_of<R: Net>(
         room: vec![in alloc; 0; PIECE]?,
         acceptor: None,
         connections: Connections::new(alloc),
+        idle_limit,
         was_at_work: false,
         memory: LoopMemory::new(signs.share()?),
     };
@@ -179,6 +185,7 @@ fn acceptor_of<R: Net>(
         next_id: Some(1),
         limit: address.connections as usize,
         handed: vec![in alloc; 0; address.others]?,
+        none_idle: None,
         few_files: address.few_files,
     })
 }
@@ -195,11 +202,12 @@ fn other_readers<R: Net>(
     alloc: Global,
     signs: &Signs,
     pools: &WorkerPools,
+    idle_limit: Option<u64>,
 ) -> Result<OtherReaders, StartFault> {
     let mut desks = Vec::new(alloc);
     let mut others = Vec::new(alloc);
     for _ in 0..pools.others() {
-        let (event_loop, mailbox) = event_loop_of(rt, alloc, signs)?;
+        let (event_loop, mailbox) = event_loop_of(rt, alloc, signs, idle_limit)?;
         desks.push(ReaderDesk::new(alloc, mailbox))?;
         let timers = pools.timers()?;
         others.push(ReaderParts { event_loop, timers })?;
@@ -245,7 +253,7 @@ impl Loop {
             nonces: random.nonces(),
         };
         let signs = Signs::new(alloc)?;
-        let (mut event_loop, mailbox) = event_loop_of(rt, alloc, &signs)?;
+        let (mut event_loop, mailbox) = event_loop_of(rt, alloc, &signs, address.idle_limit)?;
         event_loop.acceptor = Some(acceptor_of(rt, alloc, &event_loop.poll, address, setup)?);
         let none = WorkerPools::new(alloc, address.others);
         let pools = pools_of(rt, none, &random, run, outputs.into_vec(), hops)?;
@@ -253,18 +261,26 @@ impl Loop {
             event_loop,
             timers: pools.timers()?,
         };
-        let OtherReaders { desks, others } = other_readers(rt, alloc, &signs, &pools)?;
+        let OtherReaders { desks, others } = other_readers(
+            rt,
+            alloc,
+            &signs,
+            &pools,
+            address.idle_limit,
+        )?;
         let WorkerPools {
             outputs,
             workers,
             ..
         } = pools;
+        let tally = SharedTally::new(alloc, &outputs, address.has_metrics)?;
         let shared = Shared {
             routes,
             outputs,
             mailbox,
             desks,
             facts: FactQueue::new(alloc),
+            tally,
             pages: PageDesk::new(),
         };
         let own = Own {

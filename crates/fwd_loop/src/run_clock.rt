@@ -1,7 +1,14 @@
 //! The clock of a run.
 
 use std::rt::Clock;
-use std::time::Instant;
+use std::time::{Instant, SystemTime};
+
+/// How many whole seconds have passed since 1970, if the system's clock can be read.
+pub(crate) fn unix_seconds<R: Clock>(rt: &R) -> Option<u64> {
+    let now = SystemTime::now(rt).ok()?;
+    let passed = now.duration_since(SystemTime::UNIX_EPOCH).ok()?;
+    Some(passed.as_secs())
+}
 
 /// Tells how many milliseconds have passed since a start. It never goes back: where the system's
 /// clock cannot be read it stands.

@@ -7,12 +7,14 @@ use crate::event_loop::tell_all;
 use crate::fault::StartFault;
 use crate::lost_servers::LostServers;
 use crate::reader::{Pages, Reader, ReaderParts, Surroundings};
-use crate::readers::{FactQueue, QueueWatch, ReaderDesk};
+use crate::readers::{FactQueue, QueueWatch, ReaderDesk, call_all};
 use crate::worker_thread::{Mailboxes, WorkerThread};
 use fwd_chunks::Report;
 use fwd_links::Mailbox;
 use fwd_match::Routes;
-use fwd_outlets::{Fact, Output, PageDesk, Want, Watch, reports_of};
+use fwd_outlets::{
+    Fact, Output, PageDesk, PageParts, SharedTally, TallyWatch, Want, Watch, reports_of,
+};
 use std::alloc::{AllocFailed, Global};
 use std::net::Net;
 use std::rt::Clock;
@@ -29,6 +31,7 @@ pub(crate) struct Shared {
     /// The desks of the others.
     pub desks: Vec<ReaderDesk>,
     pub facts: FactQueue,
+    pub tally: SharedTally,
     pub pages: PageDesk,
 }
 
@@ -66,7 +69,7 @@ impl<'a> WorkerTurns<'a> {
 #[derive(Clone, Copy)]
 pub(crate) struct PageMaker<'a> {
     alloc: Global,
-    outputs: &'a [Output],
+    parts: PageParts<'a>,
     mailbox: &'a Mailbox,
     pages: &'a PageDesk,
 }
@@ -75,7 +78,7 @@ impl<'a> PageMaker<'a> {
     /// Makes each page that is ordered, until no more are made.
     pub fn work<R: Wait>(self, rt: &R) {
         for _ in rt.forever() {
-            if !self.pages.make_next(rt, self.alloc, self.outputs) {
+            if !self.pages.make_next(rt, self.alloc, self.parts) {
                 return;
             }
             self.mailbox.call();
@@ -124,6 +127,7 @@ fn others_of<'a, R: Wait + Clock>(
             alloc,
             routes: &shared.routes,
             outputs: &shared.outputs,
+            tally: &shared.tally,
             mailbox: &desk.mailbox,
             number,
             start,
@@ -138,6 +142,7 @@ fn others_of<'a, R: Wait + Clock>(
         let turns = ReaderTurns {
             reader,
             desk,
+            desks: &shared.desks,
             facts: &shared.facts,
             first: &shared.mailbox,
             taken: 0,
@@ -178,6 +183,8 @@ pub struct Turns<'a, R: Clock> {
 pub struct ReaderTurns<'a, R: Clock> {
     reader: Reader<'a, R>,
     desk: &'a ReaderDesk,
+    /// The desks of all readers beside the first.
+    desks: &'a [ReaderDesk],
     facts: &'a FactQueue,
     /// The first reader's mailbox.
     first: &'a Mailbox,
@@ -211,6 +218,7 @@ pub(crate) fn open<'a, R: Wait + Clock>(
         alloc,
         routes: &shared.routes,
         outputs: &shared.outputs,
+        tally: &shared.tally,
         mailbox: &shared.mailbox,
         number: 0,
         start,
@@ -240,16 +248,18 @@ pub(crate) fn open<'a, R: Wait + Clock>(
 
 impl<'a, R: Wait + Clock> ReaderTurns<'a, R> {
     /// One turn, as the first reader's, but for what only that does: it takes the sources that it
-    /// was handed, in place of those that wait at a listener, and has no monitors.
+    /// was handed, in place of those that wait at a listener, closes one that is idle where a new
+    /// one found no place, and has no monitors.
     ///
     /// It fails with `Poll` where the wait failed.
     pub fn turn(&mut self, rt: &R) -> Result<(), StartFault> {
+        let reader = &mut self.reader;
         let mut watch = QueueWatch {
             rt,
+            tally: reader.tally,
             facts: self.facts,
             first: self.first,
         };
-        let reader = &mut self.reader;
         reader.wait()?;
         let now = reader.moment();
         let notices = reader.mailbox.take(rt, reader.alloc);
@@ -264,8 +274,14 @@ impl<'a, R: Wait + Clock> ReaderTurns<'a, R> {
             self.taken = self.taken.saturating_add(1);
         }
         reader.event_loop.close_late(&mut watch, now);
+        if self.desk.take_want() {
+            reader.event_loop.close_idle(&mut watch, now);
+        }
         let now = reader.moment();
         reader.flush(rt, &mut watch, now);
+        if self.reader.passes_on() {
+            call_all(self.first, self.desks);
+        }
         let standing = self.reader.sources();
         self.desk.note_gone(self.taken.saturating_sub(standing));
         Ok(())
@@ -292,11 +308,18 @@ impl<'a, R: Wait + Clock> ReaderTurns<'a, R> {
         let ReaderTurns {
             reader,
             desk: _,
+            desks: _,
             facts,
             first,
             taken: _,
         } = self;
-        reader.close(rt, &mut QueueWatch { rt, facts, first });
+        let mut watch = QueueWatch {
+            rt,
+            tally: reader.tally,
+            facts,
+            first,
+        };
+        reader.close(rt, &mut watch);
     }
 }
 
@@ -317,10 +340,24 @@ impl<'a, R: Wait + Clock> Turns<'a, R> {
 
     /// The same, and a watch is told what the turn comes to.
     pub fn turn_watched<W: Watch>(&mut self, rt: &R, watch: &mut W) -> Result<(), StartFault> {
+        let mut counted = TallyWatch {
+            rt,
+            tally: self.reader.tally,
+            watch: &mut *watch,
+        };
+        self.turn_counted(rt, &mut counted)?;
+        self.facts.tell(rt, self.reader.alloc, watch);
+        watch.turned();
+        Ok(())
+    }
+
+    /// The same, but for what the other readers told, and a watch is told that counts.
+    fn turn_counted<W: Watch>(&mut self, rt: &R, watch: &mut W) -> Result<(), StartFault> {
         let reader = &mut self.reader;
         reader.wait()?;
         let now = reader.moment();
         let notices = reader.mailbox.take(rt, reader.alloc);
+        reader.tally.hear(rt, &notices);
         tell_all(&notices, reader.outputs, &mut self.lost_servers, watch);
         reader.answer(rt, &notices, watch, now);
         let pages = Pages {
@@ -332,9 +369,10 @@ impl<'a, R: Wait + Clock> Turns<'a, R> {
         reader.event_loop.close_late(watch, now);
         let now = reader.moment();
         reader.flush(rt, watch, now);
+        if self.reader.passes_on() {
+            call_all(self.reader.mailbox, self.desks);
+        }
         self.tend_monitors(rt, watch, now);
-        self.facts.tell(rt, self.reader.alloc, watch);
-        watch.turned();
         Ok(())
     }
 
@@ -342,6 +380,7 @@ impl<'a, R: Wait + Clock> Turns<'a, R> {
     /// for a page that was made are sent it, and a further one is ordered for those that want it.
     fn tend_monitors<W: Watch>(&mut self, rt: &R, watch: &mut W, now: u64) {
         let reader = &mut self.reader;
+        let parts = reader.parts();
         let connections = &mut reader.event_loop.connections;
         if connections.monitors() == 0 {
             return;
@@ -351,7 +390,7 @@ impl<'a, R: Wait + Clock> Turns<'a, R> {
             return;
         }
         if let Some(mut page) = self.pages.take(rt) {
-            page.make_here(rt, reader.alloc, reader.outputs);
+            page.make_here(rt, reader.alloc, parts);
             for _ in 0..connections.hand_page(&page, now) {
                 watch.see(Fact::Memory(Want::Monitor));
             }
@@ -369,7 +408,7 @@ impl<'a, R: Wait + Clock> Turns<'a, R> {
         acceptor.monitors.as_ref()?;
         Some(PageMaker {
             alloc: self.reader.alloc,
-            outputs: self.reader.outputs,
+            parts: self.reader.parts(),
             mailbox: self.reader.mailbox,
             pages: self.pages,
         })
@@ -409,9 +448,7 @@ impl<'a, R: Wait + Clock> Turns<'a, R> {
     /// All other readers and all workers are to end.
     pub fn stop(&self) {
         self.reader.mailbox.stop();
-        for desk in self.desks {
-            desk.mailbox.call();
-        }
+        call_all(self.reader.mailbox, self.desks);
     }
 
     /// Hands in all tickets, writes what that has sources told, and abandons the tickets that are

@@ -3,3 +3,4 @@ pub mod Admitting
 pub mod Told
 pub mod Handing
 pub mod Routed
+pub mod Idlest

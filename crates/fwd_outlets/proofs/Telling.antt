@@ -11,7 +11,7 @@ use Rattle.slab.proofs.SlabLemmas.{Updates-with_value}
 use Rattle.fwd_modes.specs.Acks.{ack_text}
 use Rattle.fwd_modes.specs.declared.origin.Origin.{Origin}
 use Rattle.fwd_book.specs.Receipts.{Receipt}
-use Rattle.fwd_peers.specs.Peers.{PeerShown, IsTold, told_by}
+use Rattle.fwd_peers.specs.Peers.{PeerShown, IsTold, counted, told_by, with_one_answered}
 use Rattle.fwd_outlets.specs.declared.connections.Connections.{Connections}
 use Rattle.fwd_outlets.specs.declared.connections.Standing.{Standing}
 use Rattle.fwd_outlets.specs.Standings.{source_at, source_in, source_under, source_with, sources_in}
@@ -23,18 +23,28 @@ id_stays s t None told = ap (λ p. p.id) told
 id_stays s t (Some ack) (inl put) = ap (λ p. p.id) put.1
 id_stays s t (Some ack) (inr not_put) = ap (λ p. p.id) not_put.1
 
+-- and when it is counted that one more of its requests was answered
+id_counted : (s : PeerShown) (receipt : Receipt) (id : ℕ) → (counted receipt id s).id ≡ s.id
+id_counted s receipt id = by (receipt.origin.conn == id)
+  where
+    by : (b : Bool) → (if b then with_one_answered s else s).id ≡ s.id
+    by true = refl
+    by false = refl
+
 -- who is told of a receipt by its own id is told so under each
-pub told_alone : (s t : PeerShown) (receipt : Receipt) → IsTold s (told_by receipt s.id) t
+pub told_alone : (s t : PeerShown) (receipt : Receipt)
+    → IsTold (counted receipt s.id s) (told_by receipt s.id) t
     → (id : ℕ) → IsToldAt id receipt (if s.id == id then Some s else None)
     (if t.id == id then Some t else None)
 told_alone s t receipt told id =
     subst (λ k. IsToldAt id receipt (if s.id == id then Some s else None) (if k == id then Some t else None))
-    (sym (id_stays s t (told_by receipt s.id) told))
+    (sym (id_stays (counted receipt s.id s) t (told_by receipt s.id) told
+    ∙ id_counted s receipt s.id))
     (by (s.id == id) refl)
   where
     by : (b : Bool) → (s.id == id) ≡ b
         → IsToldAt id receipt (if b then Some s else None) (if b then Some t else None)
-    by true e = (t, (refl, subst (λ k. IsTold s (told_by receipt k) t) (eqb-true s.id id e) told))
+    by true e = (t, (refl, subst (λ k. IsTold (counted receipt k s) (told_by receipt k) t) (eqb-true s.id id e) told))
     by false e = refl
 
 -- and a monitor is told of none
@@ -55,7 +65,8 @@ untold id receipt None none = refl
 untold id receipt (Some s) none = (s, (refl, by (receipt.origin.conn == id) refl))
   where
     by : (b : Bool) → (receipt.origin.conn == id) ≡ b
-        → IsTold s (if b then option_map ack_text receipt.chunk else None) s
+        → IsTold (if b then with_one_answered s else s)
+        (if b then option_map ack_text receipt.chunk else None) s
     by true e = absurd (some_none (none e))
     by false e = refl
 

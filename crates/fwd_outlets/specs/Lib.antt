@@ -1,11 +1,14 @@
 -- To be believed: Ends, which says how the counts at a run's end fit together; Admissions, where a
 -- source's request goes; Tellings, who is told of receipts; Collections, of which receipts;
--- Promises, what is promised of each. Standings, Outlets and Laning only describe the code.
+-- Promises, what is promised of each; Idling, which source gives its place to a new one; Counting,
+-- what is counted for the metrics page. Standings, Outlets and Laning only describe the code.
 pub mod Ends
 pub mod Admissions
 pub mod Tellings
 pub mod Collections
 pub mod Promises
+pub mod Idling
 pub mod Standings
 pub mod Outlets
 pub mod Laning
+pub mod Counting

@@ -1,11 +1,12 @@
--- Which source stands under an id. It only describes the code.
-use Rattle.std.specs.Prelude.{◌==◌, ℕ, Option, Some, None, if◌then◌else◌}
+-- Which source stands under an id, and which of two is idle for longer. It only describes the code.
+use Rattle.std.specs.Prelude.{◌==◌, ℕ, nat_le, Option, Some, None, if◌then◌else◌}
 use Rattle.std.specs.Ordering.{nat_cmp}
 use Rattle.std.specs.BTreeMap as tree
 use Rattle.slab.specs.Slab as slots
 use Rattle.fwd_peers.specs.Peers.{PeerShown}
 use Rattle.fwd_outlets.specs.declared.connections.Connection.{Connection}
 use Rattle.fwd_outlets.specs.declared.connections.Connection.TheVariants as kind
+use Rattle.fwd_outlets.specs.declared.connections.Idle.{Idle}
 use Rattle.fwd_outlets.specs.declared.connections.Standing.{Standing}
 use Rattle.fwd_outlets.specs.declared.connections.Connections.{Connections}
 use Rattle.fwd_outlets.specs.Tellings.{Sources}
@@ -32,3 +33,10 @@ source_at keys standing id = source_under standing id (tree.get nat_cmp keys id)
 -- the sources that stand, by their ids
 abbrev pub sources_in : Connections → Sources
 sources_in c = source_at c.sources c.standing
+
+-- an idle source that was found, or the connection at a key, where that is idle for longer
+abbrev pub longer_idle : Option Idle → (key : ℕ) → (since : Option ℕ) → Option Idle
+longer_idle found key None = found
+longer_idle None key (Some since) = Some (record { key = key; since = since })
+longer_idle (Some idle) key (Some since) =
+    if nat_le idle.since since then Some idle else Some (record { key = key; since = since })

@@ -1,7 +1,9 @@
 //! The connections that stand.
 
-ghost use Rattle.std.specs.Prelude.{ℕ};
-ghost use Rattle.fwd_outlets.specs.Standings.{source_with, sources_in};
+ghost use Rattle.std.specs.Prelude.{◌≡◌, ℕ, IfNone, IfSome};
+ghost use Rattle.fwd_outlets.specs.Idling.{IsIdlest, NoneIsIdle};
+ghost use Rattle.fwd_outlets.specs.Idling as idling;
+ghost use Rattle.fwd_outlets.specs.Standings.{longer_idle, source_with, sources_in};
 ghost use Rattle.fwd_outlets.specs.Tellings.{AreTold, IsToldAt, IsToldOf};
 
 use crate::deadlines::{Deadlines, Young};
@@ -64,6 +66,20 @@ pub(crate) struct Standing {
 }
 
 impl Standing {
+    /// Since when it has been silent (milliseconds), where it is a source, neither it nor the relay
+    /// owes the other anything, and it does not wait to be read.
+    fn idle_since(&self) -> Option<u64>
+        ensures { result ≡ idling.idle_since self.now }
+    {
+        if self.is_ready {
+            return None;
+        }
+        match &self.connection {
+            Connection::Source(source) => source.silent_since(),
+            Connection::Monitor(_) => None,
+        }
+    }
+
     /// Tells a receipt to a source, if it is of one of its requests, and says whether it is to
     /// stand in the queue of those that are told, where it did not.
     #[tactic(auto, using(crate::proofs::Telling::told_alone, crate::proofs::Telling::stays))]
@@ -76,6 +92,27 @@ impl Standing {
             Connection::Monitor(_) => return false,
         }
         !mem::replace(&mut self.is_told, true)
+    }
+}
+
+/// A source that is idle.
+#[derive(Clone, Copy)]
+struct Idle {
+    key: usize,
+    /// Since when, in milliseconds.
+    since: u64,
+}
+
+/// The connection at a key, where it is idle, and has been for longer than this one.
+fn longer_of(idlest: Option<Idle>, key: usize, standing: &Standing) -> Option<Idle>
+    ensures { result ≡ longer_idle idlest key (idling.idle_since standing.now) }
+{
+    let Some(since) = standing.idle_since() else {
+        return idlest;
+    };
+    match idlest {
+        Some(idlest) if idlest.since <= since => Some(idlest),
+        _ => Some(Idle { key, since }),
     }
 }
 
@@ -291,6 +328,24 @@ impl Connections {
         if mem::replace(&mut standing.is_held, false) {
             self.note_ready(key, false);
         }
+    }
+
+    /// The key of the source that has been silent longest at a moment (milliseconds), where it has
+    /// been for so long (milliseconds), and neither it nor the relay owes the other anything. All
+    /// connections are looked at.
+    pub fn idlest(&self, limit: u64, now: u64) -> Option<usize>
+        ensures found { IfSome result (λ key. IsIdlest self.now limit now key) }
+        ensures none { IfNone result (NoneIsIdle self.now limit now) }
+    {
+        let mut idlest = None;
+        for (key, standing) in self.standing.iter() {
+            idlest = longer_of(idlest, key, standing);
+        }
+        let Idle { key, since } = idlest?;
+        if now.saturating_sub(since) < limit {
+            return None;
+        }
+        Some(key)
     }
 
     /// Whether the source of this id stands.

@@ -1,5 +1,6 @@
 //! Whose requests may come from a reader to an output: what waits there is bounded.
 
+use crate::line::Crowd;
 use crate::output::Output;
 use fwd_peers::SourcePeer;
 use std::alloc::Global;
@@ -10,20 +11,7 @@ use std::sync::Wait;
 /// where its entries may take more than half of that, twice as many as those.
 const LEAST: u64 = 2_097_152;
 
-/// How long nobody waits at an output that was full before it is said to have room, in
-/// milliseconds.
-const QUIET: u64 = 1_000;
-
-/// What there is to tell of an output that sources wait at.
-#[derive(Clone, Copy)]
-pub(crate) enum Crowd {
-    /// So many wait for room.
-    Waits(usize),
-    /// None has waited for a while.
-    Gone,
-}
-
-/// What an output owes, and who waits for room there.
+/// What an output owes to a reader's sources, and which of them wait for room there.
 #[derive(Drop)]
 pub(crate) struct Gate {
     /// The most bytes that unanswered requests may take beside their entries.
@@ -34,22 +22,22 @@ pub(crate) struct Gate {
     room: u64,
     /// The ids of the sources that wait for room, in the order in which they came.
     line: VecDeque<u64>,
-    /// It was told that sources wait.
-    is_told: bool,
-    /// When sources were last seen to wait, in milliseconds.
-    seen: u64,
+    /// The number of the reader whose they are.
+    reader: usize,
+    /// The reader has its turn, and its first source was looked at since.
+    has_turn: bool,
 }
 
 impl Gate {
-    /// The gate of an output without entries.
-    pub fn new(alloc: Global, output: &Output) -> Gate {
+    /// The gate of an output without entries, for the sources of the reader of this number.
+    pub fn new(alloc: Global, output: &Output, reader: usize) -> Gate {
         Gate {
             limit: output.total.saturating_mul(2).max(LEAST),
             owed: 0,
             room: 0,
             line: VecDeque::new(alloc),
-            is_told: false,
-            seen: 0,
+            reader,
+            has_turn: false,
         }
     }
 
@@ -59,22 +47,15 @@ impl Gate {
     pub fn lets_in<R: Wait>(&mut self, rt: &R, output: &Output, source: &SourcePeer) -> bool {
         let free = self.limit.saturating_sub(self.owed);
         if free / 2 <= source.owed() as u64 {
-            self.give_way(source.id());
+            self.give_way(rt, output, source.id());
             return false;
         }
         if !output.is_patient {
             return true;
         }
         let bytes = source.asked_bytes() as u64;
-        match self.line.front() {
-            None => {}
-            Some(first) if *first == source.id() => {}
-            Some(_) => {
-                self.stand_in_line(source.id());
-                return false;
-            }
-        }
-        if !self.has_room(rt, output, bytes) {
+        let is_first = self.first().unwrap_or(source.id()) == source.id();
+        if !is_first || !self.has_room(rt, output, bytes) {
             self.stand_in_line(source.id());
             return false;
         }
@@ -84,9 +65,9 @@ impl Gate {
 
     /// A source that has its turn and may not use it gives it up, since it may be owed what another
     /// output cannot settle.
-    fn give_way(&mut self, id: u64) {
+    fn give_way<R: Wait>(&mut self, rt: &R, output: &Output, id: u64) {
         if self.first() == Some(id) {
-            self.leave();
+            self.leave(rt, output);
         }
     }
 
@@ -105,11 +86,17 @@ impl Gate {
     fn stand_in_line(&mut self, id: u64) {
         if !self.line.contains(&id) {
             let _ = self.line.push_back(id);
+            self.has_turn = false;
         }
     }
 
-    /// Whether so many bytes of entries have room, or would not have it in an empty output either.
+    /// Whether so many bytes of entries have room, or would not have it in an empty output either;
+    /// and, where there are other readers, whether it is this one's turn.
     fn has_room<R: Wait>(&mut self, rt: &R, output: &Output, bytes: u64) -> bool {
+        if output.has_other_readers() {
+            let shared = (&output.shared, output.total);
+            return output.line.lets_in(rt, shared, self.reader, bytes);
+        }
         if self.room < bytes {
             let held = output.shared.counts(rt).bytes;
             self.room = output.total.saturating_sub(held);
@@ -127,8 +114,21 @@ impl Gate {
     }
 
     /// Who would be the next to have room is gone.
-    pub fn leave(&mut self) {
+    pub fn leave<R: Wait>(&mut self, rt: &R, output: &Output) {
         self.line.pop_front();
+        if self.line.is_empty() && output.has_other_readers() {
+            output.line.leave(rt, self.reader);
+        }
+    }
+
+    /// Whether sources wait for room, and the reader has its turn since the last call.
+    pub fn gets_turn<R: Wait>(&mut self, rt: &R, output: &Output) -> bool {
+        if self.line.is_empty() || !output.has_other_readers() {
+            return false;
+        }
+        let had_turn = self.has_turn;
+        self.has_turn = output.line.is_turn_of(rt, self.reader);
+        self.has_turn && !had_turn
     }
 
     /// A request was admitted that takes so many bytes beside its entries.
@@ -142,19 +142,7 @@ impl Gate {
     }
 
     /// What there is to tell at a moment (milliseconds).
-    pub fn crowd(&mut self, now: u64) -> Option<Crowd> {
-        if !self.line.is_empty() {
-            self.seen = now;
-            if self.is_told {
-                return None;
-            }
-            self.is_told = true;
-            return Some(Crowd::Waits(self.line.len()));
-        }
-        if !self.is_told || now.saturating_sub(self.seen) < QUIET {
-            return None;
-        }
-        self.is_told = false;
-        Some(Crowd::Gone)
+    pub fn crowd(&self, output: &Output, now: u64) -> Option<Crowd> {
+        output.line.crowd(self.line.len(), now)
     }
 }

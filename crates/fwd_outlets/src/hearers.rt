@@ -21,6 +21,11 @@ impl Hearers {
         Ok(Hearers { others: all })
     }
 
+    /// Whether there are readers beside the first.
+    pub(crate) fn has_others(&self) -> bool {
+        !self.others.is_empty()
+    }
+
     /// The reader of this number hears from now on.
     pub(crate) fn enter(&self, reader: usize) {
         if let Some(hears) = self.other(reader) {

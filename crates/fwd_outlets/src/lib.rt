@@ -6,11 +6,13 @@
 #![tactic(auto)]
 
 mod connections;
+mod counting;
 mod deadlines;
 mod flush_timer;
 mod gate;
 mod hearers;
 mod lanes;
+mod line;
 mod made_page;
 mod monitor_peer;
 mod monitors;
@@ -18,15 +20,18 @@ mod outlet;
 mod outlets;
 mod output;
 mod page_desk;
+mod shared_tally;
 mod watch;
 
 pub use connections::{Connection, Connections, Ready};
 pub use flush_timer::FlushTimer;
 pub use fwd_monitor::Figures;
 pub use hearers::Hearers;
-pub use made_page::{MadePage, PageKind};
+pub use line::Line;
+pub use made_page::{MadePage, PageKind, PageParts};
 pub use monitor_peer::{MonitorPeer, Served};
 pub use outlets::Outlets;
 pub use output::{Output, reports_of};
 pub use page_desk::PageDesk;
+pub use shared_tally::{SharedTally, TallyWatch};
 pub use watch::{Caller, Fact, Want, Watch};

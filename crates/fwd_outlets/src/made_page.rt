@@ -1,12 +1,21 @@
 //! The pages that monitors ask for, as they are made and sent.
 
 use crate::output::{Output, reports_of, totals_of};
+use crate::shared_tally::SharedTally;
 use fwd_monitor::{Figures, Reply, answer, metrics_reply};
 use std::alloc::{AllocError, Global};
 use std::sync::{Arc, Wait};
 
 /// A request for the page, as any other that is told it.
 const REQUEST: &[u8] = b"GET / HTTP/1.1\r\n\r\n";
+
+/// What pages are made of.
+#[derive(Clone, Copy)]
+pub struct PageParts<'a> {
+    pub outputs: &'a [Output],
+    /// What was counted.
+    pub tally: &'a SharedTally,
+}
 
 /// The pages that there are.
 #[derive(Clone, Copy)]
@@ -59,7 +68,7 @@ impl MadePage {
     pub(crate) fn make<R: Wait>(
         rt: &R,
         alloc: Global,
-        outputs: &[Output],
+        parts: PageParts<'_>,
         number: u64,
         order: (Asked, Figures),
     ) -> MadePage {
@@ -71,22 +80,22 @@ impl MadePage {
             metrics: Making::Unasked,
         };
         if asked.lines {
-            page.lines = made(rt, alloc, outputs, PageKind::Lines, figures);
+            page.lines = made(rt, alloc, parts, PageKind::Lines, figures);
         }
         if asked.metrics {
-            page.metrics = made(rt, alloc, outputs, PageKind::Metrics, figures);
+            page.metrics = made(rt, alloc, parts, PageKind::Metrics, figures);
         }
         page
     }
 
-    /// Makes the pages of these outputs in this thread for which memory was refused to the one that
+    /// Makes the pages of these parts in this thread for which memory was refused to the one that
     /// makes pages: what this thread gave back is of use to itself alone.
-    pub fn make_here<R: Wait>(&mut self, rt: &R, alloc: Global, outputs: &[Output]) {
+    pub fn make_here<R: Wait>(&mut self, rt: &R, alloc: Global, parts: PageParts<'_>) {
         if is_refused(&self.lines) {
-            self.lines = made(rt, alloc, outputs, PageKind::Lines, self.figures);
+            self.lines = made(rt, alloc, parts, PageKind::Lines, self.figures);
         }
         if is_refused(&self.metrics) {
-            self.metrics = made(rt, alloc, outputs, PageKind::Metrics, self.figures);
+            self.metrics = made(rt, alloc, parts, PageKind::Metrics, self.figures);
         }
     }
 
@@ -107,31 +116,31 @@ fn is_refused(page: &Making) -> bool {
     }
 }
 
-/// Makes a page of these outputs.
+/// Makes a page of these parts.
 fn made<R: Wait>(
     rt: &R,
     alloc: Global,
-    outputs: &[Output],
+    parts: PageParts<'_>,
     kind: PageKind,
     figures: Figures,
 ) -> Making {
-    match page_of(rt, alloc, outputs, kind, figures) {
+    match page_of(rt, alloc, parts, kind, figures) {
         Ok(reply) => Making::Made(reply),
         Err(_) => Making::Refused,
     }
 }
 
-/// A page of these outputs, as it is sent. The only error is out of memory.
+/// A page of these parts, as it is sent. The only error is out of memory.
 pub(crate) fn page_of<R: Wait>(
     rt: &R,
     alloc: Global,
-    outputs: &[Output],
+    parts: PageParts<'_>,
     kind: PageKind,
     figures: Figures,
 ) -> Result<Arc<Vec<u8>>, AllocError> {
     match kind {
-        PageKind::Lines => lines_of(rt, alloc, outputs),
-        PageKind::Metrics => metrics_of(rt, alloc, outputs, figures),
+        PageKind::Lines => lines_of(rt, alloc, parts.outputs),
+        PageKind::Metrics => metrics_of(rt, alloc, parts, figures),
     }
 }
 
@@ -152,11 +161,13 @@ fn lines_of<R: Wait>(
 fn metrics_of<R: Wait>(
     rt: &R,
     alloc: Global,
-    outputs: &[Output],
+    parts: PageParts<'_>,
     figures: Figures,
 ) -> Result<Arc<Vec<u8>>, AllocError> {
+    let PageParts { outputs, tally } = parts;
     let totals = totals_of(alloc, outputs)?;
+    let tally = tally.copy(rt, alloc)?;
     let reports = reports_of(rt, alloc, outputs)?;
-    let reply = metrics_reply(alloc, figures, &totals, &reports)?;
+    let reply = metrics_reply(alloc, figures, &totals, &reports, &tally)?;
     Ok(Arc::new(alloc, reply)?)
 }

@@ -3,8 +3,7 @@
 ghost use Rattle.std.specs.Prelude.{◌≤◌, length};
 ghost use Rattle.std.specs.Arc.{arc_value};
 
-use crate::made_page::{MadePage, Making, PageKind, page_of};
-use crate::output::Output;
+use crate::made_page::{MadePage, Making, PageKind, PageParts, page_of};
 use fwd_monitor::{Figures, Reply, answer, wants_metrics, wants_page};
 use fwd_peers::{PeerStream, Visit};
 use mio::net::TcpStream;
@@ -131,18 +130,18 @@ impl MonitorPeer {
         }
     }
 
-    /// It is sent the page of these outputs that it wants from a moment on (milliseconds), which is
+    /// It is sent the page of these parts that it wants from a moment on (milliseconds), which is
     /// made at once. The only error is out of memory.
     pub fn hand_now<R: Wait>(
         &mut self,
         rt: &R,
         alloc: Global,
-        outputs: &[Output],
+        parts: PageParts<'_>,
         made_of: (PageKind, Figures),
         now: u64,
     ) -> Result<(), AllocError> {
         let (kind, figures) = made_of;
-        let reply = page_of(rt, alloc, outputs, kind, figures)?;
+        let reply = page_of(rt, alloc, parts, kind, figures)?;
         self.send(reply, 0, now);
         Ok(())
     }

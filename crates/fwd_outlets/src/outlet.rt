@@ -6,6 +6,7 @@ ghost use Rattle.fwd_outlets.specs.Laning.{AreSame};
 ghost use Rattle.fwd_outlets.specs.Standings.{sources_in};
 ghost use Rattle.fwd_outlets.specs.Collections.{Collects, CollectsInPart};
 ghost use Rattle.fwd_outlets.specs.Promises.{HoldsRouted, TellsPromised};
+ghost use Rattle.fwd_outlets.specs.Counting.{silent_entries};
 
 use crate::connections::Connections;
 use crate::flush_timer::FlushTimer;
@@ -33,6 +34,17 @@ fn upkeep_of(receipts: &[Receipt]) -> u64 {
     bytes
 }
 
+/// How many entries a request has, where its source asks for no acknowledgement of them, and else
+/// none.
+fn silent_entries(batch: &Batch) -> u64
+    ensures { result ≡ silent_entries batch.now }
+{
+    match batch.chunk() {
+        None => batch.len() as u64,
+        Some(_) => 0,
+    }
+}
+
 /// An output, the tickets that it gave, and when it is flushed. It must be spent: by `close`.
 pub(crate) struct Outlet<'a> {
     alloc: Global,
@@ -44,6 +56,9 @@ pub(crate) struct Outlet<'a> {
     /// What requests took beside their entries that were answered since that was last asked for, in
     /// bytes.
     answered: u64,
+    /// So many entries were accepted since that was last asked for whose sources asked for no
+    /// acknowledgement.
+    without_ack: u64,
 }
 
 impl<'a> Outlet<'a> {
@@ -58,6 +73,7 @@ impl<'a> Outlet<'a> {
             timer,
             newest: None,
             answered: 0,
+            without_ack: 0,
         }
     }
 
@@ -79,11 +95,13 @@ impl<'a> Outlet<'a> {
     {
         let shared = &self.output.shared;
         let (origin, batch) = asked;
+        let silent = silent_entries(&batch);
         let ticket = match shared.admit(rt, self.alloc, &mut (), origin, batch, now) {
             Ok(ticket) => ticket,
             Err((refusal, _)) => return Err(refusal),
         };
         self.timer.admitted();
+        self.without_ack = self.without_ack.saturating_add(silent);
         if ticket.output() != number {
             shared.abandon(rt, ticket);
             return Err(AdmitRefusal::NotNow);
@@ -173,6 +191,14 @@ impl<'a> Outlet<'a> {
         mem::replace(&mut self.answered, 0)
     }
 
+    /// How many entries were accepted since the last call whose sources asked for no
+    /// acknowledgement.
+    pub fn take_without_ack(&mut self) -> u64
+        ensures { self.new.lanes ≡ self.old.lanes }
+    {
+        mem::replace(&mut self.without_ack, 0)
+    }
+
     /// The tickets that are left are abandoned.
     pub fn close<R: Wait>(self, rt: &R) {
         let Outlet {
@@ -182,6 +208,7 @@ impl<'a> Outlet<'a> {
             timer: _,
             newest: _,
             answered: _,
+            without_ack: _,
         } = self;
         lanes.close(rt, output);
     }

@@ -8,10 +8,12 @@ ghost use Rattle.fwd_outlets.specs.Promises.{TellsPromised};
 
 use crate::connections::Connections;
 use crate::flush_timer::FlushTimer;
-use crate::gate::{Crowd, Gate};
+use crate::gate::Gate;
 use crate::lanes::Lane;
+use crate::line::Crowd;
 use crate::outlet::Outlet;
 use crate::output::Output;
+use crate::shared_tally::SharedTally;
 use crate::watch::{Fact, Want, Watch};
 use fwd_links::Notices;
 use fwd_match::Routes;
@@ -78,11 +80,11 @@ fn close_all<R: Wait>(rt: &R, outlets: Vec<Outlet<'_>>) {
 }
 
 /// Who waits first for room and is gone waits no more. It says whether somebody else is first then.
-fn let_go(gate: &mut Gate, connections: &Connections) -> bool {
+fn let_go<R: Wait>(rt: &R, output: &Output, gate: &mut Gate, connections: &Connections) -> bool {
     let mut has_left = false;
     for _ in 0..u16::MAX {
         match gate.first() {
-            Some(id) if !connections.stands(id) => gate.leave(),
+            Some(id) if !connections.stands(id) => gate.leave(rt, output),
             _ => break,
         }
         has_left = true;
@@ -103,7 +105,7 @@ impl<'a> Outlets<'a> {
     ) -> Result<Outlets<'a>, AllocError> {
         let mut gates = Vec::with_capacity(alloc, outputs.len())?;
         for output in outputs {
-            gates.push(Gate::new(alloc, output))?;
+            gates.push(Gate::new(alloc, output, reader))?;
         }
         let mut all = Vec::new(alloc);
         for (output, timer) in outputs.iter().zip(timers) {
@@ -163,14 +165,26 @@ impl<'a> Outlets<'a> {
             return Err(Stop::Waits);
         }
         let lane = Lane::of(source);
+        let room = source.asked_bytes();
         let Some(asked) = source.next() else {
+            self.came(rt, output, room);
             let refusal = AdmitRefusal::Memory;
             return Err(Stop::Ends(SourceEnd::Refused(output, refusal)));
         };
         let bytes = upkeep(asked.1.tag(), asked.1.chunk());
-        self.enter(rt, output, lane, asked, now)?;
+        let entered = self.enter(rt, output, lane, asked, now);
+        self.came(rt, output, room);
+        entered?;
         self.owes(output, bytes);
         Ok(())
+    }
+
+    /// A request of so many bytes that was let in at the output of this number was admitted there,
+    /// or refused.
+    fn came<R: Wait>(&self, rt: &R, output: u16, bytes: usize) {
+        if let Some(own) = self.outputs.get(output as usize) {
+            own.came(rt, bytes as u64);
+        }
     }
 
     /// Enters a request at a moment (milliseconds) at the output of this number, which the routes
@@ -238,17 +252,33 @@ impl<'a> Outlets<'a> {
 
     /// Who waits first for room at an output and is gone waits no more, at a moment (milliseconds);
     /// and a watch is told at which outputs sources wait.
-    pub fn tend<W: Watch>(&mut self, connections: &Connections, watch: &mut W, now: u64)
+    pub fn tend<R: Wait, W: Watch>(
+        &mut self,
+        rt: &R,
+        connections: &Connections,
+        watch: &mut W,
+        now: u64,
+    )
         ensures { self.new.routes ≡ self.old.routes }
     {
-        for (output, gate) in (0..u16::MAX).zip(&mut self.gates) {
-            self.is_moved = let_go(gate, connections) || self.is_moved;
-            match gate.crowd(now) {
+        for ((output, own), gate) in (0..u16::MAX).zip(self.outputs).zip(&mut self.gates) {
+            let is_moved = let_go(rt, own, gate, connections) || gate.gets_turn(rt, own);
+            self.is_moved = is_moved || self.is_moved;
+            match gate.crowd(own, now) {
                 None => {}
                 Some(Crowd::Waits(sources)) => watch.see(Fact::Full { output, sources }),
                 Some(Crowd::Gone) => watch.see(Fact::Room { output }),
             }
         }
+    }
+
+    /// Whether another reader has its turn at an output from now on: then all are to be called.
+    pub fn passes_on(&self) -> bool {
+        let mut passes_on = false;
+        for output in self.outputs {
+            passes_on = output.line.take_passed() || passes_on;
+        }
+        passes_on
     }
 
     /// The reader is about to sleep: where an output owes it nothing and none of its sources waits
@@ -296,6 +326,31 @@ impl<'a> Outlets<'a> {
             return;
         };
         outlet.flush(rt, now);
+    }
+
+    /// Counts the entries that were accepted since the last call whose sources asked for no
+    /// acknowledgement.
+    pub fn count<R: Wait>(&mut self, rt: &R, tally: &SharedTally)
+        ensures { self.new ≡ self.old }
+    {
+        for number in 0..u16::MAX {
+            if self.all.len() <= number as usize {
+                break;
+            }
+            let entries = self.take_without_ack(number);
+            tally.accept_without_ack(rt, number, entries);
+        }
+    }
+
+    /// How many entries the output of this number accepted since the last call whose sources asked
+    /// for no acknowledgement.
+    fn take_without_ack(&mut self, number: u16) -> u64
+        ensures { self.new ≡ self.old }
+    {
+        let Some(outlet) = self.all.get_mut(number as usize) else {
+            return 0;
+        };
+        outlet.take_without_ack()
     }
 
     /// Workers settled chunks: the tickets that waited for those are to be handed in.

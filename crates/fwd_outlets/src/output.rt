@@ -4,6 +4,7 @@ ghost use Rattle.std.specs.Prelude.{◌≡◌, length, map, IfOk};
 ghost use Rattle.fwd_outlets.specs.Ends.{AddUp};
 
 use crate::hearers::Hearers;
+use crate::line::Line;
 use fwd_chunks::Report;
 use fwd_links::WorkerWaker;
 use fwd_workers::{Plain, SharedOutput};
@@ -23,12 +24,26 @@ pub struct Output {
     pub is_patient: bool,
     /// Which readers are to hear of its settled chunks.
     pub hearers: Hearers,
+    /// Whose turn it is where sources wait.
+    pub line: Line,
 }
 
 impl Output {
     /// Whether it has no entries.
     pub fn is_empty<R: Wait>(&self, rt: &R) -> bool {
         self.shared.counts(rt).held == 0
+    }
+
+    /// Whether there are readers beside the first.
+    pub(crate) fn has_other_readers(&self) -> bool {
+        self.hearers.has_others()
+    }
+
+    /// A request of so many bytes that was let in was admitted, or refused.
+    pub(crate) fn came<R: Wait>(&self, rt: &R, bytes: u64) {
+        if self.is_patient && self.has_other_readers() && bytes <= self.total {
+            self.line.came(rt, bytes);
+        }
     }
 
     /// Whether one of the output's workers looks for a chunk.

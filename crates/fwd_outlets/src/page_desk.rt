@@ -1,7 +1,6 @@
 //! The monitors' pages, which are made by a thread of their own for all who wait for them.
 
-use crate::made_page::{Asked, MadePage, PageKind};
-use crate::output::Output;
+use crate::made_page::{Asked, MadePage, PageKind, PageParts};
 use fwd_monitor::Figures;
 use std::alloc::Global;
 use std::sync::{Condvar, Mutex, Wait};
@@ -14,6 +13,7 @@ const NONE: Asked = Asked {
 
 /// Nothing is known of the relay before a page is ordered.
 const NOTHING: Figures = Figures {
+    start: None,
     uptime: 0,
     sources: 0,
     source_limit: 0,
@@ -104,13 +104,13 @@ impl PageDesk {
         self.orders.lock(rt).made = Some(page);
     }
 
-    /// Makes the next page that is ordered of these outputs, and says whether there was one: there
-    /// is none once no more are made.
-    pub fn make_next<R: Wait>(&self, rt: &R, alloc: Global, outputs: &[Output]) -> bool {
+    /// Makes the next page that is ordered of these parts, and says whether there was one: there is
+    /// none once no more are made.
+    pub fn make_next<R: Wait>(&self, rt: &R, alloc: Global, parts: PageParts<'_>) -> bool {
         let Some((number, asked, figures)) = self.begin(rt) else {
             return false;
         };
-        let page = MadePage::make(rt, alloc, outputs, number, (asked, figures));
+        let page = MadePage::make(rt, alloc, parts, number, (asked, figures));
         self.put(rt, page);
         true
     }

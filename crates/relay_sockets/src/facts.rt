@@ -12,7 +12,7 @@ use std::io;
 use std::net::{Ipv4Addr, Ipv6Addr, SocketAddr};
 
 /// Why sources are closed.
-static ENDS: [SourceEnd; 15] = [
+static ENDS: [SourceEnd; 16] = [
     SourceEnd::Fault(SourceFault::Scan(ScanFault::Reserved)),
     SourceEnd::Fault(SourceFault::Scan(ScanFault::TooDeep)),
     SourceEnd::Fault(SourceFault::Scan(ScanFault::TooLong)),
@@ -28,6 +28,7 @@ static ENDS: [SourceEnd; 15] = [
     SourceEnd::Refused(65_534, AdmitRefusal::Full),
     SourceEnd::Refused(3, AdmitRefusal::NumbersSpent),
     SourceEnd::NoLogin,
+    SourceEnd::Idle,
 ];
 
 /// Why servers are lost.

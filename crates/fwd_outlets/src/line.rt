@@ -1,0 +1,184 @@
+//! Whose turn it is at an output that sources wait at until it has room.
+
+ghost use Rattle.std.specs.Prelude.{◌≡◌, ◌≤◌, ◌+◌, ◌-◌, true, false};
+
+use fwd_workers::{Plain, SharedOutput};
+use std::alloc::Global;
+use std::collections::VecDeque;
+use std::sync::atomic::{AtomicBool, AtomicU64, Ordering};
+use std::sync::{Mutex, Wait};
+
+/// How long nobody waits at an output that was full before it is said to have room, in
+/// milliseconds.
+const QUIET: u64 = 1_000;
+
+/// What there is to tell of an output that sources wait at.
+#[derive(Clone, Copy)]
+pub(crate) enum Crowd {
+    /// So many wait for room.
+    Waits(usize),
+    /// None has waited for a while.
+    Gone,
+}
+
+/// Which readers have sources that wait for room, and what was let in.
+#[derive(Drop)]
+struct Turns {
+    /// The bytes of entries of requests that were let in and are not admitted yet.
+    promised: u64,
+    /// The numbers of those readers, in the order in which they came, each once.
+    readers: VecDeque<usize>,
+}
+
+impl Turns {
+    /// Whether it is a reader's turn: no other one waits before it.
+    fn is_turn_of(&self, reader: usize) -> bool {
+        match self.readers.front() {
+            None => true,
+            Some(first) => *first == reader,
+        }
+    }
+
+    /// Promises a request so many bytes, where what was promised before leaves so many of the room,
+    /// and says whether it did.
+    fn promise(&mut self, bytes: u64, room: u64) -> bool
+        ensures within { result ≡ true → self.new.promised ≤ room }
+        ensures promised { result ≡ true → self.new.promised ≡ self.old.promised + bytes }
+        ensures same { result ≡ false → self.new.promised ≡ self.old.promised }
+    {
+        let Some(promised) = self.promised.checked_add(bytes) else {
+            return false;
+        };
+        if room < promised {
+            return false;
+        }
+        self.promised = promised;
+        true
+    }
+
+    /// So many bytes that were promised are promised no more.
+    fn keep(&mut self, bytes: u64)
+        ensures { self.new.promised ≡ self.old.promised - bytes }
+    {
+        self.promised = self.promised.saturating_sub(bytes);
+    }
+
+    /// A reader's source waits: it comes behind those that wait already. Where memory is refused it
+    /// has no place, and asks again.
+    fn stand(&mut self, reader: usize) {
+        if !self.readers.contains(&reader) {
+            let _ = self.readers.push_back(reader);
+        }
+    }
+
+    /// A reader waits no more, or for another turn. Whether another one has its turn by that.
+    fn leave(&mut self, reader: usize) -> bool {
+        let had_turn = self.is_turn_of(reader);
+        self.readers.retain(|other| *other != reader);
+        had_turn && !self.readers.is_empty()
+    }
+}
+
+/// The line of an output, which all readers share: a reader stands there while one of its sources
+/// waits, and the first one has its turn.
+#[derive(Drop)]
+pub struct Line {
+    turns: Mutex<Turns>,
+    /// Another reader has its turn from now on, and was not called yet.
+    is_passed: AtomicBool,
+    /// It was told that sources wait.
+    is_told: AtomicBool,
+    /// When sources were last seen to wait, in milliseconds.
+    seen: AtomicU64,
+}
+
+impl Line {
+    /// Nobody waits.
+    pub fn new(alloc: Global) -> Line {
+        Line {
+            turns: Mutex::new(Turns {
+                promised: 0,
+                readers: VecDeque::new(alloc),
+            }),
+            is_passed: AtomicBool::new(false),
+            is_told: AtomicBool::new(false),
+            seen: AtomicU64::new(0),
+        }
+    }
+
+    /// Whether a reader's request of so many bytes is let in: it is the reader's turn, and the
+    /// output, which holds so many bytes at most, has room for it beside what else was let in. A
+    /// request that an empty output would not have room for is let in, to be refused there. Where
+    /// it is not let in, the reader stands in line from now on.
+    pub(crate) fn lets_in<R: Wait>(
+        &self,
+        rt: &R,
+        output: (&SharedOutput<Plain, Plain>, u64),
+        reader: usize,
+        bytes: u64,
+    ) -> bool {
+        let (shared, total) = output;
+        let mut turns = self.turns.lock(rt);
+        // What others were promised is counted until they have it: so this is asked behind the
+        // lock.
+        let room = total.saturating_sub(shared.counts(rt).bytes);
+        let lets_in = turns.is_turn_of(reader) && (total < bytes || turns.promise(bytes, room));
+        if lets_in {
+            self.pass(turns.leave(reader));
+        } else {
+            turns.stand(reader);
+        }
+        lets_in
+    }
+
+    /// A request of so many bytes that was let in was admitted, or refused.
+    pub(crate) fn came<R: Wait>(&self, rt: &R, bytes: u64) {
+        self.turns.lock(rt).keep(bytes);
+    }
+
+    /// None of a reader's sources waits any more.
+    pub(crate) fn leave<R: Wait>(&self, rt: &R, reader: usize) {
+        let mut turns = self.turns.lock(rt);
+        self.pass(turns.leave(reader));
+    }
+
+    /// Another reader has its turn from now on, if so.
+    fn pass(&self, is_passed: bool) {
+        if is_passed {
+            self.is_passed.store(true, Ordering::SeqCst);
+        }
+    }
+
+    /// Whether a reader has its turn since the last call that another one waits for: then all are
+    /// to be called.
+    pub(crate) fn take_passed(&self) -> bool {
+        self.is_passed.load(Ordering::SeqCst) && self.is_passed.swap(false, Ordering::SeqCst)
+    }
+
+    /// Whether it is a reader's turn.
+    pub(crate) fn is_turn_of<R: Wait>(&self, rt: &R, reader: usize) -> bool {
+        self.turns.lock(rt).is_turn_of(reader)
+    }
+
+    /// What there is to tell at a moment (milliseconds), where so many sources of a reader wait.
+    pub(crate) fn crowd(&self, sources: usize, now: u64) -> Option<Crowd> {
+        if sources > 0 {
+            self.seen.store(now, Ordering::SeqCst);
+            if self.is_told.swap(true, Ordering::SeqCst) {
+                return None;
+            }
+            return Some(Crowd::Waits(sources));
+        }
+        if !self.is_told.load(Ordering::SeqCst) {
+            return None;
+        }
+        if now.saturating_sub(self.seen.load(Ordering::SeqCst)) < QUIET {
+            return None;
+        }
+        if self.is_told.swap(false, Ordering::SeqCst) {
+            Some(Crowd::Gone)
+        } else {
+            None
+        }
+    }
+}
