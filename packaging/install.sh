@@ -7,8 +7,8 @@
 # "Install"). It needs nothing but POSIX tools, and takes no time. P is /usr/local where it is not given. It puts
 #
 #     P/sbin/forward_relay
-#     P/bin/forward_relay-watch, P/bin/forward_relay-metrics     need python3 (3.9 or later) and nothing else
-#     P/lib/forward_relay/             what these two are
+#     P/bin/forward_relay-watch        needs python3 (3.9 or later) and nothing else
+#     P/lib/forward_relay/             what that is
 #     P/share/man/man8/forward_relay.8
 #     P/share/doc/forward_relay/       OPERATING.md, FORMATS.md, CHANGELOG.md, the example settings, and the list of folders
 #                                      that were made
@@ -107,10 +107,8 @@ TEXT
     }
     made=
     put "$program" 755 "$sbin/forward_relay"
-    for tool in watch metrics; do
-        put_filled "packaging/forward_relay-$tool" 755 "$bin/forward_relay-$tool"
-        put "tools/$tool.py" 644 "$lib/$tool.py"
-    done
+    put_filled packaging/forward_relay-watch 755 "$bin/forward_relay-watch"
+    put tools/watch.py 644 "$lib/watch.py"
     put tools/page.py 644 "$lib/page.py"
     put_filled packaging/forward_relay.8 644 "$man/forward_relay.8"
     for file in docs/OPERATING.md docs/FORMATS.md CHANGELOG.md $examples; do
@@ -140,7 +138,7 @@ TEXT
 
 uninstall_all() {
     take "$sbin/forward_relay"
-    for tool in watch metrics; do
+    for tool in watch metrics; do # the second was of versions before
         take "$bin/forward_relay-$tool"
         take "$lib/$tool.py"
     done
