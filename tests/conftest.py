@@ -15,7 +15,7 @@ from next_hop import NextHop
 
 JOURNAL = journal_pattern()
 GO = pathlib.Path("/usr/share/gocode")
-THREADED = {"chain", "sockets", "memory", "stress"}  # whose tests run with one reading thread and with four
+THREADED = {"chain", "full", "sockets", "memory", "stress"}  # whose tests run with one reading thread and with four
 
 
 def pytest_generate_tests(metafunc):

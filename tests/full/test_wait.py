@@ -36,8 +36,7 @@ def test_each_is_told_and_none_comes_twice(relay):
 def test_who_waited_first_goes_first(relay, next_hop):
     """Two sources wait behind what fills the output: the one with a large request first, and it goes first."""
     hop = next_hop(answer=hold)
-    # each reading thread has a line of its own
-    one = relay([{"servers": [hop.port], "full": "wait", "total_limit": 1_000}], readers=1)
+    one = relay([{"servers": [hop.port], "full": "wait", "total_limit": 1_000}])
     first, large, small = one.source(), one.source(), one.source()
     send(first, "first", 600)
     one.await_page(lambda it: it.accepted == 1)
@@ -93,3 +92,18 @@ def test_who_is_behind_it_goes_on(relay, next_hop):
     send(small, "small", 200)
     leave(one, gone)
     one.await_page(lambda it: it.accepted == 2, 10)
+
+
+@pytest.mark.quick
+def test_nobody_is_closed_for_room_that_another_takes(relay, next_hop):
+    """Twelve sources send at once, more than has room together: each is told in its turn, and none is closed."""
+    hop = next_hop()
+    one = relay([{"servers": [hop.port], "full": "wait", "total_limit": 1_000}])
+    sources = [one.source() for _ in range(12)]
+    for turn in range(20):
+        for source in sources:
+            send(source, f"{turn}", 450)
+        for source in sources:
+            assert source.told() == f"{turn}"
+    assert "Full" not in one.journal()
+    assert one.await_settled(240).accepted == 240

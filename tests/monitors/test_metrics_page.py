@@ -3,6 +3,7 @@
 import json
 import shutil
 import subprocess
+import time
 import urllib.error
 import urllib.parse
 import urllib.request
@@ -109,6 +110,93 @@ def test_many_tags(relay, next_hop):
     assert sum(labels["output"] == "0" for labels in shown) == 990
     assert sorted(labels["tag"] for labels in shown if labels["output"] == "1") == [f"b.{n:04}" for n in range(10)]
     assert [value(samples, "tags_left_out", output=output) for output in "01"] == [0, 20]
+
+
+REASONS = {"Reserved", "TooDeep", "TooLong", "BadShape", "BadTag", "BadEntry", "BadOption", "Compressed", "NotPing"}
+REASONS |= {"Denied", "Closed", "NoRoute", "NoLogin", "Idle", "Memory", "NotNow", "Full", "NumbersSpent"}
+
+
+def rising(samples, name):
+    """The counts of a metric with one label that are not 0, by the label's value."""
+    found = ((labels, count) for (named, labels), count in samples.items() if named == FRONT + name)
+    return {value: count for labels, count in found if count > 0 for _, value in labels}
+
+
+def test_sources_closed(relay, next_hop):
+    """Why sources were closed, by the journal's words, and what an output did not admit."""
+    outputs = [
+        {"match": "a", "servers": [next_hop(answer=hold).port]},
+        {"match": "b", "servers": [next_hop(answer=hold).port], "total_limit": 1_000},
+    ]
+    one = relay(outputs, metrics=True, connections=3)
+    shown = {dict(labels)["reason"] for name, labels in metrics(one) if name == FRONT + "sources_closed_total"}
+    assert shown == REASONS
+    for _ in range(2):
+        stranger = one.source()
+        stranger.stream.link.sendall(b"\xc1")
+        assert stranger.is_closed()
+    astray = one.source()
+    astray.send("c", chunk="x")
+    assert astray.is_closed()
+    large = one.source()
+    large.send("b", [(1, {"n": "x" * 2_000})], chunk="x")
+    assert large.is_closed()
+    one.until(lambda: value(metrics(one), "sources_open") == 0, "a source is kept")
+    samples = metrics(one)
+    assert rising(samples, "sources_closed_total") == {"Reserved": 2, "NoRoute": 1, "Full": 1}
+    assert value(samples, "requests_refused_total", output="1", reason="Full") == 1
+    assert value(samples, "requests_refused_total", output="0", reason="Full") == 0
+    assert rising(samples, "over_limit_total") == rising(samples, "memory_refused_total") == {}
+    sources = [one.source() for _ in range(3)]
+    for source in sources:
+        source.send("a")
+    assert one.source().is_closed()
+    one.await_line("over the limit: source")
+    assert rising(metrics(one), "over_limit_total") == {"source": 1}
+
+
+def test_without_acknowledgement(relay, next_hop):
+    """The entries whose source asked for no acknowledgement."""
+    one = relay([{"servers": [next_hop().port]}], metrics=True)
+    source = one.source()
+    source.send("a", [(1, {"n": 1}), (2, {"n": 2})])
+    source.ask("a", [(3, {"n": 3})])
+    samples = metrics(one)
+    assert value(samples, "accepted_entries_total", output="0") == 3
+    assert value(samples, "accepted_without_ack_entries_total", output="0") == 2
+
+
+def test_servers(relay, next_hop):
+    """Why sessions were lost, the chunks that each server acknowledged, and which is lost."""
+    hop, away = next_hop(), free_ports(1)[0]
+    one = relay([{"servers": [away, {"port": hop.port, "standby": True}]}], metrics=True)
+    for number in range(3):
+        one.source().ask("a", [(number, {"n": number})])
+    samples = metrics(one)
+    gone = {"output": "0", "place": "0", "server": f"{HOST}:{away}"}
+    there = {"output": "0", "place": "1", "server": f"{HOST}:{hop.port}"}
+    lost = value(samples, "server_sessions_lost_total", reason="Connect", **gone)
+    assert lost > 0
+    one.until(lambda: one.lines("server lost: ") >= lost, "the journal has fewer")
+    assert value(samples, "server_sessions_lost_total", reason="Late", **gone) == 0
+    assert value(samples, "server_sessions_lost_total", reason="Connect", **there) == 0
+    assert [value(samples, "server_acknowledged_chunks_total", **labels) for labels in (gone, there)] == [0, 3]
+    assert [value(samples, "server_lost", **labels) for labels in (gone, there)] == [1, 0]
+    hop.end()
+    back = next_hop(port=away)
+    one.source().ask("a")
+    assert back.entries()
+    one.await_line(f"server back: output 0 {HOST}:{away}")
+    assert value(metrics(one), "server_lost", **gone) == 0
+
+
+def test_start(relay, next_hop):
+    """When the relay started is the uptime ago."""
+    before = int(time.time())
+    one = relay([{"servers": [next_hop().port]}], metrics=True)
+    samples = metrics(one)
+    assert before <= value(samples, "start_time_seconds") <= time.time()
+    assert abs(value(samples, "start_time_seconds") + value(samples, "uptime_seconds") - time.time()) < 3
 
 
 def test_both_pages_at_once(relay, next_hop):

@@ -169,6 +169,7 @@ for frame, key, least, most in [
     ("relay", "message_limit", 1024, 67108864),
     ("relay", "depth", 8, 128),
     ("relay", "readers", 1, 16),
+    ("relay", "idle_limit", 1, 86400000),
     ("output", "workers", 1, 16),
     ("output", "chunk_limit", 1, 16000000),
     ("output", "total_limit", 1, 1000000000000),
@@ -226,6 +227,7 @@ for frame, key, good, other_kind in [
     ("relay", "shared_key", '"k"', "1"),
     ("keyed", "user", USERS, "1"),
     ("relay", "metrics", "true", "1"),
+    ("relay", "idle_limit", "600000", '"10 min"'),
     ("unnamed", "name", '"n"', "1"),
     ("named", "password", '"p"', "1"),
     ("unmatched", "match", '"a"', "1"),
@@ -338,7 +340,8 @@ for whole, told in [
     ("[relay]\nuser = 1\ndepth = 129\nmessage_limit = 1", "out of range relay.message_limit"),
     ("[relay]\nuser = 1\ndepth = 129", "out of range relay.depth"),
     ('[relay]\nmetrics = 1\nshared_key = "k"\nuser = [{ name = "" }]', "out of range relay.user[0].name"),
-    ("[relay]\nmetrics = 1\n[[output]]", "wrong kind relay.metrics"),
+    ("[relay]\nidle_limit = 0\nmetrics = 1\n[[output]]", "wrong kind relay.metrics"),
+    ("[relay]\nidle_limit = 0\n[[output]]", "out of range relay.idle_limit"),
     ('[relay]\nshared_key = ""\nuser = []', "out of range relay.shared_key"),
     ("[relay]\nuser = [1]\n[[output]]", "out of range relay.user"),
     ('[relay]\nshared_key = "k"\nuser = [{ name = "" }, 1]\n[[output]]', "out of range relay.user[0].name"),
@@ -378,6 +381,7 @@ RELAY = {
     "depth": "64",
     "readers": "1",
     "metrics": "false",
+    "idle_limit": "none",
 }
 OUTPUT = {
     "match a.b": "true",
@@ -413,6 +417,7 @@ SET_RELAY = {
     "user[1].name": "m",
     "user[1].password": "q",
     "metrics": "true",
+    "idle_limit": "900000",
 }
 SET_OUTPUT = {
     "match a.b": "true",
@@ -441,7 +446,7 @@ sets(MATCH + SERVER, RELAY, OUTPUT | FIRST)
 sets(
     '[relay]\nlisten = "0.0.0.0:1"\nmonitor = "[::1]:65535"\nhostname = "h"\n'
     'shared_key = "k"\nrun_id = "0123456789aB"\n' + f'seed = "{"0" * 62}Ff"\n'
-    "connections = 2\nmessage_limit = 1025\ndepth = 9\nreaders = 3\nmetrics = true\n"
+    "connections = 2\nmessage_limit = 1025\ndepth = 9\nreaders = 3\nmetrics = true\nidle_limit = 900000\n"
     '[[relay.user]]\nname = "n"\npassword = "p"\n'
     '[[relay.user]]\nname = "m"\npassword = "q"\n' + C,
     SET_RELAY,
