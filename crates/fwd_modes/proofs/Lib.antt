@@ -6,3 +6,4 @@ pub mod FrameLemmas
 pub mod KeptLemmas
 pub mod Judgements
 pub mod Moving
+pub mod Fronting

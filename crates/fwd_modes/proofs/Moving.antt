@@ -5,8 +5,8 @@ use Rattle.std.specs.Prelude.{option_and_then, is_some, unwrap_or, Ok}
 use Rattle.std.specs.Option.{option_copied, ForSome}
 use Rattle.std.specs.Borrow.{Bor}
 use Rattle.fwd_modes.specs.declared.limits.TheConstants.{CHUNK_LIMIT}
-use Rattle.std.specs.List.{concat, flat_map}
-use Rattle.std.proofs.lemmas.List.{append-nil, append_assoc, length-append, length-take, length-take-le, length-drop, take-append-drop, take_all, take_at, drop_at, drop-append-le, take-append-le, drop-take}
+use Rattle.std.specs.List.{flat_map}
+use Rattle.std.proofs.lemmas.List.{append_assoc, length-append, length-take, length-take-le, length-drop, take-append-drop, take_all, take_at, drop_at, drop-append-le, take-append-le, drop-take}
 use Rattle.std.proofs.lemmas.Option.{same_Some}
 use Rattle.fwd_msgpack.specs.declared.head.Head.{Head}
 use Rattle.fwd_msgpack.specs.declared.head.Head.TheVariants.{Arr, Map, Nil, Bool as Boolean, Int, Float, Str, Bin, Ext}

@@ -87,10 +87,8 @@ unfolding packed_entries row_of_values
 packed_row bytes row = row_by (split_of most_bytes most_deep bytes) row
 
 -- one entry more, which is kept as it is spelled
-module _ (deep : ℕ) (packed ends : List ℕ) (used len : ℕ) (inside : used ≤ length packed)
-    (some : 0 < length (drop used packed)) (cut : AreCut 0 ends (take used packed))
-    (verdict : first_of most_bytes deep (drop used packed) ≡ Whole len)
-    (within : len ≤ length (drop used packed)) where
+module _ (packed ends : List ℕ) (used len : ℕ) (inside : used ≤ length packed)
+    (cut : AreCut 0 ends (take used packed)) (within : len ≤ length (drop used packed)) where
   front_len : length (take used packed) ≡ used
   front_len = length-take-le used packed inside
 
@@ -105,20 +103,22 @@ module _ (deep : ℕ) (packed ends : List ℕ) (used len : ℕ) (inside : used �
       subst (λ (k : ℕ). AreCut 0 (ends ++ k ∷ []) (take (used + len) packed)) place
       (subst (AreCut 0 (ends ++ (length (take used packed) + length (take len (drop used packed))) ∷ [])) (sym (take_further used len packed)) (AreCut-push ends (take used packed) (take len (drop used packed)) cut))
 
-  entries_grow : cut_at 0 (ends ++ (used + len) ∷ []) (take (used + len) packed)
+  pub entries_grow : cut_at 0 (ends ++ (used + len) ∷ []) (take (used + len) packed)
       ≡ cut_at 0 ends (take used packed) ++ take len (drop used packed) ∷ []
   entries_grow =
       ap (λ (k : ℕ). cut_at 0 (ends ++ k ∷ []) (take (used + len) packed)) (sym place)
       ∙ ap (cut_at 0 (ends ++ (length (take used packed) + length (take len (drop used packed))) ∷ [])) (take_further used len packed)
       ∙ cut_push ends (take used packed) (take len (drop used packed)) cut
 
-  pub said_grows : entry_of (take len (drop used packed)) ≡ Some (take len (drop used packed))
+  pub said_grows : (deep : ℕ) → 0 < length (drop used packed)
+      → first_of most_bytes deep (drop used packed) ≡ Whole len
+      → entry_of (take len (drop used packed)) ≡ Some (take len (drop used packed))
       → behind (cut_at 0 ends (take used packed)) (packed_entries deep (drop used packed))
       ≡ packed_entries deep packed
       → behind (cut_at 0 (ends ++ (used + len) ∷ []) (take (used + len) packed))
       (packed_entries deep (drop (used + len) packed))
       ≡ packed_entries deep packed
-  said_grows kept said =
+  said_grows deep some verdict kept said =
       let entries = cut_at 0 ends (take used packed) in
       let value = take len (drop used packed) in
       let others = packed_entries deep (drop len (drop used packed)) in

@@ -10,7 +10,6 @@ ghost use Rattle.fwd_modes.specs.Moved.{ArePacked, IsFound, optional};
 use crate::asked::Asked;
 use crate::kept::copied;
 use crate::lists::ends_of_kept;
-use crate::parts::{Given, Parts};
 use crate::request::judge;
 use fwd_msgpack::{Head, Value};
 use smallvec::SmallVec;
@@ -106,12 +105,7 @@ pub(crate) fn find(alloc: Global, value: Value<'_>, depth: u8) -> Result<Option<
     let Some(given) = packed_parts(value) else {
         return Ok(None);
     };
-    let parts = Parts {
-        tag: given.tag,
-        entries: Given::Packed(given.packed),
-        option: given.option,
-    };
-    let Ok(asked) = judge(parts) else {
+    let Ok(asked) = judge(given.tag, given.option) else {
         return Ok(None);
     };
     let Some(text) = given.packed.text() else {

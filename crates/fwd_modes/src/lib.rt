@@ -11,8 +11,10 @@ mod entry;
 mod fault;
 mod found;
 mod frame;
+mod front;
 mod kept;
 mod kinds;
+mod laid;
 mod laws;
 mod limits;
 mod lists;
@@ -28,6 +30,7 @@ pub use batch::Batch;
 pub use entries::Entries;
 pub use fault::InputFault;
 pub use frame::{chunk_name, write_chunk, write_chunk_head, write_chunk_tail};
+pub use front::{Front, read_front};
 pub use laws::{
     entries_are_kept, frame_is_joined, frame_is_value, frame_reads_back, frames_differ,
     only_its_frame, request_limits,

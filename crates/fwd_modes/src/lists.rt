@@ -27,7 +27,7 @@ fn cut_kept(bytes: &[u8], limits: Limits) -> Option<usize>
 
 /// The same, with a guess at the entry's keys. It is not read twice where it is as most are.
 #[inline(always)]
-fn kept_len(bytes: &[u8], limits: Limits, shape: &mut Shape) -> Option<usize>
+pub(crate) fn kept_len(bytes: &[u8], limits: Limits, shape: &mut Shape) -> Option<usize>
     ensures { IfSome result (λ len. BeginsKept limits.bytes limits.depth bytes.now len) }
 {
     match flat_pair(bytes, limits, shape) {

@@ -1,12 +1,12 @@
 //! What a whole value asks for (Forward Protocol Specification v1, "Message Modes").
 
-ghost use Rattle.std.specs.Prelude.{◌≡◌, ◌≢◌, ◌≤◌, ℕ, Some, IfOk};
+ghost use Rattle.std.specs.Prelude.{◌≡◌, ◌≢◌, ◌≤◌, ℕ, List, Option, Some, IfOk};
 ghost use Rattle.std.specs.Option.{option_map};
 ghost use Rattle.fwd_msgpack.specs.Values.{bytes_of};
 ghost use Rattle.fwd_modes.specs.Requests.{request_of, of_parts, one_entry};
 ghost use Rattle.fwd_modes.specs.Requests.Reading.{Heartbeat as heartbeat, Fails as fails};
 ghost use Rattle.fwd_modes.specs.declared.fault.InputFault.{InputFault};
-ghost use Rattle.fwd_modes.specs.Readings.{shown, kept as kept_of, entries_given, parts_shown, judged};
+ghost use Rattle.fwd_modes.specs.Readings.{shown, kept as kept_of, entries_given, judged};
 
 use crate::asked::Asked;
 use crate::batch::Batch;
@@ -33,15 +33,19 @@ pub enum Reading {
 }
 
 /// What stands beside the entries, or the first fault there in the order tag, option, compression.
-pub(crate) fn judge(parts: Parts<'_>) -> Result<Asked<'_>, InputFault>
-    ensures { (deep : ℕ)
-        → judged (entries_given deep parts.entry.entries) result
-        ≡ of_parts (Some (parts_shown deep parts.entry)) }
+pub(crate) fn judge<'a>(tag: Value<'a>, option: Option<Value<'a>>) -> Result<Asked<'a>, InputFault>
+    ensures { (entries : Option (List (List ℕ)))
+        → judged entries result
+        ≡ of_parts (Some (record {
+          tag = bytes_of tag.entry;
+          entries = entries;
+          option = option_map bytes_of option.entry;
+        })) }
 {
-    let Some(tag) = text_within(parts.tag, TAG_LIMIT) else {
+    let Some(tag) = text_within(tag, TAG_LIMIT) else {
         return Err(InputFault::BadTag);
     };
-    let said = read_option(parts.option)?;
+    let said = read_option(option)?;
     if said.compressed {
         return Err(InputFault::Compressed);
     }
@@ -52,7 +56,7 @@ pub(crate) fn judge(parts: Parts<'_>) -> Result<Asked<'_>, InputFault>
 }
 
 /// One entry, if it is one, and room behind it for so many bytes more.
-fn read_one(
+pub(crate) fn read_one(
     alloc: Global,
     entry: Option<Entry<'_>>,
     more: usize,
@@ -124,7 +128,7 @@ pub fn read_request(alloc: Global, value: Value<'_>, limits: Limits) -> Result<R
     let Some(parts) = Parts::of(value) else {
         return Ok(Reading::Fails(InputFault::BadShape));
     };
-    match judge(parts) {
+    match judge(parts.tag, parts.option) {
         Ok(asked) => read_asked(alloc, parts.entries, asked, limits.depth),
         Err(fault) => Ok(Reading::Fails(fault)),
     }

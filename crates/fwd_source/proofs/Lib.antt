@@ -5,4 +5,6 @@ pub mod Continuing
 pub mod Faulty
 pub mod Following
 pub mod Pieces
+pub mod Refusing
+pub mod Fronted
 pub mod Examples

@@ -1,8 +1,11 @@
 -- What a connection asks for, in the words of its values, each read by itself.
-use Rattle.std.specs.Prelude.{ℕ, Bool, List, [], ◌∷◌, map, filter_map, take_while, Option, Some, None, is_none}
+use Rattle.std.specs.Prelude.{◌≡◌, ◌≢◌, ℕ, Bool, List, [], ◌∷◌, map, filter_map, take, take_while, Option, Some, None, is_none}
 use Rattle.std.specs.Option.{option_or}
-use Rattle.fwd_msgpack.specs.Scans.{Split, values_of}
+use Rattle.fwd_msgpack.specs.declared.limits.Limits.{Limits}
+use Rattle.fwd_msgpack.specs.Scans.{Split, Whole, first_of, values_of}
 use Rattle.fwd_msgpack.specs.Scans.Split.{Open, Broken}
+use Rattle.fwd_modes.specs.declared.fault.InputFault.{InputFault}
+use Rattle.fwd_modes.specs.declared.fault.InputFault.TheVariants.{BadEntry}
 use Rattle.fwd_modes.specs.Requests.{Request, Reading, request_of}
 use Rattle.fwd_modes.specs.Requests.Reading.{Heartbeat, Asks, Fails}
 use Rattle.fwd_source.specs.declared.fault.SourceFault.{SourceFault}
@@ -45,3 +48,11 @@ requests_in deep split = filter_map asked_by (take_while is_good (readings_of de
 -- the leftmost fault of a stream: that of its first faulty value, or else the one behind its values
 abbrev pub leftmost_fault : (deep : ℕ) → Split → Option SourceFault
 leftmost_fault deep split = first_wrong (readings_of deep split) (fault_behind split)
+
+-- the first value of the bytes is no request, by its shape, tag, option or compression
+pub record IsRefused (limits : Limits) (bytes : List ℕ) : Type 0 where
+  pub size : ℕ
+  pub whole : first_of limits.bytes limits.depth bytes ≡ Whole size
+  pub fault : InputFault
+  pub fails : request_of limits.depth (take size bytes) ≡ Fails fault
+  pub beside : fault ≢ BadEntry

@@ -1,12 +1,13 @@
 -- What the parts of a hearing show, in the words of the definitions.
-use Rattle.std.specs.Prelude.{◌≡◌, if◌then◌else◌, option_map, ℕ, ◌+◌, ◌-◌, ◌≤◌, false, List, [], ◌++◌, length, take, drop, Option, Some, None}
+use Rattle.std.specs.Prelude.{◌≡◌, if◌then◌else◌, option_map, ℕ, ◌+◌, ◌-◌, ◌<◌, ◌≤◌, false, List, [], ◌++◌, length, take, drop, Option, Some, None}
 use Rattle.fwd_msgpack.specs.declared.limits.Limits.{Limits}
 use Rattle.fwd_msgpack.specs.declared.fault.ScanFault.{ScanFault}
 use Rattle.fwd_msgpack.specs.declared.scanner.Fed.{Fed}
 use Rattle.fwd_msgpack.specs.declared.scanner.Fed.TheVariants as feds
 use Rattle.fwd_msgpack.specs.Scans.{Verdict, Whole, Short, Bad, first_of}
 use Rattle.fwd_msgpack.specs.Scanners.{Standing, IsBehind, fresh}
-use Rattle.fwd_modes.specs.Requests.{Request, Reading}
+use Rattle.fwd_modes.specs.Requests.{Request, Reading, request_of}
+use Rattle.fwd_modes.specs.Requests.Reading.{Asks}
 use Rattle.fwd_handshake.specs.declared.verdict.PingVerdict.{PingVerdict}
 use Rattle.fwd_handshake.specs.declared.verdict.PingVerdict.TheVariants.{Pass}
 use Rattle.fwd_source.specs.declared.fault.SourceFault.{SourceFault}
@@ -59,6 +60,14 @@ TakesIn old new count reading (Some fault) =
     (others : ℕ → Judged)
     → joined old [] (asked (count + length old) reading others)
     ≡ record { requests = new; rest = []; pong = []; awaits = false; fault = Some fault }
+
+-- the bytes begin, within the limits, with a value of so many bytes that asks for this
+pub record BeginsAsking (limits : Limits) (bytes : List ℕ) (request : Request) (len : ℕ)
+    : Type 0 where
+  pub whole : first_of limits.bytes limits.depth bytes ≡ Whole len
+  pub asks : request_of limits.depth (take len bytes) ≡ Asks request
+  pub some : 0 < len
+  pub within : len ≤ length bytes
 
 -- what a greeting says of the bytes where a PING is awaited
 abbrev pub Greets : Limits → (List ℕ → PingVerdict) → ℕ → List ℕ → Greeting

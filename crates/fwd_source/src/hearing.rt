@@ -1,16 +1,19 @@
 //! What a connection's bytes say where no PING is awaited: its requests, the bytes of an unfinished
 //! value, and the leftmost fault.
 
-ghost use Rattle.std.specs.Prelude.{◌≡◌, ◌+◌, ◌≤◌, ◌<◌, ◌^◌, [], None, Some, false, IfOk, length, take};
+ghost use Rattle.std.specs.Prelude.{◌≡◌, ◌≢◌, ◌+◌, ◌≤◌, ◌<◌, ◌^◌, [], None, Some, false, IfOk, IfSome, IsOk, length, take};
 ghost use Rattle.fwd_msgpack.specs.Values.{bytes_of};
+ghost use Rattle.fwd_modes.specs.declared.fault.InputFault.{InputFault};
 ghost use Rattle.fwd_modes.specs.Requests.{request_of};
+ghost use Rattle.fwd_modes.specs.Requests.Reading.{Asks as asks, Fails as fails};
+ghost use Rattle.fwd_source.specs.Asked.{IsRefused};
 ghost use Rattle.fwd_source.specs.Judged.{judged_of};
 ghost use Rattle.fwd_msgpack.specs.Scanners.{IsBehind};
-ghost use Rattle.fwd_source.specs.Hearing.{shown, IsEndOf, StandsOver, TakesIn};
+ghost use Rattle.fwd_source.specs.Hearing.{shown, BeginsAsking, IsEndOf, StandsOver, TakesIn};
 
 use crate::fault::SourceFault;
 use fwd_base::Bytes;
-use fwd_modes::{Batch, Reading, read_request};
+use fwd_modes::{Batch, Front, InputFault, Reading, read_front, read_request};
 use fwd_msgpack::{Limits, Next, Scanner, Value};
 use std::alloc::{AllocError, Global};
 
@@ -33,6 +36,25 @@ pub struct SourceHeard<'a> {
     pub fault: Option<SourceFault>,
 }
 
+/// Adds a request, or answers that there can be no more. On an error nothing has changed.
+fn add(
+    requests: &mut Vec<Batch>,
+    count: u64,
+    request: Batch,
+) -> Result<Option<SourceFault>, AllocError>
+    requires { count + length requests.old.items < 2 ^ 64 }
+    ensures value { IfOk result (λ fault.
+        TakesIn requests.old.items requests.new.items count (asks request) fault) }
+    ensures room { count + length requests.new.items < 2 ^ 64 }
+{
+    let number = count + requests.len() as u64;
+    if number == u64::MAX {
+        return Ok(Some(SourceFault::Closed));
+    }
+    requests.push(request)?;
+    Ok(None)
+}
+
 /// Adds what a value asks for, or answers what is wrong with it. On an error nothing has changed.
 fn take_in(
     alloc: Global,
@@ -46,19 +68,26 @@ fn take_in(
         TakesIn requests.old.items requests.new.items count
         (request_of limits.depth (bytes_of value.entry)) fault) }
     ensures room { count + length requests.new.items < 2 ^ 64 }
+    ensures refused { (fault : InputFault) → fault ≢ InputFault.BadEntry
+        → request_of limits.depth (bytes_of value.entry) ≡ fails fault
+        → result ≡ Ok (Some (SourceFault.Input fault)) }
 {
     match read_request(alloc, value, limits)? {
         Reading::Heartbeat => Ok(None),
         Reading::Fails(fault) => Ok(Some(SourceFault::Input(fault))),
-        Reading::Asks(batch) => {
-            let number = count + requests.len() as u64;
-            if number == u64::MAX {
-                return Ok(Some(SourceFault::Closed));
-            }
-            requests.push(batch)?;
-            Ok(None)
-        }
+        Reading::Asks(request) => add(requests, count, request),
     }
+}
+
+/// The request at the front of bytes of which none was scanned, where `read_front` knows it.
+fn front_of(alloc: Global, bytes: &[u8], scanned: usize, limits: Limits) -> Option<Front>
+    ensures { IfSome result (λ front.
+        BeginsAsking limits bytes.now front.request front.len × (scanned ≡ 0)) }
+{
+    if scanned > 0 {
+        return None;
+    }
+    read_front(alloc, bytes, limits)
 }
 
 /// Requests, and a fault behind them.
@@ -100,12 +129,20 @@ pub fn hear<'a>(
     ensures limits { scanner.new.limits ≡ scanner.old.limits }
     ensures room { IfOk result (λ heard. count + length heard.requests.items < 2 ^ 64) }
     ensures no_pong { IfOk result (λ heard. heard.pong ≡ []) }
+    ensures refused { IsRefused scanner.old.limits unjudged.entry.bytes.now → IsOk result }
 {
     let limits = scanner.limits();
     let mut requests = Vec::new(alloc);
     let mut rest = unjudged.bytes;
     let mut scanned = unjudged.scanned;
     'values: loop {
+        if let Some(front) = front_of(alloc, rest, scanned, limits) {
+            if let Some(fault) = add(&mut requests, count, front.request)? {
+                return Ok(failed(alloc, requests, fault));
+            }
+            rest = &rest[front.len..];
+            continue;
+        }
         match scanner.next_value(rest, scanned) {
             Next::Unfinished => {
                 return Ok(SourceHeard {

@@ -21,6 +21,7 @@ ghost use Rattle.std.specs.Prelude.{
 ghost use Rattle.std.specs.Option.{option_map};
 ghost use Rattle.std.specs.Arc.{arc_value};
 ghost use Rattle.fwd_source.specs.History.{Setup, opening_text, told};
+ghost use Rattle.fwd_source.specs.Asked.{IsRefused};
 ghost use Rattle.fwd_source.specs.Hearing.{fault_in};
 ghost use Rattle.fwd_source.specs.Live.{
   opened_source,
@@ -340,6 +341,8 @@ impl Source {
         ensures out { IfOk result (λ told. told.out ≡ live_piece_out self.old.live bytes.now) }
         ensures live { OnOk result (self.new.live ≡ live_piece_next self.old.live bytes.now) }
         ensures err { OnErr result (self.new.live ≡ self.old.live) }
+        ensures refused { self.old.live.awaits ≡ false
+            → IsRefused self.old.live.setup.limits bytes.now → IsOk result }
         ensures room { length self.old.live.unsent + self.old.room
             ≤ length self.new.live.unsent + self.new.room }
     {
@@ -488,6 +491,8 @@ impl Source {
         ensures out { IfOk result (λ told. told.out ≡ live_piece_out self.old.live bytes.now) }
         ensures live { OnOk result (self.new.live ≡ live_piece_next self.old.live bytes.now) }
         ensures err { OnErr result (self.new.live ≡ self.old.live) }
+        ensures refused { self.old.live.awaits ≡ false → self.old.live.rest ≡ []
+            → IsRefused self.old.live.setup.limits bytes.now → IsOk result }
         ensures room { length self.old.live.unsent + self.old.room
             ≤ length self.new.live.unsent + self.new.room }
     {
@@ -527,7 +532,8 @@ impl Source {
 
     /// More bytes come. After a fault and once shut, each further piece is refused. On an error
     /// nothing has changed. A fault of MessagePack in the value that was unfinished, or in the
-    /// first one of the piece, is never answered as out of memory.
+    /// first one of the piece, is never answered as out of memory; nor is a fault of shape, tag,
+    /// option or compression in the first one, where nothing was unfinished and no PING is awaited.
     #[tactic(auto, unfolding(crate::specs::Live::source_hears))]
     pub fn piece(&mut self, alloc: Global, bytes: &[u8]) -> Result<SourceTold, AllocError>
         ensures answer { IfOk result (λ told.
@@ -540,6 +546,8 @@ impl Source {
             (fault : ScanFault)
             → first_of limits.bytes limits.depth (self.old.live.rest ++ bytes.now) ≡ Bad fault
             → IsOk result }
+        ensures refused { self.old.live.awaits ≡ false → self.old.live.rest ≡ []
+            → IsRefused self.old.live.setup.limits bytes.now → IsOk result }
         // What may wait to be sent without more memory is as much as before.
         ensures room { length self.old.live.unsent + self.old.room
             ≤ length self.new.live.unsent + self.new.room }

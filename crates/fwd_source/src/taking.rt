@@ -7,9 +7,12 @@ ghost use Rattle.std.specs.Prelude.{
   ◌<◌,
   ◌^◌,
   ◌++◌,
+  [],
   None,
   true,
+  false,
   IfOk,
+  IsOk,
   OnErr,
   OnOk,
   length,
@@ -19,6 +22,7 @@ ghost use Rattle.std.specs.Prelude.{
   vec_capacity,
 };
 ghost use Rattle.fwd_msgpack.specs.Scanners.{IsBehind};
+ghost use Rattle.fwd_source.specs.Asked.{IsRefused};
 ghost use Rattle.fwd_source.specs.Judged.{judged_of};
 ghost use Rattle.fwd_source.specs.Hearing.{
   awaited_by,
@@ -78,6 +82,8 @@ fn judge<'a>(
     ensures limits { scanner.new.limits ≡ scanner.old.limits }
     ensures room { IfOk result (λ heard.
         asker.now.count + length heard.requests.items < 2 ^ 64) }
+    ensures refused { asker.now.awaits ≡ false
+        → IsRefused scanner.old.limits unjudged.entry.bytes.now → IsOk result }
 {
     let Asker {
         security,
@@ -100,7 +106,11 @@ fn apart(alloc: Global, rest: &[u8], unjudged: Unjudged<'_>) -> Result<Option<Ve
     ensures kept { IfOk result (λ apart.
         kept_of unjudged.entry.bytes.now (option_map (λ v. v.items) apart) ≡ rest.now) }
     ensures own { IfOk result (λ apart. unjudged.entry.scanned ≡ 0 → is_some apart ≡ true) }
+    ensures none { rest.now ≡ [] → IsOk result }
 {
+    if rest.is_empty() {
+        return Ok(Some(Vec::new(alloc)));
+    }
     if rest.len() == unjudged.bytes.len() && unjudged.scanned > 0 {
         return Ok(None);
     }
@@ -119,6 +129,7 @@ fn enter(
     ensures err { OnErr result ((waiting.new.items ≡ waiting.old.items)
         × (unsent.new.items ≡ unsent.old.items)) }
     ensures room { vec_capacity unsent.old ≤ vec_capacity unsent.new }
+    ensures none { requests.items ≡ [] → pong.now ≡ [] → IsOk result }
 {
     unsent.reserve(pong.len())?;
     let mut requests = VecDeque::from_vec(requests);
@@ -156,6 +167,8 @@ pub fn take_all(
     ensures err { OnErr result ((waiting.new.items ≡ waiting.old.items)
         × (unsent.new.items ≡ unsent.old.items)) }
     ensures room { vec_capacity unsent.old ≤ vec_capacity unsent.new }
+    ensures refused { asker.now.awaits ≡ false
+        → IsRefused scanner.old.limits unjudged.entry.bytes.now → IsOk result }
 {
     let SourceHeard {
         requests,

@@ -1,9 +1,11 @@
-use Rattle.std.proofs.Common.{rules, ◌≡◌, ◌+◌, List, ℕ, [], length, take, drop, Some, sym, ap, subst, ◌∙◌, arith}
+use Rattle.std.proofs.Common.{◌≡◌, ◌+◌, List, ℕ, [], length, take, drop, Some, sym, ap, subst, ◌∙◌, arith}
 use Rattle.std.specs.Prelude.{IfSome, unwrap_or}
 use Rattle.std.specs.Option.{option_copied}
 use Rattle.std.proofs.lemmas.List.{length-append}
 use Rattle.fwd_msgpack.specs.Values.{bytes_of}
 use Rattle.fwd_modes.specs.Requests.Reading.{Asks}
+use Rattle.fwd_modes.specs.Readings.{entries_given}
+use Rattle.fwd_modes.specs.declared.parts.Given.TheVariants.{Packed}
 use Rattle.fwd_modes.specs.Entries.{AreCut, AreFull, cut_at, packed_entries}
 use Rattle.fwd_modes.proofs.EntryLemmas.{full_packed}
 use Rattle.fwd_modes.proofs.Moving.{found_asks, tag_in, chunk_in, chunk_bound}
@@ -20,7 +22,7 @@ returns c =
     let names = c.in_ok-names.names.items in
     let entries : packed_entries depth text ≡ Some (cut_at 0 ends text) = subst (λ f. IfSome f (λ ends. packed_entries depth text ≡ Some (cut_at 0 ends.items text))) c.in-Some-2.is c.in_ok-ends.ensures.entries in
     let cut : AreCut 0 ends text = subst (λ f. IfSome f (λ ends. AreCut 0 ends.items text)) c.in-Some-2.is c.in_ok-ends.ensures.cut in
-    let asks = found_asks depth bytes given asked text ends (sym c.is_nil.ensures ∙ c.if-is_nil.false) c.in-Some.ensures (c.in-Ok.ensures depth) (sym c.in-Some-text.ensures.value) entries in
+    let asks = found_asks depth bytes given asked text ends (sym c.is_nil.ensures ∙ c.if-is_nil.false) c.in-Some.ensures (c.in-Ok.ensures (entries_given depth (Packed given.packed))) (sym c.in-Some-text.ensures.value) entries in
     let tag = tag_in asked.tag.now _ names c.in_ok-names.ensures in
     let chunk = chunk_in asked.tag.now names asked.chunk c.is_some.result c.is_some.ensures c.in_ok-names.ensures in
     let text_at : take (length text) (drop c.place_of-first.result bytes) ≡ text = c.place_of-first.ensures.place in

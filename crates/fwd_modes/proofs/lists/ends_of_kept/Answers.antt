@@ -20,8 +20,8 @@ entries-preserved c =
     let added : c.add_end.new.ends.items ≡ c.entries.ends.items ++ (used + len) ∷ [] = search rules in
     rw added (record {
       inside = omega (arith, length-drop used packed, within);
-      cut = cut_grows depth packed c.entries.ends.items used len inside some c.entries.invariant.cut front.whole within;
-      said = said_grows depth packed c.entries.ends.items used len inside some c.entries.invariant.cut front.whole within front.kept c.entries.invariant.said;
+      cut = cut_grows packed c.entries.ends.items used len inside c.entries.invariant.cut within;
+      said = said_grows packed c.entries.ends.items used len inside c.entries.invariant.cut within depth some front.whole front.kept c.entries.invariant.said;
     })
 
 pub returns-clause-entries : goal.returns-clause-entries

@@ -28,7 +28,7 @@ returns-in-Err c =
     let depth = c.args.limits.depth in
     let bytes = bytes_of c.args.value in
     let some : option_and_then (parts_in depth) (elements_of bytes) ≡ Some (parts_shown depth c.in-Some.parts) = sym (c.in-Some.ensures depth) in
-    let judged = c.in-Err.ensures depth in
+    let judged = c.in-Err.ensures (entries_given depth c.in-Some.parts.entries) in
     let said : fails c.in-Err.fault ≡ request_of depth bytes = rw (sym c.is_nil.ensures, c.if-is_nil.false, some) judged in
     record {
       value = said;
@@ -42,7 +42,7 @@ returns-in-Ok-clause-skipped c = λ h.
     let depth = c.args.limits.depth in
     let bytes = bytes_of c.args.value in
     let some : option_and_then (parts_in depth) (elements_of bytes) ≡ Some (parts_shown depth c.in-Some.parts) = sym (c.in-Some.ensures depth) in
-    let judged = c.in-Ok.ensures depth in
+    let judged = c.in-Ok.ensures (entries_given depth c.in-Some.parts.entries) in
     let said : _ ≡ request_of depth bytes = rw (sym c.is_nil.ensures, c.if-is_nil.false, some) judged in
     absurd (no_heartbeat (entries_given depth c.in-Some.parts.entries) c.in-Ok.asked (said ∙ h))
 
@@ -52,6 +52,6 @@ returns-in-Ok-clause-refused c = λ fault other h.
     let depth = c.args.limits.depth in
     let bytes = bytes_of c.args.value in
     let some : option_and_then (parts_in depth) (elements_of bytes) ≡ Some (parts_shown depth c.in-Some.parts) = sym (c.in-Some.ensures depth) in
-    let judged = c.in-Ok.ensures depth in
+    let judged = c.in-Ok.ensures (entries_given depth c.in-Some.parts.entries) in
     let said : _ ≡ request_of depth bytes = rw (sym c.is_nil.ensures, c.if-is_nil.false, some) judged in
     absurd (other (only_bad_entry (entries_given depth c.in-Some.parts.entries) c.in-Ok.asked fault (said ∙ h)))

@@ -1,4 +1,5 @@
 use Rattle.std.proofs.Common.{◌≡◌, ◌+◌, ◌^◌, ◌<◌, None, [], length, take, ◌≤◌}
+use Rattle.fwd_source.specs.Asked.{IsRefused}
 use Rattle.fwd_source.specs.Judged.{judged_of, joined}
 use Rattle.fwd_msgpack.specs.Scanners.{IsBehind}
 use Rattle.fwd_source.specs.Hearing.{IsEndOf}
@@ -15,6 +16,7 @@ invariant-values l = record {
   within : l.scanned ≤ length l.rest;
   behind : IsBehind l.fn.scanner.limits (take l.scanned l.rest) l.scanner;
   room : l.fn.count + length l.requests.items < 2 ^ 64;
+  first : IsRefused l.fn.scanner.limits l.fn.unjudged.bytes.now → l.rest ≡ l.fn.unjudged.bytes.now;
 }
 
 abbrev pub decreases-values : goal.decreases-values

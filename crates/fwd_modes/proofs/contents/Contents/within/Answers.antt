@@ -1,7 +1,6 @@
-use Rattle.std.proofs.Common.{rules, ◌≡◌, ◌+◌, cond, List, ℕ, [], ◌++◌, length, take, drop, Some, None, sym, ap, subst, ◌∙◌, arith}
+use Rattle.std.proofs.Common.{rules, ◌≡◌, ◌+◌, cond, List, ℕ, ◌++◌, take, drop, Some, None, sym, subst, arith}
 use Rattle.fwd_modes.specs.Entries.{AreCut, AreFull, cut_at}
-use Rattle.fwd_modes.specs.Requests.{Request}
-use Rattle.fwd_modes.proofs.Moving.{cut_off, names_behind, entries_stay, cut_len}
+use Rattle.fwd_modes.proofs.Moving.{names_behind, entries_stay, cut_len}
 use Rattle.fwd_modes.proofs.contents.Contents.within.Goals as goal
 
 pub invariant_of-result : goal.invariant_of-result
