@@ -5,6 +5,7 @@ use Rattle.std.proofs.lemmas.List.{take_at, drop_at, length-take-le}
 use Rattle.std.proofs.lemmas.List.Folds.{concat-append}
 use Rattle.std.proofs.lemmas.Option.{same_Some}
 use Rattle.std.proofs.lemmas.Bool.{ltb-true}
+use Rattle.fwd_modes.specs.Entries.{AreFull}
 use Rattle.fwd_chunks.specs.Rows.{joined, bytes_each, AreLong, bytes_behind, IsBegun, StandsIn}
 
 -- one row more
@@ -27,6 +28,11 @@ pub each_joined : (rows : List (List (List ℕ)))
     → concat (bytes_each rows) ≡ concat (joined rows)
 each_joined [] = refl
 each_joined (row ∷ rows) = ap (λ bs. concat row ++ bs) (each_joined rows) ∙ sym (concat-append row (joined rows))
+
+-- each row's bytes are some
+pub each_full : (rows : List (List (List ℕ))) → AreLong rows → AreFull (bytes_each rows)
+each_full [] long = tt
+each_full (row ∷ rows) long = (long.0, each_full rows long.1)
 
 -- ---- what is left
 

@@ -14,7 +14,7 @@ ghost use Rattle.std.specs.Prelude.{
   OnErr,
 };
 ghost use Rattle.std.specs.List.{concat};
-ghost use Rattle.fwd_modes.specs.Entries.{ends_of};
+ghost use Rattle.fwd_modes.specs.Entries.{AreFull, ends_of};
 ghost use Rattle.fwd_chunks.specs.Cells.{size_of};
 ghost use Rattle.fwd_chunks.specs.Parts.{entries_in};
 ghost use Rattle.fwd_chunks.specs.Pieces.{parts_left};
@@ -62,7 +62,8 @@ impl Body {
     /// The entries' bytes, in the pieces that they lie in, in order. Joined they are less than 2^32
     /// bytes, and each piece has one.
     pub fn parts(&self) -> Parts<'_>
-        ensures { concat (parts_left result) ≡ concat self.now }
+        ensures joined { concat (parts_left result) ≡ concat self.now }
+        ensures full { AreFull (parts_left result) }
     {
         Parts::new(self.slices.as_slice())
     }

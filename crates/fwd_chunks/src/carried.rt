@@ -1,6 +1,6 @@
 ghost use Rattle.std.specs.Prelude.{◌≡◌, ◌≤◌, ◌↔◌, IsTrue, length};
 ghost use Rattle.std.specs.List.{concat};
-ghost use Rattle.fwd_modes.specs.Entries.{ends_of};
+ghost use Rattle.fwd_modes.specs.Entries.{AreFull, ends_of};
 ghost use Rattle.fwd_chunks.specs.Pieces.{parts_left};
 ghost use Rattle.fwd_chunks.specs.Endings.{ends_left};
 
@@ -67,9 +67,10 @@ impl Carried {
     }
 
     /// The entries as they are kept, one after the other, in the pieces that they lie in: less than
-    /// 2^32 bytes.
+    /// 2^32 bytes, and each piece has one.
     pub fn parts(&self) -> Parts<'_>
-        ensures { concat (parts_left result) ≡ concat self.now.entries }
+        ensures joined { concat (parts_left result) ≡ concat self.now.entries }
+        ensures full { AreFull (parts_left result) }
     {
         self.entries.parts()
     }

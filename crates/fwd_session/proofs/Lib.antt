@@ -11,3 +11,4 @@ pub mod Unsent
 pub mod Carrying
 pub mod Firsts
 pub mod Judging
+pub mod Silence

@@ -83,3 +83,7 @@ shown before h = record {
 -- what was heard, and then what the rest says
 abbrev pub before_others : (out : List ℕ) → (replies : List (List ℕ)) → Said → Said
 before_others out replies s = record s { out = out ++ s.out; replies = replies ++ s.replies }
+
+-- where a value takes the handshake on, nothing is to be sent for it
+abbrev pub GreetsInSilence : Word → Type 0
+GreetsInSilence word = (out : List ℕ) (next : Handshake) → word ≡ Greets out next → out ≡ []

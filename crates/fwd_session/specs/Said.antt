@@ -1,6 +1,6 @@
 -- What a server's bytes say to a session: its side of the handshake (Forward Protocol Specification
 -- v1, "Handshake Messages"), and then its acknowledgements ("Response").
-use Rattle.std.specs.Prelude.{ℕ, Bool, false, List, [], ◌∷◌, ◌++◌, drop, length, find, Option, Some, None, is_some, if◌then◌else◌}
+use Rattle.std.specs.Prelude.{◌≡◌, ℕ, Bool, false, List, [], ◌∷◌, ◌++◌, drop, length, find, Option, Some, None, is_some, if◌then◌else◌}
 use Rattle.std.specs.List.{list_any}
 use Rattle.std.specs.Str.{bytes_eq}
 use Rattle.fwd_msgpack.specs.Scans.{Split, split_of, values_of, is_nil}
@@ -134,6 +134,10 @@ failing f at = record { handshake = at; out = []; replies = []; fault = Some f }
 -- what is sent, before what comes after it
 abbrev pub sending : List ℕ → Said → Said
 sending out s = record s { out = out ++ s.out }
+
+-- what is said asks for nothing: nothing is to be sent for it, and no chunk is acknowledged
+abbrev pub AsksForNothing : Said → Type 0
+AsksForNothing s = (s.out ≡ []) × (s.replies ≡ [])
 
 -- an acknowledgement, and what comes after it
 abbrev pub acking : List ℕ → Said → Said

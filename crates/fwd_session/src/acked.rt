@@ -2,7 +2,7 @@
 
 ghost use Rattle.std.specs.Prelude.{◌≡◌, IfOk, length};
 ghost use Rattle.std.specs.List.{concat};
-ghost use Rattle.fwd_modes.specs.Entries.{ends_of};
+ghost use Rattle.fwd_modes.specs.Entries.{AreFull, ends_of};
 ghost use Rattle.fwd_chunks.specs.Pieces.{parts_left};
 ghost use Rattle.fwd_chunks.specs.Endings.{ends_left};
 
@@ -75,9 +75,11 @@ impl Acked {
         self.tag.as_slice()
     }
 
-    /// The entries as they were sent, one after the other, in the pieces that they lie in.
+    /// The entries as they were sent, one after the other, in the pieces that they lie in. Each
+    /// piece has a byte.
     pub fn parts(&self) -> Parts<'_>
-        ensures { concat (parts_left result) ≡ concat self.now.entries }
+        ensures joined { concat (parts_left result) ≡ concat self.now.entries }
+        ensures full { AreFull (parts_left result) }
     {
         self.entries.parts()
     }

@@ -17,6 +17,7 @@ ghost use Rattle.std.specs.Arc.{arc_value};
 ghost use Rattle.fwd_handshake.specs.Shown.{salt_bytes};
 ghost use Rattle.fwd_msgpack.specs.Values.{bytes_of};
 ghost use Rattle.fwd_session.specs.Said.{
+  AsksForNothing,
   helo_word,
   pong_word,
   ack_word,
@@ -26,6 +27,7 @@ ghost use Rattle.fwd_session.specs.Said.{
   rest_of,
 };
 ghost use Rattle.fwd_handshake.specs.Verdicts.{helo_answer, pong_verdict};
+ghost use Rattle.fwd_handshake.specs.declared.verdict.HeloAnswer.TheVariants.{NotHelo};
 ghost use Rattle.fwd_modes.specs.Acks.{ack_name};
 ghost use Rattle.fwd_session.specs.History.{is_done};
 ghost use Rattle.fwd_session.specs.Flights.{awaited_of};
@@ -37,6 +39,7 @@ ghost use Rattle.fwd_session.specs.Hearing.{
   IsAckedAt,
   IsAckOf,
   AreAcksOf,
+  GreetsInSilence,
   Points,
 };
 
@@ -86,8 +89,10 @@ pub(crate) struct Hearing<'a> {
 
 /// What a value says where HELO is awaited.
 fn helo_verdict(alloc: Global, peer: &Peer<'_>, value: Value<'_>) -> Result<Verdict, AllocError>
-    ensures { IfOk result (λ verdict. word_in verdict ≡ helo_word
+    ensures word { IfOk result (λ verdict. word_in verdict ≡ helo_word
         (helo_answer peer.now.login.now (salt_bytes peer.now.salt) (bytes_of value.entry))) }
+    ensures other { helo_answer peer.now.login.now (salt_bytes peer.now.salt)
+        (bytes_of value.entry) ≡ NotHelo → IsOk result }
 {
     match answer_helo(alloc, value, peer.login, peer.salt)? {
         HeloAnswer::NotHelo => Ok(Verdict::Fails(SessionFault::NotHelo)),
@@ -151,6 +156,8 @@ fn verdict_on(
     ensures points { IfOk result (λ verdict.
         Points unacked.now (bytes_of value.entry) verdict) }
     ensures sure { is_done at.now ≡ true → IsOk result }
+    ensures quiet { GreetsInSilence (word_of peer.now.login.now (salt_bytes peer.now.salt) at.now
+        (awaited_of unacked.now) (bytes_of value.entry)) → IsOk result }
     ensures done { is_done at.now ≡ true → IfOk result (λ verdict. is_greeting verdict ≡ false) }
 {
     if value.is_nil() {
@@ -219,6 +226,8 @@ pub(crate) fn hear<'a>(
     ensures sure { is_done before.now ≡ true →
         (said_in peer.now.login.now (salt_bytes peer.now.salt) before.now
         (awaited_of unacked.entry) (reply_stream bytes.now)).replies ≡ [] → IsOk result }
+    ensures quiet { AsksForNothing (said_in peer.now.login.now (salt_bytes peer.now.salt)
+        before.now (awaited_of unacked.entry) (reply_stream bytes.now)) → IsOk result }
 {
     let mut unacked = unacked;
     let mut handshake = None;

@@ -31,7 +31,7 @@ ghost use Rattle.fwd_session.specs.Hearing.{
 };
 ghost use Rattle.fwd_chunks.specs.History.{Load};
 ghost use Rattle.fwd_session.specs.Flights.{live_pending};
-ghost use Rattle.fwd_session.specs.Said.{left_by, accepted_by, out_of, reply_stream, rest_of};
+ghost use Rattle.fwd_session.specs.Said.{AsksForNothing, left_by, accepted_by, out_of, reply_stream, rest_of};
 ghost use Rattle.fwd_session.specs.History.{is_done, told_of};
 ghost use Rattle.fwd_session.specs.Live.{
   falls_with,
@@ -83,6 +83,7 @@ impl Session {
             is_done self.now.handshake ≡ true → IsOver hearing) }
         ensures sure { is_done self.now.handshake ≡ true →
             (said_behind self.now bytes.now).replies ≡ [] → IsOk result }
+        ensures quiet { AsksForNothing (said_behind self.now bytes.now) → IsOk result }
     {
         let peer = Peer {
             server: self.server,
@@ -227,6 +228,8 @@ impl Session {
         ensures fault { is_done self.old.handshake ≡ true → self.old.rest ≡ [] →
             (live_says self.old bytes.now).fault ≢ None →
             (live_says self.old bytes.now).replies ≡ [] → IsOk result }
+        ensures quiet { self.old.rest ≡ [] → (live_says self.old bytes.now).fault ≢ None →
+            AsksForNothing (live_says self.old bytes.now) → IsOk result }
         ensures err { OnErr result (self.new ≡ self.old) }
     {
         if self.is_down() {

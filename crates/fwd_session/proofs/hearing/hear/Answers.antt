@@ -1,4 +1,4 @@
-use Rattle.std.proofs.Common.{rules, ◌≡◌, ℕ, List, [], ◌∷◌, ◌++◌, None, Some, unwrap_or, sym, ap, subst, ◌∙◌, append_assoc}
+use Rattle.std.proofs.Common.{rules, arith, length, ◌≡◌, ℕ, List, [], ◌∷◌, ◌++◌, None, Some, unwrap_or, sym, ap, subst, ◌∙◌, append_assoc}
 use Rattle.std.specs.Prelude.{remove}
 use Rattle.std.specs.Arc.{arc_value}
 use Rattle.fwd_handshake.specs.Shown.{salt_bytes}
@@ -11,7 +11,8 @@ use Rattle.fwd_session.specs.declared.hearing.Hearing.{Hearing}
 use Rattle.fwd_session.specs.Said.{Awaited, Word, Said, awaited_behind, sending, acking, word_of, word_then, said_in, reply_stream}
 use Rattle.fwd_session.specs.Said.Word.{Skipped, Greets, Acks, Fails}
 use Rattle.fwd_session.specs.Flights.{awaited_of}
-use Rattle.fwd_session.specs.Hearing.{AreAcksOf, IsAckedAt, IsAckOf, before_others, pending_behind, replies_of, word_in}
+use Rattle.fwd_session.specs.Hearing.{AreAcksOf, GreetsInSilence, IsAckedAt, IsAckOf, before_others, pending_behind, replies_of, word_in}
+use Rattle.fwd_session.proofs.Silence.{sent_in_silence}
 use Rattle.fwd_session.proofs.Saying.{said_next, rest_next}
 use Rattle.fwd_session.proofs.Judging.{acks_join, acks_push, acks_some, awaited_next, behind_push, shown_end}
 use Rattle.fwd_session.proofs.hearing.hear.Goals as goal
@@ -40,6 +41,65 @@ returns-in_err-push-in-Acks-clause-sure c done none =
     let goes : said_in login salt at awaited (reply_stream c.values.rest.now) ≡ word_then at awaited value (word_of login salt at awaited value) others = said_next login salt at awaited c.values.rest.now (next.Value c.in-Value.value c.in-Value.behind) c.in-Value.ensures.split in
     let word : word_of login salt at awaited value ≡ Acks = ap (λ g. word_of login salt g awaited value) (sym c.reached-at.ensures) ∙ sym c.in_ok-verdict_on-in-Value.ensures.word ∙ ap word_in c.in-Acks.is in
     absurd (acks_some (said_in login salt c.args.before.now (awaited_of c.args.unacked) (reply_stream c.args.bytes.now)) c.values.out.items (replies_of c.values.acks.items) (said_in login salt at awaited (reply_stream c.values.rest.now)) (others at (awaited_behind (value ∷ []) awaited)) value c.values.invariant.said (goes ∙ ap (λ (w : Word). word_then at awaited value w others) word) none)
+
+pub returns-in_err-accept-in-Acks-clause-quiet : goal.returns-in_err-accept-in-Acks-clause-quiet
+returns-in_err-accept-in-Acks-clause-quiet c asks =
+    let login = c.args.peer.now.login.now in
+    let salt = salt_bytes c.args.peer.now.salt in
+    let at : Handshake = unwrap_or c.values.handshake c.args.before.now in
+    let awaited = awaited_of c.values.unacked in
+    let value = bytes_of c.in-Value.value in
+    let others = λ (g : Handshake) (n : List Awaited). said_in login salt g n (reply_stream c.in-Value.behind.now) in
+    let goes : said_in login salt at awaited (reply_stream c.values.rest.now) ≡ word_then at awaited value (word_of login salt at awaited value) others = said_next login salt at awaited c.values.rest.now (next.Value c.in-Value.value c.in-Value.behind) c.in-Value.ensures.split in
+    let word : word_of login salt at awaited value ≡ Acks = ap (λ g. word_of login salt g awaited value) (sym c.reached-at.ensures) ∙ sym c.in_ok-verdict_on-in-Value.ensures.word ∙ ap word_in c.in-Acks.is in
+    absurd (acks_some (said_in login salt c.args.before.now (awaited_of c.args.unacked) (reply_stream c.args.bytes.now)) c.values.out.items (replies_of c.values.acks.items) (said_in login salt at awaited (reply_stream c.values.rest.now)) (others at (awaited_behind (value ∷ []) awaited)) value c.values.invariant.said (goes ∙ ap (λ (w : Word). word_then at awaited value w others) word) asks.1)
+
+pub returns-in_err-push-in-Acks-clause-quiet : goal.returns-in_err-push-in-Acks-clause-quiet
+returns-in_err-push-in-Acks-clause-quiet c asks =
+    let login = c.args.peer.now.login.now in
+    let salt = salt_bytes c.args.peer.now.salt in
+    let at : Handshake = unwrap_or c.values.handshake c.args.before.now in
+    let awaited = awaited_of c.values.unacked in
+    let value = bytes_of c.in-Value.value in
+    let others = λ (g : Handshake) (n : List Awaited). said_in login salt g n (reply_stream c.in-Value.behind.now) in
+    let goes : said_in login salt at awaited (reply_stream c.values.rest.now) ≡ word_then at awaited value (word_of login salt at awaited value) others = said_next login salt at awaited c.values.rest.now (next.Value c.in-Value.value c.in-Value.behind) c.in-Value.ensures.split in
+    let word : word_of login salt at awaited value ≡ Acks = ap (λ g. word_of login salt g awaited value) (sym c.reached-at.ensures) ∙ sym c.in_ok-verdict_on-in-Value.ensures.word ∙ ap word_in c.in-Acks.is in
+    absurd (acks_some (said_in login salt c.args.before.now (awaited_of c.args.unacked) (reply_stream c.args.bytes.now)) c.values.out.items (replies_of c.values.acks.items) (said_in login salt at awaited (reply_stream c.values.rest.now)) (others at (awaited_behind (value ∷ []) awaited)) value c.values.invariant.said (goes ∙ ap (λ (w : Word). word_then at awaited value w others) word) asks.1)
+
+pub returns-in_err-verdict_on-in-Value-clause-quiet :
+    goal.returns-in_err-verdict_on-in-Value-clause-quiet
+returns-in_err-verdict_on-in-Value-clause-quiet c asks =
+    let login = c.args.peer.now.login.now in
+    let salt = salt_bytes c.args.peer.now.salt in
+    let at : Handshake = unwrap_or c.values.handshake c.args.before.now in
+    let awaited = awaited_of c.values.unacked in
+    let value = bytes_of c.in-Value.value in
+    let others = λ (g : Handshake) (n : List Awaited). said_in login salt g n (reply_stream c.in-Value.behind.now) in
+    let goes : said_in login salt at awaited (reply_stream c.values.rest.now) ≡ word_then at awaited value (word_of login salt at awaited value) others = said_next login salt at awaited c.values.rest.now (next.Value c.in-Value.value c.in-Value.behind) c.in-Value.ensures.split in
+    let said = said_in login salt c.args.before.now (awaited_of c.args.unacked) (reply_stream c.args.bytes.now) in
+    let left = said_in login salt at awaited (reply_stream c.values.rest.now) in
+    let quiet : GreetsInSilence (word_of login salt at awaited value) =
+    λ ping next is. sent_in_silence said c.values.out.items (replies_of c.values.acks.items) left ping (others next awaited) c.values.invariant.said (goes ∙ ap (λ (w : Word). word_then at awaited value w others) is) asks.0 in
+    let no = c.verdict_on.ensures.quiet (subst (λ g. GreetsInSilence (word_of login salt g awaited value)) (sym c.reached-at.ensures) quiet) in
+    search rules
+
+pub returns-in_err-extend_from_slice-in-Greets-clause-quiet :
+    goal.returns-in_err-extend_from_slice-in-Greets-clause-quiet
+returns-in_err-extend_from_slice-in-Greets-clause-quiet c asks =
+    let login = c.args.peer.now.login.now in
+    let salt = salt_bytes c.args.peer.now.salt in
+    let at : Handshake = unwrap_or c.values.handshake c.args.before.now in
+    let awaited = awaited_of c.values.unacked in
+    let value = bytes_of c.in-Value.value in
+    let others = λ (g : Handshake) (n : List Awaited). said_in login salt g n (reply_stream c.in-Value.behind.now) in
+    let goes : said_in login salt at awaited (reply_stream c.values.rest.now) ≡ word_then at awaited value (word_of login salt at awaited value) others = said_next login salt at awaited c.values.rest.now (next.Value c.in-Value.value c.in-Value.behind) c.in-Value.ensures.split in
+    let said = said_in login salt c.args.before.now (awaited_of c.args.unacked) (reply_stream c.args.bytes.now) in
+    let left = said_in login salt at awaited (reply_stream c.values.rest.now) in
+    let word : word_of login salt at awaited value ≡ Greets c.in-Greets.ping c.in-Greets.next = ap (λ g. word_of login salt g awaited value) (sym c.reached-at.ensures) ∙ sym c.in_ok-verdict_on-in-Value.ensures.word ∙ ap word_in c.in-Greets.is in
+    let none : c.in-Greets.ping ≡ [] = sent_in_silence said c.values.out.items (replies_of c.values.acks.items) left c.in-Greets.ping (others c.in-Greets.next awaited) c.values.invariant.said (goes ∙ ap (λ (w : Word). word_then at awaited value w others) word) asks.0 in
+    let same : c.as_slice.result.now ≡ c.in-Greets.ping = search rules in
+    let ok = c.extend_from_slice.ensures.succeeds (omega (arith, ap length (same ∙ none), c.values.out.ok)) in
+    search rules
 
 pub values-preserved : goal.values-preserved
 values-preserved c =

@@ -1,7 +1,7 @@
 use Rattle.std.proofs.Common.{◌≡◌, ◌-◌, length, sym, ap, subst, ◌∙◌}
 use Rattle.std.specs.Prelude.{IfOk}
 use Rattle.fwd_handshake.specs.Shown.{salt_bytes}
-use Rattle.fwd_session.specs.Said.{Said}
+use Rattle.fwd_session.specs.Said.{AsksForNothing, Said}
 use Rattle.fwd_session.specs.History.{is_done}
 use Rattle.fwd_session.specs.Flights.{live_pending, pending_of}
 use Rattle.fwd_session.specs.Hearing.{AreAcksOf}
@@ -40,3 +40,12 @@ returns-clause-sure c done none =
     (c.as_salt.ensures ∙ ap (λ (v : LiveSession). v.setup.salt) c.self.view_is)
     (ap (λ (v : LiveSession). v.handshake) c.self.view_is)
     (awaits c)) ∙ none)
+
+pub returns-clause-quiet : goal.returns-clause-quiet
+returns-clause-quiet c asks =
+    c.hear.ensures.quiet
+    (subst AsksForNothing (sym (said-same c.args.self.now c.args.bytes.now c.deref.result.now (salt_bytes c.as_salt.result) c.self.inside.handshake c.of-unacked.result
+    (c.deref.ensures ∙ ap (λ (v : LiveSession). v.setup.login) c.self.view_is)
+    (c.as_salt.ensures ∙ ap (λ (v : LiveSession). v.setup.salt) c.self.view_is)
+    (ap (λ (v : LiveSession). v.handshake) c.self.view_is)
+    (awaits c))) asks)
