@@ -10,5 +10,6 @@ pub mod CarriedLemmas
 pub mod HandingLemmas
 pub mod WorkerLemmas
 pub mod LaneLemmas
+pub mod OutputLemmas
 pub mod ReturnLemmas
 pub mod StandingLemmas

@@ -22,8 +22,8 @@ use Rattle.std.specs.Prelude.{
 use Rattle.fwd_msgpack.specs.Scans.{Bad, first_of}
 use Rattle.fwd_msgpack.specs.declared.fault.ScanFault.{ScanFault}
 use Rattle.fwd_source.specs.Live.{LiveSource}
-use Rattle.fwd_session.specs.History.{is_done}
 use Rattle.fwd_session.specs.Live.{LiveSession, live_says}
+use Rattle.fwd_session.specs.Said.{AsksForNothing}
 use Rattle.fwd_model.specs.Layers.{Worker}
 use Rattle.fwd_model.specs.declared.event.Event.{Event}
 use Rattle.fwd_model.specs.declared.event.Event.TheVariants.{
@@ -106,13 +106,12 @@ pub record IsBadPiece (r : LiveRelay) (id : ℕ) (bytes : List ℕ) : Type 0 whe
   pub bad : first_of source.setup.limits.bytes source.setup.limits.depth (source.rest ++ bytes)
       ≡ Bad fault
 
--- what a session hears is at fault, and acknowledges nothing before that; its handshake is done, and
--- no value is unfinished
+-- what a session hears is at fault, and asks for nothing before that: nothing is to be sent for it,
+-- as never once the handshake is done, and no chunk is acknowledged; and no value is unfinished
 pub record IsBadReply (s : LiveSession) (bytes : List ℕ) : Type 0 where
-  pub greeted : is_done s.handshake ≡ true
   pub none_unfinished : s.rest ≡ []
   pub faulty : (live_says s bytes).fault ≢ None
-  pub none_accepted : (live_says s bytes).replies ≡ []
+  pub nothing : AsksForNothing (live_says s bytes)
 
 -- it is a worker's session that hears such bytes
 pub record IsBadFor (x : Worker LiveSession) (bytes : List ℕ) : Type 0 where

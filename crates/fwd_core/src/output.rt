@@ -83,6 +83,7 @@ ghost use Rattle.fwd_model.specs.Outputs.{
   live_loses,
 };
 ghost use Rattle.fwd_core.specs.Coupling.{IsCoupled};
+ghost use Rattle.fwd_core.specs.OutputEvents.{IsLiveOutput};
 ghost use Rattle.fwd_core.specs.Lanes.{AreHere, IsHandedBack, chunk_at, kept_back, lost_back};
 
 use fwd_book::{Book, Receipt};
@@ -120,13 +121,15 @@ impl Drop for OutputState {
 impl Model for OutputState {
     ghost use Rattle.fwd_model.specs.Outputs.{LiveOutput};
     ghost use Rattle.fwd_core.specs.Coupling.{IsCoupled};
+    ghost use Rattle.fwd_core.specs.OutputEvents.{IsLiveOutput};
 
     ghost Value = { LiveOutput };
 
     ghost view = { λ o.
         record { buffer = o.buffer; book = o.book.live; servers = o.servers } };
 
-    ghost invariant = { λ o. IsCoupled o.buffer o.book.live };
+    ghost invariant = { λ o. IsCoupled o.buffer o.book.live
+        × IsLiveOutput (record { buffer = o.buffer; book = o.book.live; servers = o.servers }) };
 }
 
 /// A chunk is put back, with a loss where one is handed in. One that no worker has from this buffer
@@ -219,11 +222,13 @@ impl OutputState {
         })
     }
 
-    /// What is true of every output's chunks, and of its requests. And what it shows as
-    /// acknowledged is what its requests need of it.
+    /// What is true of every output's chunks, and of its requests. What it shows as acknowledged
+    /// is what its requests need of it. And it is the live part of a history that a run of its own
+    /// events reaches.
     pub fn is_sound(&self)
         ensures chunks { IsSound self.now.buffer }
         ensures requests { IsSoundBook self.now.book }
+        ensures reached { IsLiveOutput self.now }
         ensures kept { evidence_for self.now.book.requests self.now.book.settled
             ≡ self.now.book.settled }
     {
@@ -515,6 +520,7 @@ impl OutputState {
             → IsOk result }
         ensures err { OnErr result (self.new ≡ self.old) }
     {
+        self.book.is_sound();
         let given = self.gather(alloc, origins)?;
         tell(&mut self.book, &given);
         Ok(given)

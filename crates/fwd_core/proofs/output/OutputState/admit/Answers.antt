@@ -1,12 +1,15 @@
-use Rattle.std.proofs.Common.{◌≡◌, map, sym, ap, subst, ◌∙◌}
+use Rattle.std.proofs.Common.{◌≡◌, None, map, refl, sym, ap, subst, ◌∙◌}
 use Rattle.std.specs.Prelude.{IfSome}
-use Rattle.fwd_chunks.specs.Live.{live_enters, live_spans}
+use Rattle.fwd_chunks.specs.Live.{live_enters, live_refusal, live_spans}
 use Rattle.fwd_chunks.specs.Spans.{AreCutBy, AreRising}
 use Rattle.fwd_chunks.proofs.Holding.{spans-cut, spans-rise}
-use Rattle.fwd_book.specs.History.{entered_as, are_fresh}
+use Rattle.fwd_book.specs.History.{entered_as, are_fresh, request_at}
 use Rattle.fwd_book.specs.Live as kept
 use Rattle.fwd_book.specs.Live.{BookState, ready_enters}
+use Rattle.fwd_model.specs.Outputs.{LiveOutput}
 use Rattle.fwd_core.specs.Coupling.{IsCoupled}
+use Rattle.fwd_core.specs.OutputEvents.{IsLiveOutput}
+use Rattle.fwd_core.proofs.OutputLemmas.{entered, none_refused}
 use Rattle.fwd_core.proofs.CouplingLemmas.{comes-fresh, enters-coupled}
 use Rattle.fwd_core.proofs.output.OutputState.admit.Goals as goal
 
@@ -29,15 +32,24 @@ enter-requires-clause-fresh c =
     let k = c.self.inside.book.live in
     let spans : c.in_ok-spans.spans ≡ live_spans b c.args.batch.now c.args.now = c.in_ok-spans.ensures.spans in
     (λ i. are_fresh (ap (λ (x : BookState). x.live.settled) c.in-Ok.ensures.ok i) (spans i))
-    ∙ comes-fresh b k c.args.batch.now c.args.now c.is_sound.ensures c.self.invariant
+    ∙ comes-fresh b k c.args.batch.now c.args.now c.is_sound.ensures c.self.invariant.0
 
 pub invariant_of-self-2 : goal.invariant_of-self-2
 invariant_of-self-2 c =
-    let b = c.self.inside.buffer in
-    let k = c.self.inside.book.live in
-    let spans : c.in_ok-spans.spans ≡ live_spans b c.args.batch.now c.args.now = c.in_ok-spans.ensures.spans in
-    let entered : c.enter.new.self.live ≡ kept.live_enters k (entered_as c.args.batch.now c.args.origin (live_spans b c.args.batch.now c.args.now)) =
-    ap (λ (x : BookState). x.live) (c.enter.ensures ∙ (λ i. ready_enters (c.in-Ok.ensures.ok i) c.args.origin (spans i))) in
-    subst (λ d. IsCoupled d c.enter.new.self.live) (sym c.in_ok-spans.ensures.ok)
-    (subst (IsCoupled (live_enters b c.args.batch.now c.args.now)) (sym entered)
-    (enters-coupled b k c.args.batch.now c.args.origin c.args.now c.is_sound.ensures c.self.invariant))
+    let o = c.self.inside in
+    let own = c.self.invariant in
+    let b = o.buffer in
+    let k = o.book.live in
+    let r = c.args.batch.now in
+    let origin = c.args.origin in
+    let now = c.args.now in
+    let spans : c.in_ok-spans.spans ≡ live_spans b r now = c.in_ok-spans.ensures.spans in
+    let entering : c.enter.new.self.live ≡ kept.live_enters k (entered_as r origin (live_spans b r now)) =
+    ap (λ (x : BookState). x.live) (c.enter.ensures ∙ (λ i. ready_enters (c.in-Ok.ensures.ok i) origin (spans i))) in
+    let new : request_at k.requests origin ≡ None = ap (λ (x : LiveOutput). request_at x.book.requests origin) c.self.view_is ∙ c.requires in (
+      subst (λ d. IsCoupled d c.enter.new.self.live) (sym c.in_ok-spans.ensures.ok)
+          (subst (IsCoupled (live_enters b r now)) (sym entering)
+          (enters-coupled b k r origin now c.is_sound.ensures own.0)),
+      subst IsLiveOutput (sym (λ i. record { buffer = c.in_ok-spans.ensures.ok i; book = entering i; servers = o.servers }))
+          (entered (record { buffer = b; book = k; servers = o.servers }) origin r now own.1 new (none_refused (live_refusal b r now) refl c.in_ok-spans.ensures.refused)),
+    )

@@ -6,13 +6,24 @@ use Rattle.fwd_core.specs.Coupling.{IsCoupled}
 use Rattle.fwd_core.specs.Lanes.{AreHere, IsHandedBack, kept_back, lost_back}
 use Rattle.fwd_core.proofs.CouplingLemmas.{looks-coupled}
 use Rattle.fwd_core.proofs.HandingLemmas.{handed-back}
+use Rattle.fwd_core.specs.OutputEvents.{IsLiveOutput}
+use Rattle.fwd_core.proofs.OutputLemmas.{ended}
 use Rattle.fwd_core.proofs.output.OutputState.end.Goals as goal
 
 pub invariant_of-self : goal.invariant_of-self
 invariant_of-self c =
     let o = c.self.inside in
-    let looked : IsCoupled c.look-moment.new.self o.book.live = subst (λ b. IsCoupled b o.book.live) (sym c.look-moment.ensures.looked) (looks-coupled o.buffer o.book.live c.args.now c.self.invariant) in
-    c.hand_back.ensures.coupled o.book.live looked
+    let own = c.self.invariant in
+    let now = c.args.now in
+    let handed = map kept_back (option_to_list c.args.taken) ++ map lost_back c.args.loaded.items in
+    let looked : IsCoupled c.look-moment.new.self o.book.live = subst (λ b. IsCoupled b o.book.live) (sym c.look-moment.ensures.looked) (looks-coupled o.buffer o.book.live now own.0) in
+    let back : IsHandedBack (live_looks o.buffer now) handed now c.hand_back.new.buffer =
+    subst (λ b. IsHandedBack b handed now c.hand_back.new.buffer) c.look-moment.ensures.looked c.hand_back.ensures.back in
+    let servers : c.lose.new.servers ≡ live_loses o.servers c.args.server (max o.buffer.moment now) = c.lose.ensures ∙ ap (live_loses o.servers c.args.server) c.look-moment.ensures.greatest in (
+      c.hand_back.ensures.coupled o.book.live looked,
+      subst (λ s. IsLiveOutput (record { buffer = c.hand_back.new.buffer; book = o.book.live; servers = s })) (sym servers)
+          (ended (record { buffer = o.buffer; book = o.book.live; servers = o.servers }) c.hand_back.new.buffer handed c.args.server now own.1 back),
+    )
 
 pub returns-clause-here : goal.returns-clause-here
 returns-clause-here c = λ own.

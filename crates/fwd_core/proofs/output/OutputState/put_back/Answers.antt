@@ -1,7 +1,12 @@
 use Rattle.std.proofs.Common.{None}
 use Rattle.fwd_core.proofs.CouplingLemmas.{frees-coupled}
+use Rattle.fwd_core.proofs.OutputLemmas.{put_back}
 use Rattle.fwd_core.proofs.output.OutputState.put_back.Goals as goal
 
 pub invariant_of-self : goal.invariant_of-self
 invariant_of-self c =
-    frees-coupled c.self.inside.buffer c.self.inside.book.live c.put_back.new.buffer c.args.chunk.number None c.put_back.ensures.either c.self.invariant
+    let o = c.self.inside in
+    let own = c.self.invariant in (
+      frees-coupled o.buffer o.book.live c.put_back.new.buffer c.args.chunk.number None c.put_back.ensures.either own.0,
+      put_back (record { buffer = o.buffer; book = o.book.live; servers = o.servers }) c.put_back.new.buffer c.args.chunk own.1 c.put_back.ensures.here c.put_back.ensures.elsewhere,
+    )
