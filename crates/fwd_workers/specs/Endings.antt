@@ -55,11 +55,12 @@ abbrev pub kind_in : Option Ending → EndKind
 kind_in None = end.Kept
 kind_in (Some why) = kind_of why
 
--- what is told of a session's end: that its server is lost, and why, if it is
-abbrev pub news_of : Ending → (server : ℕ) → Option News
-news_of ending.Spent server = None
-news_of ending.Left server = None
-news_of (ending.Lost why) server = Some (news.Lost server why)
+-- what is told of a session's end where so many of its chunks are not acknowledged: that its server
+-- is lost, why, and how many these are, if it is
+abbrev pub news_of : Ending → (server chunks : ℕ) → Option News
+news_of ending.Spent server chunks = None
+news_of ending.Left server chunks = None
+news_of (ending.Lost why) server chunks = Some (news.Lost server why chunks)
 
 -- why no session began where no link could be had: want of memory is no fault of a link
 abbrev pub unmet_of : LinkFault → Unmet
@@ -75,10 +76,10 @@ abbrev pub blamed : Unmet → (server : ℕ) → Option ℕ
 blamed (unmet.Link fault) server = Some server
 blamed unmet.Memory server = None
 
--- what is told of that: a session with that server could not be had, and why
+-- what is told of that: a session with that server could not be had, and why; it had no chunk
 abbrev pub unmet_news : Unmet → (server : ℕ) → Option News
-unmet_news (unmet.Link fault) server = Some (news.Lost server (loss.Link fault))
-unmet_news unmet.Memory server = Some (news.Lost server loss.Memory)
+unmet_news (unmet.Link fault) server = Some (news.Lost server (loss.Link fault) 0)
+unmet_news unmet.Memory server = Some (news.Lost server loss.Memory 0)
 
 -- what is told where a chunk is loaded: the server that it goes to, where the worker's last one
 -- went to another

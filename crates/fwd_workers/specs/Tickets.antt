@@ -7,10 +7,11 @@ use Rattle.fwd_chunks.specs.declared.span.Span.{Span}
 use Rattle.fwd_chunks.specs.declared.fault.AdmitError.{AdmitError}
 use Rattle.fwd_chunks.specs.declared.fault.AdmitError.TheVariants as unfit
 use Rattle.fwd_chunks.specs.Live.{live_refusal, live_spans}
-use Rattle.fwd_book.specs.History.{BookSetting, Entered, entered_as, is_settled, request_at}
+use Rattle.fwd_book.specs.History.{BookSetting, Entered, entered_as, is_settled, request_at, untold}
 use Rattle.fwd_book.specs.Live.{LiveBook}
-use Rattle.fwd_book.specs.Receipts.{Receipt, IsRightFor, span_of, receipt_of}
-use Rattle.fwd_core.specs.Outputs.{LiveOutput}
+use Rattle.fwd_book.specs.Receipts.{Receipt, IsRightFor, span_of, receipt_of, receipts}
+use Rattle.fwd_core.specs.OutputEvents.{IsReachedOutput}
+use Rattle.fwd_core.specs.Outputs.{OutputHistory, LiveOutput}
 use Rattle.fwd_workers.specs.declared.refusal.AdmitRefusal.{AdmitRefusal}
 use Rattle.fwd_workers.specs.declared.refusal.AdmitRefusal.TheVariants as refusal
 
@@ -52,6 +53,16 @@ ticket_of setting r = record {
   batch = record { tag = r.tag; entries = r.entries; chunk = r.chunk };
   spans = map span_of r.parts;
 }
+
+-- Some run of an output's own events reaches a history, of the output that this setting names, at
+-- whose end its book gives just these receipts: those of the requests of some origins that are owed
+-- an answer there and whose entries are all acknowledged.
+pub record AreGiven (setting : BookSetting) (given : List Receipt) : Type 0 where
+  pub history : OutputHistory
+  pub reached : IsReachedOutput history
+  pub own : history.book.setting ≡ setting
+  pub origins : List Origin
+  pub is : given ≡ receipts history.book.settled (untold history.book) origins
 
 -- ---- admission
 

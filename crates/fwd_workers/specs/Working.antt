@@ -155,7 +155,7 @@ HasSought (stage.Settled line) setups = ⊥
 abbrev pub HasTakenFirst : {L : Type 0} {g : _} → Stage L g → Option News → LiveSession
     → (now : ℕ) → (before : List Call) → Type 0
 HasTakenFirst stage.Seeking told s now before =
-    Ends s now before (λ why t. news_of why t.setup.server) told
+    Ends s now before (λ why t. news_of why t.setup.server 0) told
 HasTakenFirst (stage.Sought free) told s now before =
     (free.line.ending ≡ None) × Lasts s free.line.session now before
 HasTakenFirst (stage.Standing free) told s now before =
@@ -176,7 +176,7 @@ abbrev pub HasTakenNext : {L : Type 0} {g : _} → Stage L g → Option News →
     → (now : ℕ) → (before : List Call) → (ℕ → Setup) → Type 0
 HasTakenNext stage.Idle told s now before setups =
     Ends s now before
-    (λ why t. news_of (idle_ending why (is_done t.handshake)) t.setup.server) told
+    (λ why t. news_of (idle_ending why (is_done t.handshake)) t.setup.server 0) told
 HasTakenNext (stage.Standing free) told s now before setups =
     (free.line.ending ≡ None) × Lasts s free.line.session now before
 HasTakenNext (stage.Took free chunk) told s now before setups =
@@ -211,7 +211,7 @@ abbrev pub HasLoadedMore : {L : Type 0} {g : _} → Stage L g → Option News �
 HasLoadedMore (stage.Loaded line) told s chunk now =
     (line.session ≡ session_loads s chunk now) × (line.ending ≡ None)
 HasLoadedMore stage.Seeking told s chunk now =
-    told ≡ news_of (ending.Lost loss.Memory) s.setup.server
+    told ≡ news_of (ending.Lost loss.Memory) s.setup.server (length s.carried)
 HasLoadedMore stage.Idle told s chunk now = ⊥
 HasLoadedMore (stage.Sought free) told s chunk now = ⊥
 HasLoadedMore (stage.Standing free) told s chunk now = ⊥
@@ -250,11 +250,12 @@ HasSettled (stage.Standing free) s = ⊥
 HasSettled (stage.Took free chunk) s = ⊥
 
 -- Where no chunk of a worker's session was settled, its link was served: the session goes on behind
--- that turn, or the turn ended it, and why is told.
+-- that turn, or the turn ended it, and it is told why, and how many of its chunks are not
+-- acknowledged.
 abbrev pub HasLost : {L : Type 0} {g : _} → Stage L g → Option News → LiveSession → (now : ℕ)
     → (before : List Call) → Type 0
 HasLost stage.Seeking told s now before =
-    Ends s now before (λ why t. news_of why t.setup.server) told
+    Ends s now before (λ why t. news_of why t.setup.server (length t.carried)) told
 HasLost (stage.Loaded line) told s now before =
     (after : List Call) × IsTended s line.session now before after line.ending
 HasLost (stage.Added roomy chunk) told s now before =
@@ -268,7 +269,7 @@ HasLost (stage.Settled line) told s now before = Unit {0}
 -- a session without chunks ends: it was to end, which is told, or it takes no chunk more
 abbrev pub GoesOut : Option News → LiveSession → (why : Option Ending) → Type 0
 GoesOut told s None = (live_is_ready s ≡ false) × (told ≡ None)
-GoesOut told s (Some why) = told ≡ news_of why s.setup.server
+GoesOut told s (Some why) = told ≡ news_of why s.setup.server 0
 
 -- what becomes of a session beside whose chunks one more may be added: it is as it was, also where
 -- a chunk was taken for it
@@ -293,7 +294,8 @@ HasGoneOn (stage.Loaded line) told s why =
     × (why ≡ None ⊎ is_some (live_acked s) ≡ true)
 HasGoneOn stage.Seeking told s why =
     (live_has_chunk s ≡ true) × (s.accepted ≡ [])
-    × ((ended : Ending) × (why ≡ Some ended) × (told ≡ news_of ended s.setup.server))
+    × ((ended : Ending) × (why ≡ Some ended)
+    × (told ≡ news_of ended s.setup.server (length s.carried)))
 HasGoneOn (stage.Standing free) told s why =
     (free.line.session ≡ s) × (why ≡ None) × (free.line.ending ≡ None)
     × (live_is_ready s ≡ true)

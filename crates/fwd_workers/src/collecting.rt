@@ -16,7 +16,7 @@ ghost use Rattle.std.specs.Prelude.{
   vec_capacity,
 };
 ghost use Rattle.fwd_book.specs.Live.{live_leaves};
-ghost use Rattle.fwd_book.specs.Receipts.{Receipt as AbstractReceipt};
+ghost use Rattle.fwd_book.specs.Receipts.{Receipt as AbstractReceipt, receipts};
 ghost use Rattle.fwd_workers.specs.Tickets.{Ticket as AbstractTicket, IsShown, IsDue};
 ghost use Rattle.fwd_workers.specs.Turns.{
   AreCollected,
@@ -114,6 +114,8 @@ pub(crate) fn hand_out(
         × (state.new ≡ record state.old {
           book = live_leaves state.old.book (origins_of told);
         })) }
+    ensures given { IfOk result (λ p. p.0.items
+        ≡ receipts state.old.book.settled state.old.book.requests due.origins.items) }
     ensures back { IfErr result (λ e. e.1.items ≡ tickets.items) }
     ensures err { OnErr result (state.new ≡ state.old) }
 {

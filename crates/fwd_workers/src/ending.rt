@@ -53,13 +53,17 @@ impl Ending {
         }
     }
 
-    /// What is told of it.
-    pub(crate) fn news(self, server: u16) -> Option<News>
-        ensures { result ≡ news_of self server }
+    /// What is told of it, where so many chunks of the session are not acknowledged.
+    pub(crate) fn news(self, server: u16, chunks: u64) -> Option<News>
+        ensures { result ≡ news_of self server chunks }
     {
         match self {
             Ending::Spent | Ending::Left => None,
-            Ending::Lost(why) => Some(News::Lost { server, why }),
+            Ending::Lost(why) => Some(News::Lost {
+                server,
+                why,
+                chunks,
+            }),
         }
     }
 }
@@ -130,8 +134,8 @@ impl Unmet {
         ensures { result ≡ unmet_news self server }
     {
         match self {
-            Unmet::Link(fault) => Ending::Lost(Loss::Link(fault)).news(server),
-            Unmet::Memory => Ending::Lost(Loss::Memory).news(server),
+            Unmet::Link(fault) => Ending::Lost(Loss::Link(fault)).news(server, 0),
+            Unmet::Memory => Ending::Lost(Loss::Memory).news(server, 0),
         }
     }
 }

@@ -1,6 +1,7 @@
 //! Outputs that threads share, and the workers that send their chunks to servers.
 #![tactic(auto)]
 
+mod begun;
 mod calls;
 mod collecting;
 mod doubts;

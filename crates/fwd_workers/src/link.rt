@@ -136,8 +136,9 @@ pub enum Loss {
 pub enum News {
     /// The entries of the chunk of this number are settled, by this server.
     Settled { number: u64, server: u16 },
-    /// A server is lost.
-    Lost { server: u16, why: Loss },
+    /// A server is lost, in a session of which so many chunks were not acknowledged: they are sent
+    /// again.
+    Lost { server: u16, why: Loss, chunks: u64 },
     /// A chunk is sent to this server, and the worker's last one was sent to another.
     Went { server: u16 },
 }

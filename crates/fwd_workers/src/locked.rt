@@ -52,9 +52,11 @@ ghost use Rattle.fwd_core.specs.Outputs.{
   returned,
 };
 ghost use Rattle.fwd_core.specs.Lanes.{AreHere, IsHandedBack, kept_back, lost_back};
+ghost use Rattle.fwd_core.specs.OutputEvents.{IsLiveOutput};
 ghost use Rattle.fwd_workers.specs.Seats.{parts_of, counts_of};
 ghost use Rattle.fwd_workers.specs.Tickets.{
   Ticket as AbstractTicket,
+  AreGiven,
   IsShown,
   IsRight,
   refusal_at,
@@ -74,6 +76,7 @@ ghost use Rattle.fwd_workers.specs.Turns.{
   turn_tells,
 };
 
+use crate::begun::Begun;
 use crate::collecting::{due_of, hand_out, shows};
 use crate::outlook::{Outlook, Picked};
 use crate::refusal::AdmitRefusal;
@@ -101,6 +104,9 @@ pub struct Locked<A: Tally, S: Tally> {
     settled: S,
     /// The moment (milliseconds) up to which free chunks are left to a worker that claims them.
     claimed: u64,
+    /// When the chunks were begun that are not settled. Where memory is refused for a chunk it does
+    /// not stand there.
+    begun: Begun,
 }
 
 impl<A: Tally, S: Tally> Model for Locked<A, S> {
@@ -122,7 +128,7 @@ impl<A: Tally, S: Tally> Model for Locked<A, S> {
 
 impl<A: Tally, S: Tally> Locked<A, S> {
     /// An output and its counters.
-    pub fn new(state: OutputState, accepted: A, settled: S) -> Self
+    pub fn new(alloc: Global, state: OutputState, accepted: A, settled: S) -> Self
         requires accepted { A.total accepted ≡ state.buffer.accepted }
         requires settled { S.total settled ≡ state.buffer.settled }
         ensures { result ≡ record {
@@ -137,14 +143,16 @@ impl<A: Tally, S: Tally> Locked<A, S> {
             accepted,
             settled,
             claimed: 0,
+            begun: Begun::new(alloc),
         }
     }
 
-    /// What is true of every output, and that its counters' totals are what it accepted and
-    /// settled.
+    /// What is true of every output, among it that it is the live part of a history that a run of
+    /// its own events reaches; and that its counters' totals are what it accepted and settled.
     pub fn is_sound(&self)
         ensures chunks { IsSound self.now.output.buffer }
         ensures requests { IsSoundBook self.now.output.book }
+        ensures reached { IsLiveOutput self.now.output }
         ensures accepted { self.now.accepted ≡ self.now.output.buffer.accepted }
         ensures settled { self.now.settled ≡ self.now.output.buffer.settled }
     {
@@ -182,6 +190,11 @@ impl<A: Tally, S: Tally> Locked<A, S> {
         self.state.report(alloc)
     }
 
+    /// When the oldest chunk was begun that is not settled, in milliseconds, if there is one.
+    pub fn oldest(&self) -> Option<u64> {
+        self.begun.oldest()
+    }
+
     /// Admits a connection's request at a moment (milliseconds), and gives a ticket for it. It is
     /// refused as `NotNow` where the output owes an answer to a request of this connection and
     /// number, then as `Full` where the bytes held would be more than the total limit, then as
@@ -216,6 +229,7 @@ impl<A: Tally, S: Tally> Locked<A, S> {
         };
         self.state.is_sound();
         self.accepted.add(seat, batch.len() as u64);
+        let _ = self.begun.enter(spans.as_slice(), now);
         let (run, output) = (self.state.run(), self.state.output());
         Ok(Ticket::new(run, output, origin, batch, spans))
     }
@@ -238,6 +252,9 @@ impl<A: Tally, S: Tally> Locked<A, S> {
             (map (ticket_of self.old.output.book.setting) p.0.items ++ p.1.items)) }
         ensures right { IfOk result (λ p. All (λ r.
             IsRight r (ticket_of self.old.output.book.setting r)) p.0.items) }
+        // They are what this output gives at that point of a history of its own events.
+        ensures history { IfOk result (λ p.
+            AreGiven self.old.output.book.setting p.0.items) }
         ensures back { IfErr result (λ e. e.1.items ≡ tickets.items) }
         ensures err { OnErr result (self.new ≡ self.old) }
     {
@@ -404,9 +421,11 @@ impl<A: Tally, S: Tally> Locked<A, S> {
         ensures parts { S.parts seat.new ≡ S.parts seat.old }
     {
         self.state.is_sound();
+        let number = carried.number();
         let count = self.state.settle(acked, carried) as u64;
         self.state.is_sound();
         self.settled.add(seat, count);
+        self.begun.settle(number, count);
         count
     }
 
@@ -465,6 +484,7 @@ impl<L: Ledger, M: Ledger> Locked<Ledgered<L>, Ledgered<M>> {
             accepted,
             settled,
             claimed: _,
+            begun: _,
         } = self;
         state.is_sound();
         accepted.audit(admit_seats);

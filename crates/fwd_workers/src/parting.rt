@@ -1,6 +1,6 @@
 //! What a worker settles, and what it gives back, at the end of a chunk, a session or itself.
 
-ghost use Rattle.std.specs.Prelude.{◌≡◌, ◌≤◌, ◌+◌, Some, None, [], IfSome};
+ghost use Rattle.std.specs.Prelude.{◌≡◌, ◌≤◌, ◌+◌, Some, None, [], length, IfSome};
 ghost use Rattle.fwd_session.specs.Live.{live_acked, live_chunks, session_unloads};
 ghost use Rattle.fwd_core.specs.Step.{lost_server};
 ghost use Rattle.fwd_core.specs.Live.{lives};
@@ -94,6 +94,24 @@ pub(crate) fn miss<A: Tally, S: Tally, C: Clock, R: Wait>(
         now: clock.now(),
     };
     give_back(&round, seat, leaving);
+}
+
+/// A session ends of whose chunks none is accepted: they go back, and the one that its worker may
+/// have taken and did not load. Answers how many of the session's chunks go back.
+pub(crate) fn lose_line<A: Tally, S: Tally, L: Link, R: Wait>(
+    round: &Round<'_, A, S, R>,
+    seat: &mut S::Seat,
+    line: Line<L>,
+    taken: Option<Carried>,
+) -> u64
+    requires settled { line.session.accepted ≡ [] }
+    ensures same { seat.new ≡ seat.old }
+    ensures count { result ≡ length line.session.carried }
+{
+    let leaving = leave_line(line, taken);
+    let chunks = leaving.loaded.len() as u64;
+    give_back(round, seat, leaving);
+    chunks
 }
 
 /// A session ends: each accepted chunk is settled first, and no other one. Those that are not

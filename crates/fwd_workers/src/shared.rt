@@ -21,7 +21,7 @@ ghost use Rattle.fwd_chunks.specs.TagCounts.{AddsUp, IsSnapshot, live_report};
 ghost use Rattle.fwd_session.specs.Evidence.{IsEvidence};
 ghost use Rattle.fwd_book.specs.History.{BookSetting};
 ghost use Rattle.fwd_workers.specs.Seats.{parts_of, counts_of};
-ghost use Rattle.fwd_workers.specs.Tickets.{IsRight, ticket_of};
+ghost use Rattle.fwd_workers.specs.Tickets.{AreGiven, IsRight, ticket_of};
 
 use crate::locked::{Closing, Locked};
 use crate::outlook::{Outlook, Picked};
@@ -71,6 +71,12 @@ impl<A: Tally, S: Tally> SharedOutput<A, S> {
         Ok(snapshot.report(alloc)?)
     }
 
+    /// When the oldest chunk was begun that is not settled, in milliseconds, if there is one. That
+    /// it is that of what lies under the lock no clause can see: it is tested.
+    pub fn oldest<R: Wait>(&self, rt: &R) -> Option<u64> {
+        self.lock.lock(rt).oldest()
+    }
+
     /// What the output has to do with, the tags in no order.
     fn snapshot<R: Wait>(&self, rt: &R, alloc: Global) -> Result<Snapshot, AllocError>
         ensures { IfOk result (λ snapshot.
@@ -113,6 +119,11 @@ impl<A: Tally, S: Tally> SharedOutput<A, S> {
         ensures right { IfOk result (λ p. (setting : BookSetting)
             × IsPermutation tickets.items (map (ticket_of setting) p.0.items ++ p.1.items)
             × All (λ r. IsRight r (ticket_of setting r)) p.0.items) }
+        // There is such a history: a run of the output's own events reaches it, and at its end the
+        // output gives just these receipts.
+        ensures history { IfOk result (λ p. (setting : BookSetting)
+            × IsPermutation tickets.items (map (ticket_of setting) p.0.items ++ p.1.items)
+            × AreGiven setting p.0.items) }
         ensures back { IfErr result (λ e. e.1.items ≡ tickets.items) }
     {
         self.lock.lock(rt).collect(alloc, tickets)

@@ -1,7 +1,7 @@
 //! A worker: it takes chunks from its output, sends them to a server, and settles what the server
 //! acknowledged.
 
-ghost use Rattle.std.specs.Prelude.{◌≡◌, ◌≤◌, ◌+◌, [], Some, None, false, IfOk, IfSome};
+ghost use Rattle.std.specs.Prelude.{◌≡◌, ◌≤◌, ◌+◌, [], Some, None, false, length, IfOk, IfSome};
 ghost use Rattle.std.specs.Arc.{arc_value};
 ghost use Rattle.fwd_handshake.specs.Draws.{hex_drawn};
 ghost use Rattle.fwd_session.specs.Live.{live_acked, session_begins};
@@ -32,7 +32,7 @@ use crate::gating::place;
 use crate::line::{FreeLine, Line, RoomyLine, Stage};
 use crate::link::{Clock, Gate, Hub, Link, Loss, News, Pass};
 use crate::outlook::{Outlook, Picked};
-use crate::parting::{end_free, end_line, finish, give_back, miss, settle_line};
+use crate::parting::{end_free, finish, give_back, lose_line, miss, settle_line};
 use crate::picking::{fresh, pick, unused};
 use crate::refused::Suspect;
 use crate::round::{Round, World};
@@ -476,12 +476,12 @@ impl Worker {
         ensures stands { free.line.ending ≡ None → (result ≡ Stage.Standing free)
             × (free.line.session.down ≡ false) × (self.new.news ≡ self.old.news) }
         ensures ends { IfSome free.line.ending (λ why. (result ≡ Stage.Idle)
-            × (self.new.news ≡ news_of why free.line.session.setup.server)) }
+            × (self.new.news ≡ news_of why free.line.session.setup.server 0)) }
     {
         match free.line.ending {
             None => Stage::Standing(free),
             Some(ending) => {
-                self.news = ending.news(free.line.session.server());
+                self.news = ending.news(free.line.session.server(), 0);
                 end_free(round, seat, free, None);
                 Stage::Idle
             }
@@ -507,7 +507,7 @@ impl Worker {
         }
         let free = serve_free(round.rt, self.alloc, &mut self.room, free, round.now);
         if let Some(ending) = free.line.ending {
-            self.news = ending.news(free.line.session.server());
+            self.news = ending.news(free.line.session.server(), 0);
             end_free(round, seat, free, None);
             return Stage::Seeking;
         }
@@ -665,12 +665,12 @@ impl Worker {
             × (self.new.news ≡ self.old.news) }
         ensures last { self.new.last ≡ self.old.last }
         ensures ends { IfSome free.line.ending (λ why. (result ≡ Stage.Idle)
-            × (self.new.news ≡ news_of why free.line.session.setup.server)) }
+            × (self.new.news ≡ news_of why free.line.session.setup.server 0)) }
     {
         match free.line.ending {
             None => Stage::Took(free, chunk),
             Some(ending) => {
-                self.news = ending.news(free.line.session.server());
+                self.news = ending.news(free.line.session.server(), 0);
                 end_free(round, seat, free, Some(chunk));
                 Stage::Idle
             }
@@ -725,15 +725,16 @@ impl Worker {
     ) -> Stage<L>
         requires { line.session.accepted ≡ [] }
         ensures same { seat.new ≡ seat.old }
-        ensures told { self.new.news ≡ news_of why line.session.setup.server }
+        ensures told { self.new.news
+            ≡ news_of why line.session.setup.server (length line.session.carried) }
         ensures last { self.new.last ≡ self.old.last }
         ensures seeks { result ≡ Stage.Seeking }
     {
         let server = line.session.server();
-        let told = why.news(server);
+        let chunks = lose_line(round, seat, line, taken);
+        let told = why.news(server, chunks);
         self.news = told;
         self.doubts.lose(server, why);
-        end_line(round, seat, line, taken);
         Stage::Seeking
     }
 

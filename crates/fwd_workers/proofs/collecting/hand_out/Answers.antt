@@ -79,3 +79,8 @@ returns-clause-ok c =
     (into_iter_items c.loop-ticket.flags)
     (subst (λ us. Handing o.book c.args.tickets.items c.in-Ok.receipts.items c.loop-ticket.told c.loop-ticket.back.items us (into_iter_items c.loop-ticket.flags)) none c.loop-ticket.invariant.0) in
     (h.told, h.collected, h.given, c.in-Ok.ensures.told ∙ ap (λ os. record o { book = live_leaves o.book os }) h.origins)
+
+pub returns-clause-given : goal.returns-clause-given
+returns-clause-given c =
+    let b = c.args.state.now.book in
+    c.in-Ok.ensures.given ∙ ap (receipts b.settled b.requests) c.deref.ensures.value

@@ -12,5 +12,5 @@ returns-in-Some-clause-taken g c none = (
       c.args.round.now.now (g.L.Link.calls c.args.free.line.link)
       (g.L.Link.calls c.serve_free-free.result.line.link) w)
       c.in-Some.is (c.serve_free-free.ensures.turn none),
-  c.news-self.ensures ∙ ap (news_of c.in-Some.ending) c.server.ensures,
+  c.news-self.ensures ∙ ap (λ n. news_of c.in-Some.ending n 0) c.server.ensures,
 )

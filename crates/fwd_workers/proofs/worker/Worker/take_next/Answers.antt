@@ -33,7 +33,7 @@ returns-then-is_some-clause-taken g c none =
     let same = c.excuse-free.ensures.ending ∙ ap (option_map idle) over in
     let ends = subst (λ o. IfSome o (λ w. (c.stand.result ≡ stage.Idle)
     × (c.stand.new.self.news
-    ≡ news_of w c.excuse-free.result.line.session.setup.server)))
+    ≡ news_of w c.excuse-free.result.line.session.setup.server 0)))
     same c.stand.ensures.ends in
     subst (λ at. HasTakenNext at c.stand.new.self.news c.args.free.line.session
     c.args.round.now.now (g.H.Line.Link.calls c.args.free.line.link)
@@ -46,7 +46,7 @@ returns-then-is_some-clause-taken g c none =
       subst (λ w. IsTended c.args.free.line.session c.serve_free.result.line.session
           c.args.round.now.now (g.H.Line.Link.calls c.args.free.line.link)
           (g.H.Line.Link.calls c.serve_free.result.line.link) w) over turn,
-      ends.1 ∙ ap (λ t. news_of (idle why) t.setup.server) c.excuse-free.ensures.session,
+      ends.1 ∙ ap (λ t. news_of (idle why) t.setup.server 0) c.excuse-free.ensures.session,
     ))
 
 pub returns-in_default-clause-taken : goal.returns-in_default-clause-taken
