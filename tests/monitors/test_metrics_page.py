@@ -12,7 +12,7 @@ import pytest
 
 from exposition import read_metrics
 from forward import HOST, connect
-from next_hop import hold
+from next_hop import acknowledge, hold
 from recipes import Tool
 from relay import TOP, free_ports, until
 
@@ -188,6 +188,61 @@ def test_servers(relay, next_hop):
     assert back.entries()
     one.await_line(f"server back: output 0 {HOST}:{away}")
     assert value(metrics(one), "server_lost", **gone) == 0
+
+
+def test_sent_again(relay, next_hop):
+    """The chunks that were under way in sessions that were lost are counted at their server, and are sent again."""
+    bad, good = next_hop(answer=hold), next_hop()
+    servers = [bad.port, {"port": good.port, "standby": True}]
+    one = relay([{"servers": servers, "workers": 1, "window": 4}], metrics=True)
+    labels = [
+        {"output": "0", "place": str(place), "server": f"{HOST}:{hop.port}"} for place, hop in enumerate([bad, good])
+    ]
+
+    def resent():
+        return [value(metrics(one), "server_resent_chunks_total", **own) for own in labels]
+
+    source = one.source()
+    for number in range(3):
+        source.send(f"a.{number}")
+        bad.await_entries(number + 1)
+    assert resent() == [0, 0]
+    bad.end()
+    one.await_settled(3)
+    assert resent() == [3, 0]
+    assert len(good.entries()) == 3
+    one.source().ask("b")
+    assert resent() == [3, 0]
+
+
+def test_oldest_chunk(relay, next_hop):
+    """How old the oldest chunk is of those that an output holds, whatever is settled beside it."""
+
+    def hold_the_first(hop, stream, frame):
+        (hold if frame.tag == "first" else acknowledge)(hop, stream, frame)
+
+    hops = [next_hop(answer=hold_the_first), next_hop()]
+    outputs = [{"match": "b.**", "servers": [hops[1].port]}, {"servers": [hops[0].port], "workers": 2}]
+    one = relay(outputs, metrics=True)
+
+    def ages():
+        return [value(metrics(one), "oldest_chunk_age_seconds", output=output) for output in "01"]
+
+    assert ages() == [0, 0]
+    before = time.monotonic()
+    one.source().send("first")
+    one.until(lambda: hops[0].held, "it is not sent")
+    sent, later = time.monotonic(), one.source()
+    while ages()[1] < 3:
+        later.ask("later")
+        later.ask("b.other")
+        assert time.monotonic() - before < 60
+    assert time.monotonic() - before >= 3
+    now = time.monotonic()
+    first, age = ages()
+    assert first == 0 and int(now - sent) <= age <= time.monotonic() - before
+    hops[0].release()
+    one.until(lambda: ages() == [0, 0], "it is old still")
 
 
 def test_start(relay, next_hop):

@@ -1,24 +1,24 @@
 -- The metrics page, in Prometheus' text format 0.0.4.
 use Rattle.std.specs.Prelude.{
   ℕ,
-  ◌-◌,
+  ◌/◌,
   ◌==◌,
   ◌&&◌,
   Bool,
   not,
   List,
   [],
-  ◌∷◌,
   ◌++◌,
   Option,
   Some,
   None,
-  length,
   take,
+  drop,
+  map,
   codes,
   if◌then◌else◌,
 }
-use Rattle.std.specs.List.{enumerate_from, flat_map, list_any}
+use Rattle.std.specs.List.{count_by, enumerate_from, flat_map, list_any}
 use Rattle.std.specs.Fmt.{decimal}
 use Rattle.std.specs.Str.{is_utf8}
 use Rattle.hex.specs.Hex.{encode_lower}
@@ -26,6 +26,7 @@ use Rattle.fwd_counts.specs.declared.counts.Counts.{Counts}
 use Rattle.fwd_counts.specs.declared.report.Report.{Report}
 use Rattle.fwd_counts.specs.declared.tag_count.TagCount.{TagCount}
 use Rattle.fwd_monitor.specs.declared.figures.Figures.{Figures}
+use Rattle.fwd_monitor.specs.declared.figures.OutputFigures.{OutputFigures}
 use Rattle.fwd_monitor.specs.declared.limits.TheConstants.{MAX_TAGS}
 use Rattle.fwd_monitor.specs.declared.measure.Measure.{Measure}
 use Rattle.fwd_monitor.specs.declared.measure.Measure.TheVariants.{
@@ -35,10 +36,12 @@ use Rattle.fwd_monitor.specs.declared.measure.Measure.TheVariants.{
   HeldBytes,
   Chunks,
 }
+use Rattle.fwd_monitor.specs.declared.measure.OutputFigure.{OutputFigure}
+use Rattle.fwd_monitor.specs.declared.measure.OutputFigure.TheVariants.{TotalLimit, OldestAge}
 use Rattle.fwd_monitor.specs.declared.measure.TagMeasure.{TagMeasure}
 use Rattle.fwd_monitor.specs.declared.measure.TagMeasure.TheVariants.{Entries, EntryBytes}
 use Rattle.fwd_monitor.specs.declared.tally.RelayTally.{RelayTally}
-use Rattle.fwd_monitor.specs.Samples.{escaped, gauge, gauges, head_lines_of, output_line}
+use Rattle.fwd_monitor.specs.Samples.{escaped, gauge, head_lines_of, output_line}
 use Rattle.fwd_monitor.specs.Tallies.{output_tally_text, relay_tally_text}
 
 -- ---- the labels of tags
@@ -97,6 +100,33 @@ by_output measure reports =
     head_lines_of (measure_name measure) (measure_kind measure) (measure_help measure)
     ++ flat_map (measure_line measure) (enumerate_from 0 reports)
 
+-- ---- what is said of each output beside that
+
+-- the name of a gauge that each output has
+abbrev pub figure_name : OutputFigure → List ℕ
+figure_name TotalLimit = codes "forward_relay_total_limit_bytes"
+figure_name OldestAge = codes "forward_relay_oldest_chunk_age_seconds"
+
+-- what it is
+abbrev pub figure_help : OutputFigure → List ℕ
+figure_help TotalLimit = codes "The most bytes of entries that are not settled."
+figure_help OldestAge = codes "Seconds since the oldest chunk held was begun, or 0."
+
+-- its value
+abbrev pub figure_of : OutputFigure → OutputFigures → ℕ
+figure_of TotalLimit f = f.total_limit
+figure_of OldestAge f = f.oldest_age
+
+-- its sample of an output
+abbrev pub figure_line : OutputFigure → ℕ × OutputFigures → List ℕ
+figure_line figure (output, f) = output_line (figure_name figure) output (figure_of figure f)
+
+-- the gauge, with a sample for each output
+unfoldable pub by_figure : OutputFigure → List OutputFigures → List ℕ
+by_figure figure outputs =
+    head_lines_of (figure_name figure) (codes "gauge") (figure_help figure)
+    ++ flat_map (figure_line figure) (enumerate_from 0 outputs)
+
 -- ---- what is said of each tag
 
 -- the name of a metric that each tag has
@@ -120,32 +150,37 @@ tag_sample measure output t =
     tag_measure_name measure ++ codes "{output=\"" ++ decimal output ++ codes "\","
     ++ tag_label t.tag ++ codes "} " ++ decimal (tag_measured measure t) ++ codes "\n"
 
--- the samples of the outputs' tags, where there is room for so many: what the tags of one took of
--- the room, those behind it lack
-abbrev pub tag_samples : TagMeasure → (room : ℕ) → List (ℕ × Report) → List ℕ
-tag_samples measure room [] = []
-tag_samples measure room ((output, r) ∷ more) =
-    flat_map (tag_sample measure output) (take room r.tags)
-    ++ tag_samples measure (room - length r.tags) more
+-- the tags of an output, each with the output's number
+abbrev pub tags_of : ℕ × Report → List (ℕ × TagCount)
+tags_of output = map (λ t. (output.0, t)) output.1.tags
+
+-- the tags of all outputs, in their order
+abbrev pub all_tags : List Report → List (ℕ × TagCount)
+all_tags reports = flat_map tags_of (enumerate_from 0 reports)
+
+-- the sample of a tag that has its output's number
+abbrev pub sample_of : TagMeasure → ℕ × TagCount → List ℕ
+sample_of measure tag = tag_sample measure tag.0 tag.1
 
 -- the metric, with samples of the first `MAX_TAGS` tags
 abbrev pub by_tag : TagMeasure → List Report → List ℕ
 by_tag measure reports =
     head_lines_of (tag_measure_name measure) (codes "gauge") (tag_measure_help measure)
-    ++ tag_samples measure MAX_TAGS (enumerate_from 0 reports)
+    ++ flat_map (sample_of measure) (take MAX_TAGS (all_tags reports))
 
--- how many tags of each output have no samples
-abbrev pub left_out_samples : (name : List ℕ) → (room : ℕ) → List (ℕ × Report) → List ℕ
-left_out_samples name room [] = []
-left_out_samples name room ((output, r) ∷ more) =
-    output_line name output (length r.tags - room)
-    ++ left_out_samples name (room - length r.tags) more
+-- how many of these tags are of an output
+abbrev pub of_output : (output : ℕ) → List (ℕ × TagCount) → ℕ
+of_output output tags = count_by (λ t. t.0 == output) tags
 
--- a gauge that says so
+-- the sample of an output: how many of these tags it has
+abbrev pub left_out_sample : (name : List ℕ) → List (ℕ × TagCount) → ℕ × Report → List ℕ
+left_out_sample name tags output = output_line name output.0 (of_output output.0 tags)
+
+-- a gauge that says how many tags of each output have no samples
 unfoldable pub left_out : (name help : List ℕ) → List Report → List ℕ
 left_out name help reports =
     head_lines_of name (codes "gauge") help
-    ++ left_out_samples name MAX_TAGS (enumerate_from 0 reports)
+    ++ flat_map (left_out_sample name (drop MAX_TAGS (all_tags reports))) (enumerate_from 0 reports)
 
 -- the metric that says so
 abbrev pub left_out_text : List Report → List ℕ
@@ -155,11 +190,9 @@ left_out_text reports =
 
 -- ---- the page
 
--- the most bytes that each output holds
-abbrev pub totals_text : List ℕ → List ℕ
-totals_text totals =
-    gauges (codes "forward_relay_total_limit_bytes")
-    (codes "The most bytes of entries that are not settled.") totals
+-- the most bytes that each output holds, and how old its oldest chunk is
+abbrev pub output_figures_text : List OutputFigures → List ℕ
+output_figures_text outputs = by_figure TotalLimit outputs ++ by_figure OldestAge outputs
 
 -- when the relay started, where the clock of the system told it
 unfoldable pub start_text : Option ℕ → List ℕ
@@ -173,7 +206,7 @@ abbrev pub figures_text : Figures → List ℕ
 figures_text f =
     start_text f.start
     ++ gauge (codes "forward_relay_uptime_seconds")
-    (codes "Whole seconds since the relay started.") f.uptime
+    (codes "Whole seconds since the relay started.") (f.uptime / 1000)
     ++ gauge (codes "forward_relay_sources_open")
     (codes "Sources that are connected.") f.sources
     ++ gauge (codes "forward_relay_sources_limit")
@@ -185,11 +218,11 @@ outputs_text reports =
     by_output Accepted reports ++ by_output Settled reports ++ by_output Held reports
     ++ by_output HeldBytes reports ++ by_output Chunks reports
 
--- the page, from what is known of the relay, the most bytes that each output holds, the reports, and
--- what was counted since the relay started
-abbrev pub metrics_of : Figures → (totals : List ℕ) → List Report → RelayTally → List ℕ
-metrics_of figures totals reports tally =
+-- the page, from what is known of the relay and of its outputs, the reports, and what was counted
+-- since the relay started
+abbrev pub metrics_of : Figures → List OutputFigures → List Report → RelayTally → List ℕ
+metrics_of figures outputs reports tally =
     figures_text figures ++ relay_tally_text tally
-    ++ outputs_text reports ++ totals_text totals
+    ++ outputs_text reports ++ output_figures_text outputs
     ++ output_tally_text tally.outputs.items tally.servers.items
     ++ left_out_text reports ++ by_tag Entries reports ++ by_tag EntryBytes reports

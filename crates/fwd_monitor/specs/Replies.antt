@@ -17,6 +17,7 @@ use Rattle.httparse.specs.Ascii.{crlf_bytes}
 use Rattle.httparse.specs.Grammar.{RequestHead, ReadsRequest, NeverHasRequest, EndsInTarget}
 use Rattle.fwd_counts.specs.declared.report.Report.{Report}
 use Rattle.fwd_monitor.specs.declared.figures.Figures.{Figures}
+use Rattle.fwd_monitor.specs.declared.figures.OutputFigures.{OutputFigures}
 use Rattle.fwd_monitor.specs.declared.limits.TheConstants.{MAX_HEADERS}
 use Rattle.fwd_monitor.specs.declared.reply.Reply.{Reply}
 use Rattle.fwd_monitor.specs.declared.reply.Reply.TheVariants.{More, Bytes}
@@ -63,10 +64,10 @@ metrics_head size =
     ∷ [])
 
 -- the metrics page behind its head
-abbrev pub metrics_reply_of : Figures → (totals : List ℕ) → List Report → RelayTally → List ℕ
-metrics_reply_of figures totals reports tally =
-    metrics_head (length (metrics_of figures totals reports tally))
-    ++ metrics_of figures totals reports tally
+abbrev pub metrics_reply_of : Figures → List OutputFigures → List Report → RelayTally → List ℕ
+metrics_reply_of figures outputs reports tally =
+    metrics_head (length (metrics_of figures outputs reports tally))
+    ++ metrics_of figures outputs reports tally
 
 -- a reply that is a head alone
 abbrev pub bare : List ℕ → List ℕ

@@ -1,7 +1,7 @@
 -- The lines of Prometheus' text format 0.0.4: each metric has two lines that say what it is, and
 -- behind them a line for each of its samples.
 use Rattle.std.specs.Prelude.{ℕ, ◌==◌, List, [], ◌∷◌, ◌++◌, codes, if◌then◌else◌}
-use Rattle.std.specs.List.{enumerate_from, flat_map}
+use Rattle.std.specs.List.{flat_map}
 use Rattle.std.specs.Fmt.{decimal}
 use Rattle.httparse.specs.Ascii.{line_feed}
 use Rattle.fwd_monitor.specs.Page.{line_text}
@@ -20,16 +20,6 @@ gauge name help value =
 abbrev pub output_line : (name : List ℕ) → (output value : ℕ) → List ℕ
 output_line name output value =
     line_text ((name ++ codes "{output=\"" ++ decimal output ++ codes "\"}") ∷ decimal value ∷ [])
-
--- the sample of an output and its value
-abbrev pub output_sample : (name : List ℕ) → ℕ × ℕ → List ℕ
-output_sample name (output, value) = output_line name output value
-
--- a gauge that each output has, with these values
-unfoldable pub gauges : (name help values : List ℕ) → List ℕ
-gauges name help values =
-    head_lines_of name (codes "gauge") help
-    ++ flat_map (output_sample name) (enumerate_from 0 values)
 
 -- a byte of a label's value: a backslash and a double quote stand behind a backslash, and a line
 -- feed is told by a backslash and the letter n

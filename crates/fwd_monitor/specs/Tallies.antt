@@ -9,6 +9,7 @@ use Rattle.fwd_monitor.specs.declared.measure.ServerMeasure.{ServerMeasure}
 use Rattle.fwd_monitor.specs.declared.measure.ServerMeasure.TheVariants.{
   Lost,
   Acknowledged,
+  Resent,
   IsLost,
 }
 use Rattle.fwd_monitor.specs.declared.tally.MemoryRefused.{MemoryRefused}
@@ -150,6 +151,7 @@ without_ack_text outputs =
 abbrev pub server_measure_name : ServerMeasure → List ℕ
 server_measure_name Lost = codes "forward_relay_server_sessions_lost_total"
 server_measure_name Acknowledged = codes "forward_relay_server_acknowledged_chunks_total"
+server_measure_name Resent = codes "forward_relay_server_resent_chunks_total"
 server_measure_name IsLost = codes "forward_relay_server_lost"
 
 -- its type
@@ -161,6 +163,7 @@ server_measure_kind _ = codes "counter"
 abbrev pub server_measure_help : ServerMeasure → List ℕ
 server_measure_help Lost = codes "Sessions with the server that were lost, by why."
 server_measure_help Acknowledged = codes "Chunks that the server acknowledged."
+server_measure_help Resent = codes "Chunks under way in a session that was lost: sent again."
 server_measure_help IsLost = codes "1 where the server was lost and acknowledged no chunk since."
 
 -- the metric's name, and the labels of a server but for its address: its output's number, and its
@@ -193,6 +196,8 @@ abbrev pub server_samples : ServerMeasure → ServerTally → List ℕ
 server_samples Lost s = lost_samples (server_front (server_measure_name Lost) s) s.lost
 server_samples Acknowledged s =
     value_line (server_front (server_measure_name Acknowledged) s) s.acknowledged
+server_samples Resent s =
+    value_line (server_front (server_measure_name Resent) s) s.resent
 server_samples IsLost s =
     value_line (server_front (server_measure_name IsLost) s) (flag s.is_lost)
 
@@ -213,4 +218,4 @@ relay_tally_text t = closed_text t.closed ++ over_limit_text t.over_limit ++ mem
 abbrev pub output_tally_text : List OutputTally → List ServerTally → List ℕ
 output_tally_text outputs servers =
     refused_text outputs ++ without_ack_text outputs ++ by_server Lost servers
-    ++ by_server Acknowledged servers ++ by_server IsLost servers
+    ++ by_server Acknowledged servers ++ by_server Resent servers ++ by_server IsLost servers

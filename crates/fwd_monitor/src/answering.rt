@@ -5,7 +5,7 @@ ghost use Rattle.fwd_monitor.specs.Replies.{HasReason, IsReplyTo, metrics_reply_
 ghost use Rattle.fwd_monitor.specs.Requests.{IsDue, MustWait};
 ghost use Rattle.fwd_monitor.specs.Statuses.{reply_of};
 
-use crate::figures::Figures;
+use crate::figures::{Figures, OutputFigures};
 use crate::judging::judge;
 use crate::metrics::metrics_page;
 use crate::pages::page;
@@ -78,14 +78,14 @@ fn page_head(alloc: Global, size: usize) -> Result<String, AllocError>
 pub fn metrics_reply(
     alloc: Global,
     figures: Figures,
-    totals: &[u64],
+    outputs: &[OutputFigures],
     reports: &[Report],
     tally: &RelayTally,
 ) -> Result<Vec<u8>, AllocError>
     ensures { IfOk result
-        (λ reply. reply.items ≡ metrics_reply_of figures totals.now reports.now tally.now) }
+        (λ reply. reply.items ≡ metrics_reply_of figures outputs.now reports.now tally.now) }
 {
-    let page = metrics_page(alloc, figures, totals, reports, tally)?;
+    let page = metrics_page(alloc, figures, outputs, reports, tally)?;
     let mut reply = metrics_head(alloc, page.len())?.into_bytes();
     reply.extend_from_slice(&page)?;
     Ok(reply)

@@ -3,10 +3,20 @@
 pub struct Figures {
     /// When it started, in whole seconds since 1970, if the clock of the system told it.
     pub start: Option<u64>,
-    /// The whole seconds since it started.
+    /// The milliseconds since it started.
     pub uptime: u64,
     /// The sources that are connected.
     pub sources: u64,
     /// The most sources at a time.
     pub source_limit: u64,
+}
+
+/// What the metrics page says of an output beside what it has to do with.
+#[derive(Clone, Copy)]
+pub struct OutputFigures {
+    /// The most bytes of entries that it holds.
+    pub total_limit: u64,
+    /// The whole seconds since its oldest chunk was begun that is not acknowledged, and 0 where it
+    /// has no such chunk.
+    pub oldest_age: u64,
 }

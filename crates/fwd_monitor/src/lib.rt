@@ -19,7 +19,7 @@ mod tallies;
 mod tally;
 
 pub use answering::{answer, metrics_reply};
-pub use figures::Figures;
+pub use figures::{Figures, OutputFigures};
 pub use judging::{wants_metrics, wants_page};
 pub use laws::{head_limits, one_head, one_reply};
 pub use limits::{HEAD_LIMIT, MAX_HEADERS, MAX_TAGS};

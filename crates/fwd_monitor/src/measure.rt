@@ -2,6 +2,9 @@
 
 ghost use Rattle.std.specs.Prelude.{◌≡◌};
 ghost use Rattle.fwd_monitor.specs.Metrics.{
+  figure_help,
+  figure_name,
+  figure_of,
   measure_help,
   measure_kind,
   measure_name,
@@ -16,6 +19,7 @@ ghost use Rattle.fwd_monitor.specs.Tallies.{
   server_measure_name,
 };
 
+use crate::figures::OutputFigures;
 use fwd_counts::{Counts, TagCount};
 
 /// What the metrics page says of each output.
@@ -79,6 +83,45 @@ impl Measure {
     }
 }
 
+/// What the metrics page says of each output beside that.
+#[derive(Clone, Copy)]
+pub(crate) enum OutputFigure {
+    TotalLimit,
+    OldestAge,
+}
+
+impl OutputFigure {
+    /// The metric's name.
+    pub fn name(self) -> &'static str
+        ensures { result.now ≡ figure_name self }
+    {
+        match self {
+            OutputFigure::TotalLimit => "forward_relay_total_limit_bytes",
+            OutputFigure::OldestAge => "forward_relay_oldest_chunk_age_seconds",
+        }
+    }
+
+    /// What it is.
+    pub fn help(self) -> &'static str
+        ensures { result.now ≡ figure_help self }
+    {
+        match self {
+            OutputFigure::TotalLimit => "The most bytes of entries that are not settled.",
+            OutputFigure::OldestAge => "Seconds since the oldest chunk held was begun, or 0.",
+        }
+    }
+
+    /// Its value.
+    pub fn of(self, figures: &OutputFigures) -> u64
+        ensures { result ≡ figure_of self figures.now }
+    {
+        match self {
+            OutputFigure::TotalLimit => figures.total_limit,
+            OutputFigure::OldestAge => figures.oldest_age,
+        }
+    }
+}
+
 /// What the metrics page says of each tag.
 #[derive(Clone, Copy)]
 pub(crate) enum TagMeasure {
@@ -123,6 +166,7 @@ impl TagMeasure {
 pub(crate) enum ServerMeasure {
     Lost,
     Acknowledged,
+    Resent,
     IsLost,
 }
 
@@ -134,6 +178,7 @@ impl ServerMeasure {
         match self {
             ServerMeasure::Lost => "forward_relay_server_sessions_lost_total",
             ServerMeasure::Acknowledged => "forward_relay_server_acknowledged_chunks_total",
+            ServerMeasure::Resent => "forward_relay_server_resent_chunks_total",
             ServerMeasure::IsLost => "forward_relay_server_lost",
         }
     }
@@ -143,7 +188,7 @@ impl ServerMeasure {
         ensures { result.now ≡ server_measure_kind self }
     {
         match self {
-            ServerMeasure::Lost | ServerMeasure::Acknowledged => "counter",
+            ServerMeasure::Lost | ServerMeasure::Acknowledged | ServerMeasure::Resent => "counter",
             ServerMeasure::IsLost => "gauge",
         }
     }
@@ -155,6 +200,7 @@ impl ServerMeasure {
         match self {
             ServerMeasure::Lost => "Sessions with the server that were lost, by why.",
             ServerMeasure::Acknowledged => "Chunks that the server acknowledged.",
+            ServerMeasure::Resent => "Chunks under way in a session that was lost: sent again.",
             ServerMeasure::IsLost => "1 where the server was lost and acknowledged no chunk since.",
         }
     }

@@ -4,47 +4,49 @@ ghost use Rattle.std.specs.Prelude.{◌≡◌, ◌++◌, IfOk, OnOk, take};
 ghost use Rattle.std.specs.List.{flat_map};
 ghost use Rattle.std.specs.String.{string_bytes};
 ghost use Rattle.fwd_monitor.specs.Metrics.{
+  by_figure,
   by_output,
   by_tag,
   figures_text,
   left_out,
   left_out_text,
   metrics_of,
+  output_figures_text,
   outputs_text,
   start_text,
   tag_sample,
-  totals_text,
 };
 
-use crate::figures::Figures;
+use crate::figures::{Figures, OutputFigures};
 use crate::labels::push_label;
 use crate::limits::MAX_TAGS;
-use crate::measure::{Measure, TagMeasure};
-use crate::samples::{push_gauge, push_gauges, push_head, push_sample};
+use crate::measure::{Measure, OutputFigure, TagMeasure};
+use crate::samples::{push_gauge, push_head, push_sample};
 use crate::tallies::{push_output_tally, push_relay_tally};
 use crate::tally::RelayTally;
 use fwd_counts::{Report, TagCount};
 use std::alloc::{AllocError, Global};
 
 /// The metrics page in Prometheus' text format 0.0.4: what is known of the relay itself and what it
-/// counted, what each output has to do with and the most bytes that it holds, what was counted of
-/// it and of its servers, and what is held of the first `MAX_TAGS` tags, with how many of each
-/// output's are left out. Outputs are numbered from 0 on. Its only error is out of memory.
+/// counted, what each output has to do with, the most bytes that it holds and how old its oldest
+/// chunk is, what was counted of it and of its servers, and what is held of the first `MAX_TAGS`
+/// tags, with how many of each output's are left out. Outputs are numbered from 0 on. Its only
+/// error is out of memory.
 pub fn metrics_page(
     alloc: Global,
     figures: Figures,
-    totals: &[u64],
+    outputs: &[OutputFigures],
     reports: &[Report],
     tally: &RelayTally,
 ) -> Result<Vec<u8>, AllocError>
     ensures { IfOk result
-        (λ page. page.items ≡ metrics_of figures totals.now reports.now tally.now) }
+        (λ page. page.items ≡ metrics_of figures outputs.now reports.now tally.now) }
 {
     let mut text = String::new(alloc);
     push_figures(&mut text, figures)?;
     push_relay_tally(&mut text, tally)?;
     push_outputs(&mut text, reports)?;
-    push_totals(&mut text, totals)?;
+    push_output_figures(&mut text, outputs)?;
     push_output_tally(alloc, &mut text, tally)?;
     push_left_out(&mut text, reports)?;
     let mut page = text.into_bytes();
@@ -68,7 +70,7 @@ fn push_figures(text: &mut String, figures: Figures) -> Result<(), AllocError>
         text,
         "forward_relay_uptime_seconds",
         "Whole seconds since the relay started.",
-        uptime,
+        uptime / 1_000,
     )?;
     push_gauge(
         text,
@@ -122,13 +124,30 @@ fn push_by_output(text: &mut String, measure: Measure, reports: &[Report]) -> Re
     Ok(())
 }
 
-/// Adds the most bytes that each output holds.
-fn push_totals(text: &mut String, totals: &[u64]) -> Result<(), AllocError>
+/// Adds the most bytes that each output holds, and how old its oldest chunk is.
+fn push_output_figures(text: &mut String, outputs: &[OutputFigures]) -> Result<(), AllocError>
     ensures { OnOk result
-        (string_bytes text.new ≡ string_bytes text.old ++ totals_text totals.now) }
+        (string_bytes text.new ≡ string_bytes text.old ++ output_figures_text outputs.now) }
 {
-    let help = "The most bytes of entries that are not settled.";
-    push_gauges(text, "forward_relay_total_limit_bytes", help, totals)
+    push_by_figure(text, OutputFigure::TotalLimit, outputs)?;
+    push_by_figure(text, OutputFigure::OldestAge, outputs)
+}
+
+/// Adds a gauge with a sample for each output.
+#[tactic(auto, unfolding(crate::specs::Metrics::by_figure))]
+fn push_by_figure(
+    text: &mut String,
+    figure: OutputFigure,
+    outputs: &[OutputFigures],
+) -> Result<(), AllocError>
+    ensures { OnOk result
+        (string_bytes text.new ≡ string_bytes text.old ++ by_figure figure outputs.now) }
+{
+    push_head(text, figure.name(), "gauge", figure.help())?;
+    for (output, figures) in outputs.iter().enumerate() {
+        push_sample(text, figure.name(), output, figure.of(figures))?;
+    }
+    Ok(())
 }
 
 /// Adds how many tags of each output have no samples.

@@ -2,7 +2,7 @@
 
 ghost use Rattle.std.specs.Prelude.{◌≡◌, ◌++◌, OnOk};
 ghost use Rattle.std.specs.String.{string_bytes};
-ghost use Rattle.fwd_monitor.specs.Samples.{gauge, gauges, head_lines_of, output_line, word_line};
+ghost use Rattle.fwd_monitor.specs.Samples.{gauge, head_lines_of, output_line, word_line};
 
 use std::alloc::AllocError;
 
@@ -45,24 +45,6 @@ pub(crate) fn push_sample(
         (string_bytes text.new ≡ string_bytes text.old ++ output_line name.now output value) }
 {
     write!(text, "{name}{{output=\"{output}\"}} {value}\n")
-}
-
-/// Adds a gauge that each output has, with these values.
-#[tactic(auto, unfolding(crate::specs::Samples::gauges))]
-pub(crate) fn push_gauges(
-    text: &mut String,
-    name: &str,
-    help: &str,
-    values: &[u64],
-) -> Result<(), AllocError>
-    ensures { OnOk result (string_bytes text.new
-        ≡ string_bytes text.old ++ gauges name.now help.now values.now) }
-{
-    push_head(text, name, "gauge", help)?;
-    for (output, value) in values.iter().enumerate() {
-        push_sample(text, name, output, *value)?;
-    }
-    Ok(())
 }
 
 /// Adds a sample in which a word is the last label's value, behind this text.

@@ -209,6 +209,7 @@ pub(crate) fn push_output_tally(
     push_without_ack(text, outputs)?;
     push_by_server(alloc, text, ServerMeasure::Lost, servers)?;
     push_by_server(alloc, text, ServerMeasure::Acknowledged, servers)?;
+    push_by_server(alloc, text, ServerMeasure::Resent, servers)?;
     push_by_server(alloc, text, ServerMeasure::IsLost, servers)
 }
 
@@ -330,6 +331,7 @@ fn push_server(
     match measure {
         ServerMeasure::Lost => push_lost(alloc, text, &front, server.lost),
         ServerMeasure::Acknowledged => push_value(text, &front, server.acknowledged),
+        ServerMeasure::Resent => push_value(text, &front, server.resent),
         ServerMeasure::IsLost => push_value(text, &front, u64::from(server.is_lost)),
     }
 }

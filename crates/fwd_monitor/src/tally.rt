@@ -120,6 +120,8 @@ pub struct ServerTally {
     pub lost: SessionsLost,
     /// The chunks that it acknowledged.
     pub acknowledged: u64,
+    /// The chunks that were under way to it in sessions when these were lost: they are sent again.
+    pub resent: u64,
     /// It was lost, and acknowledged no chunk since.
     pub is_lost: bool,
 }

@@ -3,7 +3,7 @@ use Rattle.std.specs.Prelude.{codes}
 use Rattle.std.specs.List.{enumerate_from}
 use Rattle.std.specs.String.{string_bytes}
 use Rattle.fwd_monitor.specs.declared.limits.TheConstants.{MAX_TAGS}
-use Rattle.fwd_monitor.specs.Metrics.{left_out_samples}
+use Rattle.fwd_monitor.proofs.TagLemmas.{left_out_samples}
 use Rattle.fwd_monitor.specs.Samples.{head_lines_of}
 use Rattle.fwd_monitor.proofs.metrics.push_left_out_by.Given as goal
 
