@@ -24,7 +24,7 @@ live_answer_to r e = answer_of (step lives r e)
 abbrev pub live_next : LiveRelay → Event → LiveRelay
 live_next r e = state_of r (step lives r e)
 
-history_answers : (h : History) (es : List Event)
+pub history_answers : (h : History) (es : List Event)
     → answers answer_to next h es ≡ model.answers histories h es
 history_answers h [] = refl
 history_answers h (e ∷ es) = ap (λ xs. answer_to h e ∷ xs) (history_answers (next h e) es)

@@ -24,7 +24,7 @@ pub use input::{InputError, read_input};
 pub use output::write_all;
 pub use program::{Command, End, asked, buffered, perform, run_program, tell, words};
 pub use reading::ReadFailed;
-pub use run::replay;
+pub use run::{replay, told_line_is_delivered};
 pub use script::{Script, next_line, split_script};
 pub use status::Status;
 pub use stepping::{Step, answer_lines, answer_script, bad_line_is_first};

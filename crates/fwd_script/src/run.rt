@@ -2,10 +2,11 @@
 
 ghost use Rattle.std.specs.Prelude.{◌≡◌, ℕ, List, Ok, Err, IfOk, IfErr, IfSome};
 ghost use Rattle.fwd_model.specs.declared.config.Config.{Config};
+ghost use Rattle.fwd_model.specs.Delivered.{IsDelivered, IsToldAmong};
 ghost use Rattle.fwd_model.specs.History.{opening};
 ghost use Rattle.fwd_model.specs.Live.{live};
 ghost use Rattle.fwd_script.specs.Reads.{ReadsSome};
-ghost use Rattle.fwd_script.specs.Replay.{Opens, Replays};
+ghost use Rattle.fwd_script.specs.Replay.{answer_to, answers, events_of, next, Opens, Replays};
 ghost use Rattle.fwd_script.specs.Statuses.{refused_status};
 ghost use Rattle.fwd_script.specs.declared.status.Status.TheVariants as statuses;
 
@@ -51,6 +52,17 @@ fn open_relay(alloc: Global, text: &[u8]) -> Result<Relay, Status>
 {
     opened(alloc, read_config(alloc, text))
 }
+
+/// Whoever is told by what a replay writes was delivered: where an answer to the events of lines,
+/// from the opening state of some settings, tells a connection that its request was acknowledged,
+/// the events of the lines before had delivered that request. The lines that a replay writes are
+/// those of such answers.
+pub fn told_line_is_delivered()
+    ensures { (config : Config) (lines : List (List ℕ)) (id r o : ℕ)
+        (t : IsToldAmong (events_of lines)
+        (answers answer_to next (opening config) (events_of lines)) id r o) →
+        IsDelivered config t.before id r o }
+{}
 
 /// Replays a script: reads all of the input (at most 2^32 reads), and then answers the event of
 /// each line on a line of its own. The first line `---` ends the settings; an empty text of
