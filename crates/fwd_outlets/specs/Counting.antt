@@ -148,7 +148,11 @@ lost_after loss.Memory l = record l { memory = raised l.memory }
 abbrev pub server_after : News → ServerTally → ServerTally
 server_after (news.Settled _ _) s =
     record s { acknowledged = raised s.acknowledged; is_lost = false }
-server_after (news.Lost _ why) s = record s { lost = lost_after why s.lost; is_lost = true }
+server_after (news.Lost _ why chunks) s = record s {
+  lost = lost_after why s.lost;
+  resent = raised_by chunks s.resent;
+  is_lost = true;
+}
 server_after (news.Went _) s = s
 
 -- the entries of a request, where its sender asked for no acknowledgement of them

@@ -1,8 +1,9 @@
 //! The connections that stand.
 
-ghost use Rattle.std.specs.Prelude.{◌≡◌, ℕ, IfNone, IfSome};
+ghost use Rattle.std.specs.Prelude.{◌≡◌, ℕ, true, IfNone, IfSome};
 ghost use Rattle.fwd_outlets.specs.Idling.{IsIdlest, NoneIsIdle};
 ghost use Rattle.fwd_outlets.specs.Idling as idling;
+ghost use Rattle.fwd_outlets.specs.Lateness.{IsLate, is_late, is_unknown, limit_of};
 ghost use Rattle.fwd_outlets.specs.Standings.{longer_idle, source_with, sources_in};
 ghost use Rattle.fwd_outlets.specs.Tellings.{AreTold, IsToldAt, IsToldOf};
 
@@ -40,10 +41,22 @@ impl Connection {
     }
 
     /// Whether it has yet to show what it is: a source to log in, a monitor to send its head.
-    fn is_unknown(&self) -> bool {
+    fn is_unknown(&self) -> bool
+        ensures { result ≡ is_unknown self.now }
+    {
         match self {
             Connection::Source(source) => source.awaits_login(),
             Connection::Monitor(monitor) => monitor.awaits_head(),
+        }
+    }
+
+    /// How long it has for that, in milliseconds.
+    fn limit(&self) -> u64
+        ensures { result ≡ limit_of self.now }
+    {
+        match self {
+            Connection::Source(_) => LOGIN_LIMIT,
+            Connection::Monitor(_) => HEAD_LIMIT,
         }
     }
 }
@@ -78,6 +91,13 @@ impl Standing {
             Connection::Source(source) => source.silent_since(),
             Connection::Monitor(_) => None,
         }
+    }
+
+    /// Whether it has had its time by a moment (milliseconds), and has not shown what it is.
+    fn is_late(&self, now: u64) -> bool
+        ensures { result ≡ is_late now self.now }
+    {
+        self.connection.is_unknown() && now.saturating_sub(self.came) >= self.connection.limit()
     }
 
     /// Tells a receipt to a source, if it is of one of its requests, and says whether it is to
@@ -245,24 +265,32 @@ impl Connections {
             .is_some_and(|standing| standing.connection.is_unknown())
     }
 
-    /// The key of the next connection that had its time at a moment (milliseconds) and has not
-    /// shown what it is: a source that has not logged in, a monitor that has not sent its head.
-    pub fn next_late(&mut self, now: u64) -> Option<usize> {
+    /// Whether the connection of this key has had its time by a moment (milliseconds), and has not
+    /// shown what it is.
+    fn is_late(&self, key: usize, now: u64) -> bool
+        ensures { result ≡ true → IsLate self.now now key }
+    {
+        match self.standing.get(key) {
+            Some(standing) => standing.is_late(now),
+            None => false,
+        }
+    }
+
+    /// The key of a connection that had its time by a moment (milliseconds) and has not shown what
+    /// it is: a source that has not logged in, a monitor that has not sent its head.
+    pub fn next_late(&mut self, now: u64) -> Option<usize>
+        ensures { IfSome result (IsLate self.new now) }
+    {
         for _ in 0..u32::MAX {
             let young = match self.logins.next(now) {
                 Some(young) => young,
                 None => self.heads.next(now)?,
             };
-            if self.came(young.key) == Some(young.came) && self.is_unknown(young.key) {
+            if self.is_late(young.key, now) {
                 return Some(young.key);
             }
         }
         None
-    }
-
-    /// When the connection of this key came, if one stands.
-    fn came(&self, key: usize) -> Option<u64> {
-        Some(self.standing.get(key)?.came)
     }
 
     /// The connection of this key, if it stands.

@@ -200,7 +200,11 @@ pub(crate) fn count_without_ack(outputs: &mut Vec<OutputTally>, output: u16, ent
 pub(crate) fn count_news(servers: &mut Vec<ServerTally>, output: u16, news: News) {
     let at = match news {
         News::Settled { number: _, server } => server,
-        News::Lost { server, why: _ } => server,
+        News::Lost {
+            server,
+            why: _,
+            chunks: _,
+        } => server,
         News::Went { server: _ } => return,
     };
     let place = servers
@@ -226,8 +230,13 @@ fn count_news_of(server: &mut ServerTally, news: News)
             raise(&mut server.acknowledged);
             server.is_lost = false;
         }
-        News::Lost { server: _, why } => {
+        News::Lost {
+            server: _,
+            why,
+            chunks,
+        } => {
             count_loss(&mut server.lost, why);
+            raise_by(&mut server.resent, chunks);
             server.is_lost = true;
         }
         News::Went { server: _ } => {}

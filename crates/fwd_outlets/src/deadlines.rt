@@ -37,11 +37,11 @@ impl Deadlines {
         }
     }
 
-    /// The next connection whose time is over at a moment (milliseconds), if there is one. It may
+    /// The next connection whose time is over by a moment (milliseconds), if there is one. It may
     /// be gone, or have shown what it is.
     pub fn next(&mut self, now: u64) -> Option<Young> {
         let first = *self.young.front()?;
-        if first.came.saturating_add(self.limit) > now {
+        if now.saturating_sub(first.came) < self.limit {
             return None;
         }
         self.young.pop_front()

@@ -1,5 +1,19 @@
 //! When an output's open chunks are closed.
 
+ghost use Rattle.std.specs.Prelude.{
+  ◌≡◌,
+  ◌+◌,
+  ◌-◌,
+  ◌^◌,
+  ◌≤◌,
+  None,
+  true,
+  false,
+  is_some,
+  min,
+  IfSome,
+};
+
 /// How long after a flush an output's next one is due, in milliseconds, while chunks may be open:
 /// it is due sooner where all of them are old enough sooner.
 const STEP: u64 = 5;
@@ -29,13 +43,23 @@ impl FlushTimer {
     }
 
     /// A request was admitted.
-    pub(crate) fn admitted(&mut self) {
+    pub(crate) fn admitted(&mut self)
+        ensures { self.new ≡ record self.old { is_fresh = true } }
+    {
         self.is_fresh = true;
     }
 
     /// The clock is looked at. An output takes the greatest moment that a thread handed in for that
     /// of a request, so that only the moment after an admission is sure to be no less.
-    pub(crate) fn look(&mut self, now: u64) {
+    pub(crate) fn look(&mut self, now: u64)
+        ensures due { self.old.is_fresh ≡ true → is_some self.new.due ≡ true }
+        ensures soon { self.old.due ≡ None → IfSome self.new.due (λ due.
+            due ≤ now + self.old.interval) }
+        ensures kept { is_some self.old.due ≡ true → self.new.due ≡ self.old.due }
+        ensures latest { self.old.is_fresh ≡ true → self.new.latest ≡ now }
+        ensures stays { self.old.is_fresh ≡ false → self.new ≡ self.old }
+        ensures interval { self.new.interval ≡ self.old.interval }
+    {
         if self.is_fresh {
             self.is_fresh = false;
             self.latest = now;
@@ -46,13 +70,21 @@ impl FlushTimer {
     }
 
     /// When the next flush is due, if one is.
-    pub(crate) fn due(&self) -> Option<u64> {
+    pub(crate) fn due(&self) -> Option<u64>
+        ensures { result ≡ self.now.due }
+    {
         self.due
     }
 
     /// Chunks were flushed at this moment, or are left to the workers to close, who do so before
     /// they look for one. What was admitted after the last of these chunks may be open still.
-    pub(crate) fn flushed(&mut self, now: u64) {
+    pub(crate) fn flushed(&mut self, now: u64)
+        // No flush is due only where what was admitted last was old enough.
+        ensures none { self.new.due ≡ None
+            → min (self.old.latest + self.old.interval) (2 ^ 64 - 1) ≤ now }
+        ensures soon { IfSome self.new.due (λ due. due ≤ now + STEP) }
+        ensures stays { self.new ≡ record self.old { due = self.new.due } }
+    {
         let last = self.latest.saturating_add(self.interval);
         self.due = if last <= now {
             None

@@ -1,6 +1,22 @@
 //! Whose turn it is at an output that sources wait at until it has room.
 
-ghost use Rattle.std.specs.Prelude.{◌≡◌, ◌≤◌, ◌+◌, ◌-◌, true, false};
+ghost use Rattle.std.specs.Prelude.{
+  ◌≡◌,
+  ◌≤◌,
+  ◌+◌,
+  ◌-◌,
+  ◌==◌,
+  ◌&&◌,
+  ◌⊎◌,
+  ◌++◌,
+  ◌∷◌,
+  [],
+  true,
+  false,
+  not,
+  filter,
+};
+ghost use Rattle.fwd_outlets.specs.Turning.{are_some, has_turn, stands};
 
 use fwd_workers::{Plain, SharedOutput};
 use std::alloc::Global;
@@ -32,7 +48,9 @@ struct Turns {
 
 impl Turns {
     /// Whether it is a reader's turn: no other one waits before it.
-    fn is_turn_of(&self, reader: usize) -> bool {
+    fn is_turn_of(&self, reader: usize) -> bool
+        ensures { result ≡ has_turn self.now.readers.items reader }
+    {
         match self.readers.front() {
             None => true,
             Some(first) => *first == reader,
@@ -45,6 +63,7 @@ impl Turns {
         ensures within { result ≡ true → self.new.promised ≤ room }
         ensures promised { result ≡ true → self.new.promised ≡ self.old.promised + bytes }
         ensures same { result ≡ false → self.new.promised ≡ self.old.promised }
+        ensures readers { self.new.readers.items ≡ self.old.readers.items }
     {
         let Some(promised) = self.promised.checked_add(bytes) else {
             return false;
@@ -58,23 +77,39 @@ impl Turns {
 
     /// So many bytes that were promised are promised no more.
     fn keep(&mut self, bytes: u64)
-        ensures { self.new.promised ≡ self.old.promised - bytes }
+        ensures promised { self.new.promised ≡ self.old.promised - bytes }
+        ensures readers { self.new.readers.items ≡ self.old.readers.items }
     {
         self.promised = self.promised.saturating_sub(bytes);
     }
 
     /// A reader's source waits: it comes behind those that wait already. Where memory is refused it
     /// has no place, and asks again.
-    fn stand(&mut self, reader: usize) {
+    fn stand(&mut self, reader: usize)
+        ensures behind { (self.new.readers.items ≡ self.old.readers.items)
+            ⊎ ((stands self.old.readers.items reader ≡ false)
+            × (self.new.readers.items ≡ self.old.readers.items ++ reader ∷ [])) }
+        ensures promised { self.new.promised ≡ self.old.promised }
+    {
         if !self.readers.contains(&reader) {
             let _ = self.readers.push_back(reader);
         }
     }
 
     /// A reader waits no more, or for another turn. Whether another one has its turn by that.
-    fn leave(&mut self, reader: usize) -> bool {
+    fn leave(&mut self, reader: usize) -> bool
+        ensures passed { result
+            ≡ has_turn self.old.readers.items reader && are_some self.new.readers.items }
+        ensures left { self.new.readers.items
+            ≡ filter (λ other. not (other == reader)) self.old.readers.items }
+        ensures promised { self.new.promised ≡ self.old.promised }
+    {
         let had_turn = self.is_turn_of(reader);
-        self.readers.retain(|other| *other != reader);
+        self.readers.retain(
+            |other: &usize| -> bool
+                ensures { result ≡ not (other.now == reader) }
+            { *other != reader },
+        );
         had_turn && !self.readers.is_empty()
     }
 }

@@ -1,6 +1,6 @@
 //! The pages that monitors ask for, as they are made and sent.
 
-use crate::output::{Output, reports_of, totals_of};
+use crate::output::{Output, figures_of, reports_of};
 use crate::shared_tally::SharedTally;
 use fwd_monitor::{Figures, Reply, answer, metrics_reply};
 use std::alloc::{AllocError, Global};
@@ -165,9 +165,9 @@ fn metrics_of<R: Wait>(
     figures: Figures,
 ) -> Result<Arc<Vec<u8>>, AllocError> {
     let PageParts { outputs, tally } = parts;
-    let totals = totals_of(alloc, outputs)?;
+    let own = figures_of(rt, alloc, outputs, figures.uptime)?;
     let tally = tally.copy(rt, alloc)?;
     let reports = reports_of(rt, alloc, outputs)?;
-    let reply = metrics_reply(alloc, figures, &totals, &reports, &tally)?;
+    let reply = metrics_reply(alloc, figures, &own, &reports, &tally)?;
     Ok(Arc::new(alloc, reply)?)
 }

@@ -1,7 +1,8 @@
 //! A monitor's connection over its stream.
 
-ghost use Rattle.std.specs.Prelude.{◌≤◌, length};
+ghost use Rattle.std.specs.Prelude.{◌≡◌, ◌≤◌, length};
 ghost use Rattle.std.specs.Arc.{arc_value};
+ghost use Rattle.fwd_outlets.specs.Asking.{is_asking};
 
 use crate::made_page::{MadePage, Making, PageKind, PageParts, page_of};
 use fwd_monitor::{Figures, Reply, answer, wants_metrics, wants_page};
@@ -72,7 +73,9 @@ impl MonitorPeer {
     }
 
     /// Whether its request's head has not come yet.
-    pub(crate) fn awaits_head(&self) -> bool {
+    pub(crate) fn awaits_head(&self) -> bool
+        ensures { result ≡ is_asking self.now.stage }
+    {
         match self.stage {
             Stage::Asking => true,
             _ => false,

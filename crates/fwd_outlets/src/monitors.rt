@@ -43,7 +43,7 @@ impl Connections {
     pub fn figures(&self, others: usize, limit: usize, now: u64) -> Figures {
         Figures {
             start: None,
-            uptime: now / 1_000,
+            uptime: now,
             sources: self.sources().saturating_add(others) as u64,
             source_limit: limit as u64,
         }

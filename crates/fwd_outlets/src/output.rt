@@ -1,12 +1,14 @@
 //! The outputs, as threads share them.
 
 ghost use Rattle.std.specs.Prelude.{◌≡◌, length, map, IfOk};
+ghost use Rattle.fwd_outlets.specs.Ages.{age_at};
 ghost use Rattle.fwd_outlets.specs.Ends.{AddUp};
 
 use crate::hearers::Hearers;
 use crate::line::Line;
 use fwd_chunks::Report;
 use fwd_links::WorkerWaker;
+use fwd_monitor::OutputFigures;
 use fwd_workers::{Plain, SharedOutput};
 use std::alloc::{AllocError, Global};
 use std::net::SocketAddr;
@@ -65,16 +67,37 @@ impl Output {
     }
 }
 
-/// The most bytes of entries that each output holds, in their order. The only error is out of
-/// memory.
-pub(crate) fn totals_of(alloc: Global, outputs: &[Output]) -> Result<Vec<u64>, AllocError>
-    ensures { IfOk result (λ totals. totals.items ≡ map (λ output. output.total) outputs.now) }
+/// How many whole seconds ago something was that began at a moment (both in milliseconds), and 0
+/// where there is no such thing.
+fn age_at(now: u64, since: Option<u64>) -> u64
+    ensures { result ≡ age_at now since }
 {
-    let mut totals = Vec::with_capacity(alloc, outputs.len())?;
-    for output in outputs {
-        totals.push(output.total)?;
+    match since {
+        None => 0,
+        Some(since) => now.saturating_sub(since) / 1_000,
     }
-    Ok(totals)
+}
+
+/// The most bytes of entries that each output holds, and how old its oldest chunk is at a moment
+/// (milliseconds), in their order. Each is locked by itself for a moment. The only error is out of
+/// memory.
+pub(crate) fn figures_of<R: Wait>(
+    rt: &R,
+    alloc: Global,
+    outputs: &[Output],
+    now: u64,
+) -> Result<Vec<OutputFigures>, AllocError>
+    ensures { IfOk result (λ figures. map (λ f. f.total_limit) figures.items
+        ≡ map (λ output. output.total) outputs.now) }
+{
+    let mut figures = Vec::with_capacity(alloc, outputs.len())?;
+    for output in outputs {
+        figures.push(OutputFigures {
+            total_limit: output.total,
+            oldest_age: age_at(now, output.shared.oldest(rt)),
+        })?;
+    }
+    Ok(figures)
 }
 
 /// What each output has to do with, in all and of each tag, in their order. Each is locked by

@@ -105,6 +105,7 @@ fn add_servers(
             address: *address,
             lost: NONE_LOST,
             acknowledged: 0,
+            resent: 0,
             is_lost: false,
         })?;
     }
