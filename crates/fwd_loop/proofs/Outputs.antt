@@ -1,5 +1,6 @@
--- How many outputs a relay is set to.
-use Rattle.std.proofs.Common.{◌≡◌, ◌≤◌, ◌&&◌, true, length, sym, ap, ◌∙◌, arith}
+-- How many outputs a relay is set to, and what they are.
+use Rattle.std.proofs.Common.{◌≡◌, ◌≤◌, ◌&&◌, true, List, [], ◌∷◌, length, refl, sym, ap, ◌∙◌, arith}
+use Rattle.std.specs.Prelude.{map}
 use Rattle.std.specs.List.{list_all}
 use Rattle.std.proofs.lemmas.Bool.{and_parts}
 use Rattle.std.proofs.lemmas.Bool.Decides.{nat_tests}
@@ -9,6 +10,9 @@ use Rattle.fwd_settings.specs.Ranges.{in_range, relay_in_range, output_in_range}
 use Rattle.fwd_settings.specs.declared.settings.Settings.{Settings}
 use Rattle.fwd_core.specs.Config.{Config}
 use Rattle.fwd_config.specs.Configs.{IsConfig, parts_known, parts_set}
+use Rattle.fwd_settings.specs.declared.settings.OutputSettings.{OutputSettings}
+use Rattle.fwd_outlets.specs.declared.output.Output.{Output}
+use Rattle.fwd_loop.specs.Pools.{all_made_of, hop_of, shown, shown_by}
 
 -- settings in their ranges have at most 64
 pub outputs_few : (s : Settings) → in_range s ≡ true → length s.outputs ≤ 64
@@ -22,3 +26,19 @@ outputs_few s h =
 pub outputs_count : (s : Settings) (config : Config) → IsConfig s config
     → length config.outputs ≡ length s.outputs
 outputs_count s config is = sym (length-map config.outputs parts_known) ∙ ap length is.outputs ∙ length-map s.outputs parts_set
+
+made-each : (ss : List OutputSettings)
+    → all_made_of (map parts_set ss) (map hop_of ss) ≡ map shown_by ss
+made-each [] = refl
+made-each (s ∷ ss) = ap (λ xs. shown_by s ∷ xs) (made-each ss)
+
+-- each is made of its own settings
+pub outputs_made : (s : Settings) (config : Config) → IsConfig s config
+    → all_made_of (map parts_known config.outputs) (map hop_of s.outputs)
+    ≡ map shown_by s.outputs
+outputs_made s config is =
+    ap (λ ps. all_made_of ps (map hop_of s.outputs)) is.outputs ∙ made-each s.outputs
+
+-- as many are shown as there are
+pub shown_count : (outputs : List Output) → length outputs ≡ length (map shown outputs)
+shown_count outputs = sym (length-map outputs shown)

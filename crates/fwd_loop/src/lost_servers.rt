@@ -80,7 +80,7 @@ impl LostServers {
                     server,
                 })
             }
-            News::Lost { server, why } => {
+            News::Lost { server, why, .. } => {
                 let id = ServerId { output, server };
                 self.note(id);
                 let server = id.address(outputs)?;

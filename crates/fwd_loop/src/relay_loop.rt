@@ -1,7 +1,9 @@
 //! The relay over sockets.
 
-ghost use Rattle.std.specs.Prelude.{◌≡◌, ◌≤◌, [], length, true, IfOk};
+ghost use Rattle.std.specs.Prelude.{◌≡◌, ◌≤◌, [], length, map, true, IfOk};
+ghost use Rattle.fwd_config.specs.Configs.{parts_known};
 ghost use Rattle.fwd_settings.specs.Ranges.{in_range};
+ghost use Rattle.fwd_loop.specs.Pools.{all_made_of, hop_of, shown, shown_by, waits};
 ghost use Rattle.fwd_outlets.specs.Ends.{AddUp};
 
 use crate::acceptor::{Acceptor, SourceSetup};
@@ -20,7 +22,7 @@ use fwd_config::config_of;
 use fwd_core::{Config, OutputConfig};
 use fwd_links::{Mailbox, Signs};
 use fwd_outlets::{Connections, PageDesk, SharedTally, Watch, reports_of};
-use fwd_settings::{OutputSettings, Settings, WhenFull};
+use fwd_settings::{OutputSettings, ServerSettings, Settings, WhenFull};
 use mio::{Events, Poll, Waker};
 use std::alloc::{AllocError, Global};
 use std::marker::Model;
@@ -41,8 +43,8 @@ const EVENTS: usize = 1_024;
 /// which costs more than a request itself: from now on only pieces above this one.
 const LARGEST_KEPT: usize = 4 << 20;
 
-/// The relay, with its listeners open, before its first turn. In contracts it is how many outputs
-/// it has.
+/// The relay, with its listeners open, before its first turn. In contracts it is what each of its
+/// outputs is.
 #[derive(Drop)]
 pub struct Loop {
     alloc: Global,
@@ -51,11 +53,12 @@ pub struct Loop {
 }
 
 impl Model for Loop {
-    ghost use Rattle.std.specs.Prelude.{ℕ, length};
+    ghost use Rattle.std.specs.Prelude.{List, map};
+    ghost use Rattle.fwd_loop.specs.Pools.{OutputShown, shown};
 
-    ghost Value = { ℕ };
+    ghost Value = { List OutputShown };
 
-    ghost view = { λ relay. length relay.shared.outputs.items };
+    ghost view = { λ relay. map shown relay.shared.outputs.items };
 }
 
 /// Where the relay listens, how many sources it takes, and how many readers.
@@ -99,7 +102,7 @@ fn address_of<R: Files + AllocGlobal>(rt: &R, settings: &Settings) -> Address {
 
 /// Where the servers of each output are reached, and whether sources wait where it is full.
 fn next_hops_of(alloc: Global, outputs: &[OutputSettings]) -> Result<Vec<NextHop>, AllocError>
-    ensures { IfOk result (λ hops. length hops.items ≡ length outputs.now) }
+    ensures { IfOk result (λ hops. hops.items ≡ map hop_of outputs.now) }
 {
     let mut all = Vec::with_capacity(alloc, outputs.len())?;
     for output in outputs {
@@ -108,12 +111,32 @@ fn next_hops_of(alloc: Global, outputs: &[OutputSettings]) -> Result<Vec<NextHop
     Ok(all)
 }
 
+/// Where servers are reached.
+fn addresses_of(alloc: Global, servers: &[ServerSettings]) -> Result<Vec<SocketAddr>, AllocError>
+    ensures { IfOk result (λ list. list.items ≡ map (λ s. s.address) servers.now) }
+{
+    servers.iter().map(|server| server.address).collect(alloc)
+}
+
+/// Whether sources wait where an output is full.
+fn is_patient(full: WhenFull) -> bool
+    ensures { result ≡ waits full }
+{
+    match full {
+        WhenFull::Close => false,
+        WhenFull::Wait => true,
+    }
+}
+
 /// Where the servers of an output are reached, and whether sources wait where it is full.
-fn next_hop_of(alloc: Global, output: &OutputSettings) -> Result<NextHop, AllocError> {
-    let own = output.servers.as_slice();
+fn next_hop_of(alloc: Global, output: &OutputSettings) -> Result<NextHop, AllocError>
+    ensures { IfOk result (λ hop. hop ≡ hop_of output.now) }
+{
+    let servers = addresses_of(alloc, output.servers.as_slice())?;
+    let is_patient = is_patient(output.full);
     Ok(NextHop {
-        servers: own.iter().map(|server| server.address).collect(alloc)?,
-        is_patient: output.full == WhenFull::Wait,
+        servers,
+        is_patient,
     })
 }
 
@@ -129,7 +152,9 @@ fn pools_of<R: Net>(
     requires none { pools.outputs.items ≡ [] }
     requires each { length hops.items ≡ length configs.items }
     requires few { length configs.items ≤ 64 }
-    ensures { IfOk result (λ pools. length pools.outputs.items ≡ length configs.items) }
+    ensures count { IfOk result (λ pools. length pools.outputs.items ≡ length configs.items) }
+    ensures made { IfOk result (λ pools. map shown pools.outputs.items
+        ≡ all_made_of (map parts_known configs.items) hops.items) }
 {
     let mut configs = configs.into_iter();
     let mut hops = hops.into_iter();
@@ -229,7 +254,7 @@ impl Loop {
     /// no random bytes, and with `Memory`.
     pub fn new<R: Net + Files + AllocGlobal>(rt: &R, settings: Settings) -> Result<Loop, StartFault>
         requires { in_range settings ≡ true }
-        ensures { IfOk result (λ relay. relay ≡ length settings.outputs) }
+        ensures { IfOk result (λ relay. relay ≡ map shown_by settings.outputs) }
     {
         let alloc = rt.alloc();
         take_large_piece(alloc);
@@ -312,13 +337,14 @@ impl Loop {
             + AllocGlobal
             + Sync,
     >(self, rt: &R, turns: u64) -> Result<Vec<Report>, StartFault>
-        ensures count { IfOk result (λ reports. length reports.items ≡ self) }
+        ensures count { IfOk result (λ reports. length reports.items ≡ length self) }
         ensures add_up { IfOk result (λ reports. AddUp reports.items) }
     {
         self.run_watched(rt, &mut (), turns)
     }
 
     /// The same, and a watch is told what the run comes to.
+    #[tactic(auto, using(crate::proofs::Outputs::shown_count))]
     pub fn run_watched<
         R: Net<Listener = TcpListener, Stream = TcpStream>
             + Threads
@@ -328,7 +354,7 @@ impl Loop {
             + Sync,
         W: Watch,
     >(self, rt: &R, watch: &mut W, count: u64) -> Result<Vec<Report>, StartFault>
-        ensures count { IfOk result (λ reports. length reports.items ≡ self) }
+        ensures count { IfOk result (λ reports. length reports.items ≡ length self) }
         ensures add_up { IfOk result (λ reports. AddUp reports.items) }
     {
         let Loop {

@@ -1,5 +1,7 @@
 //! The clock of a run.
 
+ghost use Rattle.std.specs.Prelude.{◌≡◌, ◌≤◌};
+
 use std::rt::Clock;
 use std::time::{Instant, SystemTime};
 
@@ -30,7 +32,10 @@ impl<'a, R: Clock> RunClock<'a, R> {
     }
 
     /// The moment, in milliseconds since the start.
-    pub fn moment(&mut self) -> u64 {
+    pub fn moment(&mut self) -> u64
+        ensures told { result ≡ self.new.latest }
+        ensures onward { self.old.latest ≤ result }
+    {
         if let Some(start) = self.start {
             if let Ok(passed) = start.elapsed(self.rt) {
                 let millis = passed.as_millis().min(u64::MAX as u128) as u64;

@@ -1,6 +1,8 @@
 //! The outputs and their workers, before the first turn.
 
-ghost use Rattle.std.specs.Prelude.{◌≡◌, ◌+◌, [], length, OnOk};
+ghost use Rattle.std.specs.Prelude.{◌≡◌, ◌+◌, ◌++◌, [], ◌∷◌, length, map, IfOk, OnOk};
+ghost use Rattle.fwd_config.specs.Configs.{parts_known};
+ghost use Rattle.fwd_loop.specs.Pools.{made_of, shown};
 
 use crate::fault::StartFault;
 use crate::random_streams::RandomStreams;
@@ -11,6 +13,7 @@ use fwd_links::WorkerWaker;
 use fwd_outlets::{FlushTimer, Hearers, Line, Output};
 use fwd_workers::{Locked, Plain, SharedOutput, Worker};
 use std::alloc::{AllocError, Global};
+use std::marker::Model;
 use std::net::{Net, SocketAddr};
 use std::sync::Arc;
 
@@ -33,6 +36,14 @@ pub(crate) struct NextHop {
     pub is_patient: bool,
 }
 
+impl Model for NextHop {
+    ghost use Rattle.fwd_loop.specs.Pools.{Hop};
+
+    ghost Value = { Hop };
+
+    ghost view = { λ next. record { servers = next.servers.items; is_patient = next.is_patient } };
+}
+
 /// What an output's workers share.
 #[derive(Drop)]
 struct Pool<'a> {
@@ -46,7 +57,8 @@ struct Pool<'a> {
 impl WorkerPools {
     /// None, for so many readers beside the first.
     pub fn new(alloc: Global, others: usize) -> WorkerPools
-        ensures { result.outputs.items ≡ [] }
+        ensures outputs { result.outputs.items ≡ [] }
+        ensures intervals { result.intervals.items ≡ [] }
     {
         WorkerPools {
             alloc,
@@ -67,8 +79,13 @@ impl WorkerPools {
         config: OutputConfig,
         next: NextHop,
     ) -> Result<(), StartFault>
-        ensures { OnOk result
+        ensures count { OnOk result
             (length self.new.outputs.items ≡ length self.old.outputs.items + 1) }
+        // It is made of its own configuration and its own next hop, behind those that are there.
+        ensures made { OnOk result (map shown self.new.outputs.items
+            ≡ map shown self.old.outputs.items ++ made_of (parts_known config) next ∷ []) }
+        ensures intervals { OnOk result (self.new.intervals.items
+            ≡ self.old.intervals.items ++ config.limits.interval ∷ []) }
     {
         let OutputConfig {
             workers,
@@ -78,7 +95,12 @@ impl WorkerPools {
             login,
         } = config;
         let state = OutputState::new(self.alloc, limits, run, number, standby.as_slice())?;
-        let shared = SharedOutput::new(Locked::new(state, Plain::new(0), Plain::new(0)));
+        let shared = SharedOutput::new(Locked::new(
+            self.alloc,
+            state,
+            Plain::new(0),
+            Plain::new(0),
+        ));
         let login = Arc::new(self.alloc, login)?;
         let pool = Pool {
             random,
@@ -125,7 +147,9 @@ impl WorkerPools {
         rt: &R,
         pool: &Pool<'_>,
     ) -> Result<Vec<WorkerWaker>, StartFault>
-        ensures { self.new.outputs ≡ self.old.outputs }
+        ensures outputs { self.new.outputs ≡ self.old.outputs }
+        ensures intervals { self.new.intervals ≡ self.old.intervals }
+        ensures count { IfOk result (λ wakers. length wakers.items ≡ pool.now.workers) }
     {
         let mut wakers = Vec::new(self.alloc);
         for number in 0..pool.workers {

@@ -1,5 +1,7 @@
-use Rattle.std.proofs.Common.{◌≡◌, ◌∙◌, ap, subst, inr}
+use Rattle.std.proofs.Common.{◌≡◌, ◌∙◌, length, ap, subst, inr}
+use Rattle.std.proofs.lemmas.List.{length-map}
 use Rattle.std.specs.Io.KnownBytes.{Appends}
+use Rattle.fwd_loop.specs.Pools.{shown_by}
 use Rattle.fwd_monitor.specs.Page.{page_of}
 use Rattle.fwd_script.specs.Statuses.{refused_status}
 use Rattle.fwd_script.specs.Writes.{AppendsFront}
@@ -37,7 +39,7 @@ returns-in_err-write_all-clause-runs g c text from =
     let settings = c.in_ok-settings.settings in
     let good = good_text settings text (subst (λ f. Found f text) c.in_ok-settings.was from) in
     let reports = c.in_ok-reports.reports.items in
-    let count = c.in_ok-reports.ensures.count ∙ c.in_ok-relay.ensures in
+    let count = c.in_ok-reports.ensures.count ∙ ap length c.in_ok-relay.ensures ∙ length-map settings.outputs shown_by in
     let page : c.as_bytes.result.now ≡ page_of reports = c.as_bytes.ensures.value ∙ c.in_ok-text.ensures ∙ ap page_of c.deref.ensures.value in
     let old = g.W.Write.contents c.args.output.now in
     let new = g.W.Write.contents c.write_all.new.writer in
@@ -50,7 +52,7 @@ returns-clause-runs g c text from =
     let settings = c.in_ok-settings.settings in
     let good = good_text settings text (subst (λ f. Found f text) c.in_ok-settings.was from) in
     let reports = c.in_ok-reports.reports.items in
-    let count = c.in_ok-reports.ensures.count ∙ c.in_ok-relay.ensures in
+    let count = c.in_ok-reports.ensures.count ∙ ap length c.in_ok-relay.ensures ∙ length-map settings.outputs shown_by in
     let page : c.as_bytes.result.now ≡ page_of reports = c.as_bytes.ensures.value ∙ c.in_ok-text.ensures ∙ ap page_of c.deref.ensures.value in
     let wrote = subst (Appends (g.W.Write.contents c.args.output.now) (g.W.Write.contents c.write_all.new.writer)) page c.in_ok-write_all.ensures.all in
     (settings, good, reports, (count, c.in_ok-reports.ensures.add_up), wrote)

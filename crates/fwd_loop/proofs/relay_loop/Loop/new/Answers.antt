@@ -1,12 +1,15 @@
-use Rattle.std.proofs.Common.{◌≡◌, length, sym, ap, ◌∙◌, arith}
-use Rattle.fwd_loop.proofs.Outputs.{outputs_few, outputs_count}
+use Rattle.std.proofs.Common.{◌≡◌, length, map, sym, ap, ◌∙◌, arith}
+use Rattle.std.proofs.lemmas.List.{length-map}
+use Rattle.fwd_config.specs.Configs.{parts_known}
+use Rattle.fwd_loop.specs.Pools.{all_made_of, hop_of}
+use Rattle.fwd_loop.proofs.Outputs.{outputs_few, outputs_count, outputs_made}
 use Rattle.fwd_loop.proofs.relay_loop.Loop.new.Goals as goal
 
 pub pools_of-requires-clause-each : goal.pools_of-requires-clause-each
 pools_of-requires-clause-each g c =
     let same : length c.into_vec.result.items ≡ length c.args.settings.outputs =
     ap length c.into_vec.ensures ∙ outputs_count c.args.settings _ c.in_ok-routes.ensures.ok in
-    c.in_ok-hops.ensures ∙ ap length c.as_slice.ensures ∙ sym same
+    ap length c.in_ok-hops.ensures ∙ length-map c.as_slice.result.now hop_of ∙ ap length c.as_slice.ensures ∙ sym same
 
 pub pools_of-requires-clause-few : goal.pools_of-requires-clause-few
 pools_of-requires-clause-few g c =
@@ -16,6 +19,7 @@ pools_of-requires-clause-few g c =
 
 pub returns : goal.returns
 returns g c =
-    let same : length c.into_vec.result.items ≡ length c.args.settings.outputs =
-    ap length c.into_vec.ensures ∙ outputs_count c.args.settings _ c.in_ok-routes.ensures.ok in
-    c.in_ok-pools.ensures ∙ same
+    let hops = c.in_ok-hops.ensures ∙ ap (map hop_of) c.as_slice.ensures in
+    c.in_ok-pools.ensures.made
+    ∙ (λ i. all_made_of (map parts_known (c.into_vec.ensures i)) (hops i))
+    ∙ outputs_made c.args.settings _ c.in_ok-routes.ensures.ok
