@@ -39,7 +39,8 @@ const ALONE: &[Hand] = &[
 ];
 
 /// The workers work: the server acknowledges the first frame, and the source is told by a turn and
-/// not before. The second one is not acknowledged.
+/// not before. The second one is acknowledged behind the last turn, and the third one, which comes
+/// for that, is not.
 const BESIDE: &[Hand] = &[
     Hand::Step(Step::Accept(0)),
     Hand::Step(Step::Told("frame", 1)),
@@ -50,8 +51,16 @@ const BESIDE: &[Hand] = &[
     Hand::Step(Step::Send(0, MESSAGE)),
     Hand::Turns(3),
     Hand::Step(Step::Told("second", 1)),
+    Hand::Step(Step::Send(0, MESSAGE)),
+    Hand::Turns(3),
+    Hand::Step(Step::Ack(1)),
+    Hand::Step(Step::Told("third", 1)),
+    Hand::Step(Step::Silent("unturned_again", 0)),
     Hand::Step(Step::Start),
 ];
+
+/// The relay is closed, and the source is told of the second frame, and of no other.
+const CLOSED: &[Step] = &[Step::Told("told_at_the_close", 0), Step::Rest("rest", 0)];
 
 /// How long workers may take to end, in milliseconds: far less than they wait for an
 /// acknowledgement.
@@ -129,6 +138,9 @@ fn make_turns<
     let relay = stage.site.relay(&Sealed::new(rt), 8, SEED, &[PLAIN])?;
     let ended = run(rt, relay, stage);
     stage.play(rt, Step::Within("soon", SOON))?;
+    for step in CLOSED {
+        stage.play(rt, *step)?;
+    }
     match ended {
         Ok(reports) => stage.told.put_counts(&reports),
         Err(fault) => Err(anyhow!("{fault}")),

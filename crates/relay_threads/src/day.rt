@@ -77,7 +77,7 @@ fn day_by<L: Ledger + Send + Sync, M: Ledger + Send + Sync, R: Threads + Wait + 
     let second = Ledgered::<L>::split(&mut first, 1);
     let fourth = Ledgered::<M>::split(&mut third, 1);
     let state = output(alloc, 10, 100_000)?;
-    let shared = SharedOutput::new(Locked::new(state, accepted, settled));
+    let shared = SharedOutput::new(Locked::new(alloc, state, accepted, settled));
     let out = &shared;
     let (admitted, worked) = thread::join(
         rt,

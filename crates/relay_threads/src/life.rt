@@ -82,7 +82,7 @@ fn locked(alloc: Global, life: Life) -> Result<Locked<Plain, Plain>> {
         Servers::Two => output_at(alloc, life.output, chunk, 100_000)?,
         Servers::Three => output_of_three(alloc, chunk, 100_000)?,
     };
-    Ok(Locked::new(state, Plain::new(0), Plain::new(0)))
+    Ok(Locked::new(alloc, state, Plain::new(0), Plain::new(0)))
 }
 
 /// The output of a life before its first turn.

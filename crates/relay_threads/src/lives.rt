@@ -365,8 +365,9 @@ static RETURNS: [Life; 2] = [
     },
 ];
 
-/// Windows of two chunks: one more is taken while the first is not acknowledged.
-static WINDOWS: [Life; 3] = [
+/// Windows of two chunks: one more is taken while the first is not acknowledged, unless another
+/// server is to be tried.
+static WINDOWS: [Life; 4] = [
     Life {
         name: "two chunks at once, acknowledged in reverse order",
         requests: 2,
@@ -384,6 +385,20 @@ static WINDOWS: [Life; 3] = [
         turns: 16,
         meetings: &[
             Some(&[Act::Silent, Act::Acks, Act::Closes]),
+            Some(&[Act::Silent, Act::Acks]),
+        ],
+        looks: [4000, 4001, 4002],
+        ..PLAIN
+    },
+    Life {
+        name: "a window is not filled at a standby once its primary is to be tried",
+        requests: 2,
+        window: 2,
+        tick: 250,
+        turns: 15,
+        meetings: &[
+            None,
+            Some(&[Act::Silent, Act::Acks, Act::Silent]),
             Some(&[Act::Silent, Act::Acks]),
         ],
         looks: [4000, 4001, 4002],

@@ -50,7 +50,7 @@ const STORIES: [Story; 10] = [
 /// An output of these limits behind its lock, with plain counters.
 fn shared(alloc: Global, chunk: u32) -> Result<SharedOutput<Plain, Plain>> {
     let state = output(alloc, chunk, 100_000)?;
-    Ok(SharedOutput::new(Locked::new(state, Plain::new(0), Plain::new(0))))
+    Ok(SharedOutput::new(Locked::new(alloc, state, Plain::new(0), Plain::new(0))))
 }
 
 /// Two threads admit and two workers send, each with a window of so many chunks, and what the

@@ -410,7 +410,7 @@ fn locked(alloc: Global, story: Story) -> Result<Locked<Plain, Plain>> {
         Story::Choices => output_of_three(alloc, chunk, total)?,
         _ => output(alloc, chunk, total)?,
     };
-    Ok(Locked::new(state, Plain::new(0), Plain::new(0)))
+    Ok(Locked::new(alloc, state, Plain::new(0), Plain::new(0)))
 }
 
 /// What a story's calls answer on an output itself.

@@ -223,7 +223,7 @@ fn readers_by<L: Ledger + Send + Sync, M: Ledger + Send + Sync, R: Threads + Wai
     let third = Ledgered::<L>::split(&mut first, 1);
     let fourth = Ledgered::<L>::split(&mut first, 1);
     let state = output(alloc, 10, 100_000)?;
-    let shared = SharedOutput::new(Locked::new(state, accepted, settled));
+    let shared = SharedOutput::new(Locked::new(alloc, state, accepted, settled));
     let out = &shared;
     let (read, worker) = thread::join(
         rt,

@@ -53,7 +53,7 @@ fn alone_by<L: Ledger + Send + Sync, M: Ledger + Send + Sync, R: Threads + Wait 
     let other = Ledgered::<L>::split(&mut one, 1);
     let witness = Witness::new(alloc)?;
     let state = output(alloc, 10, 100_000)?;
-    let out = SharedOutput::new(Locked::new(state, accepted, settled));
+    let out = SharedOutput::new(Locked::new(alloc, state, accepted, settled));
     let ((one, tickets), (other, others)) = admit_both(rt, alloc, &out, one, other);
     out.flush(rt, 0, FlushKind::All);
     let seat = BUSY.work(rt, alloc, &out, seat, &witness);

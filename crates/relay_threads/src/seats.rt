@@ -207,7 +207,7 @@ fn sums_by<L: Ledger + Send + Sync, M: Ledger + Send + Sync, R: Threads + Wait +
     let (admit_seat, admit_hands) = deal(alloc, admit_seat, 8)?;
     let (work_seat, work_hands) = deal(alloc, work_seat, 4)?;
     let state = output(alloc, 10, 100_000)?;
-    let out = SharedOutput::new(Locked::new(state, accepted, settled));
+    let out = SharedOutput::new(Locked::new(alloc, state, accepted, settled));
     let (admitted, worked) = run_both(rt, alloc, &out, admit_hands, work_hands);
     let work_seat = work_off(rt, alloc, &out, join_all(work_seat, worked?));
     let admit_seat = admit_more(rt, alloc, &out, join_all(admit_seat, admitted?));

@@ -184,7 +184,7 @@ fn tried_by<L: Ledger, M: Ledger, R: Wait>(
     let (settled, work_seat) = open::<M>(working);
     let witness = Witness::new(alloc)?;
     let state = output(alloc, 3, 100_000)?;
-    let out = SharedOutput::new(Locked::new(state, accepted, settled));
+    let out = SharedOutput::new(Locked::new(alloc, state, accepted, settled));
     let (admit_seat, tickets) = admits(rt, alloc, &out, admit_seat, 1, trial.chunks);
     abandon_all(rt, &out, tickets);
     out.flush(rt, 0, FlushKind::All);

@@ -86,7 +86,7 @@ pub fn news_text(alloc: Global, worker: u16, news: News) -> Result<String, Alloc
         News::Settled { number, server } => {
             format!(in alloc; ", worker {worker} tells chunk {number} settled by server {server}")
         }
-        News::Lost { server, why } => {
+        News::Lost { server, why, .. } => {
             let why = loss_text(alloc, why)?;
             format!(in alloc; ", worker {worker} tells server {server} lost: {why}")
         }
