@@ -25,7 +25,11 @@
  * - accept: EMFILE leaves the connection where it is, and no event comes for it, as the kernel does it. ECONNABORTED takes it
  *   and resets it. EINTR leaves it.
  * - socket: EMFILE. connect: ECONNREFUSED or EADDRNOTAVAIL, and nothing was begun.
- * - epoll_wait: EINTR, and no event is taken. */
+ * - epoll_wait: EINTR, and no event is taken.
+ *
+ * The board's word BREAK is how many readers' waits are to fail from then on, for good and with EBADF: those of the epolls to
+ * which a connection that was accepted was added by another thread than the main one. BREAK_FIRST says whether those fail to
+ * which one was added by the main thread. */
 #define _GNU_SOURCE
 #include <dlfcn.h>
 #include <errno.h>
@@ -45,7 +49,8 @@
 
 /* Words of the board; shim.py has their names in this order. */
 enum word { ON, CALLS, SHORT_READ, SHORT_WRITE, WAIT_READ, WAIT_WRITE, CUT_READ, CUT_WRITE, RESET_READ, RESET_WRITE, REFUSED,
-    NO_PORT, NO_SOCKET, NO_ACCEPT, ABORTED, CUT_ACCEPT, CUT_WAIT, REQUESTS, NO_MEMORY, WORDS };
+    NO_PORT, NO_SOCKET, NO_ACCEPT, ABORTED, CUT_ACCEPT, CUT_WAIT, REQUESTS, NO_MEMORY, BREAK, BROKEN, BREAK_FIRST,
+    WORDS };
 
 /* How often of 65,536 draws. */
 enum {
@@ -65,7 +70,7 @@ enum {
 
 /* What is known of a descriptor. */
 static struct {
-    atomic_int is_stream, is_thin, poll;
+    atomic_int is_stream, is_thin, is_taken, is_reader, is_first, is_broken, poll;
     struct epoll_event event;
 } known[MOST];
 
@@ -142,6 +147,7 @@ static void know(int fd) {
     if (fd < 0 || fd >= MOST) return;
     atomic_store(&known[fd].poll, -1);
     atomic_store(&known[fd].is_thin, comes(THIN));
+    atomic_store(&known[fd].is_taken, 0);
     atomic_store(&known[fd].is_stream, 1);
 }
 
@@ -159,6 +165,9 @@ int epoll_ctl(int poll, int op, int fd, struct epoll_event *event) {
         } else {
             known[fd].event = *event;
             atomic_store(&known[fd].poll, poll);
+            if (atomic_load(&known[fd].is_taken) && poll < MOST) {
+                atomic_store(gettid() == getpid() ? &known[poll].is_first : &known[poll].is_reader, 1);
+            }
         }
     }
     return real(poll, op, fd, event);
@@ -173,8 +182,24 @@ static void look_again(int fd) {
     errno = was;
 }
 
+/* Whether the waits of an epoll fail for good. */
+static int is_broken(int poll) {
+    if (poll < 0 || poll >= MOST) return 0;
+    if (atomic_load(&known[poll].is_first)) return atomic_load(&board[BREAK_FIRST]) != 0;
+    if (!atomic_load(&known[poll].is_reader)) return 0;
+    if (atomic_load(&known[poll].is_broken)) return 1;
+    if (atomic_load(&board[BREAK]) <= atomic_load(&board[BROKEN])) return 0;
+    atomic_store(&known[poll].is_broken, 1);
+    count(BROKEN);
+    return 1;
+}
+
 int epoll_wait(int poll, struct epoll_event *events, int most, int longest) {
     REAL(epoll_wait);
+    if (is_broken(poll)) {
+        errno = EBADF;
+        return -1;
+    }
     if (comes(EPOLL)) return fail(EINTR, CUT_WAIT);
     return real(poll, events, most, longest);
 }
@@ -218,6 +243,7 @@ int accept4(int fd, struct sockaddr *from, socklen_t *length, int flags) {
     }
     int taken = real(fd, from, length, flags);
     know(taken);
+    if (taken >= 0 && taken < MOST) atomic_store(&known[taken].is_taken, 1);
     return taken;
 }
 

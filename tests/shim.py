@@ -10,8 +10,8 @@ from typing import NamedTuple
 
 SOURCE = pathlib.Path(__file__).resolve().with_name("shim.c")
 WORDS = """on calls short-read short-write wait-read wait-write cut-read cut-write reset-read reset-write
-connect-refused no-port no-socket no-accept aborted cut-accept cut-wait requests no-memory""".split()
-FAILURES = [word for word in WORDS[2:] if word != "requests"]
+connect-refused no-port no-socket no-accept aborted cut-accept cut-wait requests no-memory break broken break-first""".split()
+FAILURES = [word for word in WORDS[2:] if word not in ("requests", "break", "broken", "break-first")]
 
 
 class Run(NamedTuple):
@@ -76,6 +76,14 @@ class Board:
     def switch(self, on):
         """From now on calls fail, or none does."""
         struct.pack_into("=Q", self.words, 0, on)
+
+    def break_readers(self, count):
+        """From now on the waits of so many readers beside the first fail."""
+        struct.pack_into("=Q", self.words, 8 * WORDS.index("break"), count)
+
+    def break_first(self):
+        """From now on the waits of the first reader fail."""
+        struct.pack_into("=Q", self.words, 8 * WORDS.index("break-first"), 1)
 
     def counts(self):
         """What it counted."""

@@ -4,6 +4,7 @@ import contextlib
 import os
 import re
 import resource
+import time
 
 import msgpack
 import pytest
@@ -18,8 +19,8 @@ CLIENTS = 300
 
 
 def few(files):
-    """What starts a program that may have so many files."""
-    return ["sh", "-c", f'ulimit -n {files}; exec "$@"', "sh"]
+    """What starts a program that may have so many files, and could ask the system for more."""
+    return ["sh", "-c", f'ulimit -S -n {files}; exec "$@"', "sh"]
 
 
 def is_open(stream):
@@ -55,6 +56,22 @@ def test_more_sources_than_files(relay, next_hop):
         early.ask()
 
 
+@pytest.mark.parametrize(("workers", "readers"), [(1, 1), (7, 1), (1, 3)])
+def test_files_that_are_kept_apart(relay, next_hop, workers, readers):
+    """16 files of its own, 16 for monitors, 5 for each worker and 2 for each reader beside the first: sources have the others."""
+    keys = {"under": few(FILES), "connections": 1024, "readers": readers}
+    one = relay([{"servers": [next_hop().port], "workers": workers}], **keys)
+    sources = FILES - 16 - 16 - 5 * workers - 2 * (readers - 1)
+    assert one.await_line("few files: ") == f"few files: {FILES} open at most, {sources} sources"
+
+
+def test_files_for_all_sources(relay, next_hop):
+    """Where the files are enough for as many sources as are set, nothing is said of them."""
+    one = relay([{"servers": [next_hop().port]}], under=few(FILES), connections=50)
+    one.source().ask()
+    assert one.lines("few files: ") == 0
+
+
 def test_connections(relay, next_hop):
     """One source more than `relay.connections` is closed at once, and others are none the worse."""
     one = relay([{"servers": [next_hop().port]}], connections=2)
@@ -85,7 +102,7 @@ def limit_files(one, files):
 
 
 def test_no_file_for_a_while(relay, next_hop):
-    """No file is left for a source and for a server: it says so, and goes on once there is one."""
+    """No file is left for a source and for a server: it says so, does not spin, and goes on once there is one."""
     one = relay([{"servers": [next_hop().port]}])
     early = one.source(timeout=60)
     used = steady(lambda: set(os.listdir(f"/proc/{one.process.pid}/fd")))
@@ -94,6 +111,9 @@ def test_no_file_for_a_while(relay, next_hop):
     early.send(chunk="early")
     one.await_line("no descriptor: source")
     one.await_line("server lost: output 0 .* Descriptors")
+    said = one.lines("no descriptor: source")
+    time.sleep(2)
+    assert one.lines("no descriptor: source") - said < 200, "the loop spins: it tries ten times a second"
     limit_files(one, before)
     assert early.told() == "early"
     late.ask()
@@ -113,3 +133,18 @@ def test_before_a_ping(relay, next_hop):
         said = msgpack.packb(ping(stream.value(), KEY, salt=bytes(60_000)))
         stream.link.sendall(said[:5_000])
         assert stream.is_closed(30), "5,000 bytes wait before a PING"
+
+
+def test_who_does_not_log_in(relay, next_hop):
+    """A source that has not logged in 30 s after it came is closed. One that has stays, and so does one without a key."""
+    server = {"servers": [next_hop().port]}
+    keyed, open_to_all = relay([server], shared_key=KEY), relay([server])
+    silent = [keyed.source(key=KEY), open_to_all.source()]
+    with connect(keyed.port) as late:
+        late.value()
+        assert not late.is_closed(20)
+        assert late.is_closed(30), "it has not logged in, and stays"
+    keyed.await_line("source closed: .* NoLogin")
+    for source in silent:
+        source.ask()
+    assert not any("source closed" in line for line in open_to_all.journal().splitlines())
