@@ -1,5 +1,5 @@
 #!/usr/bin/env python3
-"""What a relay takes of memory and of files: the table of docs/OPERATING.md ("Sizing").
+"""What a relay takes of memory and of files: docs/OPERATING.md ("Sizing") has rows of this table.
 
     python3 tools/sizing.py [PROGRAM]
 

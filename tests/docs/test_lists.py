@@ -119,8 +119,8 @@ def test_names_that_end_a_source_or_a_session():
     text = text_of("docs/OPERATING.md")
     code = text_of("crates/fwd_script/src/text.rt") + text_of("crates/fwd_program/src/telling.rt")
     heads = {
-        "## Sources that are closed": "source_fault_name scan_fault_name input_fault_name source_end_name admit_refusal_name",
-        "## A server that does not answer": "session_fault_name loss_name",
+        "### Sources that are closed": "source_fault_name scan_fault_name input_fault_name source_end_name admit_refusal_name",
+        "### A server that does not answer": "session_fault_name loss_name",
     }
     for heading, functions in heads.items():
         told = {span for row in rows(section(text, heading)) for span in spans(row[0])}
