@@ -19,10 +19,19 @@ THREADED = {"chain", "full", "sockets", "memory", "stress"}  # whose tests run w
 
 
 def pytest_generate_tests(metafunc):
-    """Runs some tests with one reading thread and with four."""
-    if "relay" in metafunc.fixturenames and metafunc.definition.path.parent.name in THREADED:
+    """Has each test of a running relay, in some folders, run with one reading thread and with four, unless it says how many."""
+    runs = "relay" in metafunc.fixturenames or hasattr(metafunc.module, "Relay")
+    if runs and not hasattr(metafunc.module, "READERS") and metafunc.definition.path.parent.name in THREADED:
         metafunc.fixturenames.append("readers")
         metafunc.parametrize("readers", [1, 4], ids=["1-reader", "4-readers"])
+
+
+@pytest.fixture(autouse=True)
+def reading(request, monkeypatch):
+    """So many threads read the sources of each relay that the test starts, where it runs with several numbers of them."""
+    params = getattr(getattr(request.node, "callspec", None), "params", {})
+    if isinstance(params.get("readers"), int) and not hasattr(request.module, "READERS"):
+        monkeypatch.setattr(relays, "READERS", {"readers": params["readers"]})
 
 
 @pytest.fixture
@@ -41,12 +50,8 @@ def relay(program, tmp_path, request):
     They end with the test, and not before, and may have said only lines that docs/FORMATS.md has.
     """
     started = []
-    params = getattr(getattr(request.node, "callspec", None), "params", {})
-    readers = params.get("readers") or int(os.environ.get("READERS", "0"))
 
     def start(outputs, errors=None, stdout=subprocess.DEVNULL, **how):
-        if readers:
-            how.setdefault("readers", readers)
         started.append(relays.Relay(program, tmp_path, outputs, **how))
         return started[-1].start(errors, stdout)
 
