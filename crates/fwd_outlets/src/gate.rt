@@ -1,10 +1,11 @@
 //! Whose requests may come from a reader to an output: what waits there is bounded.
 
-use crate::line::Crowd;
+use crate::line::{Crowd, Entrance};
 use crate::output::Output;
 use fwd_peers::SourcePeer;
 use std::alloc::Global;
 use std::collections::VecDeque;
+use std::mem;
 use std::sync::Wait;
 
 /// The bytes that the unanswered requests of an output may take beside their entries, at least:
@@ -24,8 +25,8 @@ pub(crate) struct Gate {
     line: VecDeque<u64>,
     /// The number of the reader whose they are.
     reader: usize,
-    /// The reader has its turn, and its first source was looked at since.
-    has_turn: bool,
+    /// The reader has its turn, and its first source was looked at behind so many changes.
+    looked: Option<u64>,
 }
 
 impl Gate {
@@ -37,7 +38,7 @@ impl Gate {
             room: 0,
             line: VecDeque::new(alloc),
             reader,
-            has_turn: false,
+            looked: None,
         }
     }
 
@@ -86,7 +87,6 @@ impl Gate {
     fn stand_in_line(&mut self, id: u64) {
         if !self.line.contains(&id) {
             let _ = self.line.push_back(id);
-            self.has_turn = false;
         }
     }
 
@@ -95,7 +95,12 @@ impl Gate {
     fn has_room<R: Wait>(&mut self, rt: &R, output: &Output, bytes: u64) -> bool {
         if output.has_other_readers() {
             let shared = (&output.shared, output.total);
-            return output.line.lets_in(rt, shared, self.reader, bytes);
+            let entrance = output.line.lets_in(rt, shared, self.reader, bytes);
+            self.looked = match entrance {
+                Entrance::Full(changes) => Some(changes),
+                Entrance::Open | Entrance::Behind => None,
+            };
+            return matches!(entrance, Entrance::Open);
         }
         if self.room < bytes {
             let held = output.shared.counts(rt).bytes;
@@ -121,14 +126,15 @@ impl Gate {
         }
     }
 
-    /// Whether sources wait for room, and the reader has its turn since the last call.
+    /// Whether sources wait for room, and the first is to be looked at: the reader has its turn, or
+    /// there may be room for it, since it was.
     pub fn gets_turn<R: Wait>(&mut self, rt: &R, output: &Output) -> bool {
         if self.line.is_empty() || !output.has_other_readers() {
             return false;
         }
-        let had_turn = self.has_turn;
-        self.has_turn = output.line.is_turn_of(rt, self.reader);
-        self.has_turn && !had_turn
+        let changes = output.line.changes_for(rt, self.reader);
+        let looked = mem::replace(&mut self.looked, changes);
+        changes.is_some() && changes != looked
     }
 
     /// A request was admitted that takes so many bytes beside its entries.

@@ -37,11 +37,24 @@ pub(crate) enum Crowd {
     Gone,
 }
 
+/// What becomes of a reader's request that is to be let in.
+#[derive(Clone, Copy)]
+pub(crate) enum Entrance {
+    /// It is let in.
+    Open,
+    /// It is the reader's turn, and there is no room, after so many changes of what is promised.
+    Full(u64),
+    /// It is another reader's turn.
+    Behind,
+}
+
 /// Which readers have sources that wait for room, and what was let in.
 #[derive(Drop)]
 struct Turns {
     /// The bytes of entries of requests that were let in and are not admitted yet.
     promised: u64,
+    /// How often bytes that were promised were promised no more; from 0 again behind the last.
+    changes: u64,
     /// The numbers of those readers, in the order in which they came, each once.
     readers: VecDeque<usize>,
 }
@@ -81,6 +94,7 @@ impl Turns {
         ensures readers { self.new.readers.items ≡ self.old.readers.items }
     {
         self.promised = self.promised.saturating_sub(bytes);
+        self.changes = self.changes.wrapping_add(1);
     }
 
     /// A reader's source waits: it comes behind those that wait already. Where memory is refused it
@@ -119,7 +133,7 @@ impl Turns {
 #[derive(Drop)]
 pub struct Line {
     turns: Mutex<Turns>,
-    /// Another reader has its turn from now on, and was not called yet.
+    /// Another reader has its turn from now on, or may have room, and was not called yet.
     is_passed: AtomicBool,
     /// It was told that sources wait.
     is_told: AtomicBool,
@@ -133,6 +147,7 @@ impl Line {
         Line {
             turns: Mutex::new(Turns {
                 promised: 0,
+                changes: 0,
                 readers: VecDeque::new(alloc),
             }),
             is_passed: AtomicBool::new(false),
@@ -151,24 +166,30 @@ impl Line {
         output: (&SharedOutput<Plain, Plain>, u64),
         reader: usize,
         bytes: u64,
-    ) -> bool {
+    ) -> Entrance {
         let (shared, total) = output;
         let mut turns = self.turns.lock(rt);
+        if !turns.is_turn_of(reader) {
+            turns.stand(reader);
+            return Entrance::Behind;
+        }
         // What others were promised is counted until they have it: so this is asked behind the
         // lock.
         let room = total.saturating_sub(shared.counts(rt).bytes);
-        let lets_in = turns.is_turn_of(reader) && (total < bytes || turns.promise(bytes, room));
-        if lets_in {
+        if total < bytes || turns.promise(bytes, room) {
             self.pass(turns.leave(reader));
-        } else {
-            turns.stand(reader);
+            return Entrance::Open;
         }
-        lets_in
+        turns.stand(reader);
+        Entrance::Full(turns.changes)
     }
 
-    /// A request of so many bytes that was let in was admitted, or refused.
+    /// A request of so many bytes that was promised room was admitted, or refused. Until then its
+    /// bytes may have been counted twice, so who waits looks again.
     pub(crate) fn came<R: Wait>(&self, rt: &R, bytes: u64) {
-        self.turns.lock(rt).keep(bytes);
+        let mut turns = self.turns.lock(rt);
+        turns.keep(bytes);
+        self.pass(!turns.readers.is_empty());
     }
 
     /// None of a reader's sources waits any more.
@@ -177,22 +198,27 @@ impl Line {
         self.pass(turns.leave(reader));
     }
 
-    /// Another reader has its turn from now on, if so.
+    /// Another reader has its turn from now on, or may have room, if so.
     fn pass(&self, is_passed: bool) {
         if is_passed {
             self.is_passed.store(true, Ordering::SeqCst);
         }
     }
 
-    /// Whether a reader has its turn since the last call that another one waits for: then all are
+    /// Whether a reader has its turn, or there may be room for it, since the last call: then all are
     /// to be called.
     pub(crate) fn take_passed(&self) -> bool {
         self.is_passed.load(Ordering::SeqCst) && self.is_passed.swap(false, Ordering::SeqCst)
     }
 
-    /// Whether it is a reader's turn.
-    pub(crate) fn is_turn_of<R: Wait>(&self, rt: &R, reader: usize) -> bool {
-        self.turns.lock(rt).is_turn_of(reader)
+    /// How many changes there were, where it is a reader's turn.
+    pub(crate) fn changes_for<R: Wait>(&self, rt: &R, reader: usize) -> Option<u64> {
+        let turns = self.turns.lock(rt);
+        if turns.is_turn_of(reader) {
+            Some(turns.changes)
+        } else {
+            None
+        }
     }
 
     /// What there is to tell at a moment (milliseconds), where so many sources of a reader wait.
