@@ -3,6 +3,7 @@
 import pytest
 
 from next_hop import hold
+from relay import steady
 from traffic import Traffic
 
 KEYS = {"chunk_limit": 200, "total_limit": 20_000}
@@ -15,7 +16,7 @@ def send(source, chunk, size):
 
 def leave(one, source):
     """A source closes, and the relay has seen it."""
-    files = one.files()
+    files = steady(one.files)
     source.close()
     one.until(lambda: one.files() < files, "the source is kept")
 
@@ -33,8 +34,11 @@ def test_each_is_told_and_none_comes_twice(relay):
 
 
 @pytest.mark.quick
-def test_who_waited_first_goes_first(relay, next_hop):
-    """Two sources wait behind what fills the output: the one with a large request first, and it goes first."""
+def test_who_waited_first_goes_first(relay, next_hop, readers):
+    """Two sources wait behind what fills the output: the one with a large request first, and it goes first.
+
+    Read by several threads it is let in first, and the other one may overtake it on its way to the server.
+    """
     hop = next_hop(answer=hold)
     one = relay([{"servers": [hop.port], "full": "wait", "total_limit": 1_000}])
     first, large, small = one.source(), one.source(), one.source()
@@ -48,7 +52,9 @@ def test_who_waited_first_goes_first(relay, next_hop):
     assert first.told() == "first"
     assert large.told() == "large"
     assert small.told() == "small"
-    assert [len(record["n"]) for _, _, record in hop.entries()] == [600, 700, 10]
+    first, *others = [len(record["n"]) for _, _, record in hop.entries()]
+    assert first == 600
+    assert others == [700, 10] if readers == 1 else sorted(others) == [10, 700]
     one.await_line("output 0 has room")
 
 

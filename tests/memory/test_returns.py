@@ -59,7 +59,10 @@ def begun(one):
     """Starts a relay; again where the heaps of its first threads left no room for the last one's stack."""
     for _ in range(20):
         try:
-            return one.start()
+            one.start()
+            one.until(lambda: "listening" in one.journal() or not one.is_up(), "it does not begin")
+            assert one.is_up(), "it listened, and had no thread"
+            return one
         except AssertionError:
             assert "start: thread" in one.journal(), one.journal()
             one.journal_path.write_text("")
