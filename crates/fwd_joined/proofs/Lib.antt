@@ -1,0 +1,16 @@
+-- Own is of one event, and Nameless of who has what. Carried is of a list, Merged of two lists that
+-- name nothing in common, and Among of a list that carries own events, with others among them. Fates
+-- and Receiving are of what became of requests, and of receipts, and Delivering is the law on them.
+-- Parting is of lists that have the same events at each part, Each of what each event does to an
+-- output, and Alone of what goes back.
+pub mod Own
+pub mod Nameless
+pub mod Carried
+pub mod Merged
+pub mod Among
+pub mod Fates
+pub mod Receiving
+pub mod Delivering
+pub mod Parting
+pub mod Each
+pub mod Alone
