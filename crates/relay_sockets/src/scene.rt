@@ -41,6 +41,9 @@ pub struct Scene {
     pub keys: &'static str,
     pub outputs: &'static [Output],
     pub play: Play,
+    /// Whether it has one reader in any case: a page is told behind what came before it where its
+    /// reader saw that, and not where another has to.
+    pub is_of_one: bool,
     /// How many turns its relay runs for. Else it runs until the play is over.
     pub turns: Option<u64>,
     /// Whether it is told what the outputs have to do with then.
@@ -57,6 +60,7 @@ pub const SCENE: Scene = Scene {
     keys: SEED,
     outputs: &[PLAIN],
     play: Play::Steps(&[]),
+    is_of_one: false,
     turns: None,
     is_counted: true,
     said: &[],
@@ -187,7 +191,7 @@ impl Scene {
             + Sync,
     >(self, rt: &R, readers: u16) -> Result<String> {
         let mut stage = Stage::new(rt, rt.alloc(), self.host)?;
-        stage.site.readers = readers;
+        stage.site.readers = if self.is_of_one { 1 } else { readers };
         stage.told.begin(self.title);
         let played = self.put_run(rt, &mut stage);
         stage.told.note(played);

@@ -451,6 +451,7 @@ pub static SCENES: [Scene; 17] = [
         title: "two sources at a time",
         host: 11,
         sources: 2,
+        is_of_one: true,
         play: Play::Steps(LIMITS),
         ..SCENE
     },
