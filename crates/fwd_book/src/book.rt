@@ -1,4 +1,6 @@
 //! The requests of an output that are owed an answer, with what was acknowledged of their entries.
+//! A chunk is kept with the server's reply, and not only its number, so that a receipt is right by
+//! what it holds.
 
 ghost use Rattle.std.specs.Prelude.{
   ◌≡◌,
@@ -239,7 +241,9 @@ impl Book {
         Ok(())
     }
 
-    /// The request that room was made for is entered, under the runs that its entries took.
+    /// The request that room was made for is entered, under the runs that its entries took. No
+    /// chunk of these runs was acknowledged yet: a buffer puts entries into open chunks, and only
+    /// closed ones are acknowledged.
     pub fn enter(&mut self, origin: Origin, spans: Spans)
         requires ready { IsSome self.old.ready }
         requires alone { request_at self.old.live.requests origin ≡ None }

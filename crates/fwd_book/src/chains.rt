@@ -1,5 +1,6 @@
 //! The requests of a book in slots, those of each connection in the order in which they were
-//! entered.
+//! entered. A slab keeps its memory when it is empty. When it was given back, as a trial, the C
+//! library kept larger pieces inside its heap, and the next million requests took more.
 
 ghost use Rattle.std.specs.Prelude.{
   ◌≡◌,

@@ -130,6 +130,7 @@ impl Numbers {
     }
 
     /// A chunk was acknowledged: it is kept where a request has its number, and none was before.
+    /// The relay settles a number once, but the definition has to say something of a second time.
     pub(crate) fn put(&mut self, acked: Arc<Acked>)
         ensures noted { let e = arc_value acked in (n : ℕ) → note_at n self.new.notes
             ≡ (if e.number == n then put_in e (note_at e.number self.old.notes)
@@ -152,7 +153,9 @@ impl Numbers {
         self.notes.get(&number)?.acked.as_ref()
     }
 
-    /// Whether something was acknowledged under the number of each run.
+    /// Whether something was acknowledged under the number of each run. It looks into no chunk:
+    /// that all entries of a request that is told were acknowledged is a law of the abstract relay
+    /// (`told_is_delivered`).
     pub(crate) fn has_all(&self, spans: &[Span]) -> bool
         ensures { result ≡ list_all (λ s. is_some (found_at self.now.notes s.number)) spans.now }
     {

@@ -1,4 +1,5 @@
-//! The entries of a chunk, in memory that their requests share.
+//! The entries of a chunk, in memory that their requests share. No entry is copied into a chunk or
+//! out of it, and a request's memory stays while one of its entries is held.
 
 ghost use Rattle.std.specs.Prelude.{
   ◌≡◌,
@@ -108,7 +109,11 @@ impl Body {
         Arc::make_mut(&mut self.slices)?.extend(part)
     }
 
-    /// Whether the entries are the same.
+    /// Whether the entries are the same. Their bytes are compared, since no contract of the kit
+    /// tells two owners of one value from owners of two equal values. `Arc` has no `ptr_eq`, that
+    /// of `Rc` has no clause, and pointers may be compared only where one is null or both point
+    /// into one block. A number in each request would tell only if no number were given out twice,
+    /// and to say so takes a type parameter in everything that holds a request.
     pub(crate) fn is(&self, other: &Body) -> bool
         ensures { IsTrue result ↔ (self.now ≡ other.now) }
     {

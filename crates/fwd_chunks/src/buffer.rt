@@ -333,7 +333,7 @@ impl Buffer {
     /// entries in their chunks. It is refused as `Full` where the bytes held would be more than the
     /// total limit, and then as `NumbersSpent` where a chunk number above 2^64 - 1 or a count of
     /// 2^64 entries would be needed. On an error nothing has changed. The entries' origin is no
-    /// part of what a buffer keeps.
+    /// part of what a buffer keeps. The history and the book have it.
     pub fn admit(
         &mut self,
         alloc: Global,
@@ -356,7 +356,8 @@ impl Buffer {
     }
 
     /// The same as `admit`, and answers a copy of the runs with them, for one owner more: where
-    /// they are one, it takes no memory.
+    /// they are one, it takes no memory. The copy is made before the buffer changes, since nothing
+    /// may fail afterwards.
     pub fn admit_with_copy(
         &mut self,
         alloc: Global,
@@ -458,6 +459,7 @@ impl Buffer {
     }
 
     /// Whether a worker has the chunk from this buffer, with its tag, its entries and its name.
+    /// Definitions go by the number alone, since at most one worker has the chunk of a number.
     pub fn carries(&self, carried: &Carried) -> bool
         ensures { IsTrue result ↔ IsCarried self.now carried.now }
     {
@@ -525,7 +527,8 @@ impl Buffer {
     }
 
     /// A worker gives the chunk back, with a loss at a moment where one is handed in. A chunk
-    /// that no worker has from this buffer is only spent.
+    /// that no worker has from this buffer is only spent. Without a loss the greatest moment stays
+    /// as it was.
     pub fn free(&mut self, carried: Carried, loss: Option<u64>)
         ensures here { IsCarried self.old carried
             → self.new ≡ live_frees self.old carried.number loss }

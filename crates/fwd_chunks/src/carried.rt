@@ -12,7 +12,8 @@ use fwd_modes::TAG_LIMIT;
 use std::marker::Model;
 
 /// A chunk that a worker has: its number, its tag, its entries and its name. It must be spent:
-/// settled, or given back.
+/// settled, or given back. It has its entries, since a session reads nothing under its output's
+/// lock.
 pub struct Carried {
     number: u64,
     /// Where the chunk lies in its buffer.

@@ -7,7 +7,7 @@ ghost use Rattle.fwd_chunks.specs.Lending.{IsLent};
 use arrayvec::ArrayVec;
 use std::marker::Model;
 
-/// The most pieces that are lent at once.
+/// The most pieces that are lent at once. A link writes as many by one call of the system.
 pub const PIECE_LIMIT: usize = 4;
 
 /// Pieces of bytes in memory that is lent, in their order: four at most.

@@ -253,7 +253,8 @@ impl Shelf {
         None
     }
 
-    /// The place of the number's slot, at once where the chunk lies at the key.
+    /// The place of the number's slot, at once where the chunk lies at the key. A wrong key costs a
+    /// search and nothing else.
     pub(crate) fn place_of(&self, number: u64, key: usize) -> Option<usize>
         requires { NumbersRise self.now.slots }
         ensures { result ≡ position (is_slot number) self.now.slots }

@@ -1,4 +1,5 @@
-//! What is kept for each tag that has entries.
+//! What is kept for each tag that has entries. A tag's newest number is kept, and not whether that
+//! chunk is open: so a flush looks nothing up here and takes no memory.
 
 ghost use Rattle.std.specs.Prelude.{
   ◌≡◌,

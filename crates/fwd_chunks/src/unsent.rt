@@ -1,4 +1,4 @@
-//! A chunk's bytes that are still to be sent.
+//! A chunk's bytes that are still to be sent. They are read as by the `bytes` crate's `Buf`.
 
 ghost use Rattle.std.specs.Prelude.{
   ◌≡◌,

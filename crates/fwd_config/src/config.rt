@@ -1,4 +1,5 @@
-//! What settings set the relay to.
+//! What settings set the relay to. `IsConfig` is a relation, since what a source has to prove
+//! carries the proof that its hostname fits a str. A definition by tests would not have that proof.
 
 ghost use Rattle.std.specs.Prelude.{
   ◌≡◌,

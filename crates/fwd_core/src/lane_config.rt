@@ -70,7 +70,9 @@ fn login_of(alloc: Global, login: &Login) -> Result<Login, AllocError>
 }
 
 impl LaneConfig {
-    /// A copy of the settings, with a login that is shared. The only error is out of memory.
+    /// A copy of the settings, with a login that is shared. The only error is out of memory. A
+    /// login that was moved into shared memory could not come back when memory is refused, since no
+    /// contract of the kit says that it has no second owner.
     pub fn new(alloc: Global, config: &OutputConfig) -> Result<Self, AllocError>
         ensures { IfOk result (λ c. c ≡ config.now) }
     {

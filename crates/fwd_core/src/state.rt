@@ -51,7 +51,8 @@ use std::alloc::{AllocError, AllocFailed, Global};
 use std::marker::Model;
 use std::sync::Arc;
 
-/// The connections that stand, and the outputs.
+/// The connections that stand, and the outputs. The routes lie beside the outputs, so that where a
+/// request goes is decided before any lock is taken.
 pub(crate) struct State {
     run: [u8; 6],
     routes: Routes,

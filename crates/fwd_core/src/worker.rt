@@ -1,4 +1,6 @@
 //! A worker of an output: the chunk that it took, and its session with those that it loaded.
+//! Whether there is room is asked at the take and at the load, so that no layer has to remember
+//! why.
 
 ghost use Rattle.std.specs.Prelude.{
   ◌≡◌,
@@ -179,7 +181,8 @@ impl Worker {
     }
 
     /// The worker's session with one of the output's servers begins. On an error nothing has
-    /// changed.
+    /// changed. The event keeps its salt, so the session takes a copy, and a share of the output's
+    /// login.
     pub fn up(
         &mut self,
         alloc: Global,

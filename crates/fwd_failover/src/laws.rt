@@ -1,4 +1,6 @@
-//! Laws over the definitions, each the contract of a function that does nothing.
+//! Laws over the definitions, each the contract of a function that does nothing. What happened to
+//! the servers is one list, the newest first, so that the losses since a server last settled a
+//! chunk are read off it.
 
 ghost use Rattle.std.specs.Prelude.{◌≡◌, ◌+◌, ◌%◌, ◌<◌, ◌≤◌, ◌^◌, ℕ, List, true, false, Some, None, length, slice_get, slice_index};
 ghost use Rattle.fwd_failover.specs.History.{ServersSetting, Happening, ServersHistory, looked, lost, settled};

@@ -86,7 +86,9 @@ impl Servers {
     /// The servers of an output before any loss, 1 to 16 and not all of them standbys. A flag for
     /// each, in file order, says whether it is a standby. After a first loss a server waits
     /// `retry_wait` milliseconds, after each further one twice as long, and never longer than
-    /// `retry_max`. This fails only where memory is refused, and later calls take none.
+    /// `retry_max`. This fails only where memory is refused, and later calls take none. Any waits
+    /// are taken, also a first wait of 0 or a longest wait below the first: the ranges are those of
+    /// the settings.
     pub fn new(
         alloc: Global,
         standby: &[bool],

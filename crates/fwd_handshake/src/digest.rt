@@ -44,7 +44,9 @@ pub fn password_digest(auth: &[u8], user: &[u8], password: &[u8]) -> [u8; 128]
     hex_text(&hasher.finalize())
 }
 
-/// Whether a digest is the one of the shared key. Where no key is set, none is.
+/// Whether a digest is the one of the shared key. Where no key is set, none is. It is not compared
+/// with the empty key, which would let in everybody. An empty key that is set is a key like any
+/// other.
 pub(crate) fn is_key_digest(
     key: &Option<Bytes>,
     salt: &[u8],

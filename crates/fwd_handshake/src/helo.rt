@@ -159,7 +159,8 @@ fn write_ping(
 /// that holds counts: no HELO, or a login without a shared key, which has no handshake; a HELO,
 /// whose `auth` counts as empty where it is no str and no bin, and whose `keepalive` as true where
 /// it is no bool (Forward Protocol Specification v1, "Handshake Messages", "HELO" and "PING"). The
-/// only error is out of memory, and `NotHelo` takes none.
+/// only error is out of memory, and `NotHelo` takes none. The nonce is answered as bytes of its
+/// own, since the value is gone by the time PONG is judged.
 #[tactic(auto, unfolding(crate::specs::Verdicts::helo_answer))]
 pub fn answer_helo(
     alloc: Global,

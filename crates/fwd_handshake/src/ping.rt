@@ -133,7 +133,9 @@ fn passing(
 /// The first case that holds counts: no PING; a key digest that is not the shared
 /// key's; a username and password digest that are not one user's, where users are
 /// set; a good PING (Forward Protocol Specification v1, "Handshake Messages",
-/// "PING" and "PONG"). The only error is out of memory, and `NotPing` takes none.
+/// "PING" and "PONG"). The only error is out of memory, and `NotPing` takes none. Where users are
+/// set, a PING whose last two values are not both str or bin is no PING, even if its key digest is
+/// wrong.
 #[tactic(auto, unfolding(crate::specs::Verdicts::ping_verdict))]
 pub fn judge_ping(
     alloc: Global,

@@ -93,7 +93,8 @@ fn judge_host(pong: Pong<'_>, login: &Login, salt: &[u8], nonce: &[u8]) -> PongV
 /// What a value is that the next hop sent after PING, which had this salt and answered this nonce.
 /// The first case that holds counts: no PONG; one that refuses; one whose key digest is not the
 /// shared key's for the server's hostname; a good PONG (Forward Protocol Specification v1,
-/// "Handshake Messages", "PONG"). It takes no memory.
+/// "Handshake Messages", "PONG"). It takes no memory. Of a PONG that refuses, only the number of
+/// values behind its bool is looked at.
 #[tactic(auto, unfolding(crate::specs::Verdicts::pong_verdict))]
 pub fn judge_pong(value: Value<'_>, login: &Login, salt: &[u8], nonce: &[u8]) -> PongVerdict
     ensures { result ≡ pong_verdict login.now salt.now nonce.now (bytes_of value.entry) }

@@ -1,4 +1,7 @@
-//! The memory that a worker keeps in reserve.
+//! The memory that a worker keeps in reserve. Before each step a worker tries whether the step's
+//! memory can be had, and gives its reserve back if not. To try the step itself again would be a
+//! second path through each call. The worker's own thread takes the reserve: glibc gives a thread a
+//! heap of its own, and what another thread gave back is of no use there.
 
 use std::alloc::Global;
 

@@ -24,6 +24,7 @@ const LONG_PAUSE: u64 = 100;
 const PATIENCE: u64 = 100;
 
 /// How long a worker waits for a connection that is neither up nor refused, in milliseconds.
+/// Without it that would take `ack_wait`, or the minutes of the system.
 const CONNECT_WAIT: u64 = 5_000;
 
 /// How long a worker without memory in reserve waits for a server before it takes some again, in
@@ -67,7 +68,9 @@ impl WorkerWaker {
 
     /// A chunk was closed: a worker that looks for one, or found none since it last began to look,
     /// looks again. One that is at work with a chunk, or was rung already, is left alone. It says
-    /// whether the worker was rung; that costs a call of the system where the worker sleeps.
+    /// whether the worker was rung; that costs a call of the system where the worker sleeps. A
+    /// worker that was rung and finds no chunk rings no other one: the chunk is taken, or no server
+    /// can be tried.
     pub fn ring(&self) -> bool {
         if !self.signal.is_awaited.swap(false, Ordering::SeqCst) {
             return false;
@@ -91,7 +94,7 @@ pub enum Looking {
 }
 
 /// A worker's wait, as its gate and its link share them in its one thread: the lock is always
-/// free.
+/// free. A link that borrowed the wait would have a lifetime of which no proof is found.
 pub type SharedWait = Arc<Mutex<WorkerWait>>;
 
 /// How a worker waits: until it is rung, or its stream tells of itself. All that it takes to wait
@@ -293,7 +296,8 @@ impl WorkerWait {
         }
     }
 
-    /// The worker lacks no memory, or has nothing to do that takes any.
+    /// The worker lacks no memory, or has nothing to do that takes any. Sources that hold
+    /// unfinished requests must be read on then, or nobody would give memory back.
     pub fn excuse(&mut self, signs: &Signs) {
         if self.is_lacking {
             self.is_lacking = false;

@@ -151,7 +151,8 @@ impl Acceptor {
 
     /// Closes the source that is idle longest, of those that the first reader has, where one is
     /// idle for so long, and says whether one was. Where none was, the other readers are asked to
-    /// do so in their next turns, and none is looked for again within the millisecond.
+    /// do so in their next turns, and none is looked for again within the millisecond. One list of
+    /// all readers' sources would be a lock that each read takes.
     fn free_place<W: Watch>(&mut self, comers: &mut NewComers<'_>, watch: &mut W) -> bool {
         let Some(limit) = comers.idle_limit else {
             return false;

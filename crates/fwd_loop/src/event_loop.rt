@@ -31,24 +31,29 @@ pub(crate) const WAKER: Token = Token(usize::MAX - 2);
 /// The longest wait of a turn, in milliseconds.
 const LONGEST: u64 = 100;
 
-/// How long connections are read in a turn, in milliseconds, but for the one that is read then.
+/// How long connections are read in a turn, in milliseconds, but for the one that is read then. So
+/// receipts wait little longer than that. A request is admitted whole, so one of many entries may
+/// make a turn longer.
 const READING: u64 = 4;
 
 /// The longest wait while sources that are ready are not read, in milliseconds.
 const PAUSE: u64 = 5;
 
-/// How long no source is read once memory was refused for one, in milliseconds.
+/// How long no source is read once memory was refused for one, in milliseconds. The next to ask
+/// would be refused like it, and closed like it.
 const STARVED: u64 = 1_000;
 
 /// The same where a chunk was settled since, which gives memory back.
 const SETTLED: u64 = 100;
 
 /// How long workers take it that memory may be refused at any moment, once it was for a source, in
-/// milliseconds.
+/// milliseconds. They give their reserve back before each step then, without a trial: a source that
+/// is read between the trial and the step may take all that there is.
 const TIGHT: u64 = 3_000;
 
 /// How often a loop that was at work in its last turn looks for more before it sleeps: some ten
-/// microseconds.
+/// microseconds. One that found nothing in its last turn sleeps at once, so that an idle relay does
+/// not spin.
 const LOOKS: u32 = 24;
 
 /// Where requests go, and what else the loop looks at while it reads.
@@ -482,7 +487,9 @@ fn read_source(
 
 /// What becomes of a source behind a visit: there may be more to be read, some of its requests wait
 /// longer, and it is to be read to its end. Where its other side closed, it goes once all are
-/// admitted; or at once, where it asked to be told of the first that waits: it sends that again.
+/// admitted; or at once, where it asked to be told of the first that waits: it sends that again,
+/// and sources that give up and come back would else use up the places. One that did not ask is
+/// held until there is room.
 fn after_visit(source: &mut SourcePeer, again: bool, waits: bool, to_end: bool) -> After {
     let stands = source.write();
     if waits {

@@ -1,4 +1,6 @@
-//! What each reader of a relay does in its turns.
+//! What each reader of a relay does in its turns. The first reader accepts, so that ids rise and
+//! nonces are drawn in the order in which sources come. A ticket never leaves its reader, so that a
+//! receipt meets its own connections.
 
 use crate::event_loop::{Desk, EventLoop};
 use crate::fault::StartFault;

@@ -40,7 +40,8 @@ const EVENTS: usize = 1_024;
 
 /// So many bytes are asked for and given back at the start. The C library gives a larger piece than
 /// any that it was given back before to the system at once, and takes pages for the next one anew,
-/// which costs more than a request itself: from now on only pieces above this one.
+/// which costs more than a request itself: from now on only pieces above this one. So a relay keeps
+/// some megabytes that it once had.
 const LARGEST_KEPT: usize = 4 << 20;
 
 /// The relay, with its listeners open, before its first turn. In contracts it is what each of its
@@ -317,7 +318,8 @@ impl Loop {
     }
 
     /// Opens the relay, so that its turns are made one by one, and its workers are run beside them
-    /// or not at all. The only error is out of memory.
+    /// or not at all. The only error is out of memory. Tickets must be spent, so they lie in what
+    /// this opens, which is closed; a `Loop` may still be dropped.
     pub fn open<'a, R: Wait + Clock>(&'a mut self, rt: &'a R) -> Result<Opened<'a, R>, StartFault> {
         open(rt, self.alloc, &self.shared, &mut self.own)
     }

@@ -1,4 +1,6 @@
-//! The turns of a relay's readers, and its workers beside them.
+//! The turns of a relay's readers, and its workers beside them. In a turn what is due is written
+//! before anything is read, and connections are visited before new ones are taken, so that a place
+//! that becomes free is given again.
 
 ghost use Rattle.std.specs.Prelude.{IfOk};
 ghost use Rattle.fwd_outlets.specs.Ends.{AddUp};

@@ -38,7 +38,8 @@ impl Pattern {
     /// Reads the text of a pattern, or answers its first fault in the order
     /// Empty, BadBrace, TooMany, BadStar. All faults are found before any
     /// memory is taken, so out of memory (Memory) is answered only of a
-    /// text that is a pattern, and no more than `WORD_LIMIT` words are ever held.
+    /// text that is a pattern, and no more than `WORD_LIMIT` words are ever held. It is quadratic
+    /// in a word of many groups, such as `{a}{a}..`; it is left so, since settings are read once.
     pub fn read(alloc: Global, text: &str) -> Result<Self, PatternFault>
         ensures ok { IfOk result (λ pattern. verdict text.now ≡ Good pattern) }
         ensures fault { IfErr result (λ fault.

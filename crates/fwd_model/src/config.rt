@@ -25,7 +25,8 @@ pub struct OutputConfig {
     ghost has_primary: { list_any not standby ≡ true },
 }
 
-/// What a relay is set to.
+/// What a relay is set to. A request is refused where the first pattern that matches its tag has no
+/// output.
 #[derive(Drop)]
 pub struct Config {
     /// Six bytes that tell this run of the program from others, in the names of its chunks.

@@ -109,7 +109,8 @@ pub enum Event {
         conn: u64,
         count: u64,
     },
-    /// A connection is known no more. Its id stays used, and what it asked for stands.
+    /// A connection is known no more. Its id stays used, and what it asked for stands. The history
+    /// keeps it, marked as gone, since its requests are read against its bytes.
     Shut {
         conn: u64,
     },

@@ -1,4 +1,6 @@
-//! Laws over the definitions, each the contract of a function that does nothing.
+//! Laws over the definitions, each the contract of a function that does nothing. A law by cases on
+//! events ends in one case for all that change nothing, so that a further event without effect
+//! needs only its variant and its line in the step.
 
 ghost use Rattle.std.specs.Prelude.{
   ◌≡◌,
@@ -217,7 +219,8 @@ pub fn acknowledgement_before_fault_stands()
 {}
 
 /// A session begins once: behind its beginning, and before it has ended, no other session of its
-/// worker begins.
+/// worker begins. That none ended in between is said by the events (`NoneEnded`); no state
+/// remembers it.
 pub fn session_begins_once()
     ensures { (config : Config) (es : List Event) (o w : ℕ) (b : HasBegun config es o w) →
         NoneBegan config (b.before ++ event.Up o w b.server b.salt b.moment ∷ []) b.later o w }

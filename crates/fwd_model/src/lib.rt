@@ -1,5 +1,8 @@
 //! The abstract relay: what a reader has to believe. Events and answers, the history that keeps
-//! everything, its step, its live part, and the laws between them.
+//! everything, its step, its live part, and the laws between them. What an event comes to is a type
+//! (`Outcome`), by whose form a refusal changes nothing. The step is written over records of what
+//! is asked of each layer and what changes in it; the history and the live state are two instances
+//! of these.
 #![tactic(auto)]
 
 mod answer;

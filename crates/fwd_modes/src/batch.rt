@@ -30,7 +30,7 @@ use std::sync::Arc;
 
 /// A request of a source: a tag, the entries as they are kept (`92`, the time's bytes, the fields'
 /// bytes), and the value that the acknowledgement is to carry, if there is one. Its copies share
-/// all of it.
+/// all of it. So the book and a receipt keep no entry twice.
 #[derive(Drop)]
 pub struct Batch {
     contents: Arc<Contents>,
@@ -113,7 +113,8 @@ impl Batch {
         self.contents.tag()
     }
 
-    /// The entries as they are kept, one after the other: less than 2^32 bytes. Each has a byte.
+    /// The entries as they are kept, one after the other: less than 2^32 bytes. Each has a byte. So
+    /// 32 bits count them, and no run of entries is without bytes.
     pub fn entries(&self) -> &[u8]
         ensures value { result.now ≡ concat self.now.entries }
         ensures bound { length (concat self.now.entries) < 2 ^ 32 }

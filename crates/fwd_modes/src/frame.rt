@@ -84,7 +84,9 @@ pub fn write_chunk_tail(alloc: Global, count: u64, name: &[u8]) -> Result<Vec<u8
     Ok(out)
 }
 
-/// The frame of a chunk with so many entries, which stand one after the other in `packed`.
+/// The frame of a chunk with so many entries, which stand one after the other in `packed`. Any tag,
+/// packed bytes and name are written, whether or not they can be read back: that is a premise
+/// (`IsFrame`) of the laws.
 pub fn write_chunk(
     alloc: Global,
     tag: &[u8],

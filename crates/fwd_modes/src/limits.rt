@@ -1,3 +1,6 @@
+//! The limits of a request. Clauses, definitions and code name these constants: a constant of a
+//! type would have no name in definitions.
+
 /// The most bytes of a tag.
 pub const TAG_LIMIT: usize = 1024;
 

@@ -12,7 +12,8 @@ use fwd_msgpack::{Cut, Limits, MAX_DEPTH, Shape, Value, cut, flat_pair};
 use smallvec::SmallVec;
 use std::alloc::{AllocError, Global};
 
-/// The most entries for whose ends room is made before they are known.
+/// The most entries for whose ends room is made before they are known. A request whose first entry
+/// is short then keeps at most 1 KiB that it does not need.
 const MOST_AHEAD: usize = 256;
 
 /// How many bytes the value at the front takes, if it is an entry that is spelled as it is kept.

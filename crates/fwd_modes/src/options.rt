@@ -58,7 +58,8 @@ fn read_chunk<'a>(value: Option<Value<'a>>) -> Result<Option<&'a [u8]>, InputFau
     }
 }
 
-/// What an option says, which is a map or nil, or is left out.
+/// What an option says, which is a map or nil, or is left out. Of a repeated key the last value
+/// counts, its kind too: a `chunk` of a wrong kind before a good one is no fault.
 pub(crate) fn read_option<'a>(option: Option<Value<'a>>) -> Result<Said<'a>, InputFault>
     ensures good { let given = option_map bytes_of option.entry in
         IfOk result (λ said. is_bad_option given ≡ false) }

@@ -31,7 +31,8 @@ pub(crate) struct Parts<'a> {
 
 impl<'a> Parts<'a> {
     /// The parts of an array by the kind of its second
-    /// value, or nothing where it has another shape.
+    /// value, or nothing where it has another shape. An extension in the second place tells Message
+    /// mode even if it is no EventTime: the entry is at fault then, not the shape.
     pub(crate) fn of(value: Value<'a>) -> Option<Parts<'a>>
         ensures { (deep : ℕ)
             → option_map (parts_shown deep) result

@@ -66,7 +66,7 @@ impl EventTime {
     }
 }
 
-/// Whether a value is a time: an integer or an EventTime.
+/// Whether a value is a time: an integer or an EventTime. Negative integers are times too.
 #[inline(always)]
 pub(crate) fn is_time(value: Value<'_>) -> bool
     ensures { result ≡ is_time (bytes_of value.entry) }

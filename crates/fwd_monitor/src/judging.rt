@@ -8,7 +8,9 @@ use crate::status::Status;
 use httparse::Status as Parsed;
 use httparse::spans::{EMPTY_HEADER_SPAN, parse_request};
 
-/// The status of the reply to these bytes, or none while there is none to be given.
+/// The status of the reply to these bytes, or none while there is none to be given. A head is what
+/// `httparse` takes, and a whole one wins over the limit of bytes. Bytes that end in their target
+/// may wait though nothing can follow them: it tests a target for UTF-8 only at its end.
 pub(crate) fn judge(heard: &[u8]) -> Option<Status>
     ensures { IsJudged heard.now result }
 {

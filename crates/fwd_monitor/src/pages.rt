@@ -7,7 +7,8 @@ use std::alloc::{AllocError, Global};
 
 /// A line for each output, by rising number from 0: its number, and its counts in decimal. Behind
 /// it stands a line for each of its tags, in their order: the tag in lower-case hexadecimal digits,
-/// `-` for the empty one, and its counts in decimal. Its only error is out of memory.
+/// `-` for the empty one, and its counts in decimal. Its only error is out of memory. A tag has any
+/// bytes; as digits it cannot end a line or look like another line.
 pub fn page(alloc: Global, reports: &[Report]) -> Result<String, AllocError>
     ensures { IfOk result (λ text. string_bytes text ≡ page_of reports.now) }
 {

@@ -1,5 +1,7 @@
 //! How far a value reaches, found by a count of the values that are owed and no list of the
-//! containers that are open.
+//! containers that are open. Such a list only tells whether a container is too deep, and none is
+//! where all containers together are no more than may be nested. Where the count gives up, the scan
+//! decides, faults included.
 
 ghost use Rattle.std.specs.Prelude.{◌≡◌, ◌<◌, ◌+◌, ◌^◌, IfSome, Some, drop, length};
 ghost use Rattle.fwd_msgpack.specs.Heads.{reading_of};

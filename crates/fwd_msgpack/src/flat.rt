@@ -19,7 +19,9 @@ const PATIENCE: u8 = 64;
 /// What a value costs of it that is no such array.
 const COST: u8 = 16;
 
-/// A text of up to 31 bytes: its first byte, and how many bytes it takes.
+/// A text of up to 31 bytes: its first byte, and how many bytes it takes. The size is stored beside
+/// the byte: if it were computed from it, the place of the next value would wait for the byte
+/// again.
 #[derive(Clone, Copy)]
 struct ShortText {
     head: u8,
@@ -48,7 +50,8 @@ impl ShortText {
 
 /// What the keys of the maps before began with, each at its place: a guess at those of the next
 /// map. A key's size is then known before its first byte is there. Whatever was guessed, the
-/// answers are the same.
+/// answers are the same. Where keys differ from map to map, guessing is soon given up, until the
+/// next request.
 #[derive(Drop)]
 pub struct Shape {
     keys: [ShortText; MOST_PAIRS],

@@ -1,4 +1,6 @@
-//! Laws of the definitions: each is the contract of a function that does nothing.
+//! Laws of the definitions: each is the contract of a function that does nothing. `IsFirst` says
+//! what a stream begins with by the values that could still follow; `first_of` computes the same by
+//! a fold over the bytes. The abstract relay uses the fold, so that its worked examples compute.
 
 ghost use Rattle.std.specs.Prelude.{◌≡◌, ◌≤◌, List, [], ◌∷◌, ℕ, ◌++◌, length, Some, None};
 ghost use Rattle.std.specs.List.{flat_map};

@@ -79,7 +79,8 @@ pub fn plain_item(bytes: &[u8], room: usize) -> Option<usize>
 }
 
 /// Goes over the items at the front whose first bytes say their sizes and that have bytes behind
-/// them, at most so many. How many they are, and how many bytes they take.
+/// them, at most so many. How many they are, and how many bytes they take. For each item one
+/// comparison says both that it lies within the bytes and that another one follows.
 #[inline(always)]
 pub fn plain_items(bytes: &[u8], most: u32) -> (u32, usize)
     ensures members { AreMembers bytes.now result.0 result.1 }

@@ -39,7 +39,8 @@ pub enum Fed {
 }
 
 /// A scan of one value whose bytes come in pieces. It reads each byte once, keeps none but those of
-/// a head that is cut off, and takes no memory.
+/// a head that is cut off, and takes no memory. Bytes of a head count as the value's only once the
+/// head is whole, since what it says decides whether the value is good.
 #[derive(Drop)]
 pub struct Scanner {
     limits: Limits,

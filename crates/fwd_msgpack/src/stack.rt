@@ -9,7 +9,8 @@ use std::marker::Model;
 
 /// The open containers, from the innermost: how many
 /// members each still lacks after the one in progress.
-/// The two counts stand apart, so that each is added to by itself.
+/// The two counts stand apart, so that each is added to by itself. Side by side, the compiler would
+/// load both at once, and that load would wait for two stores.
 #[derive(Drop)]
 pub struct Stack {
     depth: usize,

@@ -1,4 +1,5 @@
-//! One whole value, borrowed.
+//! One whole value, borrowed. It keeps the fact that a scan takes all of its bytes, which computes
+//! and has one proof at most. `whole_is_value` leads from that to the definition of a value.
 
 ghost use Rattle.std.specs.Prelude.{◌≡◌};
 ghost use Rattle.fwd_msgpack.specs.Scans.{IsWhole};

@@ -338,7 +338,8 @@ impl Connections {
         }
     }
 
-    /// The sources that are held are ready, in the order in which they came to be held.
+    /// The sources that are held are ready, in the order in which they came to be held. Nothing is
+    /// kept of why they are held: each is asked again.
     pub fn free_held(&mut self) {
         for _ in 0..self.held.len() {
             self.free_next();
@@ -360,7 +361,7 @@ impl Connections {
 
     /// The key of the source that has been silent longest at a moment (milliseconds), where it has
     /// been for so long (milliseconds), and neither it nor the relay owes the other anything. All
-    /// connections are looked at.
+    /// connections are looked at. That costs less than the connection that is wanted.
     pub fn idlest(&self, limit: u64, now: u64) -> Option<usize>
         ensures found { IfSome result (λ key. IsIdlest self.now limit now key) }
         ensures none { IfNone result (NoneIsIdle self.now limit now) }

@@ -77,7 +77,9 @@ impl FlushTimer {
     }
 
     /// Chunks were flushed at this moment, or are left to the workers to close, who do so before
-    /// they look for one. What was admitted after the last of these chunks may be open still.
+    /// they look for one. What was admitted after the last of these chunks may be open still. The
+    /// loop asks after its admissions whether a worker looks, and a worker says so before it reads
+    /// its clock: so one of the two closes what was admitted.
     pub(crate) fn flushed(&mut self, now: u64)
         // No flush is due only where what was admitted last was old enough.
         ensures none { self.new.due ≡ None

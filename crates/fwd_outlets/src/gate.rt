@@ -1,4 +1,6 @@
-//! Whose requests may come from a reader to an output: what waits there is bounded.
+//! Whose requests may come from a reader to an output: what waits there is bounded. Without
+//! this bound an output of empty requests would never be full, and one of requests of five bytes
+//! would take more than a hundred times its `total_limit`.
 
 use crate::line::{Crowd, Entrance};
 use crate::output::Output;

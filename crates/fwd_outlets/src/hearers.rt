@@ -5,7 +5,9 @@ use std::sync::atomic::{AtomicBool, Ordering};
 
 /// Which readers are to hear of an output's settled chunks: those that it may owe receipts, and
 /// those whose sources wait until it has room. The first reader hears of each, and has no place
-/// here.
+/// here. A reader enters before it admits, and leaves when it is about to sleep and nothing is
+/// owed. So under load this is read and seldom written, and a reader that waits for nothing sleeps
+/// on.
 #[derive(Drop)]
 pub struct Hearers {
     others: Vec<AtomicBool>,

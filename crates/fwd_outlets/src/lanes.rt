@@ -1,5 +1,6 @@
 //! The tickets of an output, in two lanes: those of sources with few unanswered requests are handed
-//! in first, so that who has many waits for itself and not the others for it.
+//! in first, so that who has many waits for itself and not the others for it. To go round by
+//! connection would take a list for each connection and chunk.
 
 ghost use Rattle.std.specs.Prelude.{◌≡◌, ◌<◌, IfErr, IfOk, OnOk, OnErr};
 ghost use Rattle.fwd_tickets.specs.Stores.{IsSame, IsSettled, none_kept};
@@ -20,7 +21,8 @@ use fwd_workers::Ticket;
 use std::alloc::{AllocError, Global};
 use std::sync::Wait;
 
-/// Whose unanswered requests take fewer bytes than this beside their entries has few: some hundred.
+/// A source has few unanswered requests where these take fewer bytes than this beside their
+/// entries: 255 requests at most.
 const FEW: usize = 131_072;
 
 /// The lane that a ticket is kept in.

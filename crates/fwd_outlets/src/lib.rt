@@ -2,7 +2,8 @@
 //! told of receipts. What is proved here is that a request goes to the output that the routes name
 //! first for its tag, and a ticket that shows it is kept there; that sources are told of receipts
 //! of such tickets alone, and of each; and that each output is reported once and so that it adds
-//! up.
+//! up. This is a crate of its own, below the loop, since each must-fail edit is tried over its
+//! whole crate.
 #![tactic(auto)]
 
 mod connections;

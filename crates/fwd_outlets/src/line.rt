@@ -1,4 +1,13 @@
-//! Whose turn it is at an output that sources wait at until it has room.
+//! Whose turn it is at an output that sources wait at until it has room. A reader stands in line
+//! once, for the source of its own that waits longest, and passes its turn on after each request:
+//! so smaller requests of other readers do not pass a large one for ever. What is let in counts as
+//! taken until it is admitted: so no two readers use the same room, and no source is closed for
+//! that. The line is a lock that each admission takes, but only with several readers and where
+//! sources wait.
+//!
+//! Who has the turn and finds no room looks again behind each change of what is promised: bytes of
+//! a promise count twice until they are admitted, and a turn may go and come back between two
+//! looks, so that a reader which only notes whether it has the turn may wait for ever.
 
 ghost use Rattle.std.specs.Prelude.{
   ◌≡◌,

@@ -29,7 +29,8 @@ use std::sync::Wait;
 const ROUNDS: u32 = 1 << 20;
 
 /// How many bytes are kept in reserve for collecting receipts: what is settled is given back only
-/// once they are collected.
+/// once they are collected. Without this reserve a relay whose memory the sources have used up
+/// would stand still with all its entries settled.
 const RESERVE: usize = 1 << 20;
 
 /// Why a source's first request that waits is not admitted.

@@ -1,4 +1,6 @@
-//! The monitors' pages, which are made by a thread of their own for all who wait for them.
+//! The monitors' pages, which are made by a thread of their own for all who wait for them. A page
+//! of 100,000 tags takes seconds, and some hundred megabytes. Only what is copied under an output's
+//! lock holds up that output.
 
 use crate::made_page::{Asked, MadePage, PageKind, PageParts};
 use fwd_monitor::Figures;

@@ -118,7 +118,9 @@ impl Fact {
     }
 }
 
-/// Is told what a run comes to. It is called in the thread of the loop alone.
+/// Is told what a run comes to. It is called in the thread of the loop alone. So the loop knows
+/// neither the clock on the wall nor standard error; workers put their news where they put settled
+/// chunks.
 pub trait Watch {
     /// A fact is told, when it happens or within a turn of it.
     fn see(&mut self, fact: Fact);

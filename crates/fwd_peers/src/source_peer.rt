@@ -163,7 +163,7 @@ impl SourcePeer {
         }
     }
 
-    /// Its id: the one of its source.
+    /// Its id: the one of its source. It is kept here, since a source does not tell it.
     pub fn id(&self) -> u64
         ensures value { result ≡ self.now.id }
         ensures own { peers.HasOwnId self.now }
@@ -365,7 +365,8 @@ impl SourcePeer {
     }
 
     /// Takes the first request that waits, once there is room for its acknowledgement. Where there
-    /// is none, when out of memory, nothing has changed.
+    /// is none, when out of memory, nothing has changed. So a receipt cannot be refused for want of
+    /// room.
     pub fn next(&mut self) -> Option<(Origin, Batch)>
         ensures { peers.Gives self.old result self.new }
     {

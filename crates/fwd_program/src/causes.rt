@@ -1,5 +1,7 @@
 //! Why a run or a check came to no more: what the system or the reader of TOML says of it, and
-//! where a key stands and what may stand under it.
+//! where a key stands and what may stand under it. Fault values carry no error of the system and no
+//! line: to say a cause, the program parses the text that it read once more, or listens again. If
+//! that succeeds, nothing is said.
 
 use crate::ending::RunEnd;
 use crate::file::SettingsFile;

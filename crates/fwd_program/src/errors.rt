@@ -1,4 +1,5 @@
-//! Standard error, written by a thread of its own.
+//! Standard error, written by a thread of its own, since no call of the kit gives up a write that
+//! blocks. Writes that do not block would be set for every user of the same pipe.
 
 use crate::journal::Log;
 use std::alloc::{AllocError, Global};

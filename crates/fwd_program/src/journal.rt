@@ -1,4 +1,4 @@
-//! What a run says on standard error.
+//! What a run says on standard error. A line takes no memory, so that want of memory can be said.
 
 use crate::ending::RunEnd;
 use crate::line_limits::{LeftOut, LineLimits};
@@ -13,7 +13,8 @@ use std::io::Write;
 use std::rt::Clock;
 use std::{env, fmt};
 
-/// The variable of the environment that has a run say what it comes to.
+/// The variable of the environment that has a run say what it comes to. Without it the journal is
+/// silent, since programs read the texts that come on standard error.
 const VARIABLE: &str = "FORWARD_RELAY_LOG";
 
 /// The most bytes of a line but the first, with its line feed: the longest has 24 of time, 15 of

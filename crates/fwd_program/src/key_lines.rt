@@ -1,4 +1,6 @@
-//! Where a key of the settings stands in their text.
+//! Where a key of the settings stands in their text. It is found with the one reader of TOML, by
+//! reading the text up to the end of each line. A second reader, which knew lines, might take a
+//! text for another one.
 
 use std::alloc::Global;
 use toml::{Table, Value};

@@ -2,7 +2,9 @@
 
 ghost use Rattle.std.specs.Prelude.{◌≡◌, ◌≢◌, ◌↔◌, ◌≤◌, ◌+◌, ◌-◌, ◌^◌, ◌⊎◌, true, false, IfSome, IfNone};
 
-/// At most so many lines of one subject are told in a second.
+/// At most so many lines of one subject are told in a second. Seconds are those of the clock, and
+/// not any thousand milliseconds: one number is enough for a subject, and a reader of the lines can
+/// see the rule.
 const LINES: u64 = 10;
 
 /// The lines of one subject, by the seconds of a clock.

@@ -4,7 +4,7 @@ use crate::line_limit::LineLimit;
 use crate::telling::{Kind, Subject};
 
 /// The most subjects that are limited each by itself in a second: a further one shares the limit of
-/// its kind.
+/// its kind. A subject has no address, so that no peer can make more of them.
 const SUBJECTS: usize = 128;
 
 /// The lines of a subject.

@@ -30,7 +30,9 @@ impl From<InputError> for SettingsFault {
 }
 
 /// The settings in what was read, which are in their ranges, or their text's first fault: what was
-/// not read to its end is `Unreadable`. `Memory` is out of memory, while it was read or later.
+/// not read to its end is `Unreadable`. `Memory` is out of memory, while it was read or later. It
+/// judges what was read and not the reader: a contract over a reader would allow a body that calls
+/// every text unreadable.
 pub fn settings_in(
     alloc: Global,
     read: Result<Vec<u8>, InputError>,

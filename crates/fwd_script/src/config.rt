@@ -36,7 +36,8 @@ fn settings_text(text: &[u8]) -> &[u8]
 }
 
 /// What a script's text of settings sets the relay to: an empty text stands for one output of two
-/// workers and two servers, which takes each tag. It answers the text's first fault.
+/// workers and two servers, which takes each tag. It answers the text's first fault. For `check` an
+/// empty text is settings without an output.
 pub fn read_config(alloc: Global, text: &[u8]) -> Result<Config, SettingsFault>
     ensures { result ≢ Err SettingsFault.Memory → Configures text.now result }
 {

@@ -1,3 +1,7 @@
+//! Script lines as events. One row of one table (`forms`) says what a line spells and which lines
+//! are events, so that no law lists the events. The names are three chains of tests: one of
+//! seventeen takes the prover three times as long.
+
 ghost use Rattle.std.specs.Prelude.{◌≡◌, ◌↔◌, ℕ, List, map, IfOk, IsErr, Some};
 ghost use Rattle.std.specs.Str.{IsUtf8};
 ghost use Rattle.fwd_model.specs.declared.event.Event.{Event};

@@ -8,7 +8,8 @@ use crate::writing::{WriteFailed, Writes, write_some};
 use std::io::Write;
 
 /// Writes all of the bytes. A write that was interrupted is tried again. Where a write fails, what
-/// was written is a front of the bytes.
+/// was written is a front of the bytes. That is why it is a loop of its own: the kit's `write_all`
+/// does not say so after an error.
 pub fn write_all<W: Write>(writer: &mut W, bytes: &[u8]) -> Result<(), WriteFailed>
     ensures all { OnOk result (Appends (W.contents writer.old) (W.contents writer.new) bytes.now) }
     ensures front { OnErr result

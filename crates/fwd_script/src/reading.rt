@@ -1,4 +1,5 @@
-//! One read of a reader. What says that it failed is made here alone.
+//! One read of a reader. What says that it failed is made here alone. The kit's `Read` does not say
+//! when a call fails, so no clause can.
 
 ghost use Rattle.std.specs.Prelude.{◌≡◌, ◌<◌, ◌^◌, MatchResult};
 ghost use Rattle.std.specs.Io.KnownBytes.{Keeps};

@@ -1,4 +1,5 @@
-//! The replay of a script against the relay that runs.
+//! The replay of a script against the relay that runs. All of the input is read before the first
+//! answer, so that a failed read answers nothing.
 
 ghost use Rattle.std.specs.Prelude.{◌≡◌, ℕ, List, Ok, Err, IfOk, IfErr, IfSome};
 ghost use Rattle.fwd_model.specs.declared.config.Config.{Config};

@@ -1,4 +1,5 @@
-//! One write and one flush of a writer. What says that one of them failed is made here alone.
+//! One write and one flush of a writer. What says that one of them failed is made here alone. The
+//! kit's `Write` does not say when a call fails, so no clause can.
 
 ghost use Rattle.std.specs.Prelude.{◌≡◌, ◌≤◌, ◌<◌, ◌-◌, ◌^◌, length, take, MatchResult};
 ghost use Rattle.std.specs.Io.KnownBytes.{Appends, Keeps};

@@ -1,4 +1,8 @@
-//! What is kept of a chunk that a server acknowledged.
+//! What is kept of a chunk that a server acknowledged. It carries no history of its session. A
+//! clause that some session sent this frame and then heard this reply would refuse no body: for
+//! every reply that names the chunk, such a session can be thought up. Instead only
+//! `Session::heard` makes an `Acked` (`tests/compile_fail`), and `Worker::run` counts what was
+//! accepted by sessions that lived over one link of the hub each.
 
 ghost use Rattle.std.specs.Prelude.{◌≡◌, IfOk, length};
 ghost use Rattle.std.specs.List.{concat};

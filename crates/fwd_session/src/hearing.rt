@@ -1,5 +1,8 @@
 //! What a server's bytes say: how far the handshake came, which chunks are acknowledged, the first
-//! fault, and the bytes of an unfinished value.
+//! fault, and the bytes of an unfinished value. How far the handshake came is judged over all bytes
+//! heard. An acknowledgement is judged when its last byte comes: one that began before the link
+//! took the last byte of the frame, and ends after that, is not early. Replies have some 30 bytes,
+//! so what is unfinished is cut again with each piece, without a scanner.
 
 ghost use Rattle.std.specs.Prelude.{
   ◌≡◌,

@@ -14,5 +14,7 @@ pub const REPLY_LIMITS: Limits = Limits {
     depth: REPLY_NESTING,
 };
 
-/// The most chunks that a session may have at once.
+/// The most chunks that a session may have at once. A session makes room for so many when it
+/// begins, so that `acked` and `end` take no memory, and finds a chunk by its name without an
+/// index.
 pub const WINDOW_LIMIT: usize = 8;

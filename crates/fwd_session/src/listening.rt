@@ -111,7 +111,8 @@ impl Session {
         Ok(all)
     }
 
-    /// What was heard counts. On an error nothing has changed.
+    /// What was heard counts. On an error nothing has changed. A fault is told before memory is
+    /// taken for what it drops.
     #[tactic(auto, unfolding(crate::specs::Live::session_takes))]
     fn take_in(&mut self, alloc: Global, hearing: Hearing<'_>) -> Result<SessionTold, AllocError>
         requires up { self.old.down ≡ false }
@@ -201,7 +202,8 @@ impl Session {
         }
     }
 
-    /// A fault puts the session down, if there is one.
+    /// A fault puts the session down, if there is one. Nothing waits then, not even the PING for a
+    /// HELO in the same piece.
     fn fall_for(&mut self, fault: Option<SessionFault>)
         requires { self.old.down ≡ false }
         ensures { self.new ≡ record self.old {

@@ -1,4 +1,5 @@
-//! A session, from its first byte to its end.
+//! A session, from its first byte to its end. A session knows its chunks by their names alone, and
+//! neither the run nor the output.
 
 ghost use Rattle.std.specs.Prelude.{
   ◌≡◌,
@@ -189,7 +190,8 @@ impl Session {
         usize::from(self.window) - (self.carried.len() + self.accepted.len())
     }
 
-    /// Whether the handshake is done.
+    /// Whether the handshake is done. Unlike `is_ready`, this holds where a link without keepalive
+    /// has carried its chunk, and once the session is down.
     pub fn is_greeted(&self) -> bool
         ensures { result ≡ is_done self.now.handshake }
     {

@@ -8,7 +8,8 @@ use std::alloc::{AllocError, AllocFailed};
 use std::fmt;
 
 /// Why settings are refused. A key is written as `relay.listen`, `output[0].match` or
-/// `output[0].server[1].address`.
+/// `output[0].server[1].address`. The variants have the numbers 0 to 7 in their order; an enum
+/// whose variants hold texts may not have explicit ones.
 #[derive(Drop)]
 pub enum SettingsFault {
     /// Memory ran out.

@@ -314,7 +314,8 @@ impl<'a> Section<'a> {
         }
     }
 
-    /// An address that has to be there.
+    /// An address that has to be there. The definition has 0.0.0.0:0 in place of an absent one,
+    /// which no settings are given.
     #[rattlefmt::skip]
     #[tactic(auto, unfolding(
         crate::specs::Kinds::fault_at,

@@ -1,4 +1,5 @@
-//! Keys that no table has.
+//! Keys that no table has. Keys are compared as they are written, by all their bytes:
+//! `output[12].z` is less than `output[1].b`. An unknown table is one key.
 
 ghost use Rattle.std.specs.Prelude.{◌≡◌, [], ◌∷◌, map, IfOk, codes, Some};
 ghost use Rattle.std.specs.List.{cons_option};

@@ -1,4 +1,6 @@
-//! The users that sources log in as.
+//! The users that sources log in as. Where no key is set, the list is refused before its members:
+//! `user = [1]` is then out of range at `relay.user`, and with a key of a wrong kind at
+//! `relay.user[0]`. No list is too long.
 
 ghost use Rattle.std.specs.Prelude.{map};
 ghost use Rattle.toml.specs.Data.{table as data_table};

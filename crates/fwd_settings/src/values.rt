@@ -13,7 +13,8 @@ use hex::FromHex;
 use std::net::SocketAddr;
 use toml::Value;
 
-/// An integer of this range.
+/// An integer of this range. A negative integer is out of range. A float is of a wrong kind, even
+/// if it is whole.
 pub fn number_in(value: &Value, least: u64, most: u64) -> Result<u64, Flaw>
     ensures ok { IfOk result (λ number. (number_of (view value.now) ≡ Some number)
         × (number_flaw least most (view value.now) ≡ None)) }
@@ -76,7 +77,7 @@ pub fn text_in(value: &Value, least: usize, most: usize) -> Result<&str, Flaw>
     }
 }
 
-/// So many bytes, each as two hex digits.
+/// So many bytes, each as two hex digits. Any other number of digits is out of range.
 pub fn digits_in<const N: usize>(value: &Value) -> Result<[u8; N], Flaw>
     ensures ok { IfOk result (λ bytes. (bytes_of N (view value.now) ≡ Some bytes)
         × (digits_flaw N (view value.now) ≡ None)) }
@@ -97,7 +98,9 @@ fn socket_of(text: &str) -> Option<SocketAddr>
     text.parse::<SocketAddr>().ok()
 }
 
-/// The address that a text spells: a socket address with a port and without a scope.
+/// The address that a text spells: a socket address with a port and without a scope. `%0` is
+/// refused too, though std reads it as no scope. A port may have leading zeros, as std reads it; a
+/// number of an IPv4 address may not.
 #[tactic(auto, unfolding(crate::specs::Addresses::address_of_text))]
 fn address_of(text: &str) -> Option<SocketAddr>
     ensures { result ≡ address_of_text text.now }

@@ -1,4 +1,6 @@
-//! What a connection's bytes say where a PING is awaited.
+//! What a connection's bytes say where a PING is awaited. In definitions the awaited PING is a
+//! function of the bytes (`AwaitedPing`) and not a flag. So what bytes say names no keys or users,
+//! and one law covers all pieces.
 
 ghost use Rattle.std.specs.Prelude.{◌≡◌, ◌+◌, ◌<◌, ◌^◌, ℕ, [], None, Some, true, IfOk, length, take};
 ghost use Rattle.fwd_msgpack.specs.Scanners.{IsBehind};

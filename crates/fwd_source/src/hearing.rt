@@ -79,7 +79,8 @@ fn take_in(
     }
 }
 
-/// The request at the front of bytes of which none was scanned, where `read_front` knows it.
+/// The request at the front of bytes of which none was scanned, where `read_front` knows it. A
+/// request that ends in a later piece is walked over twice, as far as its first piece goes.
 fn front_of(alloc: Global, bytes: &[u8], scanned: usize, limits: Limits) -> Option<Front>
     ensures { IfSome result (λ front.
         BeginsAsking limits bytes.now front.request front.len × (scanned ≡ 0)) }

@@ -13,7 +13,8 @@ pub enum Piece {
 }
 
 /// What a piece did, and what it put behind the bytes that
-/// wait to be sent: the PONG of a PING, or nothing.
+/// wait to be sent: the PONG of a PING, or nothing. So an answer to the piece needs no memory once
+/// the source has changed.
 #[derive(Drop)]
 pub struct SourceTold {
     pub piece: Piece,

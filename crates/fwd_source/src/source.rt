@@ -1,4 +1,5 @@
-//! A connection, from its first byte to its last answer.
+//! A connection, from its first byte to its last answer. Each byte is scanned once. Only where
+//! memory is refused is what was kept scanned again.
 
 ghost use Rattle.std.specs.Prelude.{
   ◌≡◌,
@@ -273,7 +274,8 @@ impl Source {
     }
 
     /// Makes room for answers of so many bytes in all. The only
-    /// error is out of memory, and then nothing has changed.
+    /// error is out of memory, and then nothing has changed. The room is a number beside the live
+    /// part, which the relay's own state leaves out.
     pub fn reserve(&mut self, bytes: usize) -> Result<(), AllocError>
         ensures live { self.new.live ≡ self.old.live }
         ensures ok { OnOk result (bytes ≤ self.new.room) }
@@ -285,7 +287,8 @@ impl Source {
     }
 
     /// Puts bytes behind those that wait to be sent. A fault
-    /// does not refuse them. On an error nothing has changed.
+    /// does not refuse them. On an error nothing has changed. The requests before a fault are still
+    /// answered, and only `shut` refuses.
     pub fn answer(&mut self, bytes: &[u8]) -> Result<(), AnswerError>
         ensures ok { OnOk result (self.new.live ≡ source_appends self.old.live bytes.now) }
         ensures room { OnOk result (self.old.room ≤ self.new.room + length bytes.now) }

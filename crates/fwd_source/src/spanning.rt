@@ -1,5 +1,7 @@
 //! Bytes that go on with an unfinished value: it is put together in a buffer, which may become its
-//! request's own.
+//! request's own. That is done for packed entries that are spelled as they are kept. Any other
+//! value is put together and judged with what follows it, since a second walk over its items would
+//! cost more than the copy. A request is made last, since nothing may fail once its buffer is gone.
 
 ghost use Rattle.std.specs.Prelude.{
   ◌≡◌,

@@ -1,4 +1,8 @@
-//! The tickets of an output whose requests are owed an answer.
+//! The tickets of an output whose requests are owed an answer. A settled chunk costs its own
+//! tickets alone, and a request over many chunks is mostly handed in once. The tickets of a source
+//! that is gone stay until their chunks are settled: to find them sooner would take a second index,
+//! or a walk over all tickets. In contracts the store says which tickets wait for
+//! which chunk: a model may hold no function, so `Stored` keeps the lists and `Held` reads them.
 
 ghost use Rattle.std.specs.Prelude.{
   ◌≡◌,
@@ -153,7 +157,8 @@ impl TicketStore {
     /// Takes out the first tickets that are to be handed in: a block of them, and none only where
     /// none is to be handed in, but that where all are each list of those that wait takes a call.
     /// There is room then for them to come back. The only error is out of memory: none is handed
-    /// over, and they are to be handed in still.
+    /// over, and they are to be handed in still. So a caller that puts them back never has to
+    /// abandon one, whose source would wait for ever.
     #[tactic(auto, using(crate::proofs::Stores::handed, crate::proofs::Stores::kept_due))]
     pub fn take_due(&mut self) -> Result<Vec<Ticket>, AllocError>
         ensures handed { IfOk result (λ block. HandsOver self.old block.items self.new) }

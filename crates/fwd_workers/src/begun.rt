@@ -1,4 +1,6 @@
-//! When the chunks of an output were begun that are not settled.
+//! When the chunks of an output were begun that are not settled. They lie under the output's lock,
+//! so that the age of the oldest is exact with any number of readers and workers. They serve the
+//! metrics page alone, so a chunk that cannot be noted for want of memory is admitted all the same.
 
 ghost use Rattle.std.specs.Prelude.{◌≡◌, OnOk, OnErr};
 ghost use Rattle.fwd_workers.specs.Begun.{begun_after, begun_at, none_begun, oldest_of, settled_from};

@@ -1,4 +1,5 @@
-//! What a link tells of its calls, for contracts alone: it takes no memory when it runs.
+//! What a link tells of its calls, for contracts alone: it takes no memory when it runs. To keep
+//! the bytes would cost memory without bound.
 
 ghost use Rattle.std.specs.Prelude.{◌≡◌, List, [], ◌∷◌, ◌++◌};
 ghost use Rattle.std.specs.List.{concat};

@@ -96,7 +96,9 @@ fn is_of(receipt: Option<&Receipt>, origin: Origin) -> bool
 
 /// Each ticket that is due is spent and given its receipt, and its request leaves the output; each
 /// other ticket comes back. Of two tickets of one request, the second comes back. When out of
-/// memory nothing has changed, and all tickets come back.
+/// memory nothing has changed, and all tickets come back. Contracts read its ticket off each
+/// receipt (`ticket_of`), so that receipts and tickets that come back are together a permutation of
+/// what was handed in.
 pub(crate) fn hand_out(
     state: &mut OutputState,
     alloc: Global,

@@ -32,7 +32,9 @@ impl Outlook {
     }
 
     /// The server that the worker is to go over to from its own with a chunk, if that is another. A
-    /// chunk that was lost before stays with the session that is there.
+    /// chunk that was lost before stays with the session that is there. A session that works is
+    /// left only with a chunk in hand: an idle worker connects to nobody, and a dead primary costs
+    /// a try and no chunk.
     pub(crate) fn way_of(self, picked: &Picked, own: u16) -> Option<u16> {
         if picked.was_lost() {
             return None;

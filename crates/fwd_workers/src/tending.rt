@@ -86,7 +86,9 @@ pub(crate) fn serve_free<L: Link, R: Wait>(
     FreeLine { line }
 }
 
-/// A line without a chunk, whose server may have closed it and owed nothing.
+/// A line without a chunk, whose server may have closed it and owed nothing. A session that was
+/// sought and has taken no chunk is not excused: a server that accepts and closes would be tried
+/// for ever.
 pub(crate) fn excuse<L: Link>(free: FreeLine<L>) -> FreeLine<L>
     ensures session { result.line.session ≡ free.line.session }
     ensures ending { result.line.ending ≡ option_map

@@ -1,4 +1,5 @@
-//! The answers of a replay, and when the answers to two pieces stand for the answer to one.
+//! The answers of a replay, and when the answers to two pieces stand for the answer to one. How
+//! many requests wait between the two is not compared; the scripts `NAME-byte-by-byte` have that.
 
 use fwd_script::{Status, replay};
 use std::alloc::{AllocError, Global};

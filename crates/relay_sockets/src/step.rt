@@ -1,4 +1,6 @@
-//! The steps of a scene, as data.
+//! The steps of a scene, as data. A function for each scene would have a way out for each step,
+//! with all connections and servers dropped there. What only time or traffic shows stands in
+//! functions of its own (`traffic`, `extremes`, `by_hand`).
 
 /// A step. Connections have numbers in the order in which they are made, from 0 on, and servers
 /// too. A text is the name of the field under which it is told what the step saw.

@@ -1,5 +1,6 @@
 //! Outputs that threads share, and workers over links in memory. It prints what holds whatever the
-//! order of the threads' turns.
+//! order of the threads' turns. It is a program and no test, so that the gate runs it as two
+//! compilers build it.
 #![tactic(auto)]
 
 mod acts;
